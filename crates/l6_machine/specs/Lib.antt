@@ -1,0 +1,11 @@
+pub mod Trap
+pub mod Limits
+pub mod State
+pub mod Registers
+pub mod Locus
+pub mod Trapping
+pub mod Row
+pub mod Step
+pub mod Run
+pub mod Progress
+pub mod Machine

@@ -1,0 +1,158 @@
+//! The machine.
+
+ghost use Rattle.std.specs.Prelude.{◌≡◌, ◌≤◌, ◌<◌, ◌^◌, ◌+◌, ◌-◌, ◌↔◌, true, false, IfOk, OnOk, IsErrOf, slice_index, length, All};
+ghost use Rattle.l6_machine.specs.Limits.{are_allowed};
+ghost use Rattle.l6_machine.specs.State.{start, is_at_limit, is_last};
+ghost use Rattle.l6_machine.specs.Locus.{index_of};
+ghost use Rattle.l6_machine.specs.Step.{Step, stepped, answer};
+ghost use Rattle.l6_machine.specs.Run.{IsReached};
+
+use crate::halt::{Halt, StepResult};
+use crate::limits::{Limits, MAX_OUTPUT};
+use crate::position::Position;
+use crate::progress::Progress;
+use crate::registers::Registers;
+use l6_prog::{Name, Program};
+use l6_word::Word;
+use std::alloc::{AllocError, Global};
+use std::marker::Model;
+use thiserror::Error;
+
+/// Why a machine was not made.
+#[derive(Clone, Copy, Debug, Error, PartialEq, Eq)]
+pub enum MachineFault {
+    /// A growth was refused.
+    #[error("out of memory")]
+    NoMemory,
+    /// More than 1,000,000,000 steps or 16,777,216 bytes of output.
+    #[error("limits out of range")]
+    BadLimits,
+}
+
+impl From<AllocError> for MachineFault {
+    ghost use Rattle.std.specs.Prelude.{◌≡◌};
+    ghost use Rattle.l6_machine.specs.declared.machine.MachineFault.TheVariants.{NoMemory};
+
+    ghost from_gives = { λ _ fault. fault ≡ NoMemory };
+
+    fn from(_error: AllocError) -> Self {
+        MachineFault::NoMemory
+    }
+}
+
+/// A machine with a program to run, at some state of its run.
+#[derive(Debug, Drop)]
+pub struct Machine {
+    program: Program,
+    limits: Limits,
+    progress: Progress,
+}
+
+impl Model for Machine {
+    ghost use Rattle.l6_machine.specs.Machine.{Machine as View};
+
+    ghost Value = { View };
+
+    ghost use Rattle.l6_machine.specs.Progress.{state_of};
+    ghost use Rattle.l6_machine.specs.Machine.{IsSound};
+
+    ghost view = { λ m. record { world = record { program = m.program; limits = m.limits }; state = state_of m.progress } };
+
+    ghost invariant = { λ m. IsSound (record { program = m.program; limits = m.limits }) m.progress };
+}
+
+impl Machine {
+    /// A machine before the first step of the program. All that a run needs is taken from memory here: a
+    /// copy of the program, and room for the output. The input is not looked at: no operation reads it yet.
+    pub fn new(
+        alloc: Global,
+        program: &Program,
+        _input: &[u8],
+        limits: Limits,
+    ) -> Result<Self, MachineFault>
+        ensures start { IfOk result (λ m. m ≡ record { world = record { program = program.now; limits = limits }; state = start }) }
+        ensures reached { IfOk result (λ m. IsReached m.world m.state) }
+        ensures bad_limits { IsErrOf result MachineFault.BadLimits ↔ (are_allowed limits ≡ false) }
+        ensures allowed { OnOk result (are_allowed limits ≡ true) }
+    {
+        if !limits.are_allowed() {
+            return Err(MachineFault::BadLimits);
+        }
+        let registers = Registers::new(alloc, limits.output)?;
+        let program = program.duplicate(alloc)?;
+        let progress = Progress {
+            registers,
+            at: Position {
+                statement: 0,
+                element: 0,
+            },
+            count: 0,
+            ending: None,
+        };
+        Ok(Machine {
+            program,
+            limits,
+            progress,
+        })
+    }
+
+    /// Makes one step: the condition, an operation or the exit of a statement. A step that traps changes the
+    /// ending alone, and is not counted. Nothing changes where the run has ended or is at its limit.
+    pub fn step(&mut self) -> StepResult
+        ensures state { self.new.state ≡ stepped self.old.world self.old.state }
+        ensures world { self.new.world ≡ self.old.world }
+        ensures step { is_last self.old.world self.old.state ≡ false → Step self.old.world self.old.state self.new.state }
+        ensures reached { IsReached self.new.world self.new.state }
+        ensures answer { result ≡ answer self.old.world self.old.state }
+        ensures counted { result ≡ StepResult.Went → self.new.state.count ≡ self.old.state.count + 1 }
+        ensures within { self.new.state.count ≤ self.new.world.limits.steps }
+        ensures words { All (λ word. word < 2 ^ 36) self.new.state.memory.bugs }
+    {
+        self.progress.step(&self.program, self.limits)
+    }
+
+    /// What the bug of a letter holds. The caller owes a letter (`Name::is_letter`).
+    pub fn bug(&self, name: Name) -> Word
+        requires { 10 ≤ name }
+        ensures { result ≡ slice_index self.now.state.memory.bugs (index_of name) }
+    {
+        self.progress.registers.bug(name)
+    }
+
+    /// Where the run stands.
+    pub fn at(&self) -> Position
+        ensures { result ≡ self.now.state.at }
+    {
+        self.progress.at
+    }
+
+    /// How many steps have been counted.
+    pub fn count(&self) -> u64
+        ensures value { result ≡ self.now.state.count }
+        ensures within { result ≤ self.now.world.limits.steps }
+    {
+        self.progress.count
+    }
+
+    /// What has been printed.
+    pub fn output(&self) -> &[u8]
+        ensures value { result.now ≡ self.now.state.memory.output }
+        ensures within { length result.now ≤ MAX_OUTPUT }
+    {
+        self.progress.registers.output()
+    }
+
+    /// How the run has ended, if it has.
+    pub fn ending(&self) -> Option<Halt>
+        ensures { result ≡ self.now.state.ending }
+    {
+        self.progress.ending
+    }
+
+    /// Whether the run has not ended, and has counted as many steps as it may.
+    pub fn at_limit(&self) -> bool
+        ensures { result ≡ is_at_limit self.now.world self.now.state }
+    {
+        self.progress.ending.is_none() && self.progress.count == self.limits.steps
+    }
+}

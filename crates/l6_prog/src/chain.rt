@@ -1,0 +1,72 @@
+//! Chains of names.
+
+ghost use Rattle.std.specs.Prelude.{◌≡◌, ◌<◌, ◌≤◌, ◌↔◌, length, slice_get, IsTrue, IsSome, IfSome, Some};
+ghost use Rattle.l6_prog.specs.Chain.{is_chain};
+
+use crate::name::Name;
+use arrayvec::ArrayVec;
+use std::marker::Model;
+
+/// How many names a chain may have.
+pub const MAX_NAMES: usize = 6;
+
+/// A path to a word: 1 to 6 names, the first a letter. One name is a bug itself; each further name is a
+/// field of the block that the names before it lead to.
+#[derive(Debug, Drop)]
+pub struct Chain {
+    names: ArrayVec<Name, MAX_NAMES>,
+}
+
+impl Model for Chain {
+    ghost use Rattle.std.specs.Prelude.{◌≡◌, ℕ, List, true};
+    ghost use Rattle.l6_prog.specs.Chain.{is_chain};
+
+    ghost Value = { List ℕ };
+
+    ghost view = { λ chain. chain.names.items };
+
+    ghost invariant = { λ chain. is_chain chain.names.items ≡ true };
+
+    ghost inverse = { λ names. record { names = record { items = names } } };
+}
+
+impl Chain {
+    /// The chain of these names, or `None` where they are no chain: where there is none, where there are
+    /// more than 6, or where the first is no letter.
+    pub fn new(names: &[Name]) -> Option<Self>
+        ensures valid { IsSome result ↔ IsTrue (is_chain names.now) }
+        ensures value { IfSome result (λ chain. chain ≡ names.now) }
+    {
+        let first = names.first()?;
+        if !first.is_letter() {
+            return None;
+        }
+        let names = ArrayVec::try_from(names).ok()?;
+        Some(Chain { names })
+    }
+
+    /// The names, the bug first.
+    pub fn names(&self) -> &[Name]
+        ensures value { result.now ≡ self.now }
+        ensures chain { IsTrue (is_chain result.now) }
+    {
+        self.names.as_slice()
+    }
+
+    /// The first name, the letter of a bug.
+    pub fn bug(&self) -> Name
+        ensures value { slice_get self.now 0 ≡ Some result }
+        ensures letter { 10 ≤ result }
+    {
+        self.names[0]
+    }
+
+    /// The same chain once more. It takes no memory.
+    pub fn duplicate(&self) -> Self
+        ensures { result ≡ self.now }
+    {
+        let mut names = ArrayVec::new();
+        names.try_extend_from_slice(self.names.as_slice()).unwrap();
+        Chain { names }
+    }
+}

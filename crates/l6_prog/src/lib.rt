@@ -1,0 +1,20 @@
+//! Programs: statements of operations on chains of names.
+#![tactic(auto)]
+
+mod chain;
+mod condition;
+mod exit;
+mod name;
+mod operand;
+mod operation;
+mod program;
+mod statement;
+
+pub use chain::Chain;
+pub use condition::{Cond, Test};
+pub use exit::Exit;
+pub use name::Name;
+pub use operand::Operand;
+pub use operation::Op;
+pub use program::{ProgFault, Program};
+pub use statement::Statement;

@@ -1,0 +1,92 @@
+//! Statements.
+
+ghost use Rattle.std.specs.Prelude.{◌≡◌, IfOk};
+
+use crate::condition::{Cond, Test};
+use crate::exit::Exit;
+use crate::operation::Op;
+use std::alloc::{AllocError, Global};
+use std::marker::Model;
+
+/// A condition with its tests, operations, and an exit.
+#[derive(Debug, Drop)]
+pub struct Statement {
+    condition: Cond,
+    tests: Vec<Test>,
+    operations: Vec<Op>,
+    exit: Exit,
+}
+
+impl Model for Statement {
+    ghost use Rattle.l6_prog.specs.Statement.{Parts};
+
+    ghost Value = { Parts };
+
+    ghost view = { λ s. record { condition = s.condition; tests = s.tests.items; operations = s.operations.items; exit = s.exit } };
+}
+
+impl Statement {
+    ghost use Rattle.l6_prog.specs.Statement.{plain_done};
+
+    /// The statement of these parts.
+    pub fn new(condition: Cond, tests: Vec<Test>, operations: Vec<Op>, exit: Exit) -> Self
+        ensures { result ≡ record { condition = condition; tests = tests.items; operations = operations.items; exit = exit } }
+    {
+        Statement {
+            condition,
+            tests,
+            operations,
+            exit,
+        }
+    }
+
+    /// The plain `DONE`, with which every program ends: no condition, no operation, the exit DONE.
+    pub fn plain_done(alloc: Global) -> Self
+        ensures { result ≡ plain_done }
+    {
+        Statement::new(Cond::Always, Vec::new(alloc), Vec::new(alloc), Exit::Done)
+    }
+
+    /// The condition.
+    pub fn condition(&self) -> Cond
+        ensures { result ≡ self.now.condition }
+    {
+        self.condition
+    }
+
+    /// The tests of the condition, in order.
+    pub fn tests(&self) -> &[Test]
+        ensures { result.now ≡ self.now.tests }
+    {
+        self.tests.as_slice()
+    }
+
+    /// The operations, in order.
+    pub fn operations(&self) -> &[Op]
+        ensures { result.now ≡ self.now.operations }
+    {
+        self.operations.as_slice()
+    }
+
+    /// The exit.
+    pub fn exit(&self) -> Exit
+        ensures { result ≡ self.now.exit }
+    {
+        self.exit
+    }
+
+    /// The same statement once more.
+    pub fn duplicate(&self, alloc: Global) -> Result<Self, AllocError>
+        ensures { IfOk result (λ copy. copy ≡ self.now) }
+    {
+        let mut tests = Vec::with_capacity(alloc, self.tests.len())?;
+        for test in &self.tests {
+            tests.push(*test)?;
+        }
+        let mut operations = Vec::with_capacity(alloc, self.operations.len())?;
+        for operation in &self.operations {
+            operations.push(operation.duplicate())?;
+        }
+        Ok(Statement::new(self.condition, tests, operations, self.exit))
+    }
+}

@@ -153,6 +153,6 @@ impl Machine {
     pub fn at_limit(&self) -> bool
         ensures { result ≡ is_at_limit self.now.world self.now.state }
     {
-        self.progress.ending.is_none() && self.progress.count == self.limits.steps
+        self.ending().is_none() && self.count() == self.limits.steps
     }
 }

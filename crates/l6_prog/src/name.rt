@@ -46,7 +46,7 @@ impl Name {
     pub fn is_letter(self) -> bool
         ensures { IsTrue result ↔ (10 ≤ self) }
     {
-        self.number >= 10
+        10 <= self.number
     }
 }
 

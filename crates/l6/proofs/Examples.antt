@@ -1,0 +1,66 @@
+-- The worked examples compute.
+use Rattle.std.proofs.Common.{ℕ, List, [], ◌∷◌, refl, Option, None, Some, codes, lit≤}
+use Rattle.std.proofs.Math.ListN.{replicate}
+use Rattle.std.specs.Fmt.{digits}
+use Rattle.l6_prog.specs.declared.operand.Operand.TheVariants.{Number}
+use Rattle.l6_prog.specs.declared.operation.Op.TheVariants.{Set, PrintDecimal}
+use Rattle.l6_card.specs.Lines.{first_columns}
+use Rattle.l6_machine.specs.Run.{IsRun}
+use Rattle.l6_machine.specs.declared.halt.Halt.{Halt}
+use Rattle.l6_machine.specs.declared.halt.Halt.TheVariants.{Done}
+use Rattle.l6_machine.specs.State.{World, State}
+use Rattle.l6.specs.Worked.{FiveIsSpelled, FiveIsPrinted, five_program, no_choice}
+
+pub five-spelled : FiveIsSpelled
+unfolding first_columns
+five-spelled = record {
+  written = record { operations = Set (10 ∷ []) (Number 5) ∷ PrintDecimal (10 ∷ []) ∷ [] } ∷ [];
+  reads = record {
+    cards = (record { items = (refl, (refl, tt)); fits = lit≤ tt }, tt);
+    fits = lit≤ tt;
+  };
+  whole = refl;
+}
+
+-- the world of the run
+abbrev world : World
+world = record { program = five_program; limits = no_choice.limits }
+
+-- what bug A holds, the output, the statement, the element, the count and the ending make a state
+abbrev moment : ℕ → List ℕ → ℕ → ℕ → ℕ → Option Halt → State
+moment a output statement element count ending = record {
+  memory = record { bugs = a ∷ replicate 25 0; output = output };
+  at = record { statement = statement; element = element };
+  count = count;
+  ending = ending;
+}
+
+-- the states before the last, the latest first
+abbrev earlier : List State
+earlier =
+    moment 5 (codes "5") 1 1 5 None
+    ∷ moment 5 (codes "5") 1 0 4 None
+    ∷ moment 5 (codes "5") 0 3 3 None
+    ∷ moment 5 [] 0 2 2 None
+    ∷ moment 0 [] 0 1 1 None
+    ∷ moment 0 [] 0 0 0 None
+    ∷ []
+
+-- the last state
+abbrev final : State
+final = moment 5 (codes "5") 1 1 6 (Some Done)
+
+run : IsRun world (final ∷ earlier)
+unfolding digits
+run = ((refl, refl), ((refl, refl), ((refl, refl), ((refl, refl), ((refl, refl), ((refl, refl), refl))))))
+
+pub five-printed : FiveIsPrinted
+unfolding digits
+five-printed = record {
+  program = five_program;
+  spelled = five-spelled;
+  final = final;
+  ends = record { reached = record { older = earlier; run = run }; last = refl };
+  ended = refl;
+  printed = refl;
+}

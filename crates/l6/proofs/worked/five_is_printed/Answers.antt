@@ -1,0 +1,5 @@
+use Rattle.l6.proofs.Examples.{five-printed}
+use Rattle.l6.proofs.worked.five_is_printed.Goals as goal
+
+pub returns : goal.returns
+returns c = five-printed

@@ -1,0 +1,9 @@
+pub mod Device
+pub mod Fault
+pub mod Transfer
+pub mod Options
+pub mod Printout
+pub mod Spells
+pub mod Status
+pub mod Performs
+pub mod Worked

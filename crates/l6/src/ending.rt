@@ -1,0 +1,16 @@
+//! How a run has ended.
+
+ghost use Rattle.std.specs.Prelude.{◌≡◌};
+
+use l6_machine::Trap;
+
+/// How a run has ended.
+#[derive(Clone, Copy, Debug, PartialEq, Eq, Hash)]
+pub enum Ending {
+    /// By an exit DONE.
+    Done,
+    /// By a trap.
+    Trap(Trap),
+    /// It has not: it was stopped at its limit of steps.
+    Limit,
+}

@@ -1,0 +1,113 @@
+//! The parts of a job, and why a job is not done.
+ghost use Rattle.std.specs.Prelude.{◌≡◌, ◌≤◌, ℕ, Some};
+ghost use Rattle.l6.specs.Fault.{limit_of, name_of};
+ghost use Rattle.l6.specs.declared.fault.RunFault.TheVariants.{NoMemory};
+
+use std::alloc::AllocError;
+use std::fmt;
+use thiserror::Error;
+
+/// The most bytes that a deck may have.
+pub const DECK_LIMIT: usize = 1_048_576;
+
+/// The most bytes that a job may have.
+pub const JOB_LIMIT: usize = 16_777_216;
+
+/// A part of a job.
+#[derive(Clone, Copy, Debug, PartialEq, Eq)]
+pub enum Part {
+    /// The cards that spell a program.
+    Deck,
+    /// The whole job.
+    Job,
+}
+
+impl Part {
+    /// The most bytes that the part may have.
+    pub fn limit(self) -> usize
+        ensures value { result ≡ limit_of self }
+        ensures within { result ≤ JOB_LIMIT }
+    {
+        match self {
+            Part::Deck => DECK_LIMIT,
+            Part::Job => JOB_LIMIT,
+        }
+    }
+}
+
+impl fmt::Display for Part {
+    ghost output = { λ part. Some (name_of part) };
+
+    fn fmt<W: fmt::Write>(&self, f: &mut fmt::Formatter<W>) -> fmt::Result {
+        f.write_str(match self {
+            Part::Deck => "deck",
+            Part::Job => "job",
+        })
+    }
+}
+
+/// Why a deck spells no program. Its cards are counted from 1.
+#[derive(Clone, Copy, Debug, PartialEq, Eq, Error)]
+pub enum AsmFault {
+    /// The card has no reading.
+    #[error("card {0}: no reading")]
+    Form(u32),
+    /// The card takes the program past a limit.
+    #[error("card {0}: past a limit")]
+    Limit(u32),
+    /// Memory ran out.
+    #[error("out of memory")]
+    NoMemory,
+}
+
+/// Why a job was not done.
+#[derive(Clone, Copy, Debug, PartialEq, Eq, Error)]
+pub enum RunFault {
+    /// The part has more bytes than its limit.
+    #[error("{0} too long")]
+    TooLong(Part),
+    /// The deck spells no program.
+    #[error(transparent)]
+    Asm(AsmFault),
+    /// The part's reader had trouble.
+    #[error("read failed")]
+    Read(Part),
+    /// The writer had trouble after so many bytes of the answer. The count stops at `u64::MAX`.
+    #[error("write failed after {0} bytes")]
+    Write(u64),
+    /// Memory ran out.
+    #[error("out of memory")]
+    NoMemory,
+}
+
+impl From<AllocError> for RunFault {
+    ghost from_gives = { λ _ fault. fault ≡ NoMemory };
+
+    fn from(_error: AllocError) -> RunFault {
+        RunFault::NoMemory
+    }
+}
+
+#[cfg(test)]
+mod tests {
+    use super::*;
+    use std::test::Fail;
+
+    #[test]
+    fn faults_are_told(rt: HostRuntime) -> Result<(), Fail> {
+        for (fault, text) in [
+            (RunFault::TooLong(Part::Deck), "deck too long"),
+            (RunFault::TooLong(Part::Job), "job too long"),
+            (RunFault::Asm(AsmFault::Form(3)), "card 3: no reading"),
+            (RunFault::Asm(AsmFault::Limit(7)), "card 7: past a limit"),
+            (RunFault::Asm(AsmFault::NoMemory), "out of memory"),
+            (RunFault::Read(Part::Job), "read failed"),
+            (RunFault::Write(80), "write failed after 80 bytes"),
+            (RunFault::NoMemory, "out of memory"),
+        ] {
+            let told = fault.to_string(rt.alloc())?;
+            assert_eq!(rt; told.as_str(), text);
+        }
+        Ok(())
+    }
+}

@@ -1,0 +1,37 @@
+//! The program `l6`: it runs the deck of cards that standard input gives, and prints what the run prints.
+#![tactic(auto)]
+
+mod assemble;
+mod device;
+mod ending;
+mod fault;
+mod job;
+mod options;
+mod printout;
+mod run;
+mod status;
+#[cfg(test)]
+mod tests;
+mod transfer;
+mod worked;
+
+use device::Host;
+use job::{Verb, perform};
+use options::Options;
+use std::process::ExitCode;
+
+fn main(rt: HostRuntime) -> ExitCode {
+    let mut reader = Host::new(rt.stdin());
+    let mut writer = Host::new(rt.stdout());
+    let result = perform(
+        rt.alloc(),
+        Verb::Run,
+        Options::default(),
+        &mut reader,
+        &mut writer,
+    );
+    if let Err(fault) = &result {
+        let _ = eprintln!(rt; "l6: {fault}");
+    }
+    ExitCode::from(status::status(&result))
+}

@@ -1,0 +1,27 @@
+//! Exit statuses.
+
+ghost use Rattle.std.specs.Prelude.{◌≡◌};
+ghost use Rattle.l6.specs.Status.{status_of};
+
+use crate::ending::Ending;
+use crate::fault::{AsmFault, RunFault};
+use crate::job::Outcome;
+
+/// The exit status of the program: 0 after DONE, 2 after a trap, 3 at the limit of steps, 4 where the job was
+/// refused, and 5 where memory or a device failed.
+pub fn status(answer: &Result<Outcome, RunFault>) -> u8
+    ensures { result ≡ status_of answer.now }
+{
+    match answer {
+        Ok(Outcome::Ran(Ending::Done)) => 0,
+        Ok(Outcome::Ran(Ending::Trap(_))) => 2,
+        Ok(Outcome::Ran(Ending::Limit)) => 3,
+        Err(RunFault::TooLong(_) | RunFault::Asm(AsmFault::Form(_) | AsmFault::Limit(_))) => 4,
+        Err(
+            RunFault::Asm(AsmFault::NoMemory)
+            | RunFault::Read(_)
+            | RunFault::Write(_)
+            | RunFault::NoMemory,
+        ) => 5,
+    }
+}

@@ -1,0 +1,119 @@
+//! What no clause says: that calls succeed where memory is there, and the printouts of decks worked out by hand.
+
+mod script;
+
+use crate::device::Host;
+use crate::ending::Ending;
+use crate::fault::{AsmFault, Part, RunFault};
+use crate::job::{Outcome, Verb, perform};
+use crate::options::Options;
+use l6_machine::Trap;
+use script::Scripted;
+use std::alloc::Global;
+use std::test::Fail;
+
+/// How many calls a device takes that is not to fail.
+const EVER: u32 = u32::MAX;
+
+/// A deck, the steps and the bytes that its run may take, what becomes of it, and what is printed.
+type Row = (
+    &'static [u8],
+    u64,
+    usize,
+    Result<Outcome, RunFault>,
+    &'static [u8],
+);
+
+#[test]
+fn jobs_are_performed(rt: HostRuntime) -> Result<(), Fail> {
+    let done = Ok(Outcome::Ran(Ending::Done));
+    let limit = Ok(Outcome::Ran(Ending::Limit));
+    let printed: &[u8] = b"5\n== DONE AFTER 6 STEPS\n";
+    let rows: [Row; 11] = [
+        (b" (A,E,5)(A,PD)\n", 1_000_000, 1_048_576, done, printed),
+        (b"", 1_000_000, 1_048_576, done, b"== DONE AFTER 2 STEPS\n"),
+        (b" (A,E,5)(A,PD)", 1_000_000, 1_048_576, done, printed),
+        (b" (A,E,5)(A,PD)\r\n", 1_000_000, 1_048_576, done, printed),
+        (
+            b" (A,E,68719476735)(A,A,1)(A,PD)\n",
+            1_000_000,
+            1_048_576,
+            done,
+            b"0\n== DONE AFTER 7 STEPS\n",
+        ),
+        (b" (A,E,5)(A,PD)\n", 6, 1, done, printed),
+        (
+            b" (A,E,5)(A,PD)\n",
+            5,
+            1_048_576,
+            limit,
+            b"5\n== LIMIT AFTER 5 STEPS\n",
+        ),
+        (b" (A,PD)\n", 0, 0, limit, b"== LIMIT AFTER 0 STEPS\n"),
+        (
+            b" (A,PD)\n",
+            1_000_000,
+            0,
+            Ok(Outcome::Ran(Ending::Trap(Trap::OutputFull))),
+            b"== TRAP 14 OUTPUT FULL AT 0.1 AFTER 1 STEPS\n",
+        ),
+        (
+            b" (AN,PD)\n",
+            1_000_000,
+            1_048_576,
+            Ok(Outcome::Ran(Ending::Trap(Trap::UndefinedField))),
+            b"== TRAP 1 UNDEFINED FIELD AT 0.1 AFTER 1 STEPS\n",
+        ),
+        (
+            b"X (A,PD)\n",
+            1_000_000,
+            1_048_576,
+            Err(RunFault::Asm(AsmFault::Form(1))),
+            b"",
+        ),
+    ];
+    for (deck, steps, output, want, text) in rows {
+        let options = Options::new(64, steps, output).ok_or("options out of range")?;
+        let mut reader = Host::new(deck);
+        let mut writer = Host::new(Vec::new(rt.alloc()));
+        let result = perform(rt.alloc(), Verb::Run, options, &mut reader, &mut writer);
+        assert_eq!(rt; result, want);
+        assert_eq!(rt; writer.into_inner().as_slice(), text);
+    }
+    Ok(())
+}
+
+/// What becomes of the first row's deck, and what went out, on devices that move so many bytes a call and fail after so many calls.
+fn performed(
+    alloc: Global,
+    reader: (usize, u32),
+    writer: (usize, u32),
+) -> (Result<Outcome, RunFault>, Vec<u8>) {
+    let deck: &[u8] = b" (A,E,5)(A,PD)\n";
+    let mut source = Scripted::new(Host::new(deck), reader.0, reader.1);
+    let mut sink = Scripted::new(Host::new(Vec::new(alloc)), writer.0, writer.1);
+    let result = perform(alloc, Verb::Run, Options::default(), &mut source, &mut sink);
+    (result, sink.into_inner().into_inner())
+}
+
+#[test]
+fn devices_fail_at_a_call(rt: HostRuntime) {
+    let printout: &[u8] = b"5\n== DONE AFTER 6 STEPS\n";
+    let done = Ok(Outcome::Ran(Ending::Done));
+    for calls in 0..24 {
+        let (result, written) = performed(rt.alloc(), (64, EVER), (1, calls));
+        assert_eq!(rt; result, Err(RunFault::Write(u64::from(calls))));
+        assert_eq!(rt; written.as_slice(), &printout[..calls as usize]);
+    }
+    for calls in 0..16 {
+        let (result, written) = performed(rt.alloc(), (1, calls), (64, EVER));
+        assert_eq!(rt; result, Err(RunFault::Read(Part::Job)));
+        assert_eq!(rt; written.len(), 0);
+    }
+    let (result, written) = performed(rt.alloc(), (1, 16), (1, 24));
+    assert_eq!(rt; result, done);
+    assert_eq!(rt; written.as_slice(), printout);
+    let (result, written) = performed(rt.alloc(), (64, EVER), (0, EVER));
+    assert_eq!(rt; result, Err(RunFault::Write(0)));
+    assert_eq!(rt; written.len(), 0);
+}

@@ -1,0 +1,10 @@
+-- The kinds of cards, as a reader sees them.
+use Rattle.l6_card.specs.declared.card.Kind.{Kind}
+use Rattle.l6_card.specs.declared.card.Kind.TheVariants.{Skipped, Plain, Unknown}
+use Rattle.l6_card.specs.Card.{Card, skipped, plain, unknown}
+
+-- the card of this kind
+abbrev pub card_seen : Kind → Card
+card_seen Skipped = skipped
+card_seen (Plain body) = plain body.now
+card_seen Unknown = unknown

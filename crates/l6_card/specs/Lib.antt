@@ -1,0 +1,15 @@
+pub mod Split
+pub mod Lines
+pub mod Element
+pub mod Card
+pub mod Kinds
+pub mod Items
+pub mod First
+pub mod Group
+pub mod Written
+pub mod Draft
+pub mod Pieces
+pub mod Fault
+pub mod Reads
+pub mod Settled
+pub mod Reader

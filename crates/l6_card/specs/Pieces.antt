@@ -1,0 +1,26 @@
+-- The pieces of a deck, each of which may object to the deck.
+use Rattle.std.specs.Prelude.{ℕ, ◌+◌, List, [], ◌∷◌, ◌++◌, map}
+use Rattle.l6_card.specs.Items.{Item, items_of}
+use Rattle.l6_card.specs.Card.{Card, skipped, plain, unknown, cards_of}
+
+-- a piece: the statement before is over; a card begins a statement; a card has no column 1 that a card may have; a card has an item
+pub data Piece : Type 0 where
+  ends : Piece
+  begins : ℕ → Piece
+  no_column : ℕ → Piece
+  item : ℕ → Item → Piece
+
+-- the pieces of the card of this number
+abbrev pub pieces_of_card : ℕ → Card → List Piece
+pieces_of_card number skipped = []
+pieces_of_card number (plain body) = ends ∷ begins number ∷ map (item number) (items_of body)
+pieces_of_card number unknown = ends ∷ no_column number ∷ []
+
+-- the pieces of cards that are numbered from this number on
+abbrev pub pieces_from : ℕ → List Card → List Piece
+pieces_from number [] = ends ∷ []
+pieces_from number (card ∷ cards) = pieces_of_card number card ++ pieces_from (number + 1) cards
+
+-- the pieces of a deck, in order
+abbrev pub pieces_of : List ℕ → List Piece
+pieces_of deck = pieces_from 1 (cards_of deck)

@@ -1,0 +1,43 @@
+//! Decks.
+
+ghost use Rattle.std.specs.Prelude.{◌≡◌, ◌≤◌, length, IfOk, IfErr};
+ghost use Rattle.l6_card.specs.Fault.{fault_of};
+ghost use Rattle.l6_card.specs.Reads.{Reads, AreWithinLimits};
+ghost use Rattle.l6_card.specs.Settled.{IsOnlyReading, IsRefusal};
+
+use crate::cards::Cards;
+use crate::fault::CardFault;
+use crate::limits::MAX_DECK_BYTES;
+use crate::line::{columns_of, first_line};
+use crate::reader::Reader;
+use std::alloc::Global;
+
+/// The statements that a deck of at most 1,048,576 bytes says, or the first objection to it in the order of the
+/// cards and of the columns on each. Cards are lines, and all lines count.
+pub fn read_deck(alloc: Global, deck: &[u8]) -> Result<Cards, CardFault>
+    requires { length deck.now ≤ MAX_DECK_BYTES }
+    // What is read is what the deck says, and it says nothing else.
+    ensures reads { IfOk result (λ cards. Reads deck.now cards) }
+    ensures only { IfOk result (λ cards. IsOnlyReading deck.now cards) }
+    ensures limits { IfOk result (λ cards. AreWithinLimits cards) }
+    // No piece of a deck that is read objects.
+    ensures sound { IfOk result (λ _. fault_of deck.now ≡ None) }
+    // A fault other than want of memory is the first objection, and the deck says nothing.
+    ensures fault { IfErr result (λ fault. IsRefusal deck.now fault) }
+{
+    let mut reader = Reader::new(alloc);
+    let mut rest = deck;
+    let mut card: u32 = 0;
+    while let Some((line, behind)) = first_line(rest) {
+        card += 1;
+        match reader.take_card(card, columns_of(line)) {
+            Ok(()) => {}
+            Err(fault) => return Err(fault),
+        }
+        rest = behind;
+    }
+    match reader.end() {
+        Ok(()) => Ok(Cards::new(reader.into_statements())),
+        Err(fault) => Err(fault),
+    }
+}

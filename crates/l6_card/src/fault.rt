@@ -1,0 +1,17 @@
+//! Why a deck cannot be read.
+
+use thiserror::Error;
+
+/// Why a deck cannot be read. Cards are numbered from 1.
+#[derive(Clone, Copy, Debug, Error, PartialEq, Eq)]
+pub enum CardFault {
+    /// A column 1, an item or a group on this card has no reading.
+    #[error("card {0}: no reading")]
+    Form(u32),
+    /// The 64th operation of a statement, or the 4,095th statement, stands on this card.
+    #[error("card {0}: past a limit")]
+    Limit(u32),
+    /// Memory ran out. This says nothing of the deck.
+    #[error("out of memory")]
+    NoMemory,
+}

@@ -1,3 +1,4 @@
 pub mod Transfers
 pub mod Assembled
 pub mod Examples
+pub mod Printouts

@@ -84,3 +84,9 @@ ReaderFared count count' failed failed' result = NoTrouble count count' failed f
 abbrev pub WriterFared : ℕ → ℕ → Bool → Bool → Result Outcome RunFault → Type 0
 WriterFared count count' failed failed' (Err (Write n)) = OneTrouble count count' failed failed'
 WriterFared count count' failed failed' result = NoTrouble count count' failed failed'
+
+-- a deck has one printout, and its run one ending
+abbrev pub PrintsInOneWay : Type 0
+PrintsInOneWay =
+    (options : Choice) (deck : List ℕ) (ending ending' : Ending) (text text' : List ℕ) →
+    Prints options deck ending text → Prints options deck ending' text' → (ending ≡ ending') × (text ≡ text')

@@ -6,6 +6,7 @@ mod device;
 mod ending;
 mod fault;
 mod job;
+mod laws;
 mod options;
 mod printout;
 mod run;

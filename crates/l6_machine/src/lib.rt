@@ -2,6 +2,7 @@
 #![tactic(auto)]
 
 mod halt;
+mod laws;
 mod limits;
 mod locus;
 mod machine;
@@ -11,6 +12,7 @@ mod registers;
 mod trap;
 
 pub use halt::{Halt, StepResult};
+pub use laws::runs_are_determined;
 pub use limits::Limits;
 pub use locus::Locus;
 pub use machine::{Machine, MachineFault};

@@ -1,6 +1,6 @@
 //! The machine.
 
-ghost use Rattle.std.specs.Prelude.{◌≡◌, ◌≤◌, ◌<◌, ◌^◌, ◌+◌, ◌-◌, ◌↔◌, true, false, IfOk, OnOk, IsErrOf, slice_index, length, All};
+ghost use Rattle.std.specs.Prelude.{◌≡◌, ◌≤◌, ◌<◌, ◌^◌, ◌+◌, ◌-◌, ◌↔◌, true, false, IfOk, OnOk, IsErrOf, slice_index, length, All, None, Some};
 ghost use Rattle.l6_machine.specs.Limits.{are_allowed};
 ghost use Rattle.l6_machine.specs.State.{start, is_at_limit, is_last};
 ghost use Rattle.l6_machine.specs.Locus.{index_of};
@@ -12,6 +12,7 @@ use crate::limits::{Limits, MAX_OUTPUT};
 use crate::position::Position;
 use crate::progress::Progress;
 use crate::registers::Registers;
+use crate::trap::Trap;
 use l6_prog::{Name, Program};
 use l6_word::Word;
 use std::alloc::{AllocError, Global};
@@ -41,7 +42,7 @@ impl From<AllocError> for MachineFault {
 }
 
 /// A machine with a program to run, at some state of its run.
-#[derive(Debug, Drop)]
+#[derive(Drop)]
 pub struct Machine {
     program: Program,
     limits: Limits,
@@ -102,6 +103,9 @@ impl Machine {
         ensures state { self.new.state ≡ stepped self.old.world self.old.state }
         ensures world { self.new.world ≡ self.old.world }
         ensures step { is_last self.old.world self.old.state ≡ false → Step self.old.world self.old.state self.new.state }
+        ensures trapped { (trap : Trap) → self.old.state.ending ≡ None → result ≡ StepResult.Trapped trap
+            → self.new.state ≡ record self.old.state { ending = Some (Halt.Trap trap) } }
+        ensures last { is_last self.old.world self.old.state ≡ true → self.new.state ≡ self.old.state }
         ensures reached { IsReached self.new.world self.new.state }
         ensures answer { result ≡ answer self.old.world self.old.state }
         ensures counted { result ≡ StepResult.Went → self.new.state.count ≡ self.old.state.count + 1 }

@@ -7,6 +7,6 @@ pub enum Cond {
     Always,
 }
 
-/// A test of a condition. No card spells one yet.
-#[derive(Clone, Copy, Debug, PartialEq, Eq, Hash)]
+/// A test of a condition. There is none yet, and so no comparison or printed form of one either.
+#[derive(Clone, Copy)]
 pub enum Test {}

@@ -31,7 +31,7 @@ pub enum ProgFault {
 }
 
 /// A program: 1 to 4,095 statements, numbered from 0, of which the last is the plain `DONE`.
-#[derive(Debug, Drop)]
+#[derive(Drop)]
 pub struct Program {
     statements: Vec<Statement>,
 }

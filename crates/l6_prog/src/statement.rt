@@ -9,7 +9,7 @@ use std::alloc::{AllocError, Global};
 use std::marker::Model;
 
 /// A condition with its tests, operations, and an exit.
-#[derive(Debug, Drop)]
+#[derive(Drop)]
 pub struct Statement {
     condition: Cond,
     tests: Vec<Test>,

@@ -1,4 +1,5 @@
 //! The parts of a job, and why a job is not done.
+
 ghost use Rattle.std.specs.Prelude.{◌≡◌, ◌≤◌, ℕ, Some};
 ghost use Rattle.l6.specs.Fault.{limit_of, name_of};
 ghost use Rattle.l6.specs.declared.fault.RunFault.TheVariants.{NoMemory};

@@ -10,77 +10,78 @@ use crate::options::Options;
 use l6_machine::Trap;
 use script::Scripted;
 use std::alloc::Global;
-use std::test::Fail;
 
 /// How many calls a device takes that is not to fail.
 const EVER: u32 = u32::MAX;
 
-/// A deck, the steps and the bytes that its run may take, what becomes of it, and what is printed.
-type Row = (
-    &'static [u8],
-    u64,
-    usize,
-    Result<Outcome, RunFault>,
-    &'static [u8],
-);
+/// A deck, what becomes of it, and what is printed.
+type Row = (&'static [u8], Result<Outcome, RunFault>, &'static [u8]);
+
+/// What becomes of a deck under these limits, and what is printed.
+fn run_of(
+    alloc: Global,
+    steps: u64,
+    output: usize,
+    deck: &[u8],
+) -> (Result<Outcome, RunFault>, Vec<u8>) {
+    let options = Options::new(64, steps, output).unwrap_or_default();
+    let mut reader = Host::new(deck);
+    let mut writer = Host::new(Vec::new(alloc));
+    let result = perform(alloc, Verb::Run, options, &mut reader, &mut writer);
+    (result, writer.into_inner())
+}
 
 #[test]
-fn jobs_are_performed(rt: HostRuntime) -> Result<(), Fail> {
+fn decks_are_run(rt: HostRuntime) {
     let done = Ok(Outcome::Ran(Ending::Done));
-    let limit = Ok(Outcome::Ran(Ending::Limit));
     let printed: &[u8] = b"5\n== DONE AFTER 6 STEPS\n";
-    let rows: [Row; 11] = [
-        (b" (A,E,5)(A,PD)\n", 1_000_000, 1_048_576, done, printed),
-        (b"", 1_000_000, 1_048_576, done, b"== DONE AFTER 2 STEPS\n"),
-        (b" (A,E,5)(A,PD)", 1_000_000, 1_048_576, done, printed),
-        (b" (A,E,5)(A,PD)\r\n", 1_000_000, 1_048_576, done, printed),
+    let rows: [Row; 7] = [
+        (b" (A,E,5)(A,PD)\n", done, printed),
+        (b"", done, b"== DONE AFTER 2 STEPS\n"),
+        (b" (A,E,5)(A,PD)", done, printed),
+        (b" (A,E,5)(A,PD)\r\n", done, printed),
         (
             b" (A,E,68719476735)(A,A,1)(A,PD)\n",
-            1_000_000,
-            1_048_576,
             done,
             b"0\n== DONE AFTER 7 STEPS\n",
         ),
-        (b" (A,E,5)(A,PD)\n", 6, 1, done, printed),
-        (
-            b" (A,E,5)(A,PD)\n",
-            5,
-            1_048_576,
-            limit,
-            b"5\n== LIMIT AFTER 5 STEPS\n",
-        ),
-        (b" (A,PD)\n", 0, 0, limit, b"== LIMIT AFTER 0 STEPS\n"),
-        (
-            b" (A,PD)\n",
-            1_000_000,
-            0,
-            Ok(Outcome::Ran(Ending::Trap(Trap::OutputFull))),
-            b"== TRAP 14 OUTPUT FULL AT 0.1 AFTER 1 STEPS\n",
-        ),
         (
             b" (AN,PD)\n",
-            1_000_000,
-            1_048_576,
             Ok(Outcome::Ran(Ending::Trap(Trap::UndefinedField))),
             b"== TRAP 1 UNDEFINED FIELD AT 0.1 AFTER 1 STEPS\n",
         ),
-        (
-            b"X (A,PD)\n",
-            1_000_000,
-            1_048_576,
-            Err(RunFault::Asm(AsmFault::Form(1))),
-            b"",
-        ),
+        (b"X (A,PD)\n", Err(RunFault::Asm(AsmFault::Form(1))), b""),
     ];
-    for (deck, steps, output, want, text) in rows {
-        let options = Options::new(64, steps, output).ok_or("options out of range")?;
-        let mut reader = Host::new(deck);
-        let mut writer = Host::new(Vec::new(rt.alloc()));
-        let result = perform(rt.alloc(), Verb::Run, options, &mut reader, &mut writer);
+    for (deck, want, text) in rows {
+        let (result, printed) = run_of(rt.alloc(), 1_000_000, 1_048_576, deck);
         assert_eq!(rt; result, want);
-        assert_eq!(rt; writer.into_inner().as_slice(), text);
+        assert_eq!(rt; printed.as_slice(), text);
     }
-    Ok(())
+}
+
+#[test]
+fn limits_stop_a_run(rt: HostRuntime) {
+    let deck: &[u8] = b" (A,E,5)(A,PD)\n";
+    let done = Ok(Outcome::Ran(Ending::Done));
+    let limit = Ok(Outcome::Ran(Ending::Limit));
+    let full = Ok(Outcome::Ran(Ending::Trap(Trap::OutputFull)));
+    let rows: [(u64, usize, Result<Outcome, RunFault>, &'static [u8]); 4] = [
+        (6, 1, done, b"5\n== DONE AFTER 6 STEPS\n"),
+        (5, 1, limit, b"5\n== LIMIT AFTER 5 STEPS\n"),
+        (0, 0, limit, b"== LIMIT AFTER 0 STEPS\n"),
+        (9, 0, full, b"== TRAP 14 OUTPUT FULL AT 0.2 AFTER 2 STEPS\n"),
+    ];
+    for (steps, output, want, text) in rows {
+        let (result, printed) = run_of(rt.alloc(), steps, output, deck);
+        assert_eq!(rt; result, want);
+        assert_eq!(rt; printed.as_slice(), text);
+    }
+    let (result, printed) = run_of(rt.alloc(), 9, 0, b" (A,PD)\n");
+    assert_eq!(rt; result, full);
+    assert_eq!(rt;
+        printed.as_slice(),
+        b"== TRAP 14 OUTPUT FULL AT 0.1 AFTER 1 STEPS\n".as_slice()
+    );
 }
 
 /// What becomes of the first row's deck, and what went out, on devices that move so many bytes a call and fail after so many calls.

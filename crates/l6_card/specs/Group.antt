@@ -5,6 +5,7 @@ use Rattle.std.specs.List.{slice_split}
 use Rattle.l6_prog.specs.declared.operand.Operand.{Operand}
 use Rattle.l6_prog.specs.declared.operation.Op.{Op}
 use Rattle.l6_prog.specs.declared.operation.Op.TheVariants as op
+use Rattle.l6_card.specs.declared.letters.TheConstants.{A, D, E, P}
 use Rattle.l6_card.specs.declared.group.Verb.{Verb}
 use Rattle.l6_card.specs.declared.group.Verb.TheVariants.{Set, Add, PrintDecimal}
 use Rattle.l6_card.specs.Element.{names_of, chain_of, operand_of}
@@ -17,11 +18,11 @@ is_comma byte = byte == 44
 abbrev pub elements_of : List ℕ → List (List ℕ)
 elements_of columns = slice_split is_comma columns
 
--- the operation that these names spell: E (14) sets, A (10) adds, PD (25, 13) prints in decimal
+-- the operation that these names spell: E sets, A adds, PD prints in decimal
 abbrev pub verb_from : List ℕ → Option Verb
 verb_from [] = None
-verb_from (name ∷ []) = if name == 14 then Some Set else if name == 10 then Some Add else None
-verb_from (first ∷ second ∷ []) = if first == 25 && second == 13 then Some PrintDecimal else None
+verb_from (name ∷ []) = if name == E then Some Set else if name == A then Some Add else None
+verb_from (first ∷ second ∷ []) = if first == P && second == D then Some PrintDecimal else None
 verb_from (first ∷ second ∷ third ∷ others) = None
 
 -- the operation that an element spells

@@ -19,13 +19,10 @@ pub(crate) fn is_blank(byte: u8) -> bool
 fn name_of(byte: u8) -> Option<Name>
     ensures { result ≡ spec.name_of byte }
 {
-    match code_of(byte) {
-        None => None,
-        Some(code) => match code {
-            16..=25 => Name::new(code - 16),
-            33..=58 => Name::new(code - 23),
-            _ => None,
-        },
+    match code_of(byte)? {
+        code @ 16..=25 => Name::new(code - 16),
+        code @ 33..=58 => Name::new(code - 23),
+        _ => None,
     }
 }
 
@@ -73,10 +70,7 @@ fn operand_from(names: &[Name]) -> Option<Operand>
 {
     match Chain::new(names) {
         Some(chain) => Some(Operand::Chain(chain)),
-        None => match number_from(names) {
-            Some(number) => Some(Operand::Number(number)),
-            None => None,
-        },
+        None => Some(Operand::Number(number_from(names)?)),
     }
 }
 
@@ -85,10 +79,7 @@ pub(crate) fn chain_of(element: &[u8]) -> Option<Chain>
     requires { length element.now ≤ CARD_WIDTH }
     ensures { result ≡ spec.chain_of element.now }
 {
-    match names_of(element) {
-        Some(names) => Chain::new(names.as_slice()),
-        None => None,
-    }
+    Chain::new(names_of(element)?.as_slice())
 }
 
 /// The operand that an element spells.
@@ -96,8 +87,5 @@ pub(crate) fn operand_of(element: &[u8]) -> Option<Operand>
     requires { length element.now ≤ CARD_WIDTH }
     ensures { result ≡ spec.operand_of element.now }
 {
-    match names_of(element) {
-        Some(names) => operand_from(names.as_slice()),
-        None => None,
-    }
+    operand_from(names_of(element)?.as_slice())
 }

@@ -5,6 +5,7 @@ ghost use Rattle.l6_card.specs.Group as spec;
 ghost use Rattle.l6_card.specs.Element as element;
 
 use crate::element::{chain_of, names_of, operand_of};
+use crate::letters::{A, D, E, P};
 use crate::limits::CARD_WIDTH;
 use crate::split::split_at_mark;
 use l6_prog::{Name, Op};
@@ -26,14 +27,12 @@ pub(crate) fn reading_of(columns: &[u8]) -> Option<Op>
     requires { length columns.now ≤ CARD_WIDTH }
     ensures { result ≡ spec.reading_of columns.now }
 {
-    match split_at_mark(columns, b',') {
-        None => None,
-        Some((target, others)) => match split_at_mark(others, b',') {
-            None => printing(target, others),
-            Some((verb, operand)) => match split_at_mark(operand, b',') {
-                None => storing(target, verb, operand),
-                Some(_) => None,
-            },
+    let (target, others) = split_at_mark(columns, b',')?;
+    match split_at_mark(others, b',') {
+        None => printing(target, others),
+        Some((verb, operand)) => match split_at_mark(operand, b',') {
+            None => storing(target, verb, operand),
+            Some(_) => None,
         },
     }
 }
@@ -44,14 +43,10 @@ fn printing(target: &[u8], verb: &[u8]) -> Option<Op>
     requires verb { length verb.now ≤ CARD_WIDTH }
     ensures { result ≡ spec.printing (element.chain_of target.now) (spec.verb_of verb.now) }
 {
-    match chain_of(target) {
-        None => None,
-        Some(chain) => match verb_of(verb) {
-            Some(Verb::PrintDecimal) => Some(Op::PrintDecimal(chain)),
-            Some(Verb::Set) => None,
-            Some(Verb::Add) => None,
-            None => None,
-        },
+    let chain = chain_of(target)?;
+    match verb_of(verb)? {
+        Verb::PrintDecimal => Some(Op::PrintDecimal(chain)),
+        Verb::Set | Verb::Add => None,
     }
 }
 
@@ -64,19 +59,13 @@ fn storing(target: &[u8], verb: &[u8], operand: &[u8]) -> Option<Op>
         let verb = spec.verb_of verb.now in
         result ≡ spec.storing target verb (element.operand_of operand.now) }
 {
-    match chain_of(target) {
-        None => None,
-        Some(chain) => match verb_of(verb) {
-            None => None,
-            Some(verb) => match operand_of(operand) {
-                None => None,
-                Some(operand) => match verb {
-                    Verb::Set => Some(Op::Set(chain, operand)),
-                    Verb::Add => Some(Op::Add(chain, operand)),
-                    Verb::PrintDecimal => None,
-                },
-            },
-        },
+    let chain = chain_of(target)?;
+    let verb = verb_of(verb)?;
+    let operand = operand_of(operand)?;
+    match verb {
+        Verb::Set => Some(Op::Set(chain, operand)),
+        Verb::Add => Some(Op::Add(chain, operand)),
+        Verb::PrintDecimal => None,
     }
 }
 
@@ -85,29 +74,23 @@ fn verb_of(element: &[u8]) -> Option<Verb>
     requires { length element.now ≤ CARD_WIDTH }
     ensures { result ≡ spec.verb_of element.now }
 {
-    match names_of(element) {
-        Some(names) => verb_from(names.as_slice()),
-        None => None,
-    }
+    verb_from(names_of(element)?.as_slice())
 }
 
-/// What these names spell: `E` is the name 14, `A` 10, `P` 25 and `D` 13.
+/// What these names spell.
 fn verb_from(names: &[Name]) -> Option<Verb>
     ensures { result ≡ spec.verb_from names.now }
 {
     match names {
         [name] => match name.number() {
-            14 => Some(Verb::Set),
-            10 => Some(Verb::Add),
+            E => Some(Verb::Set),
+            A => Some(Verb::Add),
             _ => None,
         },
-        [first, second] => {
-            if first.number() == 25 && second.number() == 13 {
-                Some(Verb::PrintDecimal)
-            } else {
-                None
-            }
-        }
+        [first, second] => match (first.number(), second.number()) {
+            (P, D) => Some(Verb::PrintDecimal),
+            _ => None,
+        },
         _ => None,
     }
 }

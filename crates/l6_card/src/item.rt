@@ -49,12 +49,10 @@ fn first_group(inside: &[u8]) -> Option<(&[u8], &[u8])>
     ensures columns { IfSome result (λ parts. length parts.0.now ≤ length inside.now) }
     ensures behind { IfSome result (λ parts. length parts.1.now < length inside.now) }
 {
-    match split_at_mark(inside, b')') {
-        None => None,
-        Some((columns, behind)) => match split_at_mark(columns, b'(') {
-            None => Some((columns, behind)),
-            Some(_) => None,
-        },
+    let (columns, behind) = split_at_mark(inside, b')')?;
+    match split_at_mark(columns, b'(') {
+        None => Some((columns, behind)),
+        Some(_) => None,
     }
 }
 

@@ -9,12 +9,11 @@ mod fault;
 mod group;
 mod item;
 mod laws;
+mod letters;
 mod limits;
 mod line;
 mod reader;
 mod split;
-#[cfg(test)]
-mod tests;
 
 pub use cards::{Cards, Written};
 pub use deck::read_deck;

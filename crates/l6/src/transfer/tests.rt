@@ -1,8 +1,9 @@
 //! Transfers over memory, and over devices that have trouble in mid-stream.
+
 ghost use Rattle.std.specs.Prelude.{◌≤◌, IfOk};
 
 use super::*;
-use crate::device::Host;
+use crate::device::{Host, Sink, Source, Trouble};
 use crate::fault::DECK_LIMIT;
 use std::io;
 use std::io::ErrorKind;
@@ -75,7 +76,16 @@ fn a_deck_ends_at_its_limit(rt: HostRuntime) -> Result<(), Fail> {
 
 #[test]
 fn trouble_ends_a_transfer(rt: HostRuntime) {
-    for kind in [Some(ErrorKind::Interrupted), Some(ErrorKind::Other)] {
+    let troubles = [
+        (ErrorKind::Interrupted, Trouble::Interrupted),
+        (ErrorKind::Other, Trouble::Failed),
+    ];
+    for (kind, trouble) in troubles {
+        let kind = Some(kind);
+        let mut faltered = Host::new(Faltering { calls: 2, kind });
+        assert_eq!(rt; faltered.read(&mut [0; 4]), Err(trouble));
+        let mut faltered = Host::new(Faltering { calls: 2, kind });
+        assert_eq!(rt; faltered.write(b"page"), Err(trouble));
         let mut reader = Host::new(Faltering { calls: 0, kind });
         let answer = read_part(rt.alloc(), &mut reader, Part::Job);
         assert_eq!(rt; answer.err(), Some(RunFault::Read(Part::Job)));

@@ -1,11 +1,11 @@
 use Rattle.l6_card.proofs.Bodies.{unclosed-lacks, unclosed-open, closed-cut}
 use Rattle.l6_card.proofs.item.first_group.Goals as goal
 
+pub returns-in_err-columns-clause-group : goal.returns-in_err-columns-clause-group
+returns-in_err-columns-clause-group c = rw c.from_residual.ensures (unclosed-lacks c.args.inside.now c.in_err-columns.ensures.none)
+
 pub returns-in-None-clause-group : goal.returns-in-None-clause-group
-returns-in-None-clause-group c = unclosed-lacks c.args.inside.now c.in-None.ensures.none
+returns-in-None-clause-group c = closed-cut c.in_ok-columns.ensures.parts c.in-None.ensures.none
 
-pub returns-in-None-split_at_mark-clause-group : goal.returns-in-None-split_at_mark-clause-group
-returns-in-None-split_at_mark-clause-group c = closed-cut c.in-Some.ensures.parts c.in-None-split_at_mark.ensures.none
-
-pub returns-in-Some-split_at_mark-clause-group : goal.returns-in-Some-split_at_mark-clause-group
-returns-in-Some-split_at_mark-clause-group c = unclosed-open c.in-Some.ensures.parts c.in-Some-split_at_mark.ensures.parts
+pub returns-in-Some-clause-group : goal.returns-in-Some-clause-group
+returns-in-Some-clause-group c = unclosed-open c.in_ok-columns.ensures.parts c.in-Some.ensures.parts

@@ -14,6 +14,8 @@ mod limits;
 mod line;
 mod reader;
 mod split;
+#[cfg(test)]
+mod tests;
 
 pub use cards::{Cards, Written};
 pub use deck::read_deck;

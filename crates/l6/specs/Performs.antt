@@ -2,13 +2,13 @@
 use Rattle.std.specs.Prelude.{◌≡◌, ℕ, ◌<◌, ◌≤◌, Bool, List, length, take, Option, Result, Ok, Err}
 use Rattle.std.specs.Io.KnownBytes.{Appends}
 use Rattle.l6_prog.specs.Statement.{Parts}
+use Rattle.l6_card.specs.declared.limits.TheConstants.{MAX_DECK_BYTES}
 use Rattle.l6_machine.specs.Run.{EndsIn}
 use Rattle.l6_machine.specs.State.{State}
 use Rattle.l6.specs.declared.ending.Ending.{Ending}
 use Rattle.l6.specs.declared.fault.Part.TheVariants.{Deck, Job}
 use Rattle.l6.specs.declared.fault.RunFault.{RunFault}
 use Rattle.l6.specs.declared.fault.RunFault.TheVariants.{TooLong, Asm, Read, Write, NoMemory}
-use Rattle.l6.specs.declared.fault.TheConstants.{DECK_LIMIT}
 use Rattle.l6.specs.declared.job.Outcome.{Outcome}
 use Rattle.l6.specs.declared.job.Outcome.TheVariants.{Ran}
 use Rattle.l6.specs.Options.{Choice}
@@ -42,12 +42,12 @@ pub record PrintsFront (options : Choice) (deck : List ℕ) (taken taken' : Opti
 
 -- what became of a deck that was to be run
 abbrev pub RunsDeck : Choice → List ℕ → Option (List ℕ) → Option (List ℕ) → Result Outcome RunFault → Type 0
-RunsDeck options deck taken taken' (Ok (Ran ending)) = (length deck ≤ DECK_LIMIT) × PrintsWhole options deck taken taken' ending
-RunsDeck options deck taken taken' (Err (TooLong Deck)) = DECK_LIMIT < length deck
+RunsDeck options deck taken taken' (Ok (Ran ending)) = (length deck ≤ MAX_DECK_BYTES) × PrintsWhole options deck taken taken' ending
+RunsDeck options deck taken taken' (Err (TooLong Deck)) = MAX_DECK_BYTES < length deck
 RunsDeck options deck taken taken' (Err (TooLong Job)) = ⊥
-RunsDeck options deck taken taken' (Err (Asm fault)) = (length deck ≤ DECK_LIMIT) × IsRefused deck fault
+RunsDeck options deck taken taken' (Err (Asm fault)) = (length deck ≤ MAX_DECK_BYTES) × IsRefused deck fault
 RunsDeck options deck taken taken' (Err (Read part)) = ⊥
-RunsDeck options deck taken taken' (Err (Write n)) = (length deck ≤ DECK_LIMIT) × PrintsFront options deck taken taken' n
+RunsDeck options deck taken taken' (Err (Write n)) = (length deck ≤ MAX_DECK_BYTES) × PrintsFront options deck taken taken' n
 RunsDeck options deck taken taken' (Err NoMemory) = Unit {0}
 
 -- the reader gave a whole job, and this became of it as a deck that was to be run

@@ -3,12 +3,11 @@ use Rattle.std.specs.Prelude.{◌≡◌, ℕ, List, [], ◌∷◌, ◌++◌, map
 use Rattle.l6_prog.specs.declared.condition.Cond.TheVariants.{Always}
 use Rattle.l6_prog.specs.declared.exit.Exit.TheVariants.{Next}
 use Rattle.l6_prog.specs.Statement.{Parts, plain_done}
-use Rattle.l6_card.specs.declared.fault.CardFault.TheVariants as cards
+use Rattle.l6_card.specs.declared.fault.CardFault.{CardFault}
+use Rattle.l6_card.specs.declared.fault.CardFault.TheVariants.{Form, Limit, NoMemory}
 use Rattle.l6_card.specs.Fault.{fault_of}
 use Rattle.l6_card.specs.Reads.{Reads}
 use Rattle.l6_card.specs.Written.{Parts as Written}
-use Rattle.l6.specs.declared.fault.AsmFault.{AsmFault}
-use Rattle.l6.specs.declared.fault.AsmFault.TheVariants.{Form, Limit, NoMemory}
 
 -- the statement of a program that a written one stands for: without a condition, and the next statement follows
 abbrev pub statement_of : Written → Parts
@@ -33,19 +32,13 @@ pub record SpellsJust (deck : List ℕ) (program : List Parts) : Type 0 where
   pub spells : Spells deck program
   pub only : (other : List Parts) → Spells deck other → other ≡ program
 
--- the fault is the deck's: the first objection to it
-abbrev pub IsFaultOf : List ℕ → AsmFault → Type 0
-IsFaultOf deck (Form card) = fault_of deck ≡ Some (cards.Form card)
-IsFaultOf deck (Limit card) = fault_of deck ≡ Some (cards.Limit card)
-IsFaultOf deck NoMemory = ⊥
-
--- the deck is refused for its fault, and spells no program
-pub record IsRefused (deck : List ℕ) (fault : AsmFault) : Type 0 where
-  pub first : IsFaultOf deck fault
+-- the deck is refused for its fault, the first objection to it, and spells no program
+pub record IsRefused (deck : List ℕ) (fault : CardFault) : Type 0 where
+  pub first : fault_of deck ≡ Some fault
   pub nothing : SpellsNothing deck
 
 -- why a deck was not assembled: want of memory says nothing of it
-abbrev pub Refuses : List ℕ → AsmFault → Type 0
+abbrev pub Refuses : List ℕ → CardFault → Type 0
 Refuses deck NoMemory = Unit {0}
 Refuses deck (Form card) = IsRefused deck (Form card)
 Refuses deck (Limit card) = IsRefused deck (Limit card)

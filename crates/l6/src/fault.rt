@@ -1,18 +1,16 @@
 //! The parts of a job, and why a job is not done.
 
 ghost use Rattle.std.specs.Prelude.{◌≡◌, ◌≤◌, ℕ, Some};
-ghost use Rattle.l6.specs.Fault.{limit_of, name_of};
+ghost use Rattle.l6.specs.Fault.{limit_of, name_of, refusal_from};
 ghost use Rattle.l6.specs.declared.fault.RunFault.TheVariants.{NoMemory};
 
+use l6_card::{CardFault, MAX_DECK_BYTES};
 use std::alloc::AllocError;
 use std::fmt;
 use thiserror::Error;
 
-/// The most bytes that a deck may have.
-pub const DECK_LIMIT: usize = 1_048_576;
-
 /// The most bytes that a job may have.
-pub const JOB_LIMIT: usize = 16_777_216;
+pub const MAX_JOB_BYTES: usize = 16_777_216;
 
 /// A part of a job.
 #[derive(Clone, Copy, Debug, PartialEq, Eq)]
@@ -27,11 +25,11 @@ impl Part {
     /// The most bytes that the part may have.
     pub fn limit(self) -> usize
         ensures value { result ≡ limit_of self }
-        ensures within { result ≤ JOB_LIMIT }
+        ensures within { result ≤ MAX_JOB_BYTES }
     {
         match self {
-            Part::Deck => DECK_LIMIT,
-            Part::Job => JOB_LIMIT,
+            Part::Deck => MAX_DECK_BYTES,
+            Part::Job => MAX_JOB_BYTES,
         }
     }
 }
@@ -47,19 +45,8 @@ impl fmt::Display for Part {
     }
 }
 
-/// Why a deck spells no program. Its cards are counted from 1.
-#[derive(Clone, Copy, Debug, PartialEq, Eq, Error)]
-pub enum AsmFault {
-    /// The card has no reading.
-    #[error("card {0}: no reading")]
-    Form(u32),
-    /// The card takes the program past a limit.
-    #[error("card {0}: past a limit")]
-    Limit(u32),
-    /// Memory ran out.
-    #[error("out of memory")]
-    NoMemory,
-}
+/// Why a deck spells no program: so far, why it cannot be read.
+pub type AsmFault = CardFault;
 
 /// Why a job was not done.
 #[derive(Clone, Copy, Debug, PartialEq, Eq, Error)]
@@ -86,6 +73,17 @@ impl From<AllocError> for RunFault {
 
     fn from(_error: AllocError) -> RunFault {
         RunFault::NoMemory
+    }
+}
+
+impl From<AsmFault> for RunFault {
+    ghost from_gives = { λ asm fault. fault ≡ refusal_from asm };
+
+    fn from(fault: AsmFault) -> Self {
+        match fault {
+            AsmFault::NoMemory => RunFault::NoMemory,
+            AsmFault::Form(_) | AsmFault::Limit(_) => RunFault::Asm(fault),
+        }
     }
 }
 

@@ -8,12 +8,13 @@ ghost use Rattle.l6.specs.Transfer.{GivesAtMost};
 use crate::assemble::assemble;
 use crate::device::{Sink, Source};
 use crate::ending::Ending;
-use crate::fault::{AsmFault, DECK_LIMIT, JOB_LIMIT, Part, RunFault};
+use crate::fault::{AsmFault, MAX_JOB_BYTES, Part, RunFault};
 use crate::options::Options;
 use crate::printout::{ending, printout};
 use crate::run::run_to_end;
 use crate::transfer::{read_part, write_text};
-use l6_machine::Machine;
+use l6_card::MAX_DECK_BYTES;
+use l6_machine::{Machine, MachineFault};
 use std::alloc::Global;
 
 /// What is to be done with a job.
@@ -46,7 +47,7 @@ pub fn perform<R: Source, W: Sink>(
     ensures done { Performs options (R.left reader.old) (R.left reader.new)
         (W.taken writer.old) (W.taken writer.new) result }
     ensures unwritten { IsUnwritten result → writer.new ≡ writer.old }
-    ensures at_most { GivesAtMost (JOB_LIMIT + 1) (R.left reader.old) (R.left reader.new) }
+    ensures at_most { GivesAtMost (MAX_JOB_BYTES + 1) (R.left reader.old) (R.left reader.new) }
 
     // How the devices fared.
     ensures reader_fared { ReaderFared (R.interruptions reader.old) (R.interruptions reader.new)
@@ -54,11 +55,9 @@ pub fn perform<R: Source, W: Sink>(
     ensures writer_fared { WriterFared (W.interruptions writer.old) (W.interruptions writer.new)
         (W.has_failed writer.old) (W.has_failed writer.new) result }
 {
-    match read_part(alloc, reader, Part::Job) {
-        Ok(job) => match verb {
-            Verb::Run => run_deck(alloc, options, job.as_slice(), writer),
-        },
-        Err(fault) => Err(fault),
+    let job = read_part(alloc, reader, Part::Job)?;
+    match verb {
+        Verb::Run => run_deck(alloc, options, job.as_slice(), writer),
     }
 }
 
@@ -74,36 +73,27 @@ fn run_deck<W: Sink>(
     ensures fared { WriterFared (W.interruptions writer.old) (W.interruptions writer.new)
         (W.has_failed writer.old) (W.has_failed writer.new) result }
 {
-    if deck.len() > DECK_LIMIT {
+    if deck.len() > MAX_DECK_BYTES {
         return Err(RunFault::TooLong(Part::Deck));
     }
-    let (ending, text) = match printout_of(alloc, options, deck) {
-        Ok(found) => found,
-        Err(fault) => return Err(RunFault::from(fault)),
-    };
-    match write_text(writer, text.as_slice(), 0) {
-        Ok(()) => Ok(Outcome::Ran(ending)),
-        Err(fault) => Err(fault),
-    }
+    let (ending, text) = printout_of(alloc, options, deck)?;
+    write_text(writer, text.as_slice(), 0)?;
+    Ok(Outcome::Ran(ending))
 }
 
 /// How the run of a deck ends, and what it prints.
 fn printout_of(alloc: Global, options: Options, deck: &[u8]) -> Result<(Ending, Vec<u8>), AsmFault>
-    requires { length deck.now ≤ DECK_LIMIT }
+    requires { length deck.now ≤ MAX_DECK_BYTES }
     ensures prints { IfOk result (λ found. Prints options deck.now found.0 found.1.items) }
     ensures refuses { IfErr result (Refuses deck.now) }
 {
-    let program = match assemble(alloc, deck) {
-        Ok(program) => program,
-        Err(fault) => return Err(fault),
-    };
+    let program = assemble(alloc, deck)?;
     let mut machine = match Machine::new(alloc, &program, &[], options.limits()) {
         Ok(machine) => machine,
-        Err(_) => return Err(AsmFault::NoMemory),
+        Err(MachineFault::NoMemory) => return Err(AsmFault::NoMemory),
+        Err(MachineFault::BadLimits) => unreachable!(),
     };
     run_to_end(&mut machine);
-    match printout(alloc, &machine) {
-        Ok(text) => Ok((ending(&machine), text)),
-        Err(_) => Err(AsmFault::NoMemory),
-    }
+    let text = printout(alloc, &machine)?;
+    Ok((ending(&machine), text))
 }

@@ -4,7 +4,8 @@ use Rattle.std.specs.Option.{option_or}
 use Rattle.l6_prog.specs.declared.operation.Op.{Op}
 use Rattle.l6_card.specs.declared.fault.CardFault.{CardFault}
 use Rattle.l6_card.specs.declared.fault.CardFault.TheVariants.{Form, Limit}
-use Rattle.l6_card.specs.declared.limits.TheConstants.{MAX_STATEMENTS, MAX_OPERATIONS}
+use Rattle.l6_prog.specs.declared.program.TheConstants.{MAX_OPERATIONS}
+use Rattle.l6_card.specs.declared.limits.TheConstants.{MAX_WRITTEN}
 use Rattle.l6_card.specs.Items.{Item, group, word, unclosed, unopened}
 use Rattle.l6_card.specs.Group.{reading_of}
 use Rattle.l6_card.specs.Draft.{Draft, empty_draft, operation_count, with_item}
@@ -45,7 +46,7 @@ objection_of_item card draft (unopened columns) = Some (Form card)
 -- what a piece objects after so many statements and this draft
 abbrev pub objection_after : ℕ → Draft → Piece → Option CardFault
 objection_after statements draft ends = None
-objection_after statements draft (begins card) = limit_unless_room card statements MAX_STATEMENTS
+objection_after statements draft (begins card) = limit_unless_room card statements MAX_WRITTEN
 objection_after statements draft (no_column card) = Some (Form card)
 objection_after statements draft (item card i) = objection_of_item card draft i
 

@@ -2,7 +2,8 @@
 use Rattle.std.specs.Prelude.{◌≡◌, ℕ, ◌≤◌, List, [], ◌∷◌, length, nat_le, Bool, true, Some}
 use Rattle.std.specs.List.{list_all}
 use Rattle.l6_prog.specs.declared.operation.Op.{Op}
-use Rattle.l6_card.specs.declared.limits.TheConstants.{MAX_STATEMENTS, MAX_OPERATIONS}
+use Rattle.l6_prog.specs.declared.program.TheConstants.{MAX_OPERATIONS}
+use Rattle.l6_card.specs.declared.limits.TheConstants.{MAX_WRITTEN}
 use Rattle.l6_card.specs.Items.{Item, group, word, unclosed, unopened, items_of}
 use Rattle.l6_card.specs.Group.{reading_of}
 use Rattle.l6_card.specs.Card.{Card, skipped, plain, unknown, cards_of}
@@ -35,7 +36,7 @@ CardsSay (unknown ∷ cards) statements = ⊥
 -- the deck says these statements, and they are not too many
 pub record Reads (deck : List ℕ) (statements : List Parts) : Type 0 where
   pub cards : CardsSay (cards_of deck) statements
-  pub fits : length statements ≤ MAX_STATEMENTS
+  pub fits : length statements ≤ MAX_WRITTEN
 
 -- the statement has no more operations than it may have
 abbrev pub has_few_operations : Parts → Bool
@@ -43,5 +44,5 @@ has_few_operations statement = nat_le (length statement.operations) MAX_OPERATIO
 
 -- the statements are no more than a deck may write, and so are the operations of each
 pub record AreWithinLimits (statements : List Parts) : Type 0 where
-  pub count : length statements ≤ MAX_STATEMENTS
+  pub count : length statements ≤ MAX_WRITTEN
   pub operations : list_all has_few_operations statements ≡ true

@@ -30,14 +30,9 @@ pub fn read_deck(alloc: Global, deck: &[u8]) -> Result<Cards, CardFault>
     let mut card: u32 = 0;
     while let Some((line, behind)) = first_line(rest) {
         card += 1;
-        match reader.take_card(card, columns_of(line)) {
-            Ok(()) => {}
-            Err(fault) => return Err(fault),
-        }
+        reader.take_card(card, columns_of(line))?;
         rest = behind;
     }
-    match reader.end() {
-        Ok(()) => Ok(Cards::new(reader.into_statements())),
-        Err(fault) => Err(fault),
-    }
+    reader.end()?;
+    Ok(Cards::new(reader.into_statements()))
 }

@@ -35,10 +35,7 @@ pub(crate) fn names_of(element: &[u8]) -> Option<ArrayVec<Name, CARD_WIDTH>>
     let mut names = ArrayVec::new();
     for byte in element {
         if !is_blank(*byte) {
-            match name_of(*byte) {
-                Some(name) => names.push(name),
-                None => return None,
-            }
+            names.push(name_of(*byte)?);
         }
     }
     Some(names)

@@ -1,5 +1,9 @@
 //! Why a deck cannot be read.
 
+ghost use Rattle.std.specs.Prelude.{◌≡◌};
+ghost use Rattle.l6_card.specs.declared.fault.CardFault.TheVariants.{NoMemory};
+
+use std::alloc::AllocError;
 use thiserror::Error;
 
 /// Why a deck cannot be read. Cards are numbered from 1.
@@ -14,4 +18,12 @@ pub enum CardFault {
     /// Memory ran out. This says nothing of the deck.
     #[error("out of memory")]
     NoMemory,
+}
+
+impl From<AllocError> for CardFault {
+    ghost from_gives = { λ _ fault. fault ≡ NoMemory };
+
+    fn from(_error: AllocError) -> Self {
+        CardFault::NoMemory
+    }
 }

@@ -1,10 +1,10 @@
 //! The limits of a deck.
 
+use l6_prog::MAX_STATEMENTS;
+
 /// How many bytes a deck may have.
-pub const MAX_DECK_BYTES: usize = 1048576;
+pub const MAX_DECK_BYTES: usize = 1_048_576;
 /// How many columns of a card count.
 pub const CARD_WIDTH: usize = 72;
 /// How many statements a deck may write. The plain `DONE` that ends every program comes on top.
-pub const MAX_STATEMENTS: usize = 4094;
-/// How many operations a statement may have.
-pub const MAX_OPERATIONS: usize = 63;
+pub const MAX_WRITTEN: usize = MAX_STATEMENTS - 1;

@@ -11,8 +11,8 @@ use crate::cards::Written;
 use crate::fault::CardFault;
 use crate::group::reading_of;
 use crate::item::{First, first_item};
-use crate::limits::{CARD_WIDTH, MAX_OPERATIONS, MAX_STATEMENTS};
-use l6_prog::Op;
+use crate::limits::{CARD_WIDTH, MAX_WRITTEN};
+use l6_prog::{MAX_OPERATIONS, Op};
 use std::alloc::Global;
 use std::mem;
 
@@ -55,10 +55,9 @@ impl Reader {
             return Ok(());
         }
         self.is_open = false;
-        match self.statements.push(Written::new(operations)) {
-            Ok(()) => Ok(()),
-            Err(_) => Err(CardFault::NoMemory),
-        }
+        self.statements
+            .push(Written::new(operations))
+            .map_err(|_| CardFault::NoMemory)
     }
 
     /// The card begins a statement.
@@ -66,16 +65,12 @@ impl Reader {
         ensures { let pieces = ends ∷ begins card ∷ [] in
             Follows result (known_by self.new) (taking_all (known_by self.old) pieces) }
     {
-        match self.end() {
-            Ok(()) => {
-                if self.statements.len() >= MAX_STATEMENTS {
-                    return Err(CardFault::Limit(card));
-                }
-                self.is_open = true;
-                Ok(())
-            }
-            Err(fault) => Err(fault),
+        self.end()?;
+        if self.statements.len() >= MAX_WRITTEN {
+            return Err(CardFault::Limit(card));
         }
+        self.is_open = true;
+        Ok(())
     }
 
     /// The card has a group with these columns between its parentheses.
@@ -84,18 +79,13 @@ impl Reader {
         ensures { let piece = item card (group columns.now) in
             Follows result (known_by self.new) (taking (known_by self.old) piece) }
     {
-        match reading_of(columns) {
-            None => Err(CardFault::Form(card)),
-            Some(operation) => {
-                if self.operations.len() >= MAX_OPERATIONS {
-                    return Err(CardFault::Limit(card));
-                }
-                match self.operations.push(operation) {
-                    Ok(()) => Ok(()),
-                    Err(_) => Err(CardFault::NoMemory),
-                }
-            }
+        let operation = reading_of(columns).ok_or(CardFault::Form(card))?;
+        if self.operations.len() >= MAX_OPERATIONS {
+            return Err(CardFault::Limit(card));
         }
+        self.operations
+            .push(operation)
+            .map_err(|_| CardFault::NoMemory)
     }
 
     /// The card has the items of this body.
@@ -110,10 +100,7 @@ impl Reader {
                 First::End => return Ok(()),
                 First::Other => return Err(CardFault::Form(card)),
                 First::Group(columns, behind) => {
-                    match self.take_group(card, columns) {
-                        Ok(()) => {}
-                        Err(fault) => return Err(fault),
-                    }
+                    self.take_group(card, columns)?;
                     rest = behind;
                 }
             }
@@ -128,14 +115,14 @@ impl Reader {
     {
         match kind_of(columns) {
             Kind::Skipped => Ok(()),
-            Kind::Plain(body) => match self.begin(card) {
-                Ok(()) => self.take_items(card, body),
-                Err(fault) => Err(fault),
-            },
-            Kind::Unknown => match self.end() {
-                Ok(()) => Err(CardFault::Form(card)),
-                Err(fault) => Err(fault),
-            },
+            Kind::Plain(body) => {
+                self.begin(card)?;
+                self.take_items(card, body)
+            }
+            Kind::Unknown => {
+                self.end()?;
+                Err(CardFault::Form(card))
+            }
         }
     }
 }

@@ -16,5 +16,5 @@ pub use exit::Exit;
 pub use name::Name;
 pub use operand::Operand;
 pub use operation::Op;
-pub use program::{ProgFault, Program};
+pub use program::{MAX_OPERATIONS, MAX_STATEMENTS, MAX_TESTS, ProgFault, Program};
 pub use statement::Statement;

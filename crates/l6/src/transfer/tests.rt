@@ -4,7 +4,7 @@ ghost use Rattle.std.specs.Prelude.{◌≤◌, IfOk};
 
 use super::*;
 use crate::device::{Host, Sink, Source, Trouble};
-use crate::fault::DECK_LIMIT;
+use l6_card::MAX_DECK_BYTES;
 use std::io;
 use std::io::ErrorKind;
 use std::test::Fail;
@@ -64,11 +64,11 @@ fn goes_round(rt: HostRuntime) -> Result<(), Fail> {
 
 #[test]
 fn a_deck_ends_at_its_limit(rt: HostRuntime) -> Result<(), Fail> {
-    let bytes = vec![in rt.alloc(); 7; DECK_LIMIT + 1]?;
+    let bytes = vec![in rt.alloc(); 7; MAX_DECK_BYTES + 1]?;
     let all = bytes.as_slice();
-    assert_eq!(rt; all.len(), DECK_LIMIT + 1);
+    assert_eq!(rt; all.len(), MAX_DECK_BYTES + 1);
     let whole = read_part(rt.alloc(), &mut Host::new(&all[1..]), Part::Deck)?;
-    assert_eq!(rt; whole.len(), DECK_LIMIT);
+    assert_eq!(rt; whole.len(), MAX_DECK_BYTES);
     let longer = read_part(rt.alloc(), &mut Host::new(all), Part::Deck);
     assert_eq!(rt; longer.err(), Some(RunFault::TooLong(Part::Deck)));
     Ok(())

@@ -1,4 +1,3 @@
-pub mod Transfers
 pub mod Assembled
 pub mod Examples
 pub mod Printouts

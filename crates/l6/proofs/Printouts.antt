@@ -5,7 +5,7 @@ use Rattle.l6_card.specs.Settled.{ReadsInOneWay}
 use Rattle.l6_machine.specs.Run.{EndsIn, EndsInOneState}
 use Rattle.l6_machine.specs.State.{State}
 use Rattle.l6.specs.Performs.{PrintsInOneWay}
-use Rattle.l6.specs.Printout.{ending_of, printout}
+use Rattle.l6_run.specs.Printout.{ending_of, printout}
 use Rattle.l6.specs.Spells.{Spells, assembled}
 
 -- a deck spells one program

@@ -1,8 +1,3 @@
-pub mod Device
-pub mod Fault
-pub mod Transfer
-pub mod Options
-pub mod Printout
 pub mod Spells
 pub mod Status
 pub mod Performs

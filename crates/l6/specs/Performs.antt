@@ -5,16 +5,16 @@ use Rattle.l6_prog.specs.Statement.{Parts}
 use Rattle.l6_card.specs.declared.limits.TheConstants.{MAX_DECK_BYTES}
 use Rattle.l6_machine.specs.Run.{EndsIn}
 use Rattle.l6_machine.specs.State.{State}
-use Rattle.l6.specs.declared.ending.Ending.{Ending}
-use Rattle.l6.specs.declared.fault.Part.TheVariants.{Deck, Job}
-use Rattle.l6.specs.declared.fault.RunFault.{RunFault}
-use Rattle.l6.specs.declared.fault.RunFault.TheVariants.{TooLong, Asm, Read, Write, NoMemory}
+use Rattle.l6_run.specs.declared.ending.Ending.{Ending}
+use Rattle.l6_run.specs.declared.fault.Part.TheVariants.{Deck, Job}
+use Rattle.l6_run.specs.declared.fault.RunFault.{RunFault}
+use Rattle.l6_run.specs.declared.fault.RunFault.TheVariants.{TooLong, Asm, Read, Write, NoMemory}
 use Rattle.l6.specs.declared.job.Outcome.{Outcome}
 use Rattle.l6.specs.declared.job.Outcome.TheVariants.{Ran}
-use Rattle.l6.specs.Options.{Choice}
-use Rattle.l6.specs.Printout.{ending_of, printout}
+use Rattle.l6_run.specs.Options.{Choice}
+use Rattle.l6_run.specs.Printout.{ending_of, printout}
 use Rattle.l6.specs.Spells.{Spells, IsRefused}
-use Rattle.l6.specs.Transfer.{GivesPart, GivesTooMuch, OneTrouble, NoTrouble}
+use Rattle.l6_run.specs.Transfer.{GivesPart, GivesTooMuch, OneTrouble, NoTrouble}
 
 -- the deck is run under these options, the run ends so, and this is its printout: the deck spells a program, and a whole
 -- run of the program ends in a state with that ending and that printout

@@ -1,8 +1,8 @@
 -- Exit statuses.
 use Rattle.std.specs.Prelude.{ℕ, Result, Ok, Err}
-use Rattle.l6.specs.declared.ending.Ending.TheVariants.{Done, Trap, Limit}
-use Rattle.l6.specs.declared.fault.RunFault.{RunFault}
-use Rattle.l6.specs.declared.fault.RunFault.TheVariants.{TooLong, Asm, Read, Write, NoMemory}
+use Rattle.l6_run.specs.declared.ending.Ending.TheVariants.{Done, Trap, Limit}
+use Rattle.l6_run.specs.declared.fault.RunFault.{RunFault}
+use Rattle.l6_run.specs.declared.fault.RunFault.TheVariants.{TooLong, Asm, Read, Write, NoMemory}
 use Rattle.l6_card.specs.declared.fault.CardFault.TheVariants as asm
 use Rattle.l6.specs.declared.job.Outcome.{Outcome}
 use Rattle.l6.specs.declared.job.Outcome.TheVariants.{Ran}

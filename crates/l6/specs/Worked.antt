@@ -11,8 +11,8 @@ use Rattle.l6_machine.specs.declared.halt.Halt.TheVariants as halts
 use Rattle.l6_machine.specs.declared.trap.Trap.TheVariants.{UndefinedField}
 use Rattle.l6_machine.specs.State.{World, State, start}
 use Rattle.l6_machine.specs.Step.{stepped}
-use Rattle.l6.specs.declared.ending.Ending.TheVariants.{Done}
-use Rattle.l6.specs.Options.{Choice}
+use Rattle.l6_run.specs.declared.ending.Ending.TheVariants.{Done}
+use Rattle.l6_run.specs.Options.{Choice}
 use Rattle.l6.specs.Performs.{Prints}
 use Rattle.l6.specs.Spells.{Spells}
 

@@ -3,9 +3,9 @@
 ghost use Rattle.std.specs.Prelude.{◌≡◌, ◌≤◌, length, IfOk, IfErr, map, ◌++◌, [], ◌∷◌};
 ghost use Rattle.l6.specs.Spells.{SpellsJust, Refuses, assembled};
 
-use crate::fault::AsmFault;
 use l6_card::{Cards, MAX_DECK_BYTES, read_deck};
 use l6_prog::{Cond, Exit, Program, Statement};
+use l6_run::AsmFault;
 use std::alloc::{AllocError, Global};
 
 /// The program that a deck of at most 1,048,576 bytes spells.

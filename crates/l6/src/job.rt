@@ -3,18 +3,15 @@
 ghost use Rattle.std.specs.Prelude.{◌≡◌, ◌+◌, ◌≤◌, length, IfOk, IfErr};
 ghost use Rattle.l6.specs.Performs.{IsUnwritten, Performs, Prints, ReaderFared, RunsDeck, WriterFared};
 ghost use Rattle.l6.specs.Spells.{Refuses};
-ghost use Rattle.l6.specs.Transfer.{GivesAtMost};
+ghost use Rattle.l6_run.specs.Transfer.{GivesAtMost};
 
 use crate::assemble::assemble;
-use crate::device::{Sink, Source};
-use crate::ending::Ending;
-use crate::fault::{AsmFault, MAX_JOB_BYTES, Part, RunFault};
-use crate::options::Options;
-use crate::printout::{ending, printout};
-use crate::run::run_to_end;
-use crate::transfer::{read_part, write_text};
 use l6_card::MAX_DECK_BYTES;
 use l6_machine::{Machine, MachineFault};
+use l6_run::{
+    AsmFault, Ending, MAX_JOB_BYTES, Options, Part, RunFault, Sink, Source, ending_of, printout,
+    read_part, run_to_end, write_text,
+};
 use std::alloc::Global;
 
 /// What is to be done with a job.
@@ -95,5 +92,5 @@ fn printout_of(alloc: Global, options: Options, deck: &[u8]) -> Result<(Ending, 
     };
     run_to_end(&mut machine);
     let text = printout(alloc, &machine)?;
-    Ok((ending(&machine), text))
+    Ok((ending_of(&machine), text))
 }

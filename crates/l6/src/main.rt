@@ -2,23 +2,15 @@
 #![tactic(auto)]
 
 mod assemble;
-mod device;
-mod ending;
-mod fault;
 mod job;
 mod laws;
-mod options;
-mod printout;
-mod run;
 mod status;
 #[cfg(test)]
 mod tests;
-mod transfer;
 mod worked;
 
-use device::Host;
 use job::{Verb, perform};
-use options::Options;
+use l6_run::{Host, Options};
 use std::process::ExitCode;
 
 fn main(rt: HostRuntime) -> ExitCode {

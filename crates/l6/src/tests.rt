@@ -1,13 +1,12 @@
 //! What no clause says: that calls succeed where memory is there, and the printouts of decks worked out by hand.
 
+mod faults;
 mod script;
+mod transfers;
 
-use crate::device::Host;
-use crate::ending::Ending;
-use crate::fault::{AsmFault, Part, RunFault};
 use crate::job::{Outcome, Verb, perform};
-use crate::options::Options;
 use l6_machine::Trap;
+use l6_run::{AsmFault, Ending, Host, Options, Part, RunFault};
 use script::Scripted;
 use std::alloc::Global;
 

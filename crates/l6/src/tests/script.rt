@@ -2,7 +2,7 @@
 
 ghost use Rattle.std.specs.Prelude.{◌||◌};
 
-use crate::device::{Sink, Source, Trouble};
+use l6_run::{Sink, Source, Trouble};
 
 /// A device that moves at most so many bytes a call, and fails after so many calls.
 #[derive(Debug, Drop)]

@@ -1,0 +1,22 @@
+//! The texts of faults.
+
+use l6_run::{AsmFault, Part, RunFault};
+use std::test::Fail;
+
+#[test]
+fn faults_are_told(rt: HostRuntime) -> Result<(), Fail> {
+    for (fault, text) in [
+        (RunFault::TooLong(Part::Deck), "deck too long"),
+        (RunFault::TooLong(Part::Job), "job too long"),
+        (RunFault::Asm(AsmFault::Form(3)), "card 3: no reading"),
+        (RunFault::Asm(AsmFault::Limit(7)), "card 7: past a limit"),
+        (RunFault::Asm(AsmFault::NoMemory), "out of memory"),
+        (RunFault::Read(Part::Job), "read failed"),
+        (RunFault::Write(80), "write failed after 80 bytes"),
+        (RunFault::NoMemory, "out of memory"),
+    ] {
+        let told = fault.to_string(rt.alloc())?;
+        assert_eq!(rt; told.as_str(), text);
+    }
+    Ok(())
+}

@@ -1,0 +1,16 @@
+-- What the read put into the front of the piece is what was appended.
+use Rattle.std.proofs.Common.{arith, take, sym, length-take}
+use Rattle.l6_run.proofs.Transfers.{appended-front}
+use Rattle.l6_run.proofs.transfer.read_more.Goals as goal
+
+pub returns-in_ok-extend_from_slice-in-Ok-clause-ok :
+    goal.returns-in_ok-extend_from_slice-in-Ok-clause-ok
+returns-in_ok-extend_from_slice-in-Ok-clause-ok g c =
+    let read = c.in-Ok.ensures in
+    record {
+      more = take c.in-Ok.count c.read.new.buffer;
+      given = read.bytes.0;
+      appended = appended-front _ _ _ _ _ read.bound.0 c.in_ok-extend_from_slice-in-Ok.ensures.items;
+      counted = sym read.bound.1;
+      ended = λ none. read.bytes.1 none (omega (arith, c.read.auto.buffer, length-take c.min-room.result c.args.piece.now, c.requires.room));
+    }

@@ -1,0 +1,88 @@
+//! The parts of a job, and why a job is not done.
+
+ghost use Rattle.std.specs.Prelude.{◌≡◌, ◌≤◌, ℕ, Some};
+ghost use Rattle.l6_run.specs.Fault.{limit_of, name_of, refusal_from};
+ghost use Rattle.l6_run.specs.declared.fault.RunFault.TheVariants.{NoMemory};
+
+use l6_card::{CardFault, MAX_DECK_BYTES};
+use std::alloc::AllocError;
+use std::fmt;
+use thiserror::Error;
+
+/// The most bytes that a job may have.
+pub const MAX_JOB_BYTES: usize = 16_777_216;
+
+/// A part of a job.
+#[derive(Clone, Copy, Debug, PartialEq, Eq)]
+pub enum Part {
+    /// The cards that spell a program.
+    Deck,
+    /// The whole job.
+    Job,
+}
+
+impl Part {
+    /// The most bytes that the part may have.
+    pub fn limit(self) -> usize
+        ensures value { result ≡ limit_of self }
+        ensures within { result ≤ MAX_JOB_BYTES }
+    {
+        match self {
+            Part::Deck => MAX_DECK_BYTES,
+            Part::Job => MAX_JOB_BYTES,
+        }
+    }
+}
+
+impl fmt::Display for Part {
+    ghost output = { λ part. Some (name_of part) };
+
+    fn fmt<W: fmt::Write>(&self, f: &mut fmt::Formatter<W>) -> fmt::Result {
+        f.write_str(match self {
+            Part::Deck => "deck",
+            Part::Job => "job",
+        })
+    }
+}
+
+/// Why a deck spells no program: so far, why it cannot be read.
+pub type AsmFault = CardFault;
+
+/// Why a job was not done.
+#[derive(Clone, Copy, Debug, PartialEq, Eq, Error)]
+pub enum RunFault {
+    /// The part has more bytes than its limit.
+    #[error("{0} too long")]
+    TooLong(Part),
+    /// The deck spells no program.
+    #[error(transparent)]
+    Asm(AsmFault),
+    /// The part's reader had trouble.
+    #[error("read failed")]
+    Read(Part),
+    /// The writer had trouble after so many bytes of the answer. The count stops at `u64::MAX`.
+    #[error("write failed after {0} bytes")]
+    Write(u64),
+    /// Memory ran out.
+    #[error("out of memory")]
+    NoMemory,
+}
+
+impl From<AllocError> for RunFault {
+    ghost from_gives = { λ _ fault. fault ≡ NoMemory };
+
+    fn from(_error: AllocError) -> RunFault {
+        RunFault::NoMemory
+    }
+}
+
+impl From<AsmFault> for RunFault {
+    ghost from_gives = { λ asm fault. fault ≡ refusal_from asm };
+
+    fn from(fault: AsmFault) -> Self {
+        match fault {
+            AsmFault::NoMemory => RunFault::NoMemory,
+            AsmFault::Form(_) | AsmFault::Limit(_) => RunFault::Asm(fault),
+        }
+    }
+}

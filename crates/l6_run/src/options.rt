@@ -1,0 +1,92 @@
+//! What a user may choose for a run.
+
+ghost use Rattle.std.specs.Prelude.{◌≡◌, ◌↔◌, true, IsSome, IfSome};
+ghost use Rattle.l6_machine.specs.Limits.{are_allowed};
+
+use l6_machine::Limits;
+use std::marker::Model;
+
+/// The most units of 128 words that a store may have.
+pub const MAX_UNITS: u32 = 2_047;
+
+/// The size of the store, and the limits of the run.
+#[derive(Clone, Copy, Debug, PartialEq, Eq)]
+pub struct Options {
+    units: u32,
+    limits: Limits,
+}
+
+impl Model for Options {
+    ghost use Rattle.std.specs.Prelude.{◌≡◌, true};
+    ghost use Rattle.l6_run.specs.Options.{Choice, is_in_range};
+
+    ghost Value = { Choice };
+
+    ghost view = { λ options. record { units = options.units; limits = options.limits } };
+
+    ghost invariant = { λ options. is_in_range (record { units = options.units; limits = options.limits }) ≡ true };
+
+    ghost inverse = { λ choice. record { units = choice.units; limits = choice.limits } };
+}
+
+impl Options {
+    ghost use Rattle.l6_run.specs.Options.{is_in_range};
+
+    /// The options, or `None` out of range: a store of 1 to 2,047 units, 0 to 1,000,000,000 steps, and 0 to
+    /// 16,777,216 bytes of output.
+    pub fn new(units: u32, steps: u64, output: usize) -> Option<Self>
+        ensures valid { IsSome result ↔ (is_in_range (record { units = units; limits = record { steps = steps; output = output } }) ≡ true) }
+        ensures value { IfSome result (λ options. options ≡ record { units = units; limits = record { steps = steps; output = output } }) }
+    {
+        let limits = Limits { steps, output };
+        if 1 <= units && units <= MAX_UNITS && limits.are_allowed() {
+            Some(Options { units, limits })
+        } else {
+            None
+        }
+    }
+
+    /// How many units of 128 words the store has.
+    pub fn units(self) -> u32
+        ensures { result ≡ self.units }
+    {
+        self.units
+    }
+
+    /// How many steps the run may count.
+    pub fn steps(self) -> u64
+        ensures { result ≡ self.limits.steps }
+    {
+        self.limits.steps
+    }
+
+    /// How many bytes the run may print.
+    pub fn output(self) -> usize
+        ensures { result ≡ self.limits.output }
+    {
+        self.limits.output
+    }
+
+    /// The limits of the run.
+    pub fn limits(self) -> Limits
+        ensures value { result ≡ self.limits }
+        ensures allowed { are_allowed result ≡ true }
+    {
+        self.limits
+    }
+}
+
+/// A store of 64 units, 1,000,000 steps, and 1,048,576 bytes of output.
+impl Default for Options {
+    ghost is_default = { λ options. options ≡ record { units = 64; limits = record { steps = 1000000; output = 1048576 } } };
+
+    fn default() -> Self {
+        Options {
+            units: 64,
+            limits: Limits {
+                steps: 1_000_000,
+                output: 1_048_576,
+            },
+        }
+    }
+}

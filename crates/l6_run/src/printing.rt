@@ -1,0 +1,94 @@
+//! The printout of a run: its output, and a line that tells how it has ended.
+
+ghost use Rattle.std.specs.Prelude.{◌≡◌, ◌++◌, true, OnOk, IfOk, codes, decimal, ◌-◌, length, slice_get};
+ghost use Rattle.l6_machine.specs.State.{is_last};
+ghost use Rattle.l6_run.specs.Printout.{ending_of, words, ending_line, printout, lacks_line_feed};
+
+use crate::ending::Ending;
+use itoa::{Buffer, Integer};
+use l6_machine::{Halt, Machine, Position, Trap};
+use std::alloc::{AllocError, Global};
+
+/// How the machine's run has ended. The caller owes a last state.
+pub fn ending_of(machine: &Machine) -> Ending
+    requires { is_last machine.now.world machine.now.state ≡ true }
+    ensures { result ≡ ending_of machine.now.state.ending }
+{
+    match machine.ending() {
+        None => Ending::Limit,
+        Some(Halt::Done) => Ending::Done,
+        Some(Halt::Trap(trap)) => Ending::Trap(trap),
+    }
+}
+
+/// The line that tells how the machine's run has ended, without a line feed. The caller owes a last state.
+pub fn ending_line(alloc: Global, machine: &Machine) -> Result<Vec<u8>, AllocError>
+    requires { is_last machine.now.world machine.now.state ≡ true }
+    ensures { IfOk result (λ line. line.items ≡ ending_line machine.now.state) }
+{
+    let mut line = Vec::from_slice(alloc, b"== ")?;
+    push_words(&mut line, ending_of(machine), machine.at())?;
+    line.extend_from_slice(b" AFTER ")?;
+    push_decimal(&mut line, machine.count())?;
+    line.extend_from_slice(b" STEPS")?;
+    Ok(line)
+}
+
+/// All that the machine's run prints. The caller owes a last state.
+pub fn printout(alloc: Global, machine: &Machine) -> Result<Vec<u8>, AllocError>
+    requires { is_last machine.now.world machine.now.state ≡ true }
+    ensures { IfOk result (λ text. text.items ≡ printout machine.now.state) }
+{
+    let output = machine.output();
+    let line = ending_line(alloc, machine)?;
+    let mut text = Vec::with_capacity(alloc, output.len() + line.len() + 2)?;
+    text.extend_from_slice(output)?;
+    if lacks_line_feed(output) {
+        text.push(b'\n')?;
+    }
+    text.extend_from_slice(line.as_slice())?;
+    text.push(b'\n')?;
+    Ok(text)
+}
+
+/// Whether a text has a last byte that is no line feed.
+fn lacks_line_feed(text: &[u8]) -> bool
+    ensures { result ≡ lacks_line_feed (slice_get text.now (length text.now - 1)) }
+{
+    match text.last() {
+        Some(byte) => *byte != b'\n',
+        None => false,
+    }
+}
+
+/// Adds an ending in words.
+fn push_words(line: &mut Vec<u8>, ending: Ending, at: Position) -> Result<(), AllocError>
+    ensures { OnOk result (line.new.items ≡ line.old.items ++ words ending at) }
+{
+    match ending {
+        Ending::Done => line.extend_from_slice(b"DONE"),
+        Ending::Trap(trap) => push_trap(line, trap, at),
+        Ending::Limit => line.extend_from_slice(b"LIMIT"),
+    }
+}
+
+/// Adds a trap, and where the run stands.
+fn push_trap(line: &mut Vec<u8>, trap: Trap, at: Position) -> Result<(), AllocError>
+    ensures { OnOk result (line.new.items ≡ line.old.items ++ words (Ending.Trap trap) at) }
+{
+    line.extend_from_slice(b"TRAP ")?;
+    push_decimal(line, trap.number())?;
+    line.push(b' ')?;
+    line.extend_from_slice(trap.name().as_bytes())?;
+    line.extend_from_slice(b" AT ")?;
+    push_decimal(line, at.statement)?;
+    line.push(b'.')?;
+    push_decimal(line, at.element)
+}
+
+/// Adds a number in decimal.
+fn push_decimal<I: Integer>(line: &mut Vec<u8>, number: I) -> Result<(), AllocError>
+    ensures { OnOk result (line.new.items ≡ line.old.items ++ I.text number) }
+{
+    line.extend_from_slice(Buffer::new().format(number).as_bytes())
+}

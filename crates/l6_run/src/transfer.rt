@@ -1,0 +1,117 @@
+//! Reading a whole part of a job, and writing a whole text.
+
+ghost use Rattle.std.specs.Prelude.{◌≡◌, ◌+◌, ◌-◌, ◌^◌, ◌<◌, ◌≤◌, min, length, vec_len, MatchResult, OnOk, IfOk, IfErr};
+ghost use Rattle.std.specs.Io.KnownBytes.{Appends};
+ghost use Rattle.l6_run.specs.Fault.{limit_of};
+ghost use Rattle.l6_run.specs.Transfer.{EndsReading, EndsWriting, FaredReading, GivesAtMost, GivesMore, GivesPart, IsReadFault, NoTrouble, OneTrouble, Remembers};
+
+use crate::device::{Sink, Source};
+use crate::fault::{Part, RunFault};
+use std::alloc::Global;
+
+/// The most bytes that one read asks for.
+const PIECE: usize = 65_536;
+
+/// Reads all that the reader has left, at most the part's limit and one byte more.
+///
+/// # Errors
+///
+/// `TooLong` where more came than the part may have, `Read` at the reader's first trouble, and
+/// `NoMemory`.
+pub fn read_part<R: Source>(alloc: Global, reader: &mut R, part: Part) -> Result<Vec<u8>, RunFault>
+    // What came, and why it ended.
+    ensures bytes { MatchResult result
+        (λ bytes. GivesPart part (R.left reader.old) (R.left reader.new) bytes.items)
+        (EndsReading part (R.left reader.old) (R.left reader.new)) }
+    ensures at_most { GivesAtMost (limit_of part + 1) (R.left reader.old) (R.left reader.new) }
+
+    // How the reader fared.
+    ensures fared { MatchResult result
+        (λ _. NoTrouble (R.interruptions reader.old) (R.interruptions reader.new)
+        (R.has_failed reader.old) (R.has_failed reader.new))
+        (FaredReading (R.interruptions reader.old) (R.interruptions reader.new)
+        (R.has_failed reader.old) (R.has_failed reader.new)) }
+    ensures remembers { Remembers (R.interruptions reader.old) (R.interruptions reader.new)
+        (R.has_failed reader.old) (R.has_failed reader.new) }
+{
+    let mut piece = vec![in alloc; 0; PIECE]?;
+    let mut bytes = Vec::new(alloc);
+    while bytes.len() <= part.limit() {
+        let count = read_more(reader, part, piece.as_mut_slice(), &mut bytes)?;
+        if count == 0 {
+            return Ok(bytes);
+        }
+    }
+    Err(RunFault::TooLong(part))
+}
+
+// Appends what one read gives to the bytes, and answers how much came. The read asks for no more
+// than the part may still have and one byte more.
+fn read_more<R: Source>(
+    reader: &mut R,
+    part: Part,
+    piece: &mut [u8],
+    bytes: &mut Vec<u8>,
+) -> Result<usize, RunFault>
+    requires room { 0 < length piece.old }
+    requires within { vec_len bytes.old ≤ limit_of part }
+    ensures ok { IfOk result (GivesMore (R.left reader.old) (R.left reader.new)
+        bytes.old.items bytes.new.items) }
+    ensures within { OnOk result (vec_len bytes.new ≤ limit_of part + 1) }
+    ensures err { IfErr result (IsReadFault part) }
+    ensures at_most { GivesAtMost (limit_of part + 1 - vec_len bytes.old)
+        (R.left reader.old) (R.left reader.new) }
+    ensures fared { MatchResult result
+        (λ _. NoTrouble (R.interruptions reader.old) (R.interruptions reader.new)
+        (R.has_failed reader.old) (R.has_failed reader.new))
+        (FaredReading (R.interruptions reader.old) (R.interruptions reader.new)
+        (R.has_failed reader.old) (R.has_failed reader.new)) }
+{
+    let room = piece.len().min(part.limit() + 1 - bytes.len());
+    match reader.read(&mut piece[..room]) {
+        Ok(count) => {
+            bytes.extend_from_slice(&piece[..count])?;
+            Ok(count)
+        }
+        Err(_) => Err(RunFault::Read(part)),
+    }
+}
+
+/// Writes the text. `before` bytes of the same answer went out earlier.
+///
+/// # Errors
+///
+/// `Write` at the writer's first trouble, with how many bytes of the answer went out.
+pub fn write_text<W: Sink>(writer: &mut W, text: &[u8], before: u64) -> Result<(), RunFault>
+    // What went out.
+    ensures ok { OnOk result (Appends (W.taken writer.old) (W.taken writer.new) text.now) }
+    ensures err { IfErr result
+        (EndsWriting text.now before (W.taken writer.old) (W.taken writer.new)) }
+    ensures empty { length text.now ≡ 0 → writer.new ≡ writer.old }
+
+    // How the writer fared.
+    ensures fared { MatchResult result
+        (λ _. NoTrouble (W.interruptions writer.old) (W.interruptions writer.new)
+        (W.has_failed writer.old) (W.has_failed writer.new))
+        (λ _. OneTrouble (W.interruptions writer.old) (W.interruptions writer.new)
+        (W.has_failed writer.old) (W.has_failed writer.new)) }
+    ensures remembers { Remembers (W.interruptions writer.old) (W.interruptions writer.new)
+        (W.has_failed writer.old) (W.has_failed writer.new) }
+{
+    let mut count = 0;
+    while count < text.len() {
+        match writer.write(&text[count..]) {
+            Ok(0) => return Err(write_fault(before, count)),
+            Ok(more) => count += more,
+            Err(_) => return Err(write_fault(before, count)),
+        }
+    }
+    Ok(())
+}
+
+// The fault of a writer that took `count` bytes after the `before` that went out earlier.
+fn write_fault(before: u64, count: usize) -> RunFault
+    ensures { result ≡ RunFault.Write (min (before + count) (2 ^ 64 - 1)) }
+{
+    RunFault::Write(before.saturating_add(count as u64))
+}

@@ -1,10 +1,11 @@
 //! Chains of names.
 
-ghost use Rattle.std.specs.Prelude.{◌≡◌, ◌<◌, ◌≤◌, ◌↔◌, length, slice_get, IsTrue, IsSome, IfSome, Some};
+ghost use Rattle.std.specs.Prelude.{⊤, ◌≡◌, ◌<◌, ◌≤◌, ◌↔◌, length, slice_get, IsTrue, IsSome, IfSome, Some};
 ghost use Rattle.l6_prog.specs.Chain.{is_chain};
 
 use crate::name::Name;
 use arrayvec::ArrayVec;
+use std::alloc::AllocError;
 use std::marker::Model;
 
 /// How many names a chain may have.
@@ -60,13 +61,17 @@ impl Chain {
     {
         self.names[0]
     }
+}
 
-    /// The same chain once more. It takes no memory.
-    pub fn duplicate(&self) -> Self
-        ensures { result ≡ self.now }
-    {
+/// A clone is the same chain. It takes no memory.
+impl Clone for Chain {
+    ghost is_clone = { λ chain copy. copy ≡ chain };
+
+    ghost is_infallible = { λ _. ⊤ };
+
+    fn clone(&self) -> Result<Self, AllocError> {
         let mut names = ArrayVec::new();
         names.try_extend_from_slice(self.names.as_slice()).unwrap();
-        Chain { names }
+        Ok(Chain { names })
     }
 }

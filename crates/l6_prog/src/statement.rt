@@ -79,14 +79,8 @@ impl Statement {
     pub fn duplicate(&self, alloc: Global) -> Result<Self, AllocError>
         ensures { IfOk result (λ copy. copy ≡ self.now) }
     {
-        let mut tests = Vec::with_capacity(alloc, self.tests.len())?;
-        for test in &self.tests {
-            tests.push(*test)?;
-        }
-        let mut operations = Vec::with_capacity(alloc, self.operations.len())?;
-        for operation in &self.operations {
-            operations.push(operation.duplicate())?;
-        }
+        let tests = self.tests.to_vec(alloc)?;
+        let operations = self.operations.to_vec(alloc)?;
         Ok(Statement::new(self.condition, tests, operations, self.exit))
     }
 }

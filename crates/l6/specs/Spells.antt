@@ -32,9 +32,15 @@ pub record SpellsJust (deck : List ℕ) (program : List Parts) : Type 0 where
   pub spells : Spells deck program
   pub only : (other : List Parts) → Spells deck other → other ≡ program
 
--- the deck is refused for its fault, the first objection to it, and spells no program
+-- the fault is the deck's: the first objection to it, and no want of memory
+abbrev pub IsFaultOf : List ℕ → CardFault → Type 0
+IsFaultOf deck (Form card) = fault_of deck ≡ Some (Form card)
+IsFaultOf deck (Limit card) = fault_of deck ≡ Some (Limit card)
+IsFaultOf deck NoMemory = ⊥
+
+-- the deck is refused for its fault, and spells no program
 pub record IsRefused (deck : List ℕ) (fault : CardFault) : Type 0 where
-  pub first : fault_of deck ≡ Some fault
+  pub first : IsFaultOf deck fault
   pub nothing : SpellsNothing deck
 
 -- why a deck was not assembled: want of memory says nothing of it

@@ -1,8 +1,8 @@
 -- Chains of names.
 use Rattle.std.specs.Prelude.{ℕ, List, [], ◌∷◌, length, Bool, false, ◌&&◌, nat_le}
-use Rattle.l6_prog.specs.declared.chain.TheConstants.{MAX_NAMES}
+use Rattle.l6_prog.specs.Numerals.{first_letter, most_names}
 
--- 1 to 6 names, of which the first is a letter: letters are numbered from 10 on
+-- at least one name and not too many, of which the first is a letter
 abbrev pub is_chain : List ℕ → Bool
 is_chain [] = false
-is_chain (bug ∷ fields) = nat_le 10 bug && nat_le (length (bug ∷ fields)) MAX_NAMES
+is_chain (bug ∷ fields) = nat_le first_letter bug && nat_le (length (bug ∷ fields)) most_names

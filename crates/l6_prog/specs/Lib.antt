@@ -1,3 +1,4 @@
+pub mod Numerals
 pub mod Chain
 pub mod Statement
 pub mod Program

@@ -2,6 +2,7 @@
 
 ghost use Rattle.std.specs.Prelude.{⊤, ◌≡◌, ◌<◌, ◌≤◌, ◌↔◌, length, slice_get, IsTrue, IsSome, IfSome, Some};
 ghost use Rattle.l6_prog.specs.Chain.{is_chain};
+ghost use Rattle.l6_prog.specs.Numerals.{first_letter};
 
 use crate::name::Name;
 use arrayvec::ArrayVec;
@@ -57,7 +58,7 @@ impl Chain {
     /// The first name, the letter of a bug.
     pub fn bug(&self) -> Name
         ensures value { slice_get self.now 0 ≡ Some result }
-        ensures letter { 10 ≤ result }
+        ensures letter { first_letter ≤ result }
     {
         self.names[0]
     }

@@ -4,16 +4,18 @@
 mod chain;
 mod condition;
 mod exit;
+mod laws;
 mod name;
 mod operand;
 mod operation;
 mod program;
 mod statement;
 
-pub use chain::Chain;
+pub use chain::{Chain, MAX_NAMES};
 pub use condition::{Cond, Test};
 pub use exit::Exit;
-pub use name::Name;
+pub use laws::programs_have_their_limits;
+pub use name::{DIGITS, NAMES, Name};
 pub use operand::Operand;
 pub use operation::Op;
 pub use program::{MAX_OPERATIONS, MAX_STATEMENTS, MAX_TESTS, ProgFault, Program};

@@ -1,8 +1,14 @@
 //! Names of bugs and fields.
 
 ghost use Rattle.std.specs.Prelude.{◌≡◌, ℕ, ◌<◌, ◌≤◌, ◌↔◌, IsTrue, IsSome, IfSome};
+ghost use Rattle.l6_prog.specs.Numerals.{name_count, first_letter};
 
 use std::marker::Model;
+
+/// How many names there are: the digits and the letters.
+pub const NAMES: u8 = 36;
+/// How many names are digits. The letters are numbered from here on.
+pub const DIGITS: u8 = 10;
 
 /// The name of a field, a digit or a letter: `0` to `9` and `A` to `Z` are numbered from 0 to 35. A letter
 /// also names a bug.
@@ -12,11 +18,14 @@ pub struct Name {
 }
 
 impl Model for Name {
+    ghost use Rattle.std.specs.Prelude.{ℕ, ◌<◌};
+    ghost use Rattle.l6_prog.specs.Numerals.{name_count};
+
     ghost Value = { ℕ };
 
     ghost view = { λ name. name.number };
 
-    ghost invariant = { λ name. name.number < 36 };
+    ghost invariant = { λ name. name.number < name_count };
 
     ghost inverse = { λ number. record { number = number } };
 }
@@ -24,10 +33,10 @@ impl Model for Name {
 impl Name {
     /// The name of this number, or `None` from 36 on.
     pub fn new(number: u8) -> Option<Self>
-        ensures valid { IsSome result ↔ (number < 36) }
+        ensures valid { IsSome result ↔ (number < name_count) }
         ensures value { IfSome result (λ name. name ≡ number) }
     {
-        if number < 36 {
+        if number < NAMES {
             Some(Name { number })
         } else {
             None
@@ -37,16 +46,16 @@ impl Name {
     /// The number, below 36.
     pub fn number(self) -> u8
         ensures value { result ≡ self }
-        ensures range { result < 36 }
+        ensures range { result < name_count }
     {
         self.number
     }
 
     /// Whether this is a letter, and so may name a bug.
     pub fn is_letter(self) -> bool
-        ensures { IsTrue result ↔ (10 ≤ self) }
+        ensures { IsTrue result ↔ (first_letter ≤ self) }
     {
-        10 <= self.number
+        DIGITS <= self.number
     }
 }
 

@@ -1,6 +1,7 @@
 //! The machine word.
 
 ghost use Rattle.std.specs.Prelude.{◌≡◌, ℕ, ◌<◌, ◌%◌, ◌^◌, ◌↔◌, IsSome, IfSome};
+ghost use Rattle.l6_word.specs.Numerals.{word_bits};
 
 use std::marker::Model;
 
@@ -11,11 +12,14 @@ pub struct Word {
 }
 
 impl Model for Word {
+    ghost use Rattle.std.specs.Prelude.{ℕ, ◌<◌, ◌^◌};
+    ghost use Rattle.l6_word.specs.Numerals.{word_bits};
+
     ghost Value = { ℕ };
 
     ghost view = { λ word. word.value };
 
-    ghost invariant = { λ word. word.value < 2 ^ 36 };
+    ghost invariant = { λ word. word.value < 2 ^ word_bits };
 
     ghost inverse = { λ value. record { value = value } };
 }
@@ -26,7 +30,7 @@ impl Word {
 
     /// The word of this value, or `None` where it takes more than 36 bits.
     pub fn new(value: u64) -> Option<Self>
-        ensures fits { IsSome result ↔ (value < 2 ^ 36) }
+        ensures fits { IsSome result ↔ (value < 2 ^ word_bits) }
         ensures value { IfSome result (λ word. word ≡ value) }
     {
         if value < 1 << Self::BITS {
@@ -38,7 +42,7 @@ impl Word {
 
     /// The word of a number's lowest 36 bits.
     pub fn wrapping(number: u64) -> Self
-        ensures { result ≡ number % 2 ^ 36 }
+        ensures { result ≡ number % 2 ^ word_bits }
     {
         Word {
             value: number % (1 << Self::BITS),
@@ -48,7 +52,7 @@ impl Word {
     /// The value, below 2^36.
     pub fn get(self) -> u64
         ensures value { result ≡ self }
-        ensures range { result < 2 ^ 36 }
+        ensures range { result < 2 ^ word_bits }
     {
         self.value
     }

@@ -4,15 +4,17 @@ use Rattle.std.proofs.Math.ListN.{replicate}
 use Rattle.std.specs.Fmt.{digits}
 use Rattle.l6_prog.specs.declared.operand.Operand.TheVariants.{Number}
 use Rattle.l6_prog.specs.declared.operation.Op.TheVariants.{Set, PrintDecimal}
-use Rattle.l6_card.specs.Lines.{first_columns}
+use Rattle.l6_card.specs.Numerals.{card_width}
 use Rattle.l6_machine.specs.Run.{IsRun}
 use Rattle.l6_machine.specs.declared.halt.Halt.{Halt}
 use Rattle.l6_machine.specs.declared.halt.Halt.TheVariants.{Done}
 use Rattle.l6_machine.specs.State.{World, State}
-use Rattle.l6.specs.Worked.{FiveIsSpelled, FiveIsPrinted, five_program, no_choice}
+use Rattle.l6_run.specs.Options.{default_options}
+use Rattle.l6_run.specs.Prints.{world_under}
+use Rattle.l6.specs.Worked.{FiveIsSpelled, FiveIsPrinted, five_program}
 
 pub five-spelled : FiveIsSpelled
-unfolding first_columns
+unfolding card_width
 five-spelled = record {
   written = record { operations = Set (10 ∷ []) (Number 5) ∷ PrintDecimal (10 ∷ []) ∷ [] } ∷ [];
   reads = record {
@@ -24,13 +26,13 @@ five-spelled = record {
 
 -- the world of the run
 abbrev world : World
-world = record { program = five_program; limits = no_choice.limits }
+world = world_under default_options five_program
 
--- what bug A holds, the output, the statement, the element, the count and the ending make a state
+-- what bug A holds, the output, the statement, the action, the count and the ending make a state
 abbrev moment : ℕ → List ℕ → ℕ → ℕ → ℕ → Option Halt → State
-moment a output statement element count ending = record {
+moment a output statement action count ending = record {
   memory = record { bugs = a ∷ replicate 25 0; output = output };
-  at = record { statement = statement; element = element };
+  at = record { statement = statement; action = action };
   count = count;
   ending = ending;
 }
@@ -57,6 +59,7 @@ run = ((refl, refl), ((refl, refl), ((refl, refl), ((refl, refl), ((refl, refl),
 pub five-printed : FiveIsPrinted
 unfolding digits
 five-printed = record {
+  fits = lit≤ tt;
   program = five_program;
   spelled = five-spelled;
   final = final;

@@ -1,3 +1,2 @@
-pub mod Assembled
 pub mod Examples
-pub mod Printouts
+pub mod Serving

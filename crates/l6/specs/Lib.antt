@@ -1,4 +1,3 @@
-pub mod Spells
-pub mod Status
 pub mod Performs
+pub mod Status
 pub mod Worked

@@ -7,18 +7,15 @@ use Rattle.l6_card.specs.declared.fault.CardFault.TheVariants as asm
 use Rattle.l6.specs.declared.job.Outcome.{Outcome}
 use Rattle.l6.specs.declared.job.Outcome.TheVariants.{Ran}
 
--- the exit status of the program
+-- the exit status of the program: of a run that ended, trapped, or was stopped at its limit; of a job that was
+-- refused; and where memory or a device failed
 abbrev pub status_of : Result Outcome RunFault → ℕ
--- the run ended, trapped, or was stopped at its limit
 status_of (Ok (Ran Done)) = 0
 status_of (Ok (Ran (Trap trap))) = 2
 status_of (Ok (Ran Limit)) = 3
--- the job was refused
 status_of (Err (TooLong part)) = 4
-status_of (Err (Asm (asm.Form card))) = 4
-status_of (Err (Asm (asm.Limit card))) = 4
--- memory or a device failed
 status_of (Err (Asm asm.NoMemory)) = 5
+status_of (Err (Asm fault)) = 4
 status_of (Err (Read part)) = 5
 status_of (Err (Write count)) = 5
 status_of (Err NoMemory) = 5

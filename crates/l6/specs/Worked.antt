@@ -5,16 +5,15 @@ use Rattle.l6_prog.specs.declared.exit.Exit.TheVariants.{Next}
 use Rattle.l6_prog.specs.declared.operand.Operand.TheVariants.{Number}
 use Rattle.l6_prog.specs.declared.operation.Op.TheVariants.{Set, PrintDecimal}
 use Rattle.l6_prog.specs.Statement.{Parts, plain_done}
-use Rattle.l6_card.specs.declared.fault.CardFault.TheVariants.{Form}
-use Rattle.l6_card.specs.Fault.{fault_of}
+use Rattle.l6_card.specs.Fault.{fault_of, form}
 use Rattle.l6_machine.specs.declared.halt.Halt.TheVariants as halts
 use Rattle.l6_machine.specs.declared.trap.Trap.TheVariants.{UndefinedField}
 use Rattle.l6_machine.specs.State.{World, State, start}
-use Rattle.l6_machine.specs.Step.{stepped}
+use Rattle.l6_machine.specs.Step.{state_after}
 use Rattle.l6_run.specs.declared.ending.Ending.TheVariants.{Done}
-use Rattle.l6_run.specs.Options.{Choice}
-use Rattle.l6.specs.Performs.{Prints}
-use Rattle.l6.specs.Spells.{Spells}
+use Rattle.l6_run.specs.Options.{default_options}
+use Rattle.l6_run.specs.Prints.{Prints, world_under}
+use Rattle.l6_asm.specs.Spells.{Spells}
 
 -- a deck that sets A to 5 and prints it, behind a comment
 abbrev pub five_deck : List ℕ
@@ -23,12 +22,12 @@ five_deck = codes "* five\n (A,E,5)(A,PD)\n"
 -- its program: A is the name 10
 abbrev pub five_program : List Parts
 five_program =
-    record { condition = Always; tests = []; operations = Set (10 ∷ []) (Number 5) ∷ PrintDecimal (10 ∷ []) ∷ []; exit = Next }
-    ∷ plain_done ∷ []
-
--- the options that a user has who chooses none
-abbrev pub no_choice : Choice
-no_choice = record { units = 64; limits = record { steps = 1000000; output = 1048576 } }
+    record {
+      condition = Always;
+      tests = [];
+      operations = Set (10 ∷ []) (Number 5) ∷ PrintDecimal (10 ∷ []) ∷ [];
+      exit = Next;
+    } ∷ plain_done ∷ []
 
 -- the deck spells its program
 abbrev pub FiveIsSpelled : Type 0
@@ -36,23 +35,27 @@ FiveIsSpelled = Spells five_deck five_program
 
 -- its run ends by DONE and prints 5
 abbrev pub FiveIsPrinted : Type 0
-FiveIsPrinted = Prints no_choice five_deck Done (codes "5\n== DONE AFTER 6 STEPS\n")
+FiveIsPrinted = Prints default_options five_deck Done (codes "5\n== DONE AFTER 6 STEPS\n")
 
 -- a group that reads as nothing is the fault of its card, and not of the card behind it
 abbrev pub UnknownIsRefused : Type 0
-UnknownIsRefused = fault_of (codes " (A,PD)\n (A,Q,1)\nX\n") ≡ Some (Form 2)
+UnknownIsRefused = fault_of (codes " (A,PD)\n (A,Q,1)\nX\n") ≡ Some (form 2)
 
 -- the program that prints what field N of A's block holds (N is the name 23)
 abbrev pub field_world : World
-field_world = record {
-  program = record { condition = Always; tests = []; operations = PrintDecimal (10 ∷ 23 ∷ []) ∷ []; exit = Next } ∷ plain_done ∷ [];
-  limits = record { steps = 1000000; output = 1048576 };
-}
+field_world = world_under default_options (record {
+  condition = Always;
+  tests = [];
+  operations = PrintDecimal (10 ∷ 23 ∷ []) ∷ [];
+  exit = Next;
+} ∷ plain_done ∷ [])
 
 -- after the condition that program stands at its operation
 abbrev pub at_field : State
-at_field = record start { at = record { statement = 0; element = 1 }; count = 1 }
+at_field = record start { at = record { statement = 0; action = 1 }; count = 1 }
 
 -- its second step traps, and changes the ending alone: the count stays 1
 abbrev pub FieldTraps : Type 0
-FieldTraps = (stepped field_world start ≡ at_field) × (stepped field_world at_field ≡ record at_field { ending = Some (halts.Trap UndefinedField) })
+FieldTraps =
+    (state_after field_world start ≡ at_field)
+    × (state_after field_world at_field ≡ record at_field { ending = Some (halts.Trap UndefinedField) })

@@ -1,9 +1,7 @@
 //! The program `l6`: it runs the deck of cards that standard input gives, and prints what the run prints.
 #![tactic(auto)]
 
-mod assemble;
 mod job;
-mod laws;
 mod status;
 #[cfg(test)]
 mod tests;

@@ -4,7 +4,8 @@ ghost use Rattle.std.specs.Prelude.{◌≡◌};
 ghost use Rattle.l6.specs.Status.{status_of};
 
 use crate::job::Outcome;
-use l6_run::{AsmFault, Ending, RunFault};
+use l6_asm::AsmFault;
+use l6_run::{Ending, RunFault};
 
 /// The exit status of the program: 0 after DONE, 2 after a trap, 3 at the limit of steps, 4 where the job was
 /// refused, and 5 where memory or a device failed.

@@ -5,8 +5,9 @@ mod script;
 mod transfers;
 
 use crate::job::{Outcome, Verb, perform};
+use l6_asm::AsmFault;
 use l6_machine::Trap;
-use l6_run::{AsmFault, Ending, Host, Options, Part, RunFault};
+use l6_run::{Ending, Host, Options, Part, RunFault};
 use script::Scripted;
 use std::alloc::Global;
 

@@ -5,4 +5,5 @@ pub mod Names
 pub mod Numbers
 pub mod Cuts
 pub mod Bodies
+pub mod Words
 pub mod Courses

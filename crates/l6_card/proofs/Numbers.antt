@@ -5,12 +5,18 @@ use Rattle.std.specs.List.{list_all}
 use Rattle.std.specs.Prelude.{◌&&◌}
 use Rattle.std.specs.Int.Digits.{number_from_digits, number_from_digits_after}
 use Rattle.std.proofs.lemmas.Int.Digits.{number_after_ge}
+use Rattle.l6_word.specs.Numerals.{word_bits}
+use Rattle.l6_prog.specs.Numerals.{digit_count}
 use Rattle.l6_card.specs.Element.{is_digit, number_from}
 
 -- digits that follow a value too large for a word write no number
-pub number_from-large : (names rest : List ℕ) (value : ℕ) → 2 ^ 36 ≤ value → number_from_digits_after 10 value rest ≡ number_from_digits 10 names → ◌≡◌ {A = Option ℕ} None (number_from names)
+pub number_from-large : (names rest : List ℕ) (value : ℕ) →
+    2 ^ word_bits ≤ value →
+    number_from_digits_after digit_count value rest ≡ number_from_digits digit_count names →
+    ◌≡◌ {A = Option ℕ} None (number_from names)
 number_from-large names rest value large same =
-    let reached = number_after_ge 10 value rest (omega arith) in
-    let too_large = le-ltb (number_from_digits 10 names) (2 ^ 36) (omega arith) in
-    let fails = and_right (ltb 0 (length names) && list_all is_digit names) (ltb (number_from_digits 10 names) (2 ^ 36)) too_large in
+    let written = number_from_digits digit_count names in
+    let reached = number_after_ge digit_count value rest (omega arith) in
+    let too_large = le-ltb written (2 ^ word_bits) (omega arith) in
+    let fails = and_right (ltb 0 (length names) && list_all is_digit names) (ltb written (2 ^ word_bits)) too_large in
     rw fails

@@ -1,10 +1,16 @@
 -- Cards.
-use Rattle.std.specs.Prelude.{ℕ, ◌==◌, ◌||◌, List, [], ◌∷◌, map, if◌then◌else◌}
+use Rattle.std.specs.Prelude.{ℕ, ◌==◌, ◌||◌, List, [], ◌∷◌, map, take, if◌then◌else◌}
 use Rattle.std.specs.List.{list_all}
-use Rattle.l6_card.specs.Lines.{lines_of, columns_of}
+use Rattle.std.specs.Str.{byte}
+use Rattle.l6_word.specs.Lines.{lines_of, without_return}
+use Rattle.l6_card.specs.Numerals.{card_width}
 use Rattle.l6_card.specs.Element.{is_blank}
 
--- what a card is: skipped, a statement of its own with this body, or a card with a column 1 that no card has
+-- the columns of a line that count
+abbrev pub columns_of : List ℕ → List ℕ
+columns_of line = take card_width (without_return line)
+
+-- what a card is: skipped, a statement of its own with this body, or a card with a column 1 that is not allowed
 pub data Card : Type 0 where
   skipped : Card
   plain : List ℕ → Card
@@ -14,7 +20,7 @@ pub data Card : Type 0 where
 abbrev pub card_of : List ℕ → Card
 card_of [] = skipped
 card_of (mark ∷ body) =
-    if mark == 42 || list_all is_blank (mark ∷ body) then skipped
+    if mark == byte "*" || list_all is_blank (mark ∷ body) then skipped
     else if is_blank mark then plain body
     else unknown
 

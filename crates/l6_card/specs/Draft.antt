@@ -1,11 +1,11 @@
--- Drafts: what the items of a statement so far make.
+-- Drafts: a draft is what the items of a statement so far make of it.
 use Rattle.std.specs.Prelude.{ℕ, List, [], ◌∷◌, ◌++◌, length, Option, Some, None}
 use Rattle.l6_prog.specs.declared.operation.Op.{Op}
-use Rattle.l6_card.specs.Items.{Item, group, word, unclosed, unopened}
+use Rattle.l6_card.specs.Items.{Item, group}
 use Rattle.l6_card.specs.Group.{reading_of}
-use Rattle.l6_card.specs.Written.{Parts}
+use Rattle.l6_card.specs.Statement.{WrittenParts}
 
--- the statement does its operations whatever holds
+-- a draft that does its operations whatever holds
 pub data Draft : Type 0 where
   direct : List Op → Draft
 
@@ -25,10 +25,8 @@ with_operation (direct operations) (Some operation) = direct (operations ++ oper
 -- the draft with an item at its end
 abbrev pub with_item : Draft → Item → Draft
 with_item draft (group columns) = with_operation draft (reading_of columns)
-with_item draft (word columns) = draft
-with_item draft unclosed = draft
-with_item draft (unopened columns) = draft
+with_item draft other = draft
 
 -- the statement that the draft makes; every draft is whole
-abbrev pub statement_from : Draft → Parts
+abbrev pub statement_from : Draft → WrittenParts
 statement_from (direct operations) = record { operations = operations }

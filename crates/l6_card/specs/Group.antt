@@ -1,59 +1,58 @@
 -- The groups and what they read as.
-use Rattle.std.specs.Prelude.{ℕ, ◌==◌, ◌&&◌, Bool, Option, Some, None, List, [], ◌∷◌, if◌then◌else◌}
+use Rattle.std.specs.Prelude.{ℕ, ◌==◌, Bool, Option, Some, None, List, [], ◌∷◌}
 use Rattle.std.specs.Option.{option_and_then}
 use Rattle.std.specs.List.{slice_split}
+use Rattle.std.specs.Str.{byte}
 use Rattle.l6_prog.specs.declared.operand.Operand.{Operand}
 use Rattle.l6_prog.specs.declared.operation.Op.{Op}
 use Rattle.l6_prog.specs.declared.operation.Op.TheVariants as op
-use Rattle.l6_card.specs.declared.letters.TheConstants.{A, D, E, P}
-use Rattle.l6_card.specs.declared.group.Verb.{Verb}
-use Rattle.l6_card.specs.declared.group.Verb.TheVariants.{Set, Add, PrintDecimal}
-use Rattle.l6_card.specs.Element.{names_of, chain_of, operand_of}
+use Rattle.l6_card.specs.Element.{chain_of, operand_of}
+use Rattle.l6_card.specs.Spelling.{Line, ◌means◌, find_spelled, spelled}
+
+-- the first reading, and then the second with what the first gave; without either there is none
+infixl 10 ◌>>=◌
+abbrev pub ◌>>=◌ : {A B : Type 0} → Option A → (A → Option B) → Option B
+first >>= second = option_and_then second first
 
 -- the byte is a comma
 abbrev pub is_comma : ℕ → Bool
-is_comma byte = byte == 44
+is_comma given = given == byte ","
 
 -- the elements of a group: its parts between commas
 abbrev pub elements_of : List ℕ → List (List ℕ)
 elements_of columns = slice_split is_comma columns
 
--- the operation that these names spell: E sets, A adds, PD prints in decimal
-abbrev pub verb_from : List ℕ → Option Verb
-verb_from [] = None
-verb_from (name ∷ []) = if name == E then Some Set else if name == A then Some Add else None
-verb_from (first ∷ second ∷ []) = if first == P && second == D then Some PrintDecimal else None
-verb_from (first ∷ second ∷ third ∷ others) = None
+-- operations on a chain alone
+abbrev pub chain_operations : List (Line (List ℕ → Op))
+chain_operations = "PD" means op.PrintDecimal ∷ []
 
--- the operation that an element spells
-abbrev pub verb_of : List ℕ → Option Verb
-verb_of element = option_and_then verb_from (names_of element)
+-- operations on a chain and an operand
+abbrev pub field_operations : List (Line (List ℕ → Operand → Op))
+field_operations =
+    "E" means op.Set
+    ∷ "A" means op.Add
+    ∷ []
 
--- an operation on a chain alone
-abbrev pub printing : Option (List ℕ) → Option Verb → Option Op
-printing None verb = None
-printing (Some target) None = None
-printing (Some target) (Some Set) = None
-printing (Some target) (Some Add) = None
-printing (Some target) (Some PrintDecimal) = Some (op.PrintDecimal target)
+-- the operation of two elements: a chain, and what is done with it
+abbrev pub of_two : List ℕ → List ℕ → Option Op
+of_two target verb = do
+  make ← find_spelled chain_operations (spelled verb)
+  chain ← chain_of target
+  Some (make chain)
 
--- an operation on a chain with an operand
-abbrev pub storing : Option (List ℕ) → Option Verb → Option Operand → Option Op
-storing None verb operand = None
-storing (Some target) None operand = None
-storing (Some target) (Some Set) None = None
-storing (Some target) (Some Set) (Some operand) = Some (op.Set target operand)
-storing (Some target) (Some Add) None = None
-storing (Some target) (Some Add) (Some operand) = Some (op.Add target operand)
-storing (Some target) (Some PrintDecimal) operand = None
+-- the operation of three elements: a chain, what is done with it, and an operand
+abbrev pub of_three : List ℕ → List ℕ → List ℕ → Option Op
+of_three target verb operand = do
+  make ← find_spelled field_operations (spelled verb)
+  chain ← chain_of target
+  value ← operand_of operand
+  Some (make chain value)
 
 -- the operation of these elements: the number of elements decides how they are read
 abbrev pub operation_of : List (List ℕ) → Option Op
-operation_of [] = None
-operation_of (target ∷ []) = None
-operation_of (target ∷ verb ∷ []) = printing (chain_of target) (verb_of verb)
-operation_of (target ∷ verb ∷ operand ∷ []) = storing (chain_of target) (verb_of verb) (operand_of operand)
-operation_of (target ∷ verb ∷ operand ∷ fourth ∷ others) = None
+operation_of (target ∷ verb ∷ []) = of_two target verb
+operation_of (target ∷ verb ∷ operand ∷ []) = of_three target verb operand
+operation_of elements = None
 
 -- the reading of a group with these columns between its parentheses
 abbrev pub reading_of : List ℕ → Option Op

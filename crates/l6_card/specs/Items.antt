@@ -1,8 +1,10 @@
 -- The items of a card's body.
 use Rattle.std.specs.Prelude.{ℕ, ◌==◌, List, [], ◌∷◌, if◌then◌else◌}
+use Rattle.std.specs.Str.{byte}
 use Rattle.l6_card.specs.Element.{is_blank}
 
--- an item of a body: a group from `(` to `)`; a word; a `(` that no `)` closes; a `)` that no `(` opened, with what stands before it
+-- an item of a body: a group from `(` to `)`; a word; a `(` that no `)` closes; a `)` that no `(` opens, with what
+-- stands before it
 pub data Item : Type 0 where
   group : List ℕ → Item
   word : List ℕ → Item
@@ -10,34 +12,26 @@ pub data Item : Type 0 where
   unopened : List ℕ → Item
 
 -- a `(` in front of these items
-abbrev pub opened : List Item → List Item
-opened (unopened columns ∷ items) = group columns ∷ items
-opened [] = unclosed ∷ []
-opened (group columns ∷ items) = unclosed ∷ group columns ∷ items
-opened (word columns ∷ items) = unclosed ∷ word columns ∷ items
-opened (unclosed ∷ items) = unclosed ∷ unclosed ∷ items
+abbrev pub after_opening : List Item → List Item
+after_opening (unopened columns ∷ items) = group columns ∷ items
+after_opening items = unclosed ∷ items
 
 -- a blank in front of these items
 abbrev pub after_blank : ℕ → List Item → List Item
 after_blank blank (unopened columns ∷ items) = unopened (blank ∷ columns) ∷ items
-after_blank blank [] = []
-after_blank blank (group columns ∷ items) = group columns ∷ items
-after_blank blank (word columns ∷ items) = word columns ∷ items
-after_blank blank (unclosed ∷ items) = unclosed ∷ items
+after_blank blank items = items
 
 -- a column that is no blank and no parenthesis, in front of these items
 abbrev pub after_letter : ℕ → List Item → List Item
 after_letter letter (unopened columns ∷ items) = unopened (letter ∷ columns) ∷ items
 after_letter letter (word columns ∷ items) = word (letter ∷ columns) ∷ items
-after_letter letter [] = word (letter ∷ []) ∷ []
-after_letter letter (group columns ∷ items) = word (letter ∷ []) ∷ group columns ∷ items
-after_letter letter (unclosed ∷ items) = word (letter ∷ []) ∷ unclosed ∷ items
+after_letter letter items = word (letter ∷ []) ∷ items
 
 -- a column in front of these items
 abbrev pub after_column : ℕ → List Item → List Item
 after_column column items =
-    if column == 41 then unopened [] ∷ items
-    else if column == 40 then opened items
+    if column == byte ")" then unopened [] ∷ items
+    else if column == byte "(" then after_opening items
     else if is_blank column then after_blank column items
     else after_letter column items
 

@@ -3,18 +3,19 @@ use Rattle.std.specs.Prelude.{ℕ, ◌+◌, List, [], ◌∷◌, ◌++◌, map}
 use Rattle.l6_card.specs.Items.{Item, items_of}
 use Rattle.l6_card.specs.Card.{Card, skipped, plain, unknown, cards_of}
 
--- a piece: the statement before is over; a card begins a statement; a card has no column 1 that a card may have; a card has an item
+-- a piece: the statement before is over; a card begins a statement; a card has a column 1 that is not allowed; a card
+-- has an item. Cards go by their numbers.
 pub data Piece : Type 0 where
   ends : Piece
   begins : ℕ → Piece
-  no_column : ℕ → Piece
+  unknown_card : ℕ → Piece
   item : ℕ → Item → Piece
 
 -- the pieces of the card of this number
 abbrev pub pieces_of_card : ℕ → Card → List Piece
 pieces_of_card number skipped = []
 pieces_of_card number (plain body) = ends ∷ begins number ∷ map (item number) (items_of body)
-pieces_of_card number unknown = ends ∷ no_column number ∷ []
+pieces_of_card number unknown = ends ∷ unknown_card number ∷ []
 
 -- the pieces of cards that are numbered from this number on
 abbrev pub pieces_from : ℕ → List Card → List Piece

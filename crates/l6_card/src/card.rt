@@ -1,12 +1,14 @@
 //! Cards.
 
-ghost use Rattle.std.specs.Prelude.{◌≡◌};
+ghost use Rattle.std.specs.Prelude.{◌≡◌, ◌≤◌, length, take};
 ghost use Rattle.std.specs.List.{list_all};
 ghost use Rattle.l6_card.specs.Element as spec;
-ghost use Rattle.l6_card.specs.Card.{card_of};
-ghost use Rattle.l6_card.specs.Kinds.{card_seen};
+ghost use Rattle.l6_card.specs.Card.{card_of, columns_of};
+ghost use Rattle.l6_card.specs.inner.Kinds.{card_seen};
 
 use crate::element::is_blank;
+use crate::limits::CARD_WIDTH;
+use l6_word::without_return;
 
 /// What a card is.
 pub(crate) enum Kind<'a> {
@@ -14,8 +16,29 @@ pub(crate) enum Kind<'a> {
     Skipped,
     /// A statement of its own, with this body.
     Plain(&'a [u8]),
-    /// A column 1 that no card has.
+    /// A card with a column 1 that is not allowed.
     Unknown,
+}
+
+/// The columns of a line that count: the first 72, once a carriage return at the line's end is off.
+#[tactic(auto, unfolding(crate::specs::Numerals::card_width))]
+pub(crate) fn columns_of(line: &[u8]) -> &[u8]
+    ensures columns { result.now ≡ columns_of line.now }
+    ensures width { length result.now ≤ CARD_WIDTH }
+{
+    first_bytes(without_return(line), CARD_WIDTH)
+}
+
+/// So many bytes of a line, from its front.
+fn first_bytes(line: &[u8], count: usize) -> &[u8]
+    ensures bytes { result.now ≡ take count line.now }
+    ensures few { length result.now ≤ count }
+{
+    if line.len() > count {
+        &line[..count]
+    } else {
+        line
+    }
 }
 
 /// What the card of these columns is.

@@ -12,9 +12,9 @@ pub struct Written {
 }
 
 impl Model for Written {
-    ghost use Rattle.l6_card.specs.Written.{Parts};
+    ghost use Rattle.l6_card.specs.Statement.{WrittenParts};
 
-    ghost Value = { Parts };
+    ghost Value = { WrittenParts };
 
     ghost view = { λ written. record { operations = written.operations.items } };
 }
@@ -51,9 +51,9 @@ pub struct Cards {
 
 impl Model for Cards {
     ghost use Rattle.std.specs.Prelude.{List};
-    ghost use Rattle.l6_card.specs.Written.{Parts};
+    ghost use Rattle.l6_card.specs.Statement.{WrittenParts};
 
-    ghost Value = { List Parts };
+    ghost Value = { List WrittenParts };
 
     ghost view = { λ cards. cards.statements.items };
 }

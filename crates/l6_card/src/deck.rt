@@ -1,21 +1,22 @@
 //! Decks.
 
-ghost use Rattle.std.specs.Prelude.{◌≡◌, ◌≤◌, length, IfOk, IfErr};
-ghost use Rattle.l6_card.specs.Fault.{fault_of};
+ghost use Rattle.std.specs.Prelude.{◌≡◌, ◌≤◌, length, IfOk, IfErr, IfSome};
+ghost use Rattle.l6_card.specs.Numerals.{most_deck_bytes};
+ghost use Rattle.l6_card.specs.Fault.{deck_fault, fault_of};
 ghost use Rattle.l6_card.specs.Reads.{Reads, AreWithinLimits};
-ghost use Rattle.l6_card.specs.Settled.{IsOnlyReading, IsRefusal};
+ghost use Rattle.l6_card.specs.Laws.{IsFirstFault, IsOnlyReading};
 
+use crate::card::columns_of;
 use crate::cards::Cards;
 use crate::fault::CardFault;
-use crate::limits::MAX_DECK_BYTES;
-use crate::line::{columns_of, first_line};
 use crate::reader::Reader;
+use l6_word::first_line;
 use std::alloc::Global;
 
-/// The statements that a deck of at most 1,048,576 bytes says, or the first objection to it in the order of the
-/// cards and of the columns on each. Cards are lines, and all lines count.
+/// The statements that a deck of at most 1,048,576 bytes says, or the first objection to it in the
+/// order of the cards and of the columns on each. Cards are lines, and all lines count.
 pub fn read_deck(alloc: Global, deck: &[u8]) -> Result<Cards, CardFault>
-    requires { length deck.now ≤ MAX_DECK_BYTES }
+    requires { length deck.now ≤ most_deck_bytes }
     // What is read is what the deck says, and it says nothing else.
     ensures reads { IfOk result (λ cards. Reads deck.now cards) }
     ensures only { IfOk result (λ cards. IsOnlyReading deck.now cards) }
@@ -23,7 +24,7 @@ pub fn read_deck(alloc: Global, deck: &[u8]) -> Result<Cards, CardFault>
     // No piece of a deck that is read objects.
     ensures sound { IfOk result (λ _. fault_of deck.now ≡ None) }
     // A fault other than want of memory is the first objection, and the deck says nothing.
-    ensures fault { IfErr result (λ fault. IsRefusal deck.now fault) }
+    ensures fault { IfErr result (λ fault. IfSome (deck_fault fault) (IsFirstFault deck.now)) }
 {
     let mut reader = Reader::new(alloc);
     let mut rest = deck;

@@ -5,8 +5,8 @@ ghost use Rattle.l6_card.specs.Element as spec;
 
 use crate::limits::CARD_WIDTH;
 use arrayvec::ArrayVec;
-use l6_prog::{Chain, Name, Operand};
-use l6_word::{Word, code_of};
+use l6_prog::{Chain, DIGITS, Name, Operand};
+use l6_word::Word;
 
 /// Whether a byte is read as a blank: it is one, or a tab.
 pub(crate) fn is_blank(byte: u8) -> bool
@@ -19,9 +19,10 @@ pub(crate) fn is_blank(byte: u8) -> bool
 fn name_of(byte: u8) -> Option<Name>
     ensures { result ≡ spec.name_of byte }
 {
-    match code_of(byte)? {
-        code @ 16..=25 => Name::new(code - 16),
-        code @ 33..=58 => Name::new(code - 23),
+    match byte {
+        b'0'..=b'9' => Name::new(byte - b'0'),
+        b'A'..=b'Z' => Name::new(byte - b'A' + DIGITS),
+        b'a'..=b'z' => Name::new(byte - b'a' + DIGITS),
         _ => None,
     }
 }
@@ -56,7 +57,7 @@ fn number_from(names: &[Name]) -> Option<Word>
         if value >= 1 << Word::BITS {
             return None;
         }
-        value = value * 10 + u64::from(name.number());
+        value = value * u64::from(DIGITS) + u64::from(name.number());
     }
     Word::new(value)
 }

@@ -9,7 +9,7 @@ use thiserror::Error;
 /// Why a deck cannot be read. Cards are numbered from 1.
 #[derive(Clone, Copy, Debug, Error, PartialEq, Eq)]
 pub enum CardFault {
-    /// A column 1, an item or a group on this card has no reading.
+    /// Column 1 of this card, an item or a group on it has no reading.
     #[error("card {0}: no reading")]
     Form(u32),
     /// The 64th operation of a statement, or the 4,095th statement, stands on this card.

@@ -1,96 +1,64 @@
 //! Groups, and what they read as.
 
-ghost use Rattle.std.specs.Prelude.{◌≡◌, ◌≤◌, length};
+ghost use Rattle.std.specs.Prelude.{◌≡◌, ◌≤◌, ◌+◌, length, [], ◌∷◌, MatchOption, IfSome};
 ghost use Rattle.l6_card.specs.Group as spec;
-ghost use Rattle.l6_card.specs.Element as element;
 
-use crate::element::{chain_of, names_of, operand_of};
-use crate::letters::{A, D, E, P};
+use crate::element::{chain_of, operand_of};
 use crate::limits::CARD_WIDTH;
-use crate::split::split_at_mark;
-use l6_prog::{Name, Op};
+use crate::spelling::spelled;
+use l6_prog::Op;
+use l6_word::split_at_mark;
 
-/// What an operation does, as the second element of its group spells it.
-#[derive(Clone, Copy, Debug, PartialEq, Eq)]
-pub(crate) enum Verb {
-    /// `E`.
-    Set,
-    /// `A`.
-    Add,
-    /// `PD`.
-    PrintDecimal,
-}
-
-/// The reading of a group with these columns between its parentheses. The number of elements decides how they
-/// are read.
+/// The reading of a group with these columns between its parentheses. The number of elements
+/// decides how they are read.
 pub(crate) fn reading_of(columns: &[u8]) -> Option<Op>
     requires { length columns.now ≤ CARD_WIDTH }
     ensures { result ≡ spec.reading_of columns.now }
 {
-    let (target, others) = split_at_mark(columns, b',')?;
-    match split_at_mark(others, b',') {
-        None => printing(target, others),
-        Some((verb, operand)) => match split_at_mark(operand, b',') {
-            None => storing(target, verb, operand),
-            Some(_) => None,
-        },
+    let (target, others) = first_element(columns)?;
+    let Some((verb, operand)) = first_element(others) else {
+        return of_two(target, others);
+    };
+    match first_element(operand) {
+        None => of_three(target, verb, operand),
+        Some(_) => None,
     }
 }
 
-/// The operation on a chain alone that these elements spell.
-fn printing(target: &[u8], verb: &[u8]) -> Option<Op>
+/// The first element of a group and the columns behind its comma; `None` where there is no comma,
+/// and so no second element.
+fn first_element(columns: &[u8]) -> Option<(&[u8], &[u8])>
+    ensures elements { let elements = spec.elements_of columns.now in
+        MatchOption result (elements ≡ columns.now ∷ [])
+        (λ parts. elements ≡ parts.0.now ∷ spec.elements_of parts.1.now) }
+    ensures lengths { IfSome result
+        (λ parts. length parts.0.now + length parts.1.now + 1 ≡ length columns.now) }
+{
+    split_at_mark(columns, b',')
+}
+
+/// The operation of two elements: a chain, and what is done with it.
+fn of_two(target: &[u8], verb: &[u8]) -> Option<Op>
     requires target { length target.now ≤ CARD_WIDTH }
     requires verb { length verb.now ≤ CARD_WIDTH }
-    ensures { result ≡ spec.printing (element.chain_of target.now) (spec.verb_of verb.now) }
+    ensures { result ≡ spec.of_two target.now verb.now }
 {
-    let chain = chain_of(target)?;
-    match verb_of(verb)? {
-        Verb::PrintDecimal => Some(Op::PrintDecimal(chain)),
-        Verb::Set | Verb::Add => None,
+    match spelled(verb).as_slice() {
+        b"PD" => Some(Op::PrintDecimal(chain_of(target)?)),
+        _ => None,
     }
 }
 
-/// The operation on a chain and an operand that these elements spell.
-fn storing(target: &[u8], verb: &[u8], operand: &[u8]) -> Option<Op>
+/// The operation of three elements: a chain, what is done with it, and an operand.
+fn of_three(target: &[u8], verb: &[u8], operand: &[u8]) -> Option<Op>
     requires target { length target.now ≤ CARD_WIDTH }
     requires verb { length verb.now ≤ CARD_WIDTH }
     requires operand { length operand.now ≤ CARD_WIDTH }
-    ensures { let target = element.chain_of target.now in
-        let verb = spec.verb_of verb.now in
-        result ≡ spec.storing target verb (element.operand_of operand.now) }
+    ensures { result ≡ spec.of_three target.now verb.now operand.now }
 {
-    let chain = chain_of(target)?;
-    let verb = verb_of(verb)?;
-    let operand = operand_of(operand)?;
-    match verb {
-        Verb::Set => Some(Op::Set(chain, operand)),
-        Verb::Add => Some(Op::Add(chain, operand)),
-        Verb::PrintDecimal => None,
-    }
-}
-
-/// What the second element of a group spells.
-fn verb_of(element: &[u8]) -> Option<Verb>
-    requires { length element.now ≤ CARD_WIDTH }
-    ensures { result ≡ spec.verb_of element.now }
-{
-    verb_from(names_of(element)?.as_slice())
-}
-
-/// What these names spell.
-fn verb_from(names: &[Name]) -> Option<Verb>
-    ensures { result ≡ spec.verb_from names.now }
-{
-    match names {
-        [name] => match name.number() {
-            E => Some(Verb::Set),
-            A => Some(Verb::Add),
-            _ => None,
-        },
-        [first, second] => match (first.number(), second.number()) {
-            (P, D) => Some(Verb::PrintDecimal),
-            _ => None,
-        },
+    match spelled(verb).as_slice() {
+        b"E" => Some(Op::Set(chain_of(target)?, operand_of(operand)?)),
+        b"A" => Some(Op::Add(chain_of(target)?, operand_of(operand)?)),
         _ => None,
     }
 }

@@ -3,11 +3,11 @@
 ghost use Rattle.std.specs.Prelude.{◌≡◌, ◌≤◌, ◌<◌, ◌++◌, ◌∷◌, List, ℕ, true, false, length, slice_index, MatchOption, IfSome};
 ghost use Rattle.std.specs.List.{list_all};
 ghost use Rattle.l6_card.specs.Element as spec;
-ghost use Rattle.l6_card.specs.Items.{items_of, opened, unopened};
-ghost use Rattle.l6_card.specs.First.{BeginsWith, begins_with_other, IsShorter};
+ghost use Rattle.l6_card.specs.Items.{items_of, after_opening, unopened};
+ghost use Rattle.l6_card.specs.inner.First.{BeginsWith, begins_with_other, IsShorter};
 
 use crate::element::is_blank;
-use crate::split::split_at_mark;
+use l6_word::split_at_mark;
 
 /// What a body begins with.
 pub(crate) enum First<'a> {
@@ -15,7 +15,7 @@ pub(crate) enum First<'a> {
     End,
     /// A group with these columns between its parentheses, and what follows it.
     Group(&'a [u8], &'a [u8]),
-    /// An item that is no group.
+    /// An item, but no group.
     Other,
 }
 
@@ -44,7 +44,7 @@ pub(crate) fn first_item(body: &[u8]) -> First<'_>
 /// body's end comes first.
 fn first_group(inside: &[u8]) -> Option<(&[u8], &[u8])>
     ensures group { let items = items_of inside.now in
-        MatchOption result (begins_with_other (opened items) ≡ true)
+        MatchOption result (begins_with_other (after_opening items) ≡ true)
         (λ parts. items ≡ unopened parts.0.now ∷ items_of parts.1.now) }
     ensures columns { IfSome result (λ parts. length parts.0.now ≤ length inside.now) }
     ensures behind { IfSome result (λ parts. length parts.1.now < length inside.now) }

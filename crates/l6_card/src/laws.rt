@@ -1,10 +1,30 @@
-//! The laws of reading.
+//! The laws of reading, and that the numbers of the code are those of the language.
 
-ghost use Rattle.l6_card.specs.Settled.{ReadsOnlyWithoutFault, ReadsWithoutFault, ReadsInOneWay};
+ghost use Rattle.std.specs.Prelude.{◌≡◌};
+ghost use Rattle.l6_card.specs.Numerals.{card_width, most_deck_bytes, most_written};
+ghost use Rattle.l6_card.specs.Laws.{ReadsOnlyWithoutFault, ReadsWithoutFault, ReadsInOneWay, GroupsAreInParentheses, BlanksVanishInWords, LettersMakeWords};
+
+use crate::limits::{CARD_WIDTH, MAX_DECK_BYTES, MAX_WRITTEN};
 
 /// Each deck reads exactly if no piece of it objects, and then in one way.
 pub fn reading_is_settled()
     ensures reads_only_if { ReadsOnlyWithoutFault }
     ensures reads_if { ReadsWithoutFault }
     ensures one_way { ReadsInOneWay }
+{}
+
+/// A group is what stands between parentheses. Words are of letters and the like, and blanks
+/// vanish in them.
+pub fn items_are_groups_and_words()
+    ensures groups { GroupsAreInParentheses }
+    ensures blanks { BlanksVanishInWords }
+    ensures letters { LettersMakeWords }
+{}
+
+/// Cards are as wide, and decks as long, as the language says.
+#[tactic(auto, unfolding(crate::specs::Numerals::card_width))]
+pub fn decks_have_their_limits()
+    ensures width { CARD_WIDTH ≡ card_width }
+    ensures bytes { MAX_DECK_BYTES ≡ most_deck_bytes }
+    ensures written { MAX_WRITTEN ≡ most_written }
 {}

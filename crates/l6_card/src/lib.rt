@@ -9,16 +9,14 @@ mod fault;
 mod group;
 mod item;
 mod laws;
-mod letters;
 mod limits;
-mod line;
 mod reader;
-mod split;
+mod spelling;
 #[cfg(test)]
 mod tests;
 
 pub use cards::{Cards, Written};
 pub use deck::read_deck;
 pub use fault::CardFault;
-pub use laws::reading_is_settled;
+pub use laws::{decks_have_their_limits, items_are_groups_and_words, reading_is_settled};
 pub use limits::MAX_DECK_BYTES;

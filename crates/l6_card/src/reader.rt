@@ -4,7 +4,7 @@ ghost use Rattle.std.specs.Prelude.{◌≡◌, ◌≤◌, [], ◌∷◌, length,
 ghost use Rattle.l6_card.specs.Items.{items_of, group};
 ghost use Rattle.l6_card.specs.Card.{card_of};
 ghost use Rattle.l6_card.specs.Pieces.{ends, begins, item, pieces_of_card};
-ghost use Rattle.l6_card.specs.Reader.{nothing_known, known_by, taking, taking_all, Follows};
+ghost use Rattle.l6_card.specs.inner.Reader.{nothing_known, known_by, after_piece, after_pieces, Follows};
 
 use crate::card::{Kind, kind_of};
 use crate::cards::Written;
@@ -48,7 +48,7 @@ impl Reader {
 
     /// The statement that has begun, if one has, is over.
     pub(crate) fn end(&mut self) -> Result<(), CardFault>
-        ensures { Follows result (known_by self.new) (taking (known_by self.old) ends) }
+        ensures { Follows result (known_by self.new) (after_piece (known_by self.old) ends) }
     {
         let operations = mem::replace(&mut self.operations, Vec::new(self.alloc));
         if !self.is_open {
@@ -63,7 +63,7 @@ impl Reader {
     /// The card begins a statement.
     fn begin(&mut self, card: u32) -> Result<(), CardFault>
         ensures { let pieces = ends ∷ begins card ∷ [] in
-            Follows result (known_by self.new) (taking_all (known_by self.old) pieces) }
+            Follows result (known_by self.new) (after_pieces (known_by self.old) pieces) }
     {
         self.end()?;
         if self.statements.len() >= MAX_WRITTEN {
@@ -77,7 +77,7 @@ impl Reader {
     fn take_group(&mut self, card: u32, columns: &[u8]) -> Result<(), CardFault>
         requires { length columns.now ≤ CARD_WIDTH }
         ensures { let piece = item card (group columns.now) in
-            Follows result (known_by self.new) (taking (known_by self.old) piece) }
+            Follows result (known_by self.new) (after_piece (known_by self.old) piece) }
     {
         let operation = reading_of(columns).ok_or(CardFault::Form(card))?;
         if self.operations.len() >= MAX_OPERATIONS {
@@ -92,7 +92,7 @@ impl Reader {
     fn take_items(&mut self, card: u32, body: &[u8]) -> Result<(), CardFault>
         requires { length body.now ≤ CARD_WIDTH }
         ensures { let pieces = map (item card) (items_of body.now) in
-            Follows result (known_by self.new) (taking_all (known_by self.old) pieces) }
+            Follows result (known_by self.new) (after_pieces (known_by self.old) pieces) }
     {
         let mut rest = body;
         loop {
@@ -111,7 +111,7 @@ impl Reader {
     pub(crate) fn take_card(&mut self, card: u32, columns: &[u8]) -> Result<(), CardFault>
         requires { length columns.now ≤ CARD_WIDTH }
         ensures { let pieces = pieces_of_card card (card_of columns.now) in
-            Follows result (known_by self.new) (taking_all (known_by self.old) pieces) }
+            Follows result (known_by self.new) (after_pieces (known_by self.old) pieces) }
     {
         match kind_of(columns) {
             Kind::Skipped => Ok(()),

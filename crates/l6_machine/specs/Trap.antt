@@ -3,10 +3,12 @@ use Rattle.std.specs.Prelude.{ℕ, List, codes}
 use Rattle.l6_machine.specs.declared.trap.Trap.{Trap}
 use Rattle.l6_machine.specs.declared.trap.Trap.TheVariants.{UndefinedField, OutputFull}
 
-abbrev pub number_of : Trap → ℕ
-number_of UndefinedField = 1
-number_of OutputFull = 14
+-- the number of a trap
+abbrev pub trap_number : Trap → ℕ
+trap_number UndefinedField = 1
+trap_number OutputFull = 14
 
-abbrev pub name_of : Trap → List ℕ
-name_of UndefinedField = codes "UNDEFINED FIELD"
-name_of OutputFull = codes "OUTPUT FULL"
+-- the name of a trap, as it is printed
+abbrev pub trap_name : Trap → List ℕ
+trap_name UndefinedField = codes "UNDEFINED FIELD"
+trap_name OutputFull = codes "OUTPUT FULL"

@@ -2,6 +2,7 @@
 #![tactic(auto)]
 
 mod halt;
+mod jump;
 mod laws;
 mod limits;
 mod locus;
@@ -9,11 +10,13 @@ mod machine;
 mod position;
 mod progress;
 mod registers;
+mod row;
 mod trap;
 
 pub use halt::{Halt, StepResult};
-pub use laws::runs_are_determined;
-pub use limits::Limits;
+pub use jump::Jump;
+pub use laws::{runs_are_determined, runs_have_their_limits};
+pub use limits::{Limits, MAX_OUTPUT, MAX_STEPS};
 pub use locus::Locus;
 pub use machine::{Machine, MachineFault};
 pub use position::Position;

@@ -1,14 +1,17 @@
 //! The machine.
 
 ghost use Rattle.std.specs.Prelude.{◌≡◌, ◌≤◌, ◌<◌, ◌^◌, ◌+◌, ◌-◌, ◌↔◌, true, false, IfOk, OnOk, IsErrOf, slice_index, length, All, None, Some};
+ghost use Rattle.l6_word.specs.Numerals.{word_bits};
+ghost use Rattle.l6_prog.specs.Numerals.{first_letter};
 ghost use Rattle.l6_machine.specs.Limits.{are_allowed};
+ghost use Rattle.l6_machine.specs.Numerals.{most_output, most_steps};
 ghost use Rattle.l6_machine.specs.State.{start, is_at_limit, is_last};
 ghost use Rattle.l6_machine.specs.Locus.{index_of};
-ghost use Rattle.l6_machine.specs.Step.{Step, stepped, answer};
+ghost use Rattle.l6_machine.specs.Step.{Step, state_after, answer};
 ghost use Rattle.l6_machine.specs.Run.{IsReached};
 
 use crate::halt::{Halt, StepResult};
-use crate::limits::{Limits, MAX_OUTPUT};
+use crate::limits::Limits;
 use crate::position::Position;
 use crate::progress::Progress;
 use crate::registers::Registers;
@@ -45,33 +48,35 @@ impl From<AllocError> for MachineFault {
 #[derive(Drop)]
 pub struct Machine {
     program: Program,
-    limits: Limits,
     progress: Progress,
 }
 
 impl Model for Machine {
-    ghost use Rattle.l6_machine.specs.Machine.{Machine as View};
+    ghost use Rattle.l6_machine.specs.Standing.{Standing};
 
-    ghost Value = { View };
+    ghost Value = { Standing };
 
-    ghost use Rattle.l6_machine.specs.Progress.{state_of};
-    ghost use Rattle.l6_machine.specs.Machine.{IsSound};
+    ghost use Rattle.l6_machine.specs.inner.Progress.{state_of, world_of};
+    ghost use Rattle.l6_machine.specs.inner.Machine.{IsSound};
 
-    ghost view = { λ m. record { world = record { program = m.program; limits = m.limits }; state = state_of m.progress } };
+    ghost view = { λ m. record { world = world_of m.program m.progress; state = state_of m.progress } };
 
-    ghost invariant = { λ m. IsSound (record { program = m.program; limits = m.limits }) m.progress };
+    ghost invariant = { λ m. IsSound m.program m.progress };
 }
 
 impl Machine {
-    /// A machine before the first step of the program. All that a run needs is taken from memory here: a
-    /// copy of the program, and room for the output. The input is not looked at: no operation reads it yet.
+    /// A machine before the first step of the program. All that a run needs is taken from memory
+    /// here: a copy of the program, and room for the output. The input is not looked at: no
+    /// operation reads it yet.
     pub fn new(
         alloc: Global,
         program: &Program,
         _input: &[u8],
         limits: Limits,
     ) -> Result<Self, MachineFault>
-        ensures start { IfOk result (λ m. m ≡ record { world = record { program = program.now; limits = limits }; state = start }) }
+        ensures start { IfOk result (λ m. m.state ≡ start) }
+        ensures world { IfOk result
+            (λ m. m.world ≡ record { program = program.now; setting = record { limits = limits } }) }
         ensures reached { IfOk result (λ m. IsReached m.world m.state) }
         ensures bad_limits { IsErrOf result MachineFault.BadLimits ↔ (are_allowed limits ≡ false) }
         ensures allowed { OnOk result (are_allowed limits ≡ true) }
@@ -79,45 +84,43 @@ impl Machine {
         if !limits.are_allowed() {
             return Err(MachineFault::BadLimits);
         }
-        let registers = Registers::new(alloc, limits.output)?;
+        let registers = Registers::new(alloc, limits)?;
         let program = program.duplicate(alloc)?;
         let progress = Progress {
             registers,
             at: Position {
                 statement: 0,
-                element: 0,
+                action: 0,
             },
             count: 0,
             ending: None,
         };
-        Ok(Machine {
-            program,
-            limits,
-            progress,
-        })
+        Ok(Machine { program, progress })
     }
 
-    /// Makes one step: the condition, an operation or the exit of a statement. A step that traps changes the
-    /// ending alone, and is not counted. Nothing changes where the run has ended or is at its limit.
+    /// Makes one step: the condition, an operation or the exit of a statement. A step that traps
+    /// changes the ending alone, and is not counted. Nothing changes where the run has ended or is
+    /// at its limit.
     pub fn step(&mut self) -> StepResult
-        ensures state { self.new.state ≡ stepped self.old.world self.old.state }
+        ensures state { self.new.state ≡ state_after self.old.world self.old.state }
         ensures world { self.new.world ≡ self.old.world }
-        ensures step { is_last self.old.world self.old.state ≡ false → Step self.old.world self.old.state self.new.state }
+        ensures step { is_last self.old.world self.old.state ≡ false
+            → Step self.old.world self.old.state self.new.state }
         ensures trapped { (trap : Trap) → self.old.state.ending ≡ None → result ≡ StepResult.Trapped trap
             → self.new.state ≡ record self.old.state { ending = Some (Halt.Trap trap) } }
         ensures last { is_last self.old.world self.old.state ≡ true → self.new.state ≡ self.old.state }
         ensures reached { IsReached self.new.world self.new.state }
         ensures answer { result ≡ answer self.old.world self.old.state }
         ensures counted { result ≡ StepResult.Went → self.new.state.count ≡ self.old.state.count + 1 }
-        ensures within { self.new.state.count ≤ self.new.world.limits.steps }
-        ensures words { All (λ word. word < 2 ^ 36) self.new.state.memory.bugs }
+        ensures within { self.new.state.count ≤ self.new.world.setting.limits.steps }
+        ensures words { All (λ word. word < 2 ^ word_bits) self.new.state.memory.bugs }
     {
-        self.progress.step(&self.program, self.limits)
+        self.progress.step(&self.program)
     }
 
     /// What the bug of a letter holds. The caller owes a letter (`Name::is_letter`).
     pub fn bug(&self, name: Name) -> Word
-        requires { 10 ≤ name }
+        requires { first_letter ≤ name }
         ensures { result ≡ slice_index self.now.state.memory.bugs (index_of name) }
     {
         self.progress.registers.bug(name)
@@ -130,18 +133,20 @@ impl Machine {
         self.progress.at
     }
 
-    /// How many steps have been counted.
+    /// How many steps have been counted, at most as many as the run may count.
     pub fn count(&self) -> u64
         ensures value { result ≡ self.now.state.count }
-        ensures within { result ≤ self.now.world.limits.steps }
+        ensures within { result ≤ self.now.world.setting.limits.steps }
+        ensures bound { result ≤ most_steps }
     {
         self.progress.count
     }
 
-    /// What has been printed.
+    /// What has been printed, at most as much as the run may print.
     pub fn output(&self) -> &[u8]
         ensures value { result.now ≡ self.now.state.memory.output }
-        ensures within { length result.now ≤ MAX_OUTPUT }
+        ensures within { length result.now ≤ self.now.world.setting.limits.output }
+        ensures bound { length result.now ≤ most_output }
     {
         self.progress.registers.output()
     }
@@ -157,6 +162,6 @@ impl Machine {
     pub fn at_limit(&self) -> bool
         ensures { result ≡ is_at_limit self.now.world self.now.state }
     {
-        self.ending().is_none() && self.count() == self.limits.steps
+        self.ending().is_none() && self.count() == self.progress.registers.limits.steps
     }
 }

@@ -5,6 +5,7 @@
 pub struct Position {
     /// The statement, from 0.
     pub statement: u16,
-    /// 0 at its condition, 1 to k at its k operations, k + 1 at its exit.
-    pub element: u8,
+    /// The action of the statement: 0 is its condition, 1 to k are its k operations, k + 1 is its
+    /// exit.
+    pub action: u8,
 }

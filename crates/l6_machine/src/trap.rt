@@ -12,11 +12,11 @@ pub enum Trap {
 }
 
 impl Trap {
-    ghost use Rattle.l6_machine.specs.Trap.{number_of, name_of};
+    ghost use Rattle.l6_machine.specs.Trap.{trap_number, trap_name};
 
     /// Its number, from 1 to 14.
     pub fn number(self) -> u8
-        ensures { result ≡ number_of self }
+        ensures { result ≡ trap_number self }
     {
         match self {
             Trap::UndefinedField => 1,
@@ -26,7 +26,7 @@ impl Trap {
 
     /// Its name, as it is printed.
     pub fn name(self) -> &'static str
-        ensures { result.now ≡ name_of self }
+        ensures { result.now ≡ trap_name self }
     {
         match self {
             Trap::UndefinedField => "UNDEFINED FIELD",

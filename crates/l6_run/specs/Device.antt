@@ -1,35 +1,33 @@
--- What a clause reads of a device, and what an answer makes of it.
-use Rattle.std.specs.Prelude.{ℕ, ◌+◌, Bool, true, ◌||◌, ◌&&◌, ◌==◌, nat_lt, List, length, Result, Ok, Err}
-use Rattle.l6_run.specs.declared.device.Host.{Host}
+-- What a device remembers of its troubles.
+use Rattle.std.specs.Prelude.{◌≡◌, ℕ, ◌+◌, Bool, true, ◌&&◌, ◌==◌, nat_lt, List, length, Result, Ok, Err, if◌then◌else◌}
 use Rattle.l6_run.specs.declared.device.Trouble.{Trouble}
 use Rattle.l6_run.specs.declared.device.Trouble.TheVariants.{Interrupted, Failed}
 
--- `host.into_inner()`
-abbrev pub device_of : {T : Type 0} → Host T → T
-device_of host = host.device
+-- how often a device answered `Interrupted`, and whether it has failed
+pub record Health : Type 0 where
+  pub interruptions : ℕ
+  pub has_failed : Bool
 
--- how often the host's device was interrupted
-abbrev pub interruptions_of : {T : Type 0} → Host T → ℕ
-interruptions_of host = host.interruptions
+-- an interruption is counted, and a failure remembered
+abbrev pub after_trouble : Health → Trouble → Health
+after_trouble old Interrupted = record old { interruptions = old.interruptions + 1 }
+after_trouble old Failed = record old { has_failed = true }
 
--- whether the host's device has failed
-abbrev pub has_failed_of : {T : Type 0} → Host T → Bool
-has_failed_of host = host.failed
+-- after a read, which answered so many bytes, or trouble
+abbrev pub after_read : Health → Result ℕ Trouble → Health
+after_read old (Ok count) = old
+after_read old (Err trouble) = after_trouble old trouble
 
--- the count of interruptions after an answer
-abbrev pub interruptions_after : ℕ → Result ℕ Trouble → ℕ
-interruptions_after count (Ok _) = count
-interruptions_after count (Err Interrupted) = count + 1
-interruptions_after count (Err Failed) = count
+-- after a write of these bytes: a writer that takes none of some has failed
+abbrev pub after_write : Health → List ℕ → Result ℕ Trouble → Health
+after_write old bytes (Ok count) =
+    if count == 0 && nat_lt 0 (length bytes) then after_trouble old Failed else old
+after_write old bytes (Err trouble) = after_trouble old trouble
 
--- whether a reader has failed after an answer
-abbrev pub failed_after_read : Bool → Result ℕ Trouble → Bool
-failed_after_read before (Ok _) = before
-failed_after_read before (Err Interrupted) = before
-failed_after_read before (Err Failed) = true
+-- the device had no trouble in between
+abbrev pub NoTrouble : Health → Health → Type 0
+NoTrouble old new = new ≡ old
 
--- whether a writer has failed after its answer to these bytes: also where it took none of some
-abbrev pub failed_after_write : Bool → List ℕ → Result ℕ Trouble → Bool
-failed_after_write before bytes (Ok count) = before || (count == 0 && nat_lt 0 (length bytes))
-failed_after_write before bytes (Err Interrupted) = before
-failed_after_write before bytes (Err Failed) = true
+-- the device had one trouble in between: it was interrupted once, or it failed
+abbrev pub OneTrouble : Health → Health → Type 0
+OneTrouble old new = (trouble : Trouble) × (new ≡ after_trouble old trouble)

@@ -1,5 +1,10 @@
+pub mod Numerals
 pub mod Device
 pub mod Fault
 pub mod Transfer
 pub mod Options
 pub mod Printout
+pub mod Prints
+pub mod Serves
+pub mod Laws
+pub mod inner

@@ -2,13 +2,24 @@
 use Rattle.std.specs.Prelude.{ℕ, Bool, ◌&&◌, nat_le}
 use Rattle.l6_machine.specs.declared.limits.Limits.{Limits}
 use Rattle.l6_machine.specs.Limits.{are_allowed}
-use Rattle.l6_run.specs.declared.options.TheConstants.{MAX_UNITS}
+use Rattle.l6_run.specs.Numerals.{most_units, default_units, default_steps, default_output}
 
 -- how many units the store has, and how far the run may go
-pub record Choice : Type 0 where
+pub record OptionValues : Type 0 where
   pub units : ℕ
   pub limits : Limits
 
+-- so many units, steps, and bytes of output
+abbrev pub option_values : ℕ → ℕ → ℕ → OptionValues
+option_values units steps output = record {
+  units = units;
+  limits = record { steps = steps; output = output };
+}
+
 -- a user may choose so
-abbrev pub is_in_range : Choice → Bool
-is_in_range choice = nat_le 1 choice.units && nat_le choice.units MAX_UNITS && are_allowed choice.limits
+abbrev pub is_in_range : OptionValues → Bool
+is_in_range options = nat_le 1 options.units && nat_le options.units most_units && are_allowed options.limits
+
+-- what a user has who chooses nothing
+abbrev pub default_options : OptionValues
+default_options = option_values default_units default_steps default_output

@@ -1,10 +1,11 @@
 -- What the reading of a part and the writing of a text do to a device.
-use Rattle.std.specs.Prelude.{Option, ◌≡◌, ℕ, ◌+◌, ◌-◌, ◌^◌, ◌<◌, ◌≤◌, min, Bool, IsTrue, ◌⊎◌, List, ◌++◌, length, take}
+use Rattle.std.specs.Prelude.{Option, ◌≡◌, ℕ, ◌+◌, ◌-◌, ◌^◌, ◌<◌, ◌≤◌, min, List, length, take}
 use Rattle.std.specs.Io.KnownBytes.{Appends, Consumes, IsAtEnd}
+use Rattle.l6_run.specs.Device.{Health, NoTrouble, OneTrouble}
 use Rattle.l6_run.specs.Fault.{limit_of}
 use Rattle.l6_run.specs.declared.fault.Part.{Part}
 use Rattle.l6_run.specs.declared.fault.RunFault.{RunFault}
-use Rattle.l6_run.specs.declared.fault.RunFault.TheVariants.{TooLong, Asm, Read, Write, NoMemory}
+use Rattle.l6_run.specs.declared.fault.RunFault.TheVariants.{TooLong, Read, Write, NoMemory}
 
 -- the reader gave these bytes, which are all that it had left and no more than the part may have
 pub record GivesPart (part : Part) (old new : Option (List ℕ)) (bytes : List ℕ) : Type 0 where
@@ -24,29 +25,12 @@ pub record GivesAtMost (n : ℕ) (old new : Option (List ℕ)) : Type 0 where
   pub given : Consumes old new bytes
   pub within : length bytes ≤ n
 
--- the reader gave so many bytes more, which were appended, and none only at its end
-pub record GivesMore (old new : Option (List ℕ)) (bytes bytes' : List ℕ) (count : ℕ) : Type 0 where
-  pub more : List ℕ
-  pub given : Consumes old new more
-  pub appended : bytes' ≡ bytes ++ more
-  pub counted : length more ≡ count
-  pub ended : count ≡ 0 → IsAtEnd new
-
--- a fault of one read of the part
-abbrev pub IsReadFault : Part → RunFault → Type 0
-IsReadFault part (TooLong _) = ⊥
-IsReadFault part (Asm _) = ⊥
-IsReadFault part (Read which) = which ≡ part
-IsReadFault part (Write _) = ⊥
-IsReadFault part NoMemory = Unit {0}
-
--- why a part was not read
+-- why a part was not read: more came than it may have, its reader had trouble, or memory ran out
 abbrev pub EndsReading : Part → Option (List ℕ) → Option (List ℕ) → RunFault → Type 0
 EndsReading part old new (TooLong which) = (which ≡ part) × GivesTooMuch part old new
-EndsReading part old new (Asm _) = ⊥
 EndsReading part old new (Read which) = which ≡ part
-EndsReading part old new (Write _) = ⊥
 EndsReading part old new NoMemory = Unit {0}
+EndsReading part old new other = ⊥
 
 -- the writer took the first bytes of a text and not all, and n counts them and those before, up to `u64::MAX`
 pub record TakesFront (text : List ℕ) (before n : ℕ) (old new : Option (List ℕ)) : Type 0 where
@@ -55,32 +39,12 @@ pub record TakesFront (text : List ℕ) (before n : ℕ) (old new : Option (List
   pub front : Appends old new (take count text)
   pub counted : n ≡ min (before + count) (2 ^ 64 - 1)
 
--- why a text was not written
+-- why a text did not go out whole: its writer had trouble
 abbrev pub EndsWriting : List ℕ → ℕ → Option (List ℕ) → Option (List ℕ) → RunFault → Type 0
-EndsWriting text before old new (TooLong _) = ⊥
-EndsWriting text before old new (Asm _) = ⊥
-EndsWriting text before old new (Read _) = ⊥
 EndsWriting text before old new (Write n) = TakesFront text before n old new
-EndsWriting text before old new NoMemory = ⊥
-
--- the device had no trouble: it was not interrupted, and it has failed just if it had before
-pub record NoTrouble (count count' : ℕ) (failed failed' : Bool) : Type 0 where
-  pub uninterrupted : count' ≡ count
-  pub sound : failed' ≡ failed
-
--- the device had one trouble: it was interrupted once, or it has failed
-pub record OneTrouble (count count' : ℕ) (failed failed' : Bool) : Type 0 where
-  pub met : (count < count') ⊎ IsTrue failed'
-  pub counted : count ≤ count'
-  pub once : count' ≤ count + 1
-  pub apart : count < count' → failed' ≡ failed
-
--- no interruption is uncounted again, and no failure forgotten
-pub record Remembers (count count' : ℕ) (failed failed' : Bool) : Type 0 where
-  pub counted : count ≤ count'
-  pub kept : IsTrue failed → IsTrue failed'
+EndsWriting text before old new other = ⊥
 
 -- how the reader fared at a fault: `Read` is its one trouble, and at any other fault it had none
-abbrev pub FaredReading : ℕ → ℕ → Bool → Bool → RunFault → Type 0
-FaredReading count count' failed failed' (Read _) = OneTrouble count count' failed failed'
-FaredReading count count' failed failed' _ = NoTrouble count count' failed failed'
+abbrev pub ReaderFaredAt : Health → Health → RunFault → Type 0
+ReaderFaredAt old new (Read part) = OneTrouble old new
+ReaderFaredAt old new other = NoTrouble old new

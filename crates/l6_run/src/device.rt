@@ -1,10 +1,11 @@
 //! Devices: readers that give bytes and writers that take them, with the trouble that they had.
 
-ghost use Rattle.std.specs.Prelude.{◌≡◌, ◌<◌, ◌↔◌, ℕ, Bool, List, Option, Err, false};
+ghost use Rattle.std.specs.Prelude.{◌≡◌, ◌<◌, ◌↔◌, ℕ, List, Option, Err, false};
 ghost use Rattle.std.specs.Io.{ReadsAtMost, WritesAtMost};
 ghost use Rattle.std.specs.Io.KnownBytes.{ReadConsumes, WriteAppends};
 ghost use Rattle.std.specs.IoError.{error_kind};
-ghost use Rattle.l6_run.specs.Device.{device_of, failed_after_read, failed_after_write, has_failed_of, interruptions_after, interruptions_of};
+ghost use Rattle.l6_run.specs.Device.{Health, after_read, after_trouble, after_write};
+ghost use Rattle.l6_run.specs.inner.Host.{device_of, health_of};
 
 use std::io;
 use std::io::ErrorKind;
@@ -23,11 +24,9 @@ pub trait Source {
     // The bytes that reads will give from here on, where they are known.
     ghost left: { Self → Option (List ℕ) };
 
-    // How often it has answered `Interrupted`.
-    ghost interruptions: { Self → ℕ };
-
-    // Whether it has failed: from its first `Failed` on, and for no other cause.
-    ghost has_failed: { Self → Bool };
+    // How often it has answered `Interrupted`, and whether it has failed: from its first `Failed` on,
+    // and for no other cause.
+    ghost health: { Self → Health };
 
     /// Reads into the front of the buffer, and answers how many bytes. None come only at the end, or
     /// where the buffer has no room.
@@ -38,8 +37,7 @@ pub trait Source {
     fn read(&mut self, buffer: &mut [u8]) -> Result<usize, Trouble>
         ensures bound { ReadsAtMost result buffer.new }
         ensures bytes { ReadConsumes (left self.old) (left self.new) result buffer.new }
-        ensures interrupted { interruptions self.new ≡ interruptions_after (interruptions self.old) result }
-        ensures failed { has_failed self.new ≡ failed_after_read (has_failed self.old) result };
+        ensures health { health self.new ≡ after_read (health self.old) result };
 }
 
 /// A writer: a device that takes bytes.
@@ -47,12 +45,9 @@ pub trait Sink {
     // The bytes that it has taken, where they are known.
     ghost taken: { Self → Option (List ℕ) };
 
-    // How often it has answered `Interrupted`.
-    ghost interruptions: { Self → ℕ };
-
-    // Whether it has failed: from its first `Failed` on, or from its first write of some bytes that
-    // took none, and for no other cause.
-    ghost has_failed: { Self → Bool };
+    // How often it has answered `Interrupted`, and whether it has failed: from its first `Failed` on,
+    // or from its first write of some bytes that took none, and for no other cause.
+    ghost health: { Self → Health };
 
     /// Takes bytes from the front of `bytes`, and answers how many.
     ///
@@ -62,11 +57,11 @@ pub trait Sink {
     fn write(&mut self, bytes: &[u8]) -> Result<usize, Trouble>
         ensures bound { WritesAtMost result bytes.now }
         ensures bytes { WriteAppends (taken self.old) (taken self.new) result bytes.now }
-        ensures interrupted { interruptions self.new ≡ interruptions_after (interruptions self.old) result }
-        ensures failed { has_failed self.new ≡ failed_after_write (has_failed self.old) bytes.now result };
+        ensures health { health self.new ≡ after_write (health self.old) bytes.now result };
 }
 
-/// A device of the host, a `std::io::Read` or a `std::io::Write`, with what became of it.
+/// A device of the host, a `std::io::Read` or a `std::io::Write`, with what it remembers of its
+/// troubles.
 #[derive(Debug, Drop)]
 pub struct Host<T> {
     device: T,
@@ -78,8 +73,7 @@ impl<T> Host<T> {
     /// The device, which has had no trouble yet.
     pub fn new(device: T) -> Host<T>
         ensures device { device_of result ≡ device }
-        ensures uninterrupted { interruptions_of result ≡ 0 }
-        ensures sound { has_failed_of result ≡ false }
+        ensures health { health_of result ≡ record { interruptions = 0; has_failed = false } }
     {
         Host {
             device,
@@ -100,9 +94,9 @@ impl<T> Host<T> {
     fn note(&mut self, error: io::Error) -> Trouble
         ensures device { device_of self.new ≡ device_of self.old }
         ensures which { (result ≡ Trouble.Interrupted)
-            ↔ ((error_kind error ≡ ErrorKind.Interrupted) × (interruptions_of self.old < u64.MAX)) }
-        ensures interrupted { interruptions_of self.new ≡ interruptions_after (interruptions_of self.old) (Err result) }
-        ensures failed { has_failed_of self.new ≡ failed_after_read (has_failed_of self.old) (Err result) }
+            ↔ ((error_kind error ≡ ErrorKind.Interrupted)
+            × ((health_of self.old).interruptions < u64.MAX)) }
+        ensures health { health_of self.new ≡ after_trouble (health_of self.old) result }
     {
         if error.kind() == ErrorKind::Interrupted && self.interruptions < u64::MAX {
             self.interruptions += 1;
@@ -117,9 +111,7 @@ impl<T> Host<T> {
 impl<T: io::Read> Source for Host<T> {
     ghost left = { λ host. T.remaining (device_of host) };
 
-    ghost interruptions = { interruptions_of };
-
-    ghost has_failed = { has_failed_of };
+    ghost health = { health_of };
 
     fn read(&mut self, buffer: &mut [u8]) -> Result<usize, Trouble> {
         match self.device.read(buffer) {
@@ -132,9 +124,7 @@ impl<T: io::Read> Source for Host<T> {
 impl<T: io::Write> Sink for Host<T> {
     ghost taken = { λ host. T.contents (device_of host) };
 
-    ghost interruptions = { interruptions_of };
-
-    ghost has_failed = { has_failed_of };
+    ghost health = { health_of };
 
     fn write(&mut self, bytes: &[u8]) -> Result<usize, Trouble> {
         match self.device.write(bytes) {

@@ -1,10 +1,12 @@
 //! The parts of a job, and why a job is not done.
 
 ghost use Rattle.std.specs.Prelude.{◌≡◌, ◌≤◌, ℕ, Some};
-ghost use Rattle.l6_run.specs.Fault.{limit_of, name_of, refusal_from};
+ghost use Rattle.l6_run.specs.Fault.{limit_of, part_text, run_fault};
+ghost use Rattle.l6_run.specs.Numerals.{most_job_bytes};
 ghost use Rattle.l6_run.specs.declared.fault.RunFault.TheVariants.{NoMemory};
 
-use l6_card::{CardFault, MAX_DECK_BYTES};
+use l6_asm::AsmFault;
+use l6_card::MAX_DECK_BYTES;
 use std::alloc::AllocError;
 use std::fmt;
 use thiserror::Error;
@@ -25,7 +27,7 @@ impl Part {
     /// The most bytes that the part may have.
     pub fn limit(self) -> usize
         ensures value { result ≡ limit_of self }
-        ensures within { result ≤ MAX_JOB_BYTES }
+        ensures within { result ≤ most_job_bytes }
     {
         match self {
             Part::Deck => MAX_DECK_BYTES,
@@ -35,7 +37,7 @@ impl Part {
 }
 
 impl fmt::Display for Part {
-    ghost output = { λ part. Some (name_of part) };
+    ghost output = { λ part. Some (part_text part) };
 
     fn fmt<W: fmt::Write>(&self, f: &mut fmt::Formatter<W>) -> fmt::Result {
         f.write_str(match self {
@@ -44,9 +46,6 @@ impl fmt::Display for Part {
         })
     }
 }
-
-/// Why a deck spells no program: so far, why it cannot be read.
-pub type AsmFault = CardFault;
 
 /// Why a job was not done.
 #[derive(Clone, Copy, Debug, PartialEq, Eq, Error)]
@@ -77,7 +76,7 @@ impl From<AllocError> for RunFault {
 }
 
 impl From<AsmFault> for RunFault {
-    ghost from_gives = { λ asm fault. fault ≡ refusal_from asm };
+    ghost from_gives = { λ asm fault. fault ≡ run_fault asm };
 
     fn from(fault: AsmFault) -> Self {
         match fault {

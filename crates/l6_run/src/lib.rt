@@ -1,18 +1,20 @@
-//! Runs from a reader to a writer: devices, transfers, options and printouts.
+//! Runs, from a deck to the writer of its printout: devices, transfers, options and printouts.
 #![tactic(auto)]
 
 mod device;
 mod ending;
 mod fault;
+mod laws;
 mod options;
 mod printing;
-mod run;
+mod running;
 mod transfer;
 
 pub use device::{Host, Sink, Source, Trouble};
 pub use ending::Ending;
-pub use fault::{AsmFault, MAX_JOB_BYTES, Part, RunFault};
+pub use fault::{MAX_JOB_BYTES, Part, RunFault};
+pub use laws::{jobs_have_their_limits, printouts_are_determined};
 pub use options::{MAX_UNITS, Options};
 pub use printing::{ending_line, ending_of, printout};
-pub use run::run_to_end;
+pub use running::run_deck;
 pub use transfer::{read_part, write_text};

@@ -18,25 +18,26 @@ pub struct Options {
 
 impl Model for Options {
     ghost use Rattle.std.specs.Prelude.{◌≡◌, true};
-    ghost use Rattle.l6_run.specs.Options.{Choice, is_in_range};
+    ghost use Rattle.l6_run.specs.Options.{OptionValues, is_in_range};
 
-    ghost Value = { Choice };
+    ghost Value = { OptionValues };
 
     ghost view = { λ options. record { units = options.units; limits = options.limits } };
 
-    ghost invariant = { λ options. is_in_range (record { units = options.units; limits = options.limits }) ≡ true };
+    ghost invariant = { λ options.
+        is_in_range (record { units = options.units; limits = options.limits }) ≡ true };
 
-    ghost inverse = { λ choice. record { units = choice.units; limits = choice.limits } };
+    ghost inverse = { λ values. record { units = values.units; limits = values.limits } };
 }
 
 impl Options {
-    ghost use Rattle.l6_run.specs.Options.{is_in_range};
+    ghost use Rattle.l6_run.specs.Options.{is_in_range, option_values};
 
     /// The options, or `None` out of range: a store of 1 to 2,047 units, 0 to 1,000,000,000 steps, and 0 to
     /// 16,777,216 bytes of output.
     pub fn new(units: u32, steps: u64, output: usize) -> Option<Self>
-        ensures valid { IsSome result ↔ (is_in_range (record { units = units; limits = record { steps = steps; output = output } }) ≡ true) }
-        ensures value { IfSome result (λ options. options ≡ record { units = units; limits = record { steps = steps; output = output } }) }
+        ensures valid { IsSome result ↔ (is_in_range (option_values units steps output) ≡ true) }
+        ensures value { IfSome result (λ options. options ≡ option_values units steps output) }
     {
         let limits = Limits { steps, output };
         if 1 <= units && units <= MAX_UNITS && limits.are_allowed() {
@@ -78,7 +79,10 @@ impl Options {
 
 /// A store of 64 units, 1,000,000 steps, and 1,048,576 bytes of output.
 impl Default for Options {
-    ghost is_default = { λ options. options ≡ record { units = 64; limits = record { steps = 1000000; output = 1048576 } } };
+    ghost use Rattle.std.specs.Prelude.{◌≡◌};
+    ghost use Rattle.l6_run.specs.Options.{default_options};
+
+    ghost is_default = { λ options. options ≡ default_options };
 
     fn default() -> Self {
         Options {

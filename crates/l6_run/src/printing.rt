@@ -2,7 +2,7 @@
 
 ghost use Rattle.std.specs.Prelude.{◌≡◌, ◌++◌, true, OnOk, IfOk, codes, decimal, ◌-◌, length, slice_get};
 ghost use Rattle.l6_machine.specs.State.{is_last};
-ghost use Rattle.l6_run.specs.Printout.{ending_of, words, ending_line, printout, lacks_line_feed};
+ghost use Rattle.l6_run.specs.Printout.{ending_of, ending_text, ending_line, printout, lacks_line_feed};
 
 use crate::ending::Ending;
 use itoa::{Buffer, Integer};
@@ -27,7 +27,7 @@ pub fn ending_line(alloc: Global, machine: &Machine) -> Result<Vec<u8>, AllocErr
     ensures { IfOk result (λ line. line.items ≡ ending_line machine.now.state) }
 {
     let mut line = Vec::from_slice(alloc, b"== ")?;
-    push_words(&mut line, ending_of(machine), machine.at())?;
+    push_ending(&mut line, ending_of(machine), machine.at())?;
     line.extend_from_slice(b" AFTER ")?;
     push_decimal(&mut line, machine.count())?;
     line.extend_from_slice(b" STEPS")?;
@@ -61,9 +61,9 @@ fn lacks_line_feed(text: &[u8]) -> bool
     }
 }
 
-/// Adds an ending in words.
-fn push_words(line: &mut Vec<u8>, ending: Ending, at: Position) -> Result<(), AllocError>
-    ensures { OnOk result (line.new.items ≡ line.old.items ++ words ending at) }
+/// Adds the text of an ending.
+fn push_ending(line: &mut Vec<u8>, ending: Ending, at: Position) -> Result<(), AllocError>
+    ensures { OnOk result (line.new.items ≡ line.old.items ++ ending_text ending at) }
 {
     match ending {
         Ending::Done => line.extend_from_slice(b"DONE"),
@@ -74,7 +74,7 @@ fn push_words(line: &mut Vec<u8>, ending: Ending, at: Position) -> Result<(), Al
 
 /// Adds a trap, and where the run stands.
 fn push_trap(line: &mut Vec<u8>, trap: Trap, at: Position) -> Result<(), AllocError>
-    ensures { OnOk result (line.new.items ≡ line.old.items ++ words (Ending.Trap trap) at) }
+    ensures { OnOk result (line.new.items ≡ line.old.items ++ ending_text (Ending.Trap trap) at) }
 {
     line.extend_from_slice(b"TRAP ")?;
     push_decimal(line, trap.number())?;
@@ -83,7 +83,7 @@ fn push_trap(line: &mut Vec<u8>, trap: Trap, at: Position) -> Result<(), AllocEr
     line.extend_from_slice(b" AT ")?;
     push_decimal(line, at.statement)?;
     line.push(b'.')?;
-    push_decimal(line, at.element)
+    push_decimal(line, at.action)
 }
 
 /// Adds a number in decimal.

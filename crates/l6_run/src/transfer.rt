@@ -3,14 +3,16 @@
 ghost use Rattle.std.specs.Prelude.{◌≡◌, ◌+◌, ◌-◌, ◌^◌, ◌<◌, ◌≤◌, min, length, vec_len, MatchResult, OnOk, IfOk, IfErr};
 ghost use Rattle.std.specs.Io.KnownBytes.{Appends};
 ghost use Rattle.l6_run.specs.Fault.{limit_of};
-ghost use Rattle.l6_run.specs.Transfer.{EndsReading, EndsWriting, FaredReading, GivesAtMost, GivesMore, GivesPart, IsReadFault, NoTrouble, OneTrouble, Remembers};
+ghost use Rattle.l6_run.specs.Device.{NoTrouble, OneTrouble};
+ghost use Rattle.l6_run.specs.Transfer.{EndsReading, EndsWriting, GivesAtMost, GivesPart, ReaderFaredAt};
+ghost use Rattle.l6_run.specs.inner.Transfer.{GivesMore, IsReadFault};
 
 use crate::device::{Sink, Source};
 use crate::fault::{Part, RunFault};
 use std::alloc::Global;
 
 /// The most bytes that one read asks for.
-const PIECE: usize = 65_536;
+const CHUNK: usize = 65_536;
 
 /// Reads all that the reader has left, at most the part's limit and one byte more.
 ///
@@ -27,17 +29,13 @@ pub fn read_part<R: Source>(alloc: Global, reader: &mut R, part: Part) -> Result
 
     // How the reader fared.
     ensures fared { MatchResult result
-        (λ _. NoTrouble (R.interruptions reader.old) (R.interruptions reader.new)
-        (R.has_failed reader.old) (R.has_failed reader.new))
-        (FaredReading (R.interruptions reader.old) (R.interruptions reader.new)
-        (R.has_failed reader.old) (R.has_failed reader.new)) }
-    ensures remembers { Remembers (R.interruptions reader.old) (R.interruptions reader.new)
-        (R.has_failed reader.old) (R.has_failed reader.new) }
+        (λ _. NoTrouble (R.health reader.old) (R.health reader.new))
+        (ReaderFaredAt (R.health reader.old) (R.health reader.new)) }
 {
-    let mut piece = vec![in alloc; 0; PIECE]?;
+    let mut chunk = vec![in alloc; 0; CHUNK]?;
     let mut bytes = Vec::new(alloc);
     while bytes.len() <= part.limit() {
-        let count = read_more(reader, part, piece.as_mut_slice(), &mut bytes)?;
+        let count = read_more(reader, part, chunk.as_mut_slice(), &mut bytes)?;
         if count == 0 {
             return Ok(bytes);
         }
@@ -50,10 +48,10 @@ pub fn read_part<R: Source>(alloc: Global, reader: &mut R, part: Part) -> Result
 fn read_more<R: Source>(
     reader: &mut R,
     part: Part,
-    piece: &mut [u8],
+    chunk: &mut [u8],
     bytes: &mut Vec<u8>,
 ) -> Result<usize, RunFault>
-    requires room { 0 < length piece.old }
+    requires room { 0 < length chunk.old }
     requires within { vec_len bytes.old ≤ limit_of part }
     ensures ok { IfOk result (GivesMore (R.left reader.old) (R.left reader.new)
         bytes.old.items bytes.new.items) }
@@ -62,15 +60,13 @@ fn read_more<R: Source>(
     ensures at_most { GivesAtMost (limit_of part + 1 - vec_len bytes.old)
         (R.left reader.old) (R.left reader.new) }
     ensures fared { MatchResult result
-        (λ _. NoTrouble (R.interruptions reader.old) (R.interruptions reader.new)
-        (R.has_failed reader.old) (R.has_failed reader.new))
-        (FaredReading (R.interruptions reader.old) (R.interruptions reader.new)
-        (R.has_failed reader.old) (R.has_failed reader.new)) }
+        (λ _. NoTrouble (R.health reader.old) (R.health reader.new))
+        (ReaderFaredAt (R.health reader.old) (R.health reader.new)) }
 {
-    let room = piece.len().min(part.limit() + 1 - bytes.len());
-    match reader.read(&mut piece[..room]) {
+    let room = chunk.len().min(part.limit() + 1 - bytes.len());
+    match reader.read(&mut chunk[..room]) {
         Ok(count) => {
-            bytes.extend_from_slice(&piece[..count])?;
+            bytes.extend_from_slice(&chunk[..count])?;
             Ok(count)
         }
         Err(_) => Err(RunFault::Read(part)),
@@ -91,12 +87,8 @@ pub fn write_text<W: Sink>(writer: &mut W, text: &[u8], before: u64) -> Result<(
 
     // How the writer fared.
     ensures fared { MatchResult result
-        (λ _. NoTrouble (W.interruptions writer.old) (W.interruptions writer.new)
-        (W.has_failed writer.old) (W.has_failed writer.new))
-        (λ _. OneTrouble (W.interruptions writer.old) (W.interruptions writer.new)
-        (W.has_failed writer.old) (W.has_failed writer.new)) }
-    ensures remembers { Remembers (W.interruptions writer.old) (W.interruptions writer.new)
-        (W.has_failed writer.old) (W.has_failed writer.new) }
+        (λ _. NoTrouble (W.health writer.old) (W.health writer.new))
+        (λ _. OneTrouble (W.health writer.old) (W.health writer.new)) }
 {
     let mut count = 0;
     while count < text.len() {

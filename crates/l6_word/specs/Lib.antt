@@ -1,2 +1,4 @@
 pub mod Numerals
 pub mod Code
+pub mod Lines
+pub mod inner

@@ -1,6 +1,7 @@
 //! The texts of faults.
 
-use l6_run::{AsmFault, Part, RunFault};
+use l6_asm::AsmFault;
+use l6_run::{Part, RunFault};
 use std::test::Fail;
 
 #[test]

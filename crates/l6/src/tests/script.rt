@@ -39,9 +39,8 @@ impl<D> Scripted<D> {
 impl<D: Source> Source for Scripted<D> {
     ghost left = { λ script. D.left script.device };
 
-    ghost interruptions = { λ script. D.interruptions script.device };
-
-    ghost has_failed = { λ script. script.failed || D.has_failed script.device };
+    ghost health = { λ script.
+        record (D.health script.device) { has_failed = script.failed || (D.health script.device).has_failed } };
 
     fn read(&mut self, buffer: &mut [u8]) -> Result<usize, Trouble> {
         if self.calls == 0 {
@@ -57,9 +56,8 @@ impl<D: Source> Source for Scripted<D> {
 impl<D: Sink> Sink for Scripted<D> {
     ghost taken = { λ script. D.taken script.device };
 
-    ghost interruptions = { λ script. D.interruptions script.device };
-
-    ghost has_failed = { λ script. script.failed || D.has_failed script.device };
+    ghost health = { λ script.
+        record (D.health script.device) { has_failed = script.failed || (D.health script.device).has_failed } };
 
     fn write(&mut self, bytes: &[u8]) -> Result<usize, Trouble> {
         if self.calls == 0 {

@@ -1,7 +1,7 @@
 use Rattle.std.proofs.Common.{refl}
-use Rattle.l6_card.specs.Lines.{first_columns}
+use Rattle.l6_card.specs.Numerals.{card_width}
 use Rattle.l6.proofs.worked.unknown_is_refused.Goals as goal
 
 pub returns : goal.returns
-unfolding first_columns
+unfolding card_width
 returns c = refl

@@ -1,16 +1,16 @@
 use Rattle.std.proofs.Common.{◌≡◌, ◌+◌, ◌≤◌, length}
-use Rattle.l6_card.specs.declared.limits.TheConstants.{MAX_DECK_BYTES}
+use Rattle.l6_card.specs.Numerals.{most_deck_bytes}
 use Rattle.l6_card.specs.Card.{cards_of}
 use Rattle.l6_card.specs.Pieces.{pieces_from}
-use Rattle.l6_card.specs.Reader.{known_by, taking_all}
+use Rattle.l6_card.specs.inner.Reader.{known_by, after_pieces}
 use Rattle.l6_card.proofs.Settling.{course_of}
 use Rattle.l6_card.proofs.deck.read_deck.Given as goal
 
 -- the cards that are left make of what is known what the deck makes of nothing
 abbrev pub invariant-loop-line : goal.invariant-loop-line
 invariant-loop-line l = record {
-  course : taking_all (known_by l.reader) (pieces_from (l.card + 1) (cards_of l.rest)) ≡ course_of l.deck;
-  numbers : l.card + length l.rest ≤ MAX_DECK_BYTES;
+  course : after_pieces (known_by l.reader) (pieces_from (l.card + 1) (cards_of l.rest)) ≡ course_of l.deck;
+  numbers : l.card + length l.rest ≤ most_deck_bytes;
 }
 
 abbrev pub decreases-loop-line : goal.decreases-loop-line

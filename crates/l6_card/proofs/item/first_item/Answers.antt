@@ -1,7 +1,7 @@
 use Rattle.std.proofs.Common.{ap, ◌∙◌, ◌≡◌, arith, false}
 use Rattle.l6_card.specs.Element.{is_blank}
-use Rattle.l6_card.specs.Items.{opened}
-use Rattle.l6_card.specs.First.{begins_with_other}
+use Rattle.l6_card.specs.Items.{after_opening}
+use Rattle.l6_card.specs.inner.First.{begins_with_other}
 use Rattle.l6_card.proofs.Bodies.{items_of-blanks, items_of-open, items_of-other}
 use Rattle.l6_card.proofs.item.first_item.Goals as goal
 
@@ -14,7 +14,7 @@ pub returns-in-Some-first_group-clause-first : goal.returns-in-Some-first_group-
 returns-in-Some-first_group-clause-first c =
     let b = c.skip_blanks-rest.ensures.blanks in
     items_of-open b.0 c.args.body.now c.skip_blanks-rest.result.now c.in-Some.mark.now c.in-Some.inside.now b.1 b.2 c.in-Some.ensures.cases.0 c.if-mark-eq40.true
-    ∙ ap opened c.in-Some-first_group.ensures.group
+    ∙ ap after_opening c.in-Some-first_group.ensures.group
 
 pub returns-in-None-first_group-clause-first : goal.returns-in-None-first_group-clause-first
 returns-in-None-first_group-clause-first c =

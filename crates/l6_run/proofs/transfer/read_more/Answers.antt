@@ -1,4 +1,4 @@
--- What the read put into the front of the piece is what was appended.
+-- What the read put into the front of the chunk is what was appended.
 use Rattle.std.proofs.Common.{arith, take, sym, length-take}
 use Rattle.l6_run.proofs.Transfers.{appended-front}
 use Rattle.l6_run.proofs.transfer.read_more.Goals as goal
@@ -12,5 +12,5 @@ returns-in_ok-extend_from_slice-in-Ok-clause-ok g c =
       given = read.bytes.0;
       appended = appended-front _ _ _ _ _ read.bound.0 c.in_ok-extend_from_slice-in-Ok.ensures.items;
       counted = sym read.bound.1;
-      ended = λ none. read.bytes.1 none (omega (arith, c.read.auto.buffer, length-take c.min-room.result c.args.piece.now, c.requires.room));
+      ended = λ none. read.bytes.1 none (omega (arith, c.read.auto.buffer, length-take c.min-room.result c.args.chunk.now, c.requires.room));
     }

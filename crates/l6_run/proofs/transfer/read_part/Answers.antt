@@ -1,15 +1,15 @@
 -- What the reads before gave, and then this one.
-use Rattle.std.proofs.Common.{arith, refl, rules}
+use Rattle.std.proofs.Common.{arith, refl, rules, ◌∙◌}
 use Rattle.std.proofs.KnownBytes.{Consumes-nil}
 use Rattle.std.proofs.lemmas.Result.{err_from_is_err_and}
-use Rattle.l6_run.proofs.Transfers.{Consumes-more, EndsReading-read_fault, FaredReading-after, GivesAtMost-after, GivesPart-at_end, NoTrouble-refl, NoTrouble-trans, Remembers-fared_reading, Remembers-no_trouble}
+use Rattle.l6_run.proofs.Transfers.{Consumes-more, EndsReading-read_fault, GivesAtMost-after, GivesPart-at_end, ReaderFaredAt-after}
 use Rattle.l6_run.proofs.transfer.read_part.Goals as goal
 
 pub loop-reader-init : goal.loop-reader-init
 loop-reader-init g c = record {
   given = rw c.new-bytes.ensures.items (Consumes-nil _);
   within = omega (arith, c.new-bytes.ensures.len);
-  quiet = NoTrouble-refl _ _;
+  quiet = refl;
   room = refl;
 }
 
@@ -19,7 +19,7 @@ loop-reader-preserved g c =
     record {
       given = Consumes-more _ _ _ _ _ _ so_far.given c.in_ok-count.ensures.ok;
       within = c.in_ok-count.ensures.within;
-      quiet = NoTrouble-trans _ _ _ _ _ _ so_far.quiet c.in_ok-count.ensures.fared;
+      quiet = c.in_ok-count.ensures.fared ∙ so_far.quiet;
       room = so_far.room;
     }
 
@@ -30,44 +30,46 @@ returns-in_err-count-clause-bytes g c =
 
 pub returns-in_err-count-clause-at_most : goal.returns-in_err-count-clause-at_most
 returns-in_err-count-clause-at_most g c =
-    GivesAtMost-after _ _ _ _ _ _ (omega (arith, c.loop-reader.bytes.ok.0, c.loop-reader.invariant.within)) c.loop-reader.invariant.given c.in_err-count.ensures.at_most
-
-pub returns-in_err-count-clause-remembers : goal.returns-in_err-count-clause-remembers
-returns-in_err-count-clause-remembers g c =
-    Remembers-fared_reading _ _ _ _ _ (FaredReading-after _ _ _ _ _ _ _ c.loop-reader.invariant.quiet c.in_err-count.ensures.fared)
-
-pub returns-then-count-eq0-clause-bytes : goal.returns-then-count-eq0-clause-bytes
-returns-then-count-eq0-clause-bytes g c =
-    GivesPart-at_end _ _ _ _ _ _ _ (omega (arith, c.loop-reader.bytes.ok.0)) c.loop-reader.invariant.given c.in_ok-count.ensures.ok (search rules)
-
-pub returns-then-count-eq0-clause-at_most : goal.returns-then-count-eq0-clause-at_most
-returns-then-count-eq0-clause-at_most g c =
-    GivesAtMost-after _ _ _ _ _ _ (omega (arith, c.loop-reader.bytes.ok.0, c.loop-reader.invariant.within)) c.loop-reader.invariant.given c.in_ok-count.ensures.at_most
-
-pub returns-then-count-eq0-clause-remembers : goal.returns-then-count-eq0-clause-remembers
-returns-then-count-eq0-clause-remembers g c =
-    Remembers-no_trouble _ _ _ _ (NoTrouble-trans _ _ _ _ _ _ c.loop-reader.invariant.quiet c.in_ok-count.ensures.fared)
-
-pub returns-clause-remembers : goal.returns-clause-remembers
-returns-clause-remembers g c = Remembers-no_trouble _ _ _ _ c.loop-reader.invariant.quiet
+    let so_far = c.loop-reader.invariant in
+    GivesAtMost-after _ _ _ _ _ _ (omega (arith, c.loop-reader.bytes.ok.0, so_far.within)) so_far.given c.in_err-count.ensures.at_most
 
 pub returns-in_err-count-clause-fared : goal.returns-in_err-count-clause-fared
 returns-in_err-count-clause-fared g c =
     let p = err_from_is_err_and c.from_residual-in_err-count.result c.from_residual-in_err-count.ensures.1 in
-    rw (p.1, p.2) (FaredReading-after _ _ _ _ _ _ _ c.loop-reader.invariant.quiet c.in_err-count.ensures.fared)
+    rw (p.1, p.2) (ReaderFaredAt-after _ _ _ _ c.loop-reader.invariant.quiet c.in_err-count.ensures.fared)
+
+pub returns-then-count-eq0-clause-bytes : goal.returns-then-count-eq0-clause-bytes
+returns-then-count-eq0-clause-bytes g c =
+    GivesPart-at_end _ _ _ _ _ _ _ (omega (arith, c.loop-reader.bytes.ok.0))
+    c.loop-reader.invariant.given c.in_ok-count.ensures.ok (search rules)
+
+pub returns-then-count-eq0-clause-at_most : goal.returns-then-count-eq0-clause-at_most
+returns-then-count-eq0-clause-at_most g c =
+    let so_far = c.loop-reader.invariant in
+    GivesAtMost-after _ _ _ _ _ _ (omega (arith, c.loop-reader.bytes.ok.0, so_far.within)) so_far.given c.in_ok-count.ensures.at_most
 
 pub returns-then-count-eq0-clause-fared : goal.returns-then-count-eq0-clause-fared
-returns-then-count-eq0-clause-fared g c = NoTrouble-trans _ _ _ _ _ _ c.loop-reader.invariant.quiet c.in_ok-count.ensures.fared
+returns-then-count-eq0-clause-fared g c = c.in_ok-count.ensures.fared ∙ c.loop-reader.invariant.quiet
 
 pub returns-clause-bytes : goal.returns-clause-bytes
 returns-clause-bytes g c =
-    let so_far = c.loop-reader.invariant in
-    (refl, record { bytes = c.loop-reader.bytes.items; given = so_far.given; past = omega (arith, c.loop-reader.bytes.ok.0, so_far.within) })
+    let so_far = c.loop-reader.invariant in (
+      refl,
+      record {
+        bytes = c.loop-reader.bytes.items;
+        given = so_far.given;
+        past = omega (arith, c.loop-reader.bytes.ok.0, so_far.within);
+      },
+    )
 
 pub returns-clause-at_most : goal.returns-clause-at_most
 returns-clause-at_most g c =
     let so_far = c.loop-reader.invariant in
-    record { bytes = c.loop-reader.bytes.items; given = so_far.given; within = omega (arith, c.loop-reader.bytes.ok.0, so_far.within) }
+    record {
+      bytes = c.loop-reader.bytes.items;
+      given = so_far.given;
+      within = omega (arith, c.loop-reader.bytes.ok.0, so_far.within);
+    }
 
 pub returns-clause-fared : goal.returns-clause-fared
 returns-clause-fared g c = c.loop-reader.invariant.quiet

@@ -2,16 +2,15 @@
 use Rattle.std.proofs.Common.{◌≡◌, ◌+◌, ◌-◌, ◌≤◌, vec_len}
 use Rattle.std.specs.Io.KnownBytes.{Consumes}
 use Rattle.l6_run.specs.Fault.{limit_of}
-use Rattle.l6_run.specs.Transfer.{NoTrouble}
+use Rattle.l6_run.specs.Device.{NoTrouble}
 use Rattle.l6_run.proofs.transfer.read_part.Given as goal
 
 abbrev pub invariant-loop-reader : goal.invariant-loop-reader
 invariant-loop-reader g l = record {
   given : Consumes (g.R.Source.left l.initial.reader) (g.R.Source.left l.reader) l.bytes.items;
   within : vec_len l.bytes ≤ limit_of l.part + 1;
-  quiet : NoTrouble (g.R.Source.interruptions l.initial.reader) (g.R.Source.interruptions l.reader)
-      (g.R.Source.has_failed l.initial.reader) (g.R.Source.has_failed l.reader);
-  room : vec_len l.piece ≡ vec_len l.initial.piece;
+  quiet : NoTrouble (g.R.Source.health l.initial.reader) (g.R.Source.health l.reader);
+  room : vec_len l.chunk ≡ vec_len l.initial.chunk;
 }
 
 abbrev pub decreases-loop-reader : goal.decreases-loop-reader

@@ -1,6 +1,0 @@
-use Rattle.l6.proofs.Assembled.{program_of-assembled}
-use Rattle.l6.proofs.assemble.assemble.Goals as goal
-
--- what the cards say makes a program, so none is refused
-pub unreachable-requires : goal.unreachable-requires
-unreachable-requires c = Prim.cc (program_of-assembled _ c.in_ok-cards.ensures.limits, c.in_ok-statements.ensures, c.new.ensures, c.in-Err.is)

@@ -1,5 +1,0 @@
-use Rattle.l6.proofs.Printouts.{prints-one}
-use Rattle.l6.proofs.laws.printouts_are_determined.Goals as goal
-
-pub returns : goal.returns
-returns c = prints-one c.reading_is_settled.ensures.one_way c.runs_are_determined.ensures.one_end

@@ -1,0 +1,56 @@
+-- The laws of reading.
+use Rattle.std.specs.Prelude.{◌≡◌, ℕ, ◌==◌, not, true, false, Bool, List, ◌∷◌, ◌++◌, ◌&&◌, Some, None}
+use Rattle.std.specs.List.{list_all}
+use Rattle.std.specs.Str.{byte}
+use Rattle.l6_card.specs.Element.{is_blank}
+use Rattle.l6_card.specs.Items.{Item, group, word, items_of}
+use Rattle.l6_card.specs.Statement.{WrittenParts}
+use Rattle.l6_card.specs.Fault.{DeckFault, fault_of}
+use Rattle.l6_card.specs.Reads.{Reads}
+
+-- a deck that reads has no fault
+abbrev pub ReadsOnlyWithoutFault : Type 0
+ReadsOnlyWithoutFault =
+    (deck : List ℕ) (statements : List WrittenParts) → Reads deck statements → fault_of deck ≡ None
+
+-- a deck without a fault reads
+abbrev pub ReadsWithoutFault : Type 0
+ReadsWithoutFault =
+    (deck : List ℕ) → fault_of deck ≡ None → (statements : List WrittenParts) × Reads deck statements
+
+-- a deck reads in one way
+abbrev pub ReadsInOneWay : Type 0
+ReadsInOneWay =
+    (deck : List ℕ) (one other : List WrittenParts) → Reads deck one → Reads deck other → one ≡ other
+
+-- whatever statements the deck says are these
+abbrev pub IsOnlyReading : List ℕ → List WrittenParts → Type 0
+IsOnlyReading deck statements = (others : List WrittenParts) → Reads deck others → others ≡ statements
+
+-- the fault is the first objection to the deck, which does not read
+pub record IsFirstFault (deck : List ℕ) (fault : DeckFault) : Type 0 where
+  pub first : fault_of deck ≡ Some fault
+  pub unread : (statements : List WrittenParts) → Reads deck statements → ⊥
+
+-- the column is no parenthesis
+abbrev pub is_inner : ℕ → Bool
+is_inner column = not (column == byte "(") && not (column == byte ")")
+
+-- a `(`, columns without parentheses and a `)` are a group, whatever follows
+abbrev pub GroupsAreInParentheses : Type 0
+GroupsAreInParentheses =
+    (columns behind : List ℕ) → list_all is_inner columns ≡ true →
+    items_of (byte "(" ∷ columns ++ byte ")" ∷ behind) ≡ group columns ∷ items_of behind
+
+-- blanks vanish in front of a word and inside it
+abbrev pub BlanksVanishInWords : Type 0
+BlanksVanishInWords =
+    (blank : ℕ) (columns letters : List ℕ) (items : List Item) → is_blank blank ≡ true →
+    items_of columns ≡ word letters ∷ items → items_of (blank ∷ columns) ≡ word letters ∷ items
+
+-- a letter or the like in front of a word belongs to it
+abbrev pub LettersMakeWords : Type 0
+LettersMakeWords =
+    (letter : ℕ) (columns letters : List ℕ) (items : List Item) →
+    is_blank letter ≡ false → is_inner letter ≡ true →
+    items_of columns ≡ word letters ∷ items → items_of (letter ∷ columns) ≡ word (letter ∷ letters) ∷ items

@@ -1,7 +1,0 @@
--- Statements as cards give them.
-use Rattle.std.specs.Prelude.{List}
-use Rattle.l6_prog.specs.declared.operation.Op.{Op}
-
--- what a written statement has
-pub record Parts : Type 0 where
-  pub operations : List Op

@@ -1,0 +1,10 @@
+-- The numbers of the language that runs stand on.
+use Rattle.std.specs.Prelude.{ℕ}
+
+-- how many steps a run may be allowed
+abbrev pub most_steps : ℕ
+most_steps = 1000000000
+
+-- how many bytes of output a run may be allowed
+abbrev pub most_output : ℕ
+most_output = 16777216

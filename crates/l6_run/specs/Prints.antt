@@ -1,0 +1,36 @@
+-- What the run of a deck prints.
+use Rattle.std.specs.Prelude.{◌≡◌, ℕ, ◌<◌, ◌≤◌, List, length, IsSomeAnd}
+use Rattle.l6_prog.specs.Statement.{Parts}
+use Rattle.l6_card.specs.Numerals.{most_deck_bytes}
+use Rattle.l6_card.specs.Fault.{deck_fault}
+use Rattle.l6_asm.specs.Spells.{Spells, IsUnspelled}
+use Rattle.l6_machine.specs.Run.{EndsIn}
+use Rattle.l6_machine.specs.State.{State, World}
+use Rattle.l6_run.specs.declared.ending.Ending.{Ending}
+use Rattle.l6_run.specs.declared.fault.Part.TheVariants.{Deck}
+use Rattle.l6_run.specs.declared.fault.RunFault.{RunFault}
+use Rattle.l6_run.specs.declared.fault.RunFault.TheVariants.{TooLong, Asm}
+use Rattle.l6_run.specs.Options.{OptionValues}
+use Rattle.l6_run.specs.Printout.{ending_of, printout}
+
+-- the world in which a program runs under these options
+abbrev pub world_under : OptionValues → List Parts → World
+world_under options program =
+    record { program = program; setting = record { limits = options.limits } }
+
+-- the deck is run under these options, the run ends so, and this is its printout: the deck is no longer than it may
+-- be and spells a program, and a whole run of the program ends in a state with that ending and that printout
+pub record Prints (options : OptionValues) (deck : List ℕ) (ending : Ending) (text : List ℕ) : Type 0 where
+  pub fits : length deck ≤ most_deck_bytes
+  pub program : List Parts
+  pub spelled : Spells deck program
+  pub final : State
+  pub ends : EndsIn (world_under options program) final
+  pub ended : ending ≡ ending_of final.ending
+  pub printed : text ≡ printout final
+
+-- why a deck is not run: it is too long, or its fault
+abbrev pub RefusesDeck : List ℕ → RunFault → Type 0
+RefusesDeck deck (TooLong Deck) = most_deck_bytes < length deck
+RefusesDeck deck (Asm fault) = (length deck ≤ most_deck_bytes) × IsSomeAnd (deck_fault fault) (IsUnspelled deck)
+RefusesDeck deck other = ⊥

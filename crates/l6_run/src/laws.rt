@@ -1,0 +1,23 @@
+//! The law of printouts, and that the numbers of the code are those of the language.
+
+ghost use Rattle.std.specs.Prelude.{◌≡◌};
+ghost use Rattle.l6_run.specs.Laws.{PrintsInOneWay};
+ghost use Rattle.l6_run.specs.Numerals.{most_job_bytes, most_units};
+
+use crate::fault::MAX_JOB_BYTES;
+use crate::options::MAX_UNITS;
+
+/// Whatever the options, a deck has at most one printout, and its run one ending: so the printout
+/// that `run_deck` speaks of is *the* printout of the deck.
+pub fn printouts_are_determined()
+    ensures { PrintsInOneWay }
+{
+    l6_card::reading_is_settled();
+    l6_machine::runs_are_determined();
+}
+
+/// Jobs are as long, and stores as large, as the language says.
+pub fn jobs_have_their_limits()
+    ensures job { MAX_JOB_BYTES ≡ most_job_bytes }
+    ensures units { MAX_UNITS ≡ most_units }
+{}

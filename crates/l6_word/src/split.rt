@@ -1,0 +1,19 @@
+//! Cutting bytes at a mark.
+
+ghost use Rattle.std.specs.Prelude.{◌≡◌, ◌+◌, true, length, IfSome, IfNone};
+ghost use Rattle.l6_word.specs.inner.Split.{lacks, IsCutAt};
+
+/// The bytes in front of the first mark and those behind it, or `None` where no mark stands.
+pub fn split_at_mark(bytes: &[u8], mark: u8) -> Option<(&[u8], &[u8])>
+    ensures none { IfNone result (lacks mark bytes.now ≡ true) }
+    ensures parts { IfSome result (λ parts. IsCutAt mark bytes.now parts.0.now parts.1.now) }
+    ensures lengths { let whole = length bytes.now in
+        IfSome result (λ parts. length parts.0.now + length parts.1.now + 1 ≡ whole) }
+{
+    for (place, byte) in bytes.iter().enumerate() {
+        if *byte == mark {
+            return Some((&bytes[..place], &bytes[place + 1..]));
+        }
+    }
+    None
+}

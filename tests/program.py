@@ -1,5 +1,5 @@
 #!/usr/bin/env python3
-"""Runs the built program on the cases of cases.jsonl, on devices that fail, and with memory refused.
+"""Runs the built program on the cases of cases.jsonl, on devices that fail, with memory refused.
 
 program.py PROGRAM prints each difference, and last 'N passed, M failed'.
 
@@ -15,7 +15,8 @@ A case is a line of JSON:
     memory          the group of cases that make equally many requests for memory, if it is in one:
                     such cases are alike but for how many steps are made and how much is printed
 
-Each character of a text is one byte. A text may be a list, in which [text, n] stands for n times that text.
+Each character of a text is one byte. A text may be a list, in which [text, n] stands for n times
+that text.
 """
 import itertools
 import json
@@ -28,10 +29,6 @@ import tempfile
 HERE = pathlib.Path(__file__).parent
 SECONDS = 20  # for one run of the program
 MOST_REQUESTS = 1_000  # for memory, of the job of which each is refused in turn
-
-
-class ShimNotLoaded(Exception):
-    """The program ran without the shim of refuse.c."""
 
 
 def text_of(value):
@@ -79,11 +76,13 @@ class Shim:
         self.library = f"{folder}/refuse.so"
         self.report = pathlib.Path(folder, "report")
         source = HERE / "refuse.c"
-        subprocess.run(["cc", "-O2", "-shared", "-fPIC", "-o", self.library, source, "-ldl"], check=True)
+        compiler = ["cc", "-O2", "-shared", "-fPIC"]
+        subprocess.run([*compiler, "-o", self.library, source, "-ldl"], check=True)
 
     def run(self, command, stdin, refused=0):
-        """The command's answer, how many requests it made, and whether the one to refuse was among them.
+        """The command's answer, how many requests it made, and whether that to refuse was met.
 
+        A command that was killed, or that ran without the shim, has no count, but None.
         Standard input is a file, so that each run reads it in the same pieces.
         """
         environment = {
@@ -96,10 +95,9 @@ class Shim:
             file.write(stdin)
             file.seek(0)
             come = answer_of(command, env=environment, stdin=file)
-        try:
-            requests, was_refused = self.report.read_text().split()
-        except (OSError, ValueError):
-            raise ShimNotLoaded from None
+        if not self.report.exists():
+            return come, None, True
+        requests, was_refused = self.report.read_text().split()
         return come, int(requests), was_refused == "refused"
 
 
@@ -119,7 +117,10 @@ def failing_devices(program):
 
 
 def refused_memory(program, shim, case):
-    """The trials on a case with the first, the second and each further request for memory refused."""
+    """The trials on a case with the first, the second and each further request for memory refused.
+
+    The first wrong answer is the last, since a program that hangs would hang each time.
+    """
     want = answer(stderr=b"l6: out of memory\n", status=5)
     for request in range(1, MOST_REQUESTS + 1):
         come, _, was_refused = shim.run([program, *case.args], case.stdin, request)
@@ -127,11 +128,16 @@ def refused_memory(program, shim, case):
             yield "memory for every request", case.want, come
             return
         yield f"request {request} for memory refused", want, come
+        if come != want:
+            return
     yield "refused memory", "an end of the requests", f"more than {MOST_REQUESTS}"
 
 
 def memory_of_steps(program, shim, cases):
-    """The trials that the cases of a group make equally many requests for memory, so that no step makes one."""
+    """The trials that the cases of a group make equally many requests for memory.
+
+    So a step makes none, since those cases differ in the steps that are made.
+    """
     groups = {}
     for case in cases:
         if case.memory is None:
@@ -149,11 +155,12 @@ def trials(program, cases):
     yield from failing_devices(program)
     with tempfile.TemporaryDirectory() as folder:
         shim = Shim(folder)
-        try:
-            yield from refused_memory(program, shim, cases[0])
-            yield from memory_of_steps(program, shim, cases)
-        except ShimNotLoaded:
+        _, requests, _ = shim.run([program, *cases[0].args], cases[0].stdin)
+        if requests is None:
             yield "the shim of refuse.c", "loaded", "not loaded: it wrote no report"
+            return
+        yield from refused_memory(program, shim, cases[0])
+        yield from memory_of_steps(program, shim, cases)
 
 
 def shown(want, come):

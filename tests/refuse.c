@@ -1,6 +1,7 @@
-/* Counts the requests for memory of the program that it is loaded before, and refuses one of them: that of the number in
-   REFUSE_REQUEST, counted from 1; at 0 none. Requests are the calls of malloc and realloc. At the end it writes to the
-   file that REFUSE_REPORT names how many there were, and whether one was refused: '27 refused' or '27 none'. */
+/* Counts the requests for memory of the program that it is loaded before, and refuses one of them:
+   that of the number in REFUSE_REQUEST, counted from 1; at 0 none. Requests are the calls of malloc
+   and realloc. At the end it writes to the file that REFUSE_REPORT names how many there were, and
+   whether one was refused: '27 refused' or '27 none'. */
 #define _GNU_SOURCE
 #include <dlfcn.h>
 #include <errno.h>

@@ -1,5 +1,5 @@
-//! What no clause says: that calls succeed where memory is there, and the answers to jobs worked out by hand. Decks under
-//! the default options are cases of the built program.
+//! What no clause says: that calls succeed where memory is there, and the answers to jobs worked
+//! out by hand. Decks under the default options are cases of the built program, in `tests/`.
 
 mod device;
 mod faults;
@@ -73,7 +73,8 @@ struct Report {
     flushes: u32,
 }
 
-/// What becomes of the deck on devices that move so many bytes a call, and have this trouble at a call of that number.
+/// What becomes of the deck on devices that move so many bytes a call, and have this trouble at the
+/// call of that number.
 fn performed(
     alloc: Global,
     (reader_piece, reader_failing): (usize, u32),
@@ -96,7 +97,7 @@ fn performed(
 #[test]
 fn devices_fail_at_a_call(rt: HostRuntime) {
     let error = Some(ErrorKind::Other);
-    // The 15 bytes of the deck and its end are 16 reads of a byte each, and the printout is 24 writes.
+    // By single bytes the deck and its end are 16 reads, and the printout is 24 writes.
     for call in 1..17 {
         let job = performed(rt.alloc(), (1, call), (64, 0), error);
         assert_eq!(rt; job.result, Err(RunFault::Read(Part::Job)));
@@ -106,8 +107,9 @@ fn devices_fail_at_a_call(rt: HostRuntime) {
     for call in 1..25 {
         for error in [error, None] {
             let job = performed(rt.alloc(), (64, 0), (1, call), error);
-            assert_eq!(rt; job.result, Err(RunFault::Write(u64::from(call - 1))));
-            assert_eq!(rt; job.written.as_slice(), &PRINTOUT[..call as usize - 1]);
+            let count = call - 1;
+            assert_eq!(rt; job.result, Err(RunFault::Write(u64::from(count))));
+            assert_eq!(rt; job.written.as_slice(), &PRINTOUT[..count as usize]);
             assert_eq!(rt; job.calls, (2, call));
         }
     }

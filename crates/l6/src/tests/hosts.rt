@@ -1,4 +1,5 @@
-//! What `Host` makes of its device: each call is one call of the device, and each answer the device's own.
+//! What `Host` makes of its device: each call is one call of the device, and each answer is the
+//! device's own.
 
 use super::device::Device;
 use l6_run::{Host, Sink, Source, Trouble};

@@ -1,4 +1,5 @@
-//! Programs that no deck of today spells: a card has no room for as many operations as a statement may have.
+//! Programs that no deck spells yet: a card has no room for as many operations as a statement may
+//! have.
 
 use l6_machine::{Limits, Machine};
 use l6_prog::{Chain, Cond, Exit, Name, Op, Operand, Program, Statement};

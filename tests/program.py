@@ -18,7 +18,6 @@ A case is a line of JSON:
 Each character of a text is one byte. A text may be a list, in which [text, n] stands for n times
 that text.
 """
-import itertools
 import json
 import os
 import pathlib
@@ -157,7 +156,8 @@ def trials(program, cases):
         shim = Shim(folder)
         _, requests, _ = shim.run([program, *cases[0].args], cases[0].stdin)
         if requests is None:
-            yield "the shim of refuse.c", "loaded", "not loaded: it wrote no report"
+            come = "no report: it was not loaded, or the program was killed"
+            yield "the shim of refuse.c", "a report", come
             return
         yield from refused_memory(program, shim, cases[0])
         yield from memory_of_steps(program, shim, cases)

@@ -83,7 +83,13 @@ fn performed(
 ) -> Report {
     let mut reader = Host::new(Device::new(DECK, reader_piece, reader_failing, error));
     let mut writer = Host::new(Device::new(Vec::new(alloc), writer_piece, writer_failing, error));
-    let result = perform(alloc, Verb::Run, Options::default(), &mut reader, &mut writer);
+    let result = perform(
+        alloc,
+        Verb::Run,
+        Options::default(),
+        &mut reader,
+        &mut writer,
+    );
     let source = reader.into_inner();
     let sink = writer.into_inner();
     Report {

@@ -18,12 +18,7 @@ fn long_statement(alloc: Global) -> Result<Statement, Fail> {
         operations.push(Op::Add(bug.clone()?, Operand::Number(Word::wrapping(1))))?;
     }
     operations.push(Op::PrintDecimal(bug))?;
-    Ok(Statement::new(
-        Cond::Always,
-        Vec::new(alloc),
-        operations,
-        Exit::Next,
-    ))
+    Ok(Statement::new(Cond::Always, Vec::new(alloc), operations, Exit::Next))
 }
 
 #[test]

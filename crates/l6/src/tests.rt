@@ -67,8 +67,10 @@ struct Report {
     result: Result<Outcome, RunFault>,
     /// What went out.
     written: Vec<u8>,
-    /// How often the reader and the writer were asked.
-    calls: (u32, u32),
+    /// How often the reader was asked.
+    reads: u32,
+    /// How often the writer was asked.
+    writes: u32,
     /// How often the writer was flushed.
     flushes: u32,
 }
@@ -94,7 +96,8 @@ fn performed(
     let sink = writer.into_inner();
     Report {
         result,
-        calls: (source.calls, sink.calls),
+        reads: source.calls,
+        writes: sink.calls,
         flushes: sink.flushes,
         written: sink.bytes,
     }
@@ -108,7 +111,8 @@ fn devices_fail_at_a_call(rt: HostRuntime) {
         let job = performed(rt.alloc(), (1, call), (64, 0), error);
         assert_eq!(rt; job.result, Err(RunFault::Read(Part::Job)));
         assert_eq!(rt; job.written.len(), 0);
-        assert_eq!(rt; job.calls, (call, 0));
+        assert_eq!(rt; job.reads, call);
+        assert_eq!(rt; job.writes, 0);
     }
     for call in 1..25 {
         for error in [error, None] {
@@ -116,12 +120,15 @@ fn devices_fail_at_a_call(rt: HostRuntime) {
             let count = call - 1;
             assert_eq!(rt; job.result, Err(RunFault::Write(u64::from(count))));
             assert_eq!(rt; job.written.as_slice(), &PRINTOUT[..count as usize]);
-            assert_eq!(rt; job.calls, (2, call));
+            assert_eq!(rt; job.reads, 2);
+            assert_eq!(rt; job.writes, call);
+            assert_eq!(rt; job.flushes, 0);
         }
     }
     let job = performed(rt.alloc(), (1, 0), (1, 0), error);
     assert_eq!(rt; job.result, Ok(Outcome::Ran(Ending::Done)));
     assert_eq!(rt; job.written.as_slice(), PRINTOUT);
-    assert_eq!(rt; job.calls, (16, 24));
+    assert_eq!(rt; job.reads, 16);
+    assert_eq!(rt; job.writes, 24);
     assert_eq!(rt; job.flushes, 0);
 }

@@ -21,7 +21,8 @@ fn a_deck_ends_at_its_limit(rt: HostRuntime) -> Result<(), Fail> {
     write_text(&mut writer, all, 0)?;
     let device = writer.into_inner();
     assert_eq!(rt; device.bytes.as_slice(), all);
-    assert_eq!(rt; (device.calls, device.flushes), (1, 0));
+    assert_eq!(rt; device.calls, 1);
+    assert_eq!(rt; device.flushes, 0);
     Ok(())
 }
 
@@ -33,7 +34,8 @@ fn trouble_ends_a_transfer(rt: HostRuntime) {
         let answer = read_part(rt.alloc(), &mut reader, Part::Job);
         assert_eq!(rt; answer.err(), Some(RunFault::Read(Part::Job)));
         let device = reader.into_inner();
-        assert_eq!(rt; (device.bytes, device.calls), (b"ge".as_slice(), 3));
+        assert_eq!(rt; device.bytes, b"ge".as_slice());
+        assert_eq!(rt; device.calls, 3);
     }
     for error in [Some(ErrorKind::Interrupted), Some(ErrorKind::Other), None] {
         let mut writer = Host::new(Device::new(Vec::new(rt.alloc()), 2, 3, error));
@@ -41,6 +43,7 @@ fn trouble_ends_a_transfer(rt: HostRuntime) {
         assert_eq!(rt; answer, Err(RunFault::Write(14)));
         let device = writer.into_inner();
         assert_eq!(rt; device.bytes.as_slice(), b"a pa".as_slice());
-        assert_eq!(rt; (device.calls, device.flushes), (3, 0));
+        assert_eq!(rt; device.calls, 3);
+        assert_eq!(rt; device.flushes, 0);
     }
 }

@@ -1,13 +1,23 @@
 #!/usr/bin/env python3
-"""Runs the built program on the cases of cases.jsonl, on devices that fail, and with memory refused.
+"""Runs the built program on the cases of cases.jsonl, on devices that fail, with memory refused.
 
 program.py PROGRAM prints each difference, and last 'N passed, M failed'.
 
-A case is a line of JSON: its name, what standard input gives, and what standard output, standard error
-and the exit status must be. Each character of a text is one byte. A text may be a list, in which
-[text, n] stands for n times that text.
+What must come was worked out by hand from docs/language.md, and never taken from the program.
+
+A case is a line of JSON:
+
+    name            what it shows
+    args            the program's words, a list; ["run"] if left out
+    stdin           what standard input gives
+    stdout, stderr  what must go out; nothing if left out
+    status          the exit status
+    memory          the group of cases that make equally many requests for memory, if it is in one:
+                    such cases are alike but for how many steps are made and how much is printed
+
+Each character of a text is one byte. A text may be a list, in which [text, n] stands for n times
+that text.
 """
-import itertools
 import json
 import os
 import pathlib
@@ -16,8 +26,8 @@ import sys
 import tempfile
 
 HERE = pathlib.Path(__file__).parent
-PRINTED = {"stdout": b"5\n== DONE AFTER 6 STEPS\n", "stderr": b"", "status": 0}
-OUT_OF_MEMORY = {"stdout": b"", "stderr": b"l6: out of memory\n", "status": 5}
+SECONDS = 20  # for one run of the program
+MOST_REQUESTS = 1_000  # for memory, of the job of which each is refused in turn
 
 
 def text_of(value):
@@ -29,69 +39,158 @@ def text_of(value):
     )
 
 
-def answer_of(program, environment=None, **streams):
-    """What the program writes to the two outputs, and its exit status."""
-    streams = {"stdout": subprocess.PIPE, **streams}
-    done = subprocess.run([program, "run"], stderr=subprocess.PIPE, env=environment, **streams)
-    return {"stdout": done.stdout or b"", "stderr": done.stderr, "status": done.returncode}
+def answer(stdout=b"", stderr=b"", status=0):
+    """What goes to the two outputs, and the exit status."""
+    return {"stdout": stdout, "stderr": stderr, "status": status}
 
 
-def wanted(case):
-    return {
-        "stdout": text_of(case.get("stdout", "")),
-        "stderr": text_of(case.get("stderr", "")),
-        "status": case["status"],
-    }
+def answer_of(command, **options):
+    """The answer of a command, which is killed where it takes too long."""
+    options = {"stdout": subprocess.PIPE, **options}
+    try:
+        done = subprocess.run(command, stderr=subprocess.PIPE, timeout=SECONDS, **options)
+    except subprocess.TimeoutExpired:
+        return answer(status=f"none within {SECONDS} seconds")
+    return answer(done.stdout or b"", done.stderr, done.returncode)
 
 
-def cases(program):
-    """Each case's name, what must come, and what comes."""
-    for line in (HERE / "cases.jsonl").read_text("ascii").splitlines():
+class Case:
+    """A line of cases.jsonl."""
+
+    def __init__(self, line):
         case = json.loads(line)
-        yield case["name"], wanted(case), answer_of(program, input=text_of(case["stdin"]))
+        self.name = case["name"]
+        self.args = case.get("args", ["run"])
+        self.stdin = text_of(case.get("stdin", ""))
+        self.want = answer(
+            text_of(case.get("stdout", "")), text_of(case.get("stderr", "")), case["status"]
+        )
+        self.memory = case.get("memory")
+
+
+class Shim:
+    """The shim of refuse.c, which counts requests for memory and refuses one."""
+
+    def __init__(self, folder):
+        self.library = f"{folder}/refuse.so"
+        self.report = pathlib.Path(folder, "report")
+        source = HERE / "refuse.c"
+        compiler = ["cc", "-O2", "-shared", "-fPIC"]
+        subprocess.run([*compiler, "-o", self.library, source, "-ldl"], check=True)
+
+    def run(self, command, stdin, refused=0):
+        """The command's answer, how many requests it made, and whether that to refuse was met.
+
+        A command that was killed, or that ran without the shim, has no count, but None.
+        Standard input is a file, so that each run reads it in the same pieces.
+        """
+        environment = {
+            "LD_PRELOAD": self.library,
+            "REFUSE_REQUEST": str(refused),
+            "REFUSE_REPORT": str(self.report),
+        }
+        self.report.unlink(missing_ok=True)
+        with tempfile.TemporaryFile() as file:
+            file.write(stdin)
+            file.seek(0)
+            come = answer_of(command, env=environment, stdin=file)
+        if not self.report.exists():
+            return come, None, True
+        requests, was_refused = self.report.read_text().split()
+        return come, int(requests), was_refused == "refused"
 
 
 def failing_devices(program):
-    """The same for a full device as output, and for a folder as input."""
+    """The trials on a full device as output, and on a folder as input.
+
+    A trial is a name, what must come, and what comes.
+    """
     with open(os.devnull, "rb") as nothing, open("/dev/full", "wb") as full:
-        want = {"stdout": b"", "stderr": b"l6: write failed after 0 bytes\n", "status": 5}
-        yield "a full device as output", want, answer_of(program, stdin=nothing, stdout=full)
+        want = answer(stderr=b"l6: write failed after 0 bytes\n", status=5)
+        come = answer_of([program, "run"], stdin=nothing, stdout=full)
+        yield "a full device as output", want, come
     folder = os.open(HERE, os.O_RDONLY)
-    want = {"stdout": b"", "stderr": b"l6: read failed\n", "status": 5}
-    yield "a folder as input", want, answer_of(program, stdin=folder)
+    want = answer(stderr=b"l6: read failed\n", status=5)
+    yield "a folder as input", want, answer_of([program, "run"], stdin=folder)
     os.close(folder)
 
 
-def refused_memory(program):
-    """The same with the first, the second and each further request for memory refused, until none is met."""
+def refused_memory(program, shim, case):
+    """The trials on a case with the first, the second and each further request for memory refused.
+
+    The first wrong answer is the last, since a program that hangs would hang each time.
+    """
+    want = answer(stderr=b"l6: out of memory\n", status=5)
+    for request in range(1, MOST_REQUESTS + 1):
+        come, _, was_refused = shim.run([program, *case.args], case.stdin, request)
+        if not was_refused:
+            yield "memory for every request", case.want, come
+            return
+        yield f"request {request} for memory refused", want, come
+        if come != want:
+            return
+    yield "refused memory", "an end of the requests", f"more than {MOST_REQUESTS}"
+
+
+def memory_of_steps(program, shim, cases):
+    """The trials that the cases of a group make equally many requests for memory.
+
+    So a step makes none, since those cases differ in the steps that are made.
+    """
+    groups = {}
+    for case in cases:
+        if case.memory is None:
+            continue
+        come, requests, _ = shim.run([program, *case.args], case.stdin)
+        want = {**case.want, "requests": groups.setdefault(case.memory, requests)}
+        yield f"requests for memory: {case.name}", want, {**come, "requests": requests}
+
+
+def trials(program, cases):
+    """All trials."""
+    for case in cases:
+        come = answer_of([program, *case.args], input=case.stdin)
+        yield case.name, case.want, come
+    yield from failing_devices(program)
     with tempfile.TemporaryDirectory() as folder:
-        shim, report = f"{folder}/refuse.so", pathlib.Path(folder, "report")
-        subprocess.run(["cc", "-O2", "-shared", "-fPIC", "-o", shim, HERE / "refuse.c", "-ldl"], check=True)
-        for request in itertools.count(1):
-            environment = {
-                "LD_PRELOAD": shim,
-                "REFUSE_REQUEST": str(request),
-                "REFUSE_REPORT": str(report),
-            }
-            come = answer_of(program, environment, input=b" (A,E,5)(A,PD)\n")
-            if report.read_text() == "none\n":
-                yield "memory for every request", PRINTED, come
-                return
-            yield f"request {request} for memory refused", OUT_OF_MEMORY, come
+        shim = Shim(folder)
+        _, requests, _ = shim.run([program, *cases[0].args], cases[0].stdin)
+        if requests is None:
+            come = "no report: it was not loaded, or the program was killed"
+            yield "the shim of refuse.c", "a report", come
+            return
+        yield from refused_memory(program, shim, cases[0])
+        yield from memory_of_steps(program, shim, cases)
+
+
+def shown(want, come):
+    """Two values, of long texts only what stands around the first difference."""
+    if not isinstance(want, bytes):
+        return repr(want), repr(come)
+    start = max(len(os.path.commonprefix([want, come])) - 40, 0)
+    return tuple(f"{text[start:start + 200]!r}, {len(text)} bytes" for text in (want, come))
+
+
+def differences(want, come):
+    """The lines that tell how two answers differ."""
+    if not isinstance(want, dict):
+        want, come = {"answer": want}, {"answer": come}
+    for what in want:
+        if want[what] != come[what]:
+            must, is_ = shown(want[what], come[what])
+            yield f"  {what}: must be {must}\n  {' ' * len(what)}  but is  {is_}"
 
 
 def main(program):
+    """Makes the trials, prints their differences and the count, and answers the exit status."""
+    cases = [Case(line) for line in (HERE / "cases.jsonl").read_text("ascii").splitlines()]
     passed = failed = 0
-    trials = itertools.chain(cases(program), failing_devices(program), refused_memory(program))
-    for name, want, come in trials:
+    for name, want, come in trials(program, cases):
         if want == come:
             passed += 1
             continue
         failed += 1
-        print(name)
-        for what in want:
-            if want[what] != come[what]:
-                print(f"  {what}: must be {want[what]!r}\n  {' ' * len(what)}  but is  {come[what]!r}")
+        print(name, *differences(want, come), sep="\n")
     print(f"{passed} passed, {failed} failed")
     return 1 if failed else 0
 

@@ -1,6 +1,7 @@
-/* Refuses the Nth request for memory of the program that it is loaded before, N being in REFUSE_REQUEST, counted from 1.
-   Requests are the calls of malloc and realloc; with N = 0 none is refused. At the end it writes to the file that
-   REFUSE_REPORT names whether a request was refused. */
+/* Counts the requests for memory of the program that it is loaded before, and refuses one of them:
+   that of the number in REFUSE_REQUEST, counted from 1; at 0 none. Requests are the calls of malloc
+   and realloc. At the end it writes to the file that REFUSE_REPORT names how many there were, and
+   whether one was refused: '27 refused' or '27 none'. */
 #define _GNU_SOURCE
 #include <dlfcn.h>
 #include <errno.h>
@@ -23,18 +24,19 @@ __attribute__((constructor)) static void begin(void) {
 
 __attribute__((destructor)) static void end(void) {
     const char *path = getenv("REFUSE_REPORT");
+    long made = requests;
     FILE *report;
     refused_request = 0;
     report = path ? fopen(path, "w") : NULL;
     if (report) {
-        fputs(refused ? "refused\n" : "none\n", report);
+        fprintf(report, "%ld %s\n", made, refused ? "refused" : "none");
         fclose(report);
     }
 }
 
-/* Whether this request is the one to refuse. */
+/* Counts a request. Whether it is the one to refuse. */
 static int is_refused(void) {
-    if (refused_request == 0 || ++requests != refused_request)
+    if (++requests != refused_request)
         return 0;
     refused = 1;
     errno = ENOMEM;

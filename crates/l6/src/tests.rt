@@ -1,120 +1,134 @@
-//! What no clause says: that calls succeed where memory is there, and the printouts of decks worked out by hand.
+//! What no clause says: that calls succeed where memory is there, and the answers to jobs worked
+//! out by hand. Decks under the default options are cases of the built program, in `tests/`.
 
+mod device;
 mod faults;
-mod script;
+mod hosts;
+mod limits;
+mod programs;
 mod transfers;
 
 use crate::job::{Outcome, Verb, perform};
-use l6_asm::AsmFault;
+use device::Device;
 use l6_machine::Trap;
 use l6_run::{Ending, Host, Options, Part, RunFault};
-use script::Scripted;
 use std::alloc::Global;
+use std::io::ErrorKind;
+use std::test::Fail;
 
-/// How many calls a device takes that is not to fail.
-const EVER: u32 = u32::MAX;
+/// The deck of these tests.
+const DECK: &[u8] = b" (A,E,5)(A,PD)\n";
 
-/// A deck, what becomes of it, and what is printed.
-type Row = (&'static [u8], Result<Outcome, RunFault>, &'static [u8]);
-
-/// What becomes of a deck under these limits, and what is printed.
-fn run_of(
-    alloc: Global,
-    steps: u64,
-    output: usize,
-    deck: &[u8],
-) -> (Result<Outcome, RunFault>, Vec<u8>) {
-    let options = Options::new(64, steps, output).unwrap_or_default();
-    let mut reader = Host::new(deck);
-    let mut writer = Host::new(Vec::new(alloc));
-    let result = perform(alloc, Verb::Run, options, &mut reader, &mut writer);
-    (result, writer.into_inner())
-}
+/// Its printout under the default options.
+const PRINTOUT: &[u8] = b"5\n== DONE AFTER 6 STEPS\n";
 
 #[test]
-fn decks_are_run(rt: HostRuntime) {
-    let done = Ok(Outcome::Ran(Ending::Done));
-    let printed: &[u8] = b"5\n== DONE AFTER 6 STEPS\n";
-    let rows: [Row; 7] = [
-        (b" (A,E,5)(A,PD)\n", done, printed),
-        (b"", done, b"== DONE AFTER 2 STEPS\n"),
-        (b" (A,E,5)(A,PD)", done, printed),
-        (b" (A,E,5)(A,PD)\r\n", done, printed),
+fn limits_stop_a_run(rt: HostRuntime) -> Result<(), Fail> {
+    let full = Ending::Trap(Trap::OutputFull);
+    let rows: [(&[u8], u64, usize, Ending, &[u8]); 6] = [
+        (DECK, 1_000_000_000, 16_777_216, Ending::Done, PRINTOUT),
+        (DECK, 6, 1, Ending::Done, PRINTOUT),
+        (DECK, 5, 1, Ending::Limit, b"5\n== LIMIT AFTER 5 STEPS\n"),
+        (DECK, 0, 0, Ending::Limit, b"== LIMIT AFTER 0 STEPS\n"),
         (
-            b" (A,E,68719476735)(A,A,1)(A,PD)\n",
-            done,
-            b"0\n== DONE AFTER 7 STEPS\n",
+            DECK,
+            9,
+            0,
+            full,
+            b"== TRAP 14 OUTPUT FULL AT 0.2 AFTER 2 STEPS\n",
         ),
         (
-            b" (AN,PD)\n",
-            Ok(Outcome::Ran(Ending::Trap(Trap::UndefinedField))),
-            b"== TRAP 1 UNDEFINED FIELD AT 0.1 AFTER 1 STEPS\n",
+            b" (A,PD)\n",
+            9,
+            0,
+            full,
+            b"== TRAP 14 OUTPUT FULL AT 0.1 AFTER 1 STEPS\n",
         ),
-        (b"X (A,PD)\n", Err(RunFault::Asm(AsmFault::Form(1))), b""),
     ];
-    for (deck, want, text) in rows {
-        let (result, printed) = run_of(rt.alloc(), 1_000_000, 1_048_576, deck);
-        assert_eq!(rt; result, want);
-        assert_eq!(rt; printed.as_slice(), text);
+    for (deck, steps, output, ending, text) in rows {
+        let options = Options::new(64, steps, output).ok_or("out of range")?;
+        let mut writer = Host::new(Vec::new(rt.alloc()));
+        let result = perform(
+            rt.alloc(),
+            Verb::Run,
+            options,
+            &mut Host::new(deck),
+            &mut writer,
+        );
+        assert_eq!(rt; result, Ok(Outcome::Ran(ending)));
+        assert_eq!(rt; writer.into_inner().as_slice(), text);
     }
+    Ok(())
 }
 
-#[test]
-fn limits_stop_a_run(rt: HostRuntime) {
-    let deck: &[u8] = b" (A,E,5)(A,PD)\n";
-    let done = Ok(Outcome::Ran(Ending::Done));
-    let limit = Ok(Outcome::Ran(Ending::Limit));
-    let full = Ok(Outcome::Ran(Ending::Trap(Trap::OutputFull)));
-    let rows: [(u64, usize, Result<Outcome, RunFault>, &'static [u8]); 4] = [
-        (6, 1, done, b"5\n== DONE AFTER 6 STEPS\n"),
-        (5, 1, limit, b"5\n== LIMIT AFTER 5 STEPS\n"),
-        (0, 0, limit, b"== LIMIT AFTER 0 STEPS\n"),
-        (9, 0, full, b"== TRAP 14 OUTPUT FULL AT 0.2 AFTER 2 STEPS\n"),
-    ];
-    for (steps, output, want, text) in rows {
-        let (result, printed) = run_of(rt.alloc(), steps, output, deck);
-        assert_eq!(rt; result, want);
-        assert_eq!(rt; printed.as_slice(), text);
-    }
-    let (result, printed) = run_of(rt.alloc(), 9, 0, b" (A,PD)\n");
-    assert_eq!(rt; result, full);
-    assert_eq!(rt;
-        printed.as_slice(),
-        b"== TRAP 14 OUTPUT FULL AT 0.1 AFTER 1 STEPS\n".as_slice()
-    );
+/// What became of a job.
+#[derive(Drop)]
+struct Report {
+    result: Result<Outcome, RunFault>,
+    /// What went out.
+    written: Vec<u8>,
+    /// How often the reader was asked.
+    reads: u32,
+    /// How often the writer was asked.
+    writes: u32,
+    /// How often the writer was flushed.
+    flushes: u32,
 }
 
-/// What becomes of the first row's deck, and what went out, on devices that move so many bytes a call and fail after so many calls.
+/// What becomes of the deck on devices that move so many bytes a call, and have this trouble at the
+/// call of that number.
 fn performed(
     alloc: Global,
-    reader: (usize, u32),
-    writer: (usize, u32),
-) -> (Result<Outcome, RunFault>, Vec<u8>) {
-    let deck: &[u8] = b" (A,E,5)(A,PD)\n";
-    let mut source = Scripted::new(Host::new(deck), reader.0, reader.1);
-    let mut sink = Scripted::new(Host::new(Vec::new(alloc)), writer.0, writer.1);
-    let result = perform(alloc, Verb::Run, Options::default(), &mut source, &mut sink);
-    (result, sink.into_inner().into_inner())
+    (reader_piece, reader_failing): (usize, u32),
+    (writer_piece, writer_failing): (usize, u32),
+    error: Option<ErrorKind>,
+) -> Report {
+    let mut reader = Host::new(Device::new(DECK, reader_piece, reader_failing, error));
+    let mut writer = Host::new(Device::new(Vec::new(alloc), writer_piece, writer_failing, error));
+    let result = perform(
+        alloc,
+        Verb::Run,
+        Options::default(),
+        &mut reader,
+        &mut writer,
+    );
+    let source = reader.into_inner();
+    let sink = writer.into_inner();
+    Report {
+        result,
+        reads: source.calls,
+        writes: sink.calls,
+        flushes: sink.flushes,
+        written: sink.bytes,
+    }
 }
 
 #[test]
 fn devices_fail_at_a_call(rt: HostRuntime) {
-    let printout: &[u8] = b"5\n== DONE AFTER 6 STEPS\n";
-    let done = Ok(Outcome::Ran(Ending::Done));
-    for calls in 0..24 {
-        let (result, written) = performed(rt.alloc(), (64, EVER), (1, calls));
-        assert_eq!(rt; result, Err(RunFault::Write(u64::from(calls))));
-        assert_eq!(rt; written.as_slice(), &printout[..calls as usize]);
+    let error = Some(ErrorKind::Other);
+    // By single bytes the deck and its end are 16 reads, and the printout is 24 writes.
+    for call in 1..17 {
+        let job = performed(rt.alloc(), (1, call), (64, 0), error);
+        assert_eq!(rt; job.result, Err(RunFault::Read(Part::Job)));
+        assert_eq!(rt; job.written.len(), 0);
+        assert_eq!(rt; job.reads, call);
+        assert_eq!(rt; job.writes, 0);
     }
-    for calls in 0..16 {
-        let (result, written) = performed(rt.alloc(), (1, calls), (64, EVER));
-        assert_eq!(rt; result, Err(RunFault::Read(Part::Job)));
-        assert_eq!(rt; written.len(), 0);
+    for call in 1..25 {
+        for error in [error, None] {
+            let job = performed(rt.alloc(), (64, 0), (1, call), error);
+            let count = call - 1;
+            assert_eq!(rt; job.result, Err(RunFault::Write(u64::from(count))));
+            assert_eq!(rt; job.written.as_slice(), &PRINTOUT[..count as usize]);
+            assert_eq!(rt; job.reads, 2);
+            assert_eq!(rt; job.writes, call);
+            assert_eq!(rt; job.flushes, 0);
+        }
     }
-    let (result, written) = performed(rt.alloc(), (1, 16), (1, 24));
-    assert_eq!(rt; result, done);
-    assert_eq!(rt; written.as_slice(), printout);
-    let (result, written) = performed(rt.alloc(), (64, EVER), (0, EVER));
-    assert_eq!(rt; result, Err(RunFault::Write(0)));
-    assert_eq!(rt; written.len(), 0);
+    let job = performed(rt.alloc(), (1, 0), (1, 0), error);
+    assert_eq!(rt; job.result, Ok(Outcome::Ran(Ending::Done)));
+    assert_eq!(rt; job.written.as_slice(), PRINTOUT);
+    assert_eq!(rt; job.reads, 16);
+    assert_eq!(rt; job.writes, 24);
+    assert_eq!(rt; job.flushes, 0);
 }

@@ -61,7 +61,7 @@ fn printout_of(alloc: Global, options: Options, deck: &[u8]) -> Result<(Ending, 
 }
 
 /// Steps until the run has ended or is at its limit of steps.
-fn run_to_end(machine: &mut Machine)
+pub fn run_to_end(machine: &mut Machine)
     ensures ends { EndsIn machine.new.world machine.new.state }
     ensures world { machine.new.world ≡ machine.old.world }
 {

@@ -1,5 +1,7 @@
 //! The texts of faults.
 
+use l6_machine::MachineFault;
+use l6_prog::ProgFault;
 use l6_asm::AsmFault;
 use l6_run::{Part, RunFault};
 use std::test::Fail;
@@ -15,6 +17,20 @@ fn faults_are_told(rt: HostRuntime) -> Result<(), Fail> {
         (RunFault::Read(Part::Job), "read failed"),
         (RunFault::Write(80), "write failed after 80 bytes"),
         (RunFault::NoMemory, "out of memory"),
+    ] {
+        let told = fault.to_string(rt.alloc())?;
+        assert_eq!(rt; told.as_str(), text);
+    }
+    for (fault, text) in [
+        (ProgFault::Limit, "past a limit"),
+        (ProgFault::Shape, "not in the form of a program"),
+    ] {
+        let told = fault.to_string(rt.alloc())?;
+        assert_eq!(rt; told.as_str(), text);
+    }
+    for (fault, text) in [
+        (MachineFault::NoMemory, "out of memory"),
+        (MachineFault::BadLimits, "limits out of range"),
     ] {
         let told = fault.to_string(rt.alloc())?;
         assert_eq!(rt; told.as_str(), text);

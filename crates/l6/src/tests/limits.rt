@@ -1,0 +1,28 @@
+//! Limits of runs, just within and just past their ranges.
+
+use l6_machine::{Limits, Machine, MachineFault};
+use l6_prog::{Program, Statement};
+use l6_run::Options;
+use std::test::Fail;
+
+#[test]
+fn limits_have_their_ranges(rt: HostRuntime) -> Result<(), Fail> {
+    let mut statements = Vec::new(rt.alloc());
+    statements.push(Statement::plain_done(rt.alloc()))?;
+    let program = Program::new(statements)?;
+    for (steps, output, fault) in [
+        (0, 0, None),
+        (1_000_000_000, 16_777_216, None),
+        (1_000_000_001, 16_777_216, Some(MachineFault::BadLimits)),
+        (1_000_000_000, 16_777_217, Some(MachineFault::BadLimits)),
+        (u64::MAX, usize::MAX, Some(MachineFault::BadLimits)),
+    ] {
+        let machine = Machine::new(rt.alloc(), &program, &[], Limits { steps, output });
+        assert_eq!(rt; machine.err(), fault);
+        for (units, is_allowed) in [(0, false), (1, true), (2_047, true), (2_048, false)] {
+            let options = Options::new(units, steps, output);
+            assert_eq!(rt; options.is_some(), is_allowed && fault.is_none());
+        }
+    }
+    Ok(())
+}

@@ -1,5 +1,5 @@
 -- The worked examples compute.
-use Rattle.std.proofs.Common.{ℕ, List, [], ◌∷◌, refl, Option, None, Some, codes, lit≤}
+use Rattle.std.proofs.Common.{◌≡◌, ℕ, List, [], ◌∷◌, refl, false, Option, None, Some, codes, lit≤}
 use Rattle.std.proofs.Math.ListN.{replicate}
 use Rattle.std.specs.Fmt.{digits}
 use Rattle.l6_prog.specs.declared.operand.Operand.TheVariants.{Number}
@@ -8,7 +8,8 @@ use Rattle.l6_card.specs.Numerals.{card_width}
 use Rattle.l6_machine.specs.Run.{IsRun}
 use Rattle.l6_machine.specs.declared.halt.Halt.{Halt}
 use Rattle.l6_machine.specs.declared.halt.Halt.TheVariants.{Done}
-use Rattle.l6_machine.specs.State.{World, State}
+use Rattle.l6_machine.specs.State.{World, State, is_last}
+use Rattle.l6_machine.specs.Step.{Step, next}
 use Rattle.l6_run.specs.Options.{default_options}
 use Rattle.l6_run.specs.Prints.{world_under}
 use Rattle.l6.specs.Worked.{FiveIsSpelled, FiveIsPrinted, five_program}
@@ -52,9 +53,25 @@ earlier =
 abbrev final : State
 final = moment 5 (codes "5") 1 1 6 (Some Done)
 
+-- each state is a step from the one before, since both compute to the same
+stepped : (old : State) → is_last world old ≡ false → Step world old (next world old)
+stepped old goes_on = record { ready = refl; goes_on = goes_on; leads = refl }
+
 run : IsRun world (final ∷ earlier)
 unfolding digits
-run = ((refl, refl), ((refl, refl), ((refl, refl), ((refl, refl), ((refl, refl), ((refl, refl), refl))))))
+run = (
+  stepped (moment 5 (codes "5") 1 1 5 None) refl,
+  (
+    stepped (moment 5 (codes "5") 1 0 4 None) refl,
+    (
+      stepped (moment 5 (codes "5") 0 3 3 None) refl,
+      (
+        stepped (moment 5 [] 0 2 2 None) refl,
+        (stepped (moment 0 [] 0 1 1 None) refl, (stepped (moment 0 [] 0 0 0 None) refl, refl)),
+      ),
+    ),
+  ),
+)
 
 pub five-printed : FiveIsPrinted
 unfolding digits

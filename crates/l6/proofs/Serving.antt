@@ -4,7 +4,7 @@ use Rattle.l6_run.specs.Options.{OptionValues}
 use Rattle.l6_run.specs.Prints.{Prints, RefusesDeck}
 use Rattle.l6_run.specs.Serves.{Serves}
 use Rattle.l6_run.specs.declared.fault.RunFault.{RunFault}
-use Rattle.l6_run.specs.declared.fault.RunFault.TheVariants.{TooLong, Asm, Read, Write, NoMemory}
+use Rattle.l6_run.specs.declared.fault.RunFault.TheVariants.{TooLong, Asm, Read, Write, NoMemory, NotYet}
 use Rattle.l6.specs.declared.job.Outcome.TheVariants.{Ran}
 use Rattle.l6.specs.declared.job.Verb.{Verb}
 use Rattle.l6.specs.declared.job.Verb.TheVariants.{Run}
@@ -25,3 +25,4 @@ run_refused Run options job old new (Write n) served = record {
   out = served.out;
 }
 run_refused Run options job old new NoMemory served = tt
+run_refused Run options job old new NotYet served = served

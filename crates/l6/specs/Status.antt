@@ -1,16 +1,17 @@
 -- Exit statuses.
 use Rattle.std.specs.Prelude.{ℕ, Result, Ok, Err}
-use Rattle.l6_run.specs.declared.ending.Ending.TheVariants.{Done, Trap, Limit}
+use Rattle.l6_run.specs.declared.ending.Ending.TheVariants.{Done, Fail, Trap, Limit}
 use Rattle.l6_run.specs.declared.fault.RunFault.{RunFault}
-use Rattle.l6_run.specs.declared.fault.RunFault.TheVariants.{TooLong, Asm, Read, Write, NoMemory}
+use Rattle.l6_run.specs.declared.fault.RunFault.TheVariants.{TooLong, Asm, Read, Write, NoMemory, NotYet}
 use Rattle.l6_card.specs.declared.fault.CardFault.TheVariants as asm
 use Rattle.l6.specs.declared.job.Outcome.{Outcome}
 use Rattle.l6.specs.declared.job.Outcome.TheVariants.{Ran}
 
--- the exit status of the program: of a run that ended, trapped, or was stopped at its limit; of a job that was
--- refused; and where memory or a device failed
+-- the exit status of the program: of a run that ended by DONE or by FAIL, trapped, or was
+-- stopped at its limit; of a job that was refused; and where memory or a device failed
 abbrev pub status_of : Result Outcome RunFault → ℕ
 status_of (Ok (Ran Done)) = 0
+status_of (Ok (Ran Fail)) = 1
 status_of (Ok (Ran (Trap trap))) = 2
 status_of (Ok (Ran Limit)) = 3
 status_of (Err (TooLong part)) = 4
@@ -19,3 +20,4 @@ status_of (Err (Asm fault)) = 4
 status_of (Err (Read part)) = 5
 status_of (Err (Write count)) = 5
 status_of (Err NoMemory) = 5
+status_of (Err NotYet) = 4

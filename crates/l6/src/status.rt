@@ -7,16 +7,21 @@ use crate::job::Outcome;
 use l6_asm::AsmFault;
 use l6_run::{Ending, RunFault};
 
-/// The exit status of the program: 0 after DONE, 2 after a trap, 3 at the limit of steps, 4 where the job was
-/// refused, and 5 where memory or a device failed.
+/// The exit status of the program: 0 after DONE, 1 after FAIL, 2 after a trap, 3 at the limit of
+/// steps, 4 where the job was refused, and 5 where memory or a device failed.
 pub fn status(answer: &Result<Outcome, RunFault>) -> u8
     ensures { result ≡ status_of answer.now }
 {
     match answer {
         Ok(Outcome::Ran(Ending::Done)) => 0,
+        Ok(Outcome::Ran(Ending::Fail)) => 1,
         Ok(Outcome::Ran(Ending::Trap(_))) => 2,
         Ok(Outcome::Ran(Ending::Limit)) => 3,
-        Err(RunFault::TooLong(_) | RunFault::Asm(AsmFault::Form(_) | AsmFault::Limit(_))) => 4,
+        Err(
+            RunFault::TooLong(_)
+            | RunFault::Asm(AsmFault::Form(_) | AsmFault::Limit(_))
+            | RunFault::NotYet,
+        ) => 4,
         Err(
             RunFault::Asm(AsmFault::NoMemory)
             | RunFault::Read(_)

@@ -8,10 +8,13 @@ use Rattle.std.proofs.lemmas.Option.{slice_get-get_or}
 use Rattle.std.proofs.Math.Seq.{get_or-append_seam}
 use Rattle.l6_prog.specs.Numerals.{most_statements}
 use Rattle.l6_prog.specs.Statement.{Parts, plain_done}
-use Rattle.l6_prog.specs.Program.{fits, has_its_tests, is_within_limits, has_shape, program_of}
+use Rattle.l6_prog.specs.Program.{fits, has_its_targets, has_its_tests, is_within_limits, has_shape, program_of}
+use Rattle.l6_prog.specs.Target.{is_below}
 use Rattle.l6_card.specs.Statement.{WrittenParts}
-use Rattle.l6_card.specs.Reads.{AreWithinLimits}
+use Rattle.l6_card.specs.Card.{cards_of}
+use Rattle.l6_card.specs.Reads.{AreWithinLimits, Reads}
 use Rattle.l6_asm.specs.Spells.{statement_of, assembled}
+use Rattle.l6_asm.proofs.Targetless.{cards_targetless}
 
 -- each statement, and the one behind them, passes a test that each assembled one passes
 all-assembled : (test : Parts → Bool) (written : List WrittenParts) →
@@ -53,7 +56,13 @@ shape-assembled written =
     let each = all-assembled has_its_tests written (all-tested written) refl in
     Prim.rw (each, slice_get-last (map statement_of written) plain_done) refl
 
+targets-assembled : (deck : List ℕ) (written : List WrittenParts) →
+    Reads deck written → has_its_targets (assembled written) ≡ true
+targets-assembled deck written reads =
+    ap (list_all (is_below (length (assembled written)))) (cards_targetless (cards_of deck) written reads.cards)
+
 -- what the cards say, with the plain DONE behind it, is a program
-pub program_of-assembled : (written : List WrittenParts) →
-    AreWithinLimits written → program_of (assembled written) ≡ Ok (assembled written)
-program_of-assembled written limits = Prim.rw (within-assembled written limits, shape-assembled written) refl
+pub program_of-assembled : (deck : List ℕ) (written : List WrittenParts) →
+    Reads deck written → AreWithinLimits written → program_of (assembled written) ≡ Ok (assembled written)
+program_of-assembled deck written reads limits =
+    Prim.rw (within-assembled written limits, targets-assembled deck written reads, shape-assembled written) refl

@@ -1,1 +1,2 @@
+pub mod Targetless
 pub mod Assembled

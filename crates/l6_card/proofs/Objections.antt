@@ -88,13 +88,13 @@ pub room_below : (card count most : ℕ) → limit_unless_room card count most �
 room_below card count most none = ltb-true count most (no_limit (ltb count most) card none)
 
 -- a reading that is an operation, for which there is room
-pub record Stands (draft : Draft) (reading : Option Op) : Type 0 where
-  pub operation : Op
+pub record Stands (draft : Draft) (reading : Option (Op ℕ)) : Type 0 where
+  pub operation : Op ℕ
   pub read : reading ≡ Some operation
   pub room : operation_count draft < most_operations
 
 -- a reading that meets no objection stands
-pub reading_stands : (card : ℕ) (draft : Draft) (reading : Option Op) →
+pub reading_stands : (card : ℕ) (draft : Draft) (reading : Option (Op ℕ)) →
     objection_of_reading card draft reading ≡ None → Stands draft reading
 reading_stands card draft None none = absurd (cc)
 reading_stands card draft (Some operation) none = record {

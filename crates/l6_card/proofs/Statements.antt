@@ -18,19 +18,19 @@ use Rattle.l6_card.specs.inner.Reader.{Known, statements_when_over, statements_b
 use Rattle.l6_card.proofs.Objections.{went_on, room_below, reading_stands}
 
 -- what is known within a statement with these operations so far, after these statements
-abbrev pub within : List WrittenParts → List Op → Known
+abbrev pub within : List WrittenParts → List (Op ℕ) → Known
 within statements operations = record { statements = statements; is_open = true; draft = direct operations }
 
 -- what items say that were taken without an objection
-pub record Said (items : List Item) (statements : List WrittenParts) (operations : List Op) (rest : List Piece)
+pub record Said (items : List Item) (statements : List WrittenParts) (operations : List (Op ℕ)) (rest : List Piece)
     (final : Known) : Type 0 where
-  pub further : List Op
+  pub further : List (Op ℕ)
   pub say : ItemsSay items further
   pub fits : length operations ≤ most_operations → length (operations ++ further) ≤ most_operations
   pub rest_goes : after_pieces (within statements (operations ++ further)) rest ≡ Ok final
 
-said_more : (columns : List ℕ) (items : List Item) (statements : List WrittenParts) (operations : List Op)
-    (rest : List Piece) (final : Known) (operation : Op) →
+said_more : (columns : List ℕ) (items : List Item) (statements : List WrittenParts) (operations : List (Op ℕ))
+    (rest : List Piece) (final : Known) (operation : Op ℕ) →
     reading_of columns ≡ Some operation → length operations < most_operations →
     Said items statements (operations ++ operation ∷ []) rest final →
     Said (group columns ∷ items) statements operations rest final
@@ -44,7 +44,7 @@ said_more columns items statements operations rest final operation read room sai
       rest_goes = rw joined at said.rest_goes;
     }
 
-pub items_said : (items : List Item) (number : ℕ) (statements : List WrittenParts) (operations : List Op)
+pub items_said : (items : List Item) (number : ℕ) (statements : List WrittenParts) (operations : List (Op ℕ))
     (rest : List Piece) (final : Known) →
     after_pieces (within statements operations) (map (item number) items ++ rest) ≡ Ok final →
     Said items statements operations rest final
@@ -73,7 +73,7 @@ pub record CardsSaid (cards : List Card) (known final : Known) : Type 0 where
   pub all : final.statements ≡ statements_when_over known ++ statements
   pub fits : statements_begun known ≤ most_written → statements_begun known + length statements ≤ most_written
 
-said_statement : (body : List ℕ) (cards : List Card) (known final : Known) (operations : List Op) →
+said_statement : (body : List ℕ) (cards : List Card) (known final : Known) (operations : List (Op ℕ)) →
     ItemsSay (items_of body) operations → length operations ≤ most_operations →
     statements_begun known < most_written →
     CardsSaid cards (within (statements_when_over known) operations) final →
@@ -119,7 +119,7 @@ below_limit : (card count most : ℕ) → count < most → limit_unless_room car
 below_limit card count most room = let below = lt-ltb count most room in rw below refl
 
 -- items that say operations for which there is room are taken
-pub items_go : (items : List Item) (number : ℕ) (statements : List WrittenParts) (operations further : List Op)
+pub items_go : (items : List Item) (number : ℕ) (statements : List WrittenParts) (operations further : List (Op ℕ))
     (rest : List Piece) →
     ItemsSay items further → length operations + length further ≤ most_operations →
     after_pieces (within statements operations) (map (item number) items ++ rest)
@@ -130,7 +130,7 @@ items_go [] number statements operations (operation ∷ further) rest say fits =
 items_go (group columns ∷ items) number statements operations [] rest say fits = absurd say
 items_go (group columns ∷ items) number statements operations (operation ∷ further) rest say fits =
     let after = map (item number) items ++ rest in
-    let by_reading : Option Op → Result Known DeckFault = λ reading.
+    let by_reading : Option (Op ℕ) → Result Known DeckFault = λ reading.
     and_then (known_unless (objection_of_reading number (direct operations) reading)
     (record { statements = statements; is_open = true; draft = with_operation (direct operations) reading }))
     (λ next. after_pieces next after) in
@@ -170,7 +170,7 @@ cards_go (plain body ∷ cards) number known (statement ∷ statements) say fits
 cards_go (unknown ∷ cards) number known statements say fits = absurd say
 
 -- items say one list of operations
-same_operations : (items : List Item) (one other : List Op) → ItemsSay items one → ItemsSay items other → one ≡ other
+same_operations : (items : List Item) (one other : List (Op ℕ)) → ItemsSay items one → ItemsSay items other → one ≡ other
 same_operations [] [] [] say say' = refl
 same_operations [] [] (y ∷ ys) say say' = absurd say'
 same_operations [] (x ∷ xs) other say say' = absurd say
@@ -194,7 +194,7 @@ same_statements (skipped ∷ cards) one other say say' = same_statements cards o
 same_statements (plain body ∷ cards) [] other say say' = absurd say
 same_statements (plain body ∷ cards) (x ∷ xs) [] say say' = absurd say'
 same_statements (plain body ∷ cards) (x ∷ xs) (y ∷ ys) say say' =
-    let head : x ≡ y = ap (λ (operations : List Op). record { operations = operations })
+    let head : x ≡ y = ap (λ (operations : List (Op ℕ)). record { operations = operations })
     (same_operations (items_of body) x.operations y.operations say.0.items say'.0.items) in
     let tail = same_statements cards xs ys say.1 say'.1 in
     cc

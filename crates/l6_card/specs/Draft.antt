@@ -7,7 +7,7 @@ use Rattle.l6_card.specs.Statement.{WrittenParts}
 
 -- a draft that does its operations whatever holds
 pub data Draft : Type 0 where
-  direct : List Op → Draft
+  direct : List (Op ℕ) → Draft
 
 -- the draft of a statement without items
 abbrev pub empty_draft : Draft
@@ -18,7 +18,7 @@ abbrev pub operation_count : Draft → ℕ
 operation_count (direct operations) = length operations
 
 -- the draft with what a group reads as at its end
-abbrev pub with_operation : Draft → Option Op → Draft
+abbrev pub with_operation : Draft → Option (Op ℕ) → Draft
 with_operation draft None = draft
 with_operation (direct operations) (Some operation) = direct (operations ++ operation ∷ [])
 

@@ -41,7 +41,7 @@ abbrev pub limit_unless_room : ℕ → ℕ → ℕ → Option DeckFault
 limit_unless_room card count most = if nat_lt count most then None else Some (limit card)
 
 -- what a group objects on this card after this draft: it has no reading, or comes too late
-abbrev pub objection_of_reading : ℕ → Draft → Option Op → Option DeckFault
+abbrev pub objection_of_reading : ℕ → Draft → Option (Op ℕ) → Option DeckFault
 objection_of_reading card draft None = Some (form card)
 objection_of_reading card draft (Some operation) = limit_unless_room card (operation_count draft) most_operations
 

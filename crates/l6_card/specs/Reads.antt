@@ -10,7 +10,7 @@ use Rattle.l6_card.specs.Card.{Card, skipped, plain, unknown, cards_of}
 use Rattle.l6_card.specs.Statement.{WrittenParts}
 
 -- the items say these operations: each is a group, and reads as its operation
-abbrev pub ItemsSay : List Item → List Op → Type 0
+abbrev pub ItemsSay : List Item → List (Op ℕ) → Type 0
 ItemsSay [] [] = Unit {0}
 ItemsSay [] (operation ∷ operations) = ⊥
 ItemsSay (group columns ∷ items) [] = ⊥

@@ -20,6 +20,7 @@ fn row_of(operation: &Op) -> (char, u8, u64) {
             chain.names().len() as u64,
         ),
         Op::PrintDecimal(target) => ('P', target.bug().number(), target.names().len() as u64),
+        _ => ('?', 0, 0),
     }
 }
 

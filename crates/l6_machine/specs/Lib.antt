@@ -3,6 +3,7 @@ pub mod Limits
 pub mod Trap
 pub mod Trapping
 pub mod State
+pub mod Ready
 pub mod Locus
 pub mod Row
 pub mod Step

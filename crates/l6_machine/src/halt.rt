@@ -7,6 +7,8 @@ use crate::trap::Trap;
 pub enum Halt {
     /// By an exit DONE.
     Done,
+    /// By an exit FAIL.
+    Fail,
     /// By a trap, which has undone its step.
     Trap(Trap),
 }

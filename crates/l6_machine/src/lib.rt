@@ -1,6 +1,7 @@
 //! The machine: it runs a program, a step at a time.
 #![tactic(auto)]
 
+mod action;
 mod halt;
 mod jump;
 mod laws;
@@ -9,6 +10,7 @@ mod locus;
 mod machine;
 mod position;
 mod progress;
+mod readiness;
 mod registers;
 mod row;
 mod trap;
@@ -20,4 +22,5 @@ pub use limits::{Limits, MAX_OUTPUT, MAX_STEPS};
 pub use locus::Locus;
 pub use machine::{Machine, MachineFault};
 pub use position::Position;
+pub use readiness::ready;
 pub use trap::Trap;

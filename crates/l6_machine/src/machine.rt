@@ -5,10 +5,11 @@ ghost use Rattle.l6_word.specs.Numerals.{word_bits};
 ghost use Rattle.l6_prog.specs.Numerals.{first_letter};
 ghost use Rattle.l6_machine.specs.Limits.{are_allowed};
 ghost use Rattle.l6_machine.specs.Numerals.{most_output, most_steps};
+ghost use Rattle.l6_machine.specs.Ready.{is_ready};
 ghost use Rattle.l6_machine.specs.State.{start, is_at_limit, is_last};
 ghost use Rattle.l6_machine.specs.Locus.{index_of};
 ghost use Rattle.l6_machine.specs.Step.{Step, state_after, answer};
-ghost use Rattle.l6_machine.specs.Run.{IsReached};
+ghost use Rattle.l6_machine.specs.Run.{EndsIn, IsReached};
 
 use crate::halt::{Halt, StepResult};
 use crate::limits::Limits;
@@ -67,13 +68,14 @@ impl Model for Machine {
 impl Machine {
     /// A machine before the first step of the program. All that a run needs is taken from memory
     /// here: a copy of the program, and room for the output. The input is not looked at: no
-    /// operation reads it yet.
+    /// operation reads it yet. The caller owes a program that is `ready`.
     pub fn new(
         alloc: Global,
         program: &Program,
         _input: &[u8],
         limits: Limits,
     ) -> Result<Self, MachineFault>
+        requires { is_ready program.now ≡ true }
         ensures start { IfOk result (λ m. m.state ≡ start) }
         ensures world { IfOk result
             (λ m. m.world ≡ record { program = program.now; setting = record { limits = limits } }) }
@@ -116,6 +118,14 @@ impl Machine {
         ensures words { All (λ word. word < 2 ^ word_bits) self.new.state.memory.bugs }
     {
         self.progress.step(&self.program)
+    }
+
+    /// Makes steps until the run has ended or is at its limit.
+    pub fn run(&mut self)
+        ensures ends { EndsIn self.new.world self.new.state }
+        ensures world { self.new.world ≡ self.old.world }
+    {
+        self.progress.run(&self.program);
     }
 
     /// What the bug of a letter holds. The caller owes a letter (`Name::is_letter`).

@@ -1,4 +1,6 @@
 pub mod Numerals
 pub mod Chain
+pub mod PrintText
 pub mod Statement
+pub mod Target
 pub mod Program

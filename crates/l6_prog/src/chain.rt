@@ -12,8 +12,8 @@ use std::marker::Model;
 /// How many names a chain may have.
 pub const MAX_NAMES: usize = 6;
 
-/// A path to a word: 1 to 6 names, the first a letter. One name is a bug itself; each further name is a
-/// field of the block that the names before it lead to.
+/// A path to a word: 1 to 6 names, the first a letter. One name is a bug itself; each further name
+/// is a field of the block that the names before it lead to.
 #[derive(Debug, Drop)]
 pub struct Chain {
     names: ArrayVec<Name, MAX_NAMES>,
@@ -33,8 +33,8 @@ impl Model for Chain {
 }
 
 impl Chain {
-    /// The chain of these names, or `None` where they are no chain: where there is none, where there are
-    /// more than 6, or where the first is no letter.
+    /// The chain of these names, or `None` where they are no chain: where there is none, where
+    /// there are more than 6, or where the first is no letter.
     pub fn new(names: &[Name]) -> Option<Self>
         ensures valid { IsSome result ↔ IsTrue (is_chain names.now) }
         ensures value { IfSome result (λ chain. chain ≡ names.now) }

@@ -10,8 +10,8 @@ pub const NAMES: u8 = 36;
 /// How many names are digits. The letters are numbered from here on.
 pub const DIGITS: u8 = 10;
 
-/// The name of a field, a digit or a letter: `0` to `9` and `A` to `Z` are numbered from 0 to 35. A letter
-/// also names a bug.
+/// The name of a field, a digit or a letter: `0` to `9` and `A` to `Z` are numbered from 0 to 35. A
+/// letter also names a bug.
 #[derive(Clone, Copy, Debug, PartialEq, Eq, Hash, PartialOrd, Ord)]
 pub struct Name {
     number: u8,

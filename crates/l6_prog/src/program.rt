@@ -1,8 +1,11 @@
 //! Programs.
 
-ghost use Rattle.std.specs.Prelude.{◌≡◌, IfOk};
+ghost use Rattle.std.specs.Prelude.{◌≡◌, ◌+◌, ◌-◌, ◌<◌, ◌≤◌, IfOk, IsTrue, length, slice_get, slice_index_or};
 ghost use Rattle.std.specs.List.{list_all};
-ghost use Rattle.l6_prog.specs.Program.{program_of, IsProgram, fits, has_its_tests, ends_in_plain_done};
+ghost use Rattle.l6_prog.specs.Program.{program_of, IsProgram, fits, has_its_targets, has_its_tests, is_plain_done};
+ghost use Rattle.l6_prog.specs.Numerals.{most_statements};
+ghost use Rattle.l6_prog.specs.Statement.{plain_done};
+ghost use Rattle.l6_prog.specs.Target.{is_below, targets_of};
 
 use crate::condition::Cond;
 use crate::exit::Exit;
@@ -24,38 +27,45 @@ pub enum ProgFault {
     /// More than 4,095 statements, or a statement with more than 63 tests or 63 operations.
     #[error("past a limit")]
     Limit,
-    /// No statement, a condition whose number of tests is wrong, or a last statement that is not the
-    /// plain `DONE`.
+    /// A label or a call that names no statement.
+    #[error("a target is no statement")]
+    Target,
+    /// No statement, a condition whose number of tests is wrong, or a last statement that is not
+    /// the plain `DONE`.
     #[error("not in the form of a program")]
     Shape,
 }
 
-/// A program: 1 to 4,095 statements, numbered from 0, of which the last is the plain `DONE`.
+/// A program: 1 to 4,095 statements, numbered from 0, of which the last is the plain `DONE`. Each
+/// target is the number of one of them.
 #[derive(Drop)]
 pub struct Program {
     statements: Vec<Statement>,
 }
 
 impl Model for Program {
-    ghost use Rattle.std.specs.Prelude.{List};
+    ghost use Rattle.std.specs.Prelude.{◌≡◌, List, is_ok, true};
     ghost use Rattle.l6_prog.specs.Statement.{Parts};
-    ghost use Rattle.l6_prog.specs.Program.{IsProgram};
+    ghost use Rattle.l6_prog.specs.Program.{program_of};
 
     ghost Value = { List Parts };
 
     ghost view = { λ p. p.statements.items };
 
-    ghost invariant = { λ p. IsProgram p.statements.items };
+    ghost invariant = { λ p. is_ok (program_of p.statements.items) ≡ true };
 }
 
 impl Program {
-    /// The program of these statements. Where they are none the answer is the first of `Limit` and `Shape`
-    /// that applies, and the list is given up.
+    /// The program of these statements. Where they are none the answer is the first of `Limit`,
+    /// `Target` and `Shape` that applies, and the list is given up.
     pub fn new(statements: Vec<Statement>) -> Result<Self, ProgFault>
         ensures { result ≡ program_of statements.items }
     {
         if statements.len() > MAX_STATEMENTS || !each_fits(&statements) {
             return Err(ProgFault::Limit);
+        }
+        if !each_target_is_a_statement(&statements) {
+            return Err(ProgFault::Target);
         }
         if !each_has_its_tests(&statements) || !ends_in_plain_done(&statements) {
             return Err(ProgFault::Shape);
@@ -69,6 +79,21 @@ impl Program {
         ensures program { IsProgram self.now }
     {
         self.statements.as_slice()
+    }
+
+    /// The statement of this number. Beside it the caller learns what every program has: how many
+    /// statements there are at most, that each target is the number of one, and that behind any but
+    /// the plain `DONE` there is another.
+    pub fn statement(&self, number: u16) -> &Statement
+        requires { number < length self.now }
+        ensures value { result.now ≡ slice_index_or self.now number plain_done }
+        ensures count { length self.now ≤ most_statements }
+        ensures fits { IsTrue (fits result.now) }
+        ensures targets { IsTrue (list_all (is_below (length self.now)) (targets_of result.now)) }
+        ensures tests { IsTrue (has_its_tests result.now) }
+        ensures last { number + 1 ≡ length self.now → result.now ≡ plain_done }
+    {
+        &self.statements[usize::from(number)]
     }
 
     /// The same program once more.
@@ -95,17 +120,25 @@ fn each_fits(statements: &[Statement]) -> bool
     true
 }
 
+/// Whether each target is the number of one of the statements.
+fn each_target_is_a_statement(statements: &[Statement]) -> bool
+    ensures { result ≡ has_its_targets statements.now }
+{
+    for statement in statements {
+        if !statement.leads_below(statements.len()) {
+            return false;
+        }
+    }
+    true
+}
+
 /// Whether each condition has as many tests as it wants.
 fn each_has_its_tests(statements: &[Statement]) -> bool
     ensures { result ≡ list_all has_its_tests statements.now }
 {
     for statement in statements {
-        match statement.condition() {
-            Cond::Always => {
-                if !statement.tests().is_empty() {
-                    return false;
-                }
-            }
+        if !statement.condition().may_have(statement.tests().len()) {
+            return false;
         }
     }
     true
@@ -113,13 +146,18 @@ fn each_has_its_tests(statements: &[Statement]) -> bool
 
 /// Whether the last statement is the plain `DONE`.
 fn ends_in_plain_done(statements: &[Statement]) -> bool
-    ensures { result ≡ ends_in_plain_done statements.now }
+    ensures { result ≡ is_plain_done (slice_get statements.now (length statements.now - 1)) }
 {
     match statements.last() {
         None => false,
-        Some(last) => match (last.condition(), last.exit()) {
-            (Cond::Always, Exit::Done) => last.operations().is_empty(),
-            (Cond::Always, Exit::Next) => false,
+        Some(last) => match (
+            last.condition(),
+            last.tests(),
+            last.operations(),
+            last.exit(),
+        ) {
+            (Cond::Always, [], [], Exit::Done) => true,
+            _ => false,
         },
     }
 }

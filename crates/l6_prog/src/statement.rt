@@ -1,6 +1,8 @@
 //! Statements.
 
 ghost use Rattle.std.specs.Prelude.{◌≡◌, IfOk};
+ghost use Rattle.std.specs.List.{list_all, flat_map};
+ghost use Rattle.l6_prog.specs.Target.{targets_of, targets_of_operation, is_below};
 
 use crate::condition::{Cond, Test};
 use crate::exit::Exit;
@@ -75,6 +77,13 @@ impl Statement {
         self.exit
     }
 
+    /// Whether each target of the operations and the exit is below a number.
+    pub(crate) fn leads_below(&self, end: usize) -> bool
+        ensures { result ≡ list_all (is_below end) (targets_of self.now) }
+    {
+        each_leads_below(&self.operations, end) && self.exit.leads_below(end)
+    }
+
     /// The same statement once more.
     pub fn duplicate(&self, alloc: Global) -> Result<Self, AllocError>
         ensures { IfOk result (λ copy. copy ≡ self.now) }
@@ -83,4 +92,16 @@ impl Statement {
         let operations = self.operations.to_vec(alloc)?;
         Ok(Statement::new(self.condition, tests, operations, self.exit))
     }
+}
+
+/// Whether each target of the operations is below a number.
+fn each_leads_below(operations: &[Op], end: usize) -> bool
+    ensures { result ≡ list_all (is_below end) (flat_map targets_of_operation operations.now) }
+{
+    for operation in operations {
+        if !operation.leads_below(end) {
+            return false;
+        }
+    }
+    true
 }

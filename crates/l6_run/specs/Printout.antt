@@ -7,17 +7,19 @@ use Rattle.l6_machine.specs.declared.position.Position.{Position}
 use Rattle.l6_machine.specs.State.{State}
 use Rattle.l6_machine.specs.Trap.{trap_number, trap_name}
 use Rattle.l6_run.specs.declared.ending.Ending.{Ending}
-use Rattle.l6_run.specs.declared.ending.Ending.TheVariants.{Done, Trap, Limit}
+use Rattle.l6_run.specs.declared.ending.Ending.TheVariants.{Done, Fail, Trap, Limit}
 
 -- how a last state has ended: one that has not is at its limit of steps
 abbrev pub ending_of : Option Halt → Ending
 ending_of None = Limit
 ending_of (Some halts.Done) = Done
+ending_of (Some halts.Fail) = Fail
 ending_of (Some (halts.Trap trap)) = Trap trap
 
 -- the text of an ending; a trap says where the run stands
 abbrev pub ending_text : Ending → Position → List ℕ
 ending_text Done at = codes "DONE"
+ending_text Fail at = codes "FAIL"
 ending_text (Trap trap) at =
     codes "TRAP " ++ decimal (trap_number trap) ++ codes " " ++ trap_name trap
     ++ codes " AT " ++ decimal at.statement ++ codes "." ++ decimal at.action

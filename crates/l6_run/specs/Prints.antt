@@ -1,15 +1,16 @@
 -- What the run of a deck prints.
-use Rattle.std.specs.Prelude.{◌≡◌, ℕ, ◌<◌, ◌≤◌, List, length, IsSomeAnd}
+use Rattle.std.specs.Prelude.{◌≡◌, ℕ, ◌<◌, ◌≤◌, List, false, length, IsSomeAnd}
 use Rattle.l6_prog.specs.Statement.{Parts}
 use Rattle.l6_card.specs.Numerals.{most_deck_bytes}
 use Rattle.l6_card.specs.Fault.{deck_fault}
 use Rattle.l6_asm.specs.Spells.{Spells, IsUnspelled}
+use Rattle.l6_machine.specs.Ready.{is_ready}
 use Rattle.l6_machine.specs.Run.{EndsIn}
 use Rattle.l6_machine.specs.State.{State, World}
 use Rattle.l6_run.specs.declared.ending.Ending.{Ending}
 use Rattle.l6_run.specs.declared.fault.Part.TheVariants.{Deck}
 use Rattle.l6_run.specs.declared.fault.RunFault.{RunFault}
-use Rattle.l6_run.specs.declared.fault.RunFault.TheVariants.{TooLong, Asm}
+use Rattle.l6_run.specs.declared.fault.RunFault.TheVariants.{TooLong, Asm, NotYet}
 use Rattle.l6_run.specs.Options.{OptionValues}
 use Rattle.l6_run.specs.Printout.{ending_of, printout}
 
@@ -29,8 +30,16 @@ pub record Prints (options : OptionValues) (deck : List ℕ) (ending : Ending) (
   pub ended : ending ≡ ending_of final.ending
   pub printed : text ≡ printout final
 
--- why a deck is not run: it is too long, or its fault
+-- the deck spells a program that is not ready
+pub record SpellsUnready (deck : List ℕ) : Type 0 where
+  pub fits : length deck ≤ most_deck_bytes
+  pub program : List Parts
+  pub spelled : Spells deck program
+  pub unready : is_ready program ≡ false
+
+-- why a deck is not run: it is too long, or its fault, or the machine lacks a row for its program
 abbrev pub RefusesDeck : List ℕ → RunFault → Type 0
 RefusesDeck deck (TooLong Deck) = most_deck_bytes < length deck
 RefusesDeck deck (Asm fault) = (length deck ≤ most_deck_bytes) × IsSomeAnd (deck_fault fault) (IsUnspelled deck)
+RefusesDeck deck NotYet = SpellsUnready deck
 RefusesDeck deck other = ⊥

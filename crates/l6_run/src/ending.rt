@@ -9,6 +9,8 @@ use l6_machine::Trap;
 pub enum Ending {
     /// By an exit DONE.
     Done,
+    /// By an exit FAIL.
+    Fail,
     /// By a trap.
     Trap(Trap),
     /// It has not: it was stopped at its limit of steps.

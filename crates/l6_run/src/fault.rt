@@ -65,6 +65,9 @@ pub enum RunFault {
     /// Memory ran out.
     #[error("out of memory")]
     NoMemory,
+    /// The program has a condition or an operation of which the machine has no row yet.
+    #[error("not yet")]
+    NotYet,
 }
 
 impl From<AllocError> for RunFault {

@@ -16,5 +16,5 @@ pub use fault::{MAX_JOB_BYTES, Part, RunFault};
 pub use laws::{jobs_have_their_limits, printouts_are_determined};
 pub use options::{MAX_UNITS, Options};
 pub use printing::{ending_line, ending_of, printout};
-pub use running::{run_deck, run_to_end};
+pub use running::run_deck;
 pub use transfer::{read_part, write_text};

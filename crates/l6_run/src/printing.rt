@@ -17,6 +17,7 @@ pub fn ending_of(machine: &Machine) -> Ending
     match machine.ending() {
         None => Ending::Limit,
         Some(Halt::Done) => Ending::Done,
+        Some(Halt::Fail) => Ending::Fail,
         Some(Halt::Trap(trap)) => Ending::Trap(trap),
     }
 }
@@ -67,6 +68,7 @@ fn push_ending(line: &mut Vec<u8>, ending: Ending, at: Position) -> Result<(), A
 {
     match ending {
         Ending::Done => line.extend_from_slice(b"DONE"),
+        Ending::Fail => line.extend_from_slice(b"FAIL"),
         Ending::Trap(trap) => push_trap(line, trap, at),
         Ending::Limit => line.extend_from_slice(b"LIMIT"),
     }

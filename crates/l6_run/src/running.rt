@@ -1,11 +1,9 @@
 //! The run of a deck.
 
-ghost use Rattle.std.specs.Prelude.{◌≡◌, ◌≤◌, length, IfOk, IfErr, IfSome};
-ghost use Rattle.l6_card.specs.Fault.{deck_fault};
+ghost use Rattle.std.specs.Prelude.{◌≡◌, ◌≤◌, length, IfOk, IfErr};
 ghost use Rattle.l6_card.specs.Numerals.{most_deck_bytes};
-ghost use Rattle.l6_asm.specs.Spells.{IsUnspelled};
-ghost use Rattle.l6_machine.specs.Run.{EndsIn};
 ghost use Rattle.l6_run.specs.Prints.{Prints, RefusesDeck};
+ghost use Rattle.l6_run.specs.inner.Running.{IsNoRun};
 ghost use Rattle.l6_run.specs.Serves.{IsUnwritten, Serves, WriterFared};
 
 use crate::device::Sink;
@@ -14,9 +12,9 @@ use crate::fault::{Part, RunFault};
 use crate::options::Options;
 use crate::printing::{ending_of, printout};
 use crate::transfer::write_text;
-use l6_asm::{AsmFault, assemble};
+use l6_asm::assemble;
 use l6_card::MAX_DECK_BYTES;
-use l6_machine::{Machine, MachineFault, StepResult};
+use l6_machine::{Machine, MachineFault, ready};
 use std::alloc::Global;
 
 /// Runs a deck, and writes the printout. Answers how the run has ended.
@@ -44,26 +42,25 @@ pub fn run_deck<W: Sink>(
 }
 
 /// How the run of a deck ends, and what it prints.
-fn printout_of(alloc: Global, options: Options, deck: &[u8]) -> Result<(Ending, Vec<u8>), AsmFault>
+fn printout_of(
+    alloc: Global,
+    options: Options,
+    deck: &[u8],
+) -> Result<(Ending, Vec<u8>), RunFault>
     requires { length deck.now ≤ most_deck_bytes }
     ensures prints { IfOk result (λ found. Prints options deck.now found.0 found.1.items) }
-    ensures refuses { IfErr result (λ fault. IfSome (deck_fault fault) (IsUnspelled deck.now)) }
+    ensures refuses { IfErr result (IsNoRun deck.now) }
 {
     let program = assemble(alloc, deck)?;
+    if !ready(&program) {
+        return Err(RunFault::NotYet);
+    }
     let mut machine = match Machine::new(alloc, &program, &[], options.limits()) {
         Ok(machine) => machine,
-        Err(MachineFault::NoMemory) => return Err(AsmFault::NoMemory),
+        Err(MachineFault::NoMemory) => return Err(RunFault::NoMemory),
         Err(MachineFault::BadLimits) => unreachable!(),
     };
-    run_to_end(&mut machine);
+    machine.run();
     let text = printout(alloc, &machine)?;
     Ok((ending_of(&machine), text))
-}
-
-/// Steps until the run has ended or is at its limit of steps.
-pub fn run_to_end(machine: &mut Machine)
-    ensures ends { EndsIn machine.new.world machine.new.state }
-    ensures world { machine.new.world ≡ machine.old.world }
-{
-    while let StepResult::Went = machine.step() {}
 }

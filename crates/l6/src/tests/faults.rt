@@ -17,6 +17,7 @@ fn faults_are_told(rt: HostRuntime) -> Result<(), Fail> {
         (RunFault::Read(Part::Job), "read failed"),
         (RunFault::Write(80), "write failed after 80 bytes"),
         (RunFault::NoMemory, "out of memory"),
+        (RunFault::NotYet, "not yet"),
     ] {
         let told = fault.to_string(rt.alloc())?;
         assert_eq!(rt; told.as_str(), text);

@@ -1,6 +1,6 @@
 //! Limits of runs, just within and just past their ranges.
 
-use l6_machine::{Limits, Machine, MachineFault};
+use l6_machine::{Limits, Machine, MachineFault, ready};
 use l6_prog::{Program, Statement};
 use l6_run::Options;
 use std::test::Fail;
@@ -10,6 +10,7 @@ fn limits_have_their_ranges(rt: HostRuntime) -> Result<(), Fail> {
     let mut statements = Vec::new(rt.alloc());
     statements.push(Statement::plain_done(rt.alloc()))?;
     let program = Program::new(statements)?;
+    assert!(rt; ready(&program));
     for (steps, output, fault) in [
         (0, 0, None),
         (1_000_000_000, 16_777_216, None),

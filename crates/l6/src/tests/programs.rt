@@ -1,41 +1,144 @@
-//! Programs that no deck spells yet: a card has no room for as many operations as a statement may
-//! have.
+//! Programs that no deck spells yet: long statements, exits, and operations without a row.
 
-use l6_machine::{Limits, Machine};
-use l6_prog::{Chain, Cond, Exit, Name, Op, Operand, Program, Statement};
-use l6_run::{printout, run_to_end};
+use l6_machine::{Limits, Machine, ready};
+use l6_prog::{
+    Chain, Cond, Exit, MAX_STATEMENTS, Name, Op, Operand, PrintText, ProgFault, Program, Statement,
+    Test,
+};
+use l6_run::printout;
 use l6_word::Word;
-use std::alloc::Global;
+use std::alloc::{AllocError, Global};
 use std::test::Fail;
+
+/// The bug A.
+fn bug() -> Result<Chain, Fail> {
+    let name = Name::new(10).ok_or("no name")?;
+    Ok(Chain::new(&[name]).ok_or("no chain")?)
+}
+
+/// A number as an operand.
+fn number(value: u64) -> Operand {
+    Operand::Number(Word::wrapping(value))
+}
+
+/// A statement without a condition.
+fn statement(alloc: Global, operations: Vec<Op>, exit: Exit) -> Statement {
+    Statement::new(Cond::Always, Vec::new(alloc), operations, exit)
+}
 
 /// The statement `(A,E,5)`, 61 times `(A,A,1)`, `(A,PD)`.
 fn long_statement(alloc: Global) -> Result<Statement, Fail> {
-    let name = Name::new(10).ok_or("no name")?;
-    let bug = Chain::new(&[name]).ok_or("no chain")?;
     let mut operations = Vec::new(alloc);
-    operations.push(Op::Set(bug.clone()?, Operand::Number(Word::wrapping(5))))?;
+    operations.push(Op::Set(bug()?, number(5)))?;
     for _ in 0..61 {
-        operations.push(Op::Add(bug.clone()?, Operand::Number(Word::wrapping(1))))?;
+        operations.push(Op::Add(bug()?, number(1)))?;
     }
-    operations.push(Op::PrintDecimal(bug))?;
-    Ok(Statement::new(Cond::Always, Vec::new(alloc), operations, Exit::Next))
+    operations.push(Op::PrintDecimal(bug()?))?;
+    Ok(statement(alloc, operations, Exit::Next))
+}
+
+/// What the program of these statements, and the plain `DONE` behind them, prints: nothing where
+/// the machine is not ready for it.
+fn printed(alloc: Global, mut statements: Vec<Statement>) -> Result<Vec<u8>, Fail> {
+    statements.push(Statement::plain_done(alloc))?;
+    let program = Program::new(statements)?.duplicate(alloc)?;
+    if !ready(&program) {
+        return Ok(Vec::new(alloc));
+    }
+    let limits = Limits {
+        steps: 100,
+        output: 99,
+    };
+    let mut machine = Machine::new(alloc, &program, &[], limits)?;
+    machine.run();
+    Ok(printout(alloc, &machine)?)
 }
 
 #[test]
-fn a_statement_has_63_operations(rt: HostRuntime) -> Result<(), Fail> {
-    let statement = long_statement(rt.alloc())?;
-    assert_eq!(rt; statement.operations().len(), 63);
-    let mut statements = Vec::new(rt.alloc());
-    statements.push(statement.duplicate(rt.alloc())?)?;
-    statements.push(Statement::plain_done(rt.alloc()))?;
-    let program = Program::new(statements)?.duplicate(rt.alloc())?;
-    let limits = Limits {
-        steps: 100,
-        output: 2,
-    };
-    let mut machine = Machine::new(rt.alloc(), &program, &[], limits)?;
-    run_to_end(&mut machine);
-    let text = printout(rt.alloc(), &machine)?;
+fn programs_are_run(rt: HostRuntime) -> Result<(), Fail> {
+    let alloc = rt.alloc();
+    let statements = vec![in alloc; long_statement(alloc)?.duplicate(alloc)?]?;
+    let text = printed(alloc, statements)?;
     assert_eq!(rt; text.as_slice(), b"66\n== DONE AFTER 67 STEPS\n".as_slice());
+
+    // 0 prints a line and goes to 2, which goes back to 1, which fails.
+    let line = vec![in alloc; Op::PrintLine]?;
+    let statements = vec![in alloc;
+        statement(alloc, line, Exit::Label(2)),
+        statement(alloc, Vec::new(alloc), Exit::Fail),
+        statement(alloc, Vec::new(alloc), Exit::Label(1))
+    ]?;
+    let text = printed(alloc, statements)?;
+    assert_eq!(rt; text.as_slice(), b"\n== FAIL AFTER 7 STEPS\n".as_slice());
+
+    let statements = vec![in alloc; statement(alloc, Vec::new(alloc), Exit::Label(0))]?;
+    let text = printed(alloc, statements)?;
+    assert_eq!(rt; text.as_slice(), b"== LIMIT AFTER 100 STEPS\n".as_slice());
+
+    let statements = vec![in alloc; statement(alloc, Vec::new(alloc), Exit::Done)]?;
+    let text = printed(alloc, statements)?;
+    assert_eq!(rt; text.as_slice(), b"== DONE AFTER 2 STEPS\n".as_slice());
+    Ok(())
+}
+
+/// So many statements, and the plain `DONE` behind them.
+fn many(alloc: Global, count: usize) -> Result<Result<Program, ProgFault>, AllocError> {
+    let mut statements = Vec::new(alloc);
+    for _ in 0..count {
+        statements.push(statement(alloc, Vec::new(alloc), Exit::Next))?;
+    }
+    statements.push(Statement::plain_done(alloc))?;
+    Ok(Program::new(statements))
+}
+
+#[test]
+fn programs_have_limits(rt: HostRuntime) -> Result<(), Fail> {
+    let alloc = rt.alloc();
+    assert_eq!(rt; Program::new(Vec::new(alloc)).err(), Some(ProgFault::Shape));
+    assert_eq!(rt; many(alloc, MAX_STATEMENTS - 1)?.err(), None);
+    assert_eq!(rt; many(alloc, MAX_STATEMENTS)?.err(), Some(ProgFault::Limit));
+    for (count, fault) in [(63, None), (64, Some(ProgFault::Limit))] {
+        let mut tests = Vec::new(alloc);
+        let mut operations = Vec::new(alloc);
+        for _ in 0..count {
+            tests.push(Test::Equal(bug()?, number(0)))?;
+            operations.push(Op::PrintLine)?;
+        }
+        let tested = Statement::new(Cond::IfAll, tests, Vec::new(alloc), Exit::Next);
+        let statements = vec![in alloc; tested, Statement::plain_done(alloc)]?;
+        assert_eq!(rt; Program::new(statements).err(), fault);
+        let operated = statement(alloc, operations, Exit::Next);
+        let statements = vec![in alloc; operated, Statement::plain_done(alloc)]?;
+        assert_eq!(rt; Program::new(statements).err(), fault);
+    }
+    Ok(())
+}
+
+#[test]
+fn a_program_of_everything_is_copied(rt: HostRuntime) -> Result<(), Fail> {
+    let alloc = rt.alloc();
+    let field = Name::new(3).ok_or("no name")?;
+    let text = PrintText::new(&[40, 41]).ok_or("no text")?;
+    let operations = vec![in alloc;
+        Op::Exchange(bug()?, bug()?),
+        Op::Define(field, number(0), number(18), number(35)),
+        Op::SaveDefinition(field),
+        Op::Get(bug()?, number(2), Some(bug()?), Some(1)),
+        Op::Free(bug()?, None),
+        Op::Call(1, Some(0)),
+        Op::PrintText(text)
+    ]?;
+    let tests = vec![in alloc; Test::Greater(bug()?, number(7))]?;
+    let everything = Statement::new(Cond::Not, tests, operations, Exit::Label(1));
+    let statements = vec![in alloc; everything, Statement::plain_done(alloc)]?;
+    let program = Program::new(statements)?.duplicate(alloc)?;
+    assert!(rt; !ready(&program));
+    assert_eq!(rt; program.statements().len(), 2);
+    let copied = &program.statements()[0];
+    assert_eq!(rt; copied.condition(), Cond::Not);
+    assert_eq!(rt; copied.exit(), Exit::Label(1));
+    assert_eq!(rt; copied.tests().len(), 1);
+    assert_eq!(rt; copied.operations().len(), 7);
+    assert!(rt; matches!(&copied.operations()[3], Op::Get(_, _, Some(_), Some(1))));
     Ok(())
 }

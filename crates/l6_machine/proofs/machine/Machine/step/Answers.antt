@@ -9,9 +9,9 @@ pub invariant_of-self : goal.invariant_of-self
 invariant_of-self c = record {
   allowed = ap (λ (w : World). are_allowed w.setting.limits) c.step.ensures.world ∙ c.self.invariant.allowed;
   within = c.step.ensures.within;
-  reached = reached_on _ _ _ _ c.step.ensures.world c.step.ensures.state c.self.invariant.reached;
+  reached = reached_on _ _ _ _ c.self.invariant.within.ready c.step.ensures.world c.step.ensures.state c.self.invariant.reached;
 }
 
 pub returns-clause-reached : goal.returns-clause-reached
 returns-clause-reached c =
-    reached_on _ _ _ _ c.step.ensures.world c.step.ensures.state c.self.invariant.reached
+    reached_on _ _ _ _ c.self.invariant.within.ready c.step.ensures.world c.step.ensures.state c.self.invariant.reached

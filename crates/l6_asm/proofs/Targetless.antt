@@ -1,7 +1,6 @@
 -- No statement that a deck says names another: no card has a label yet.
-use Rattle.std.proofs.Common.{◌≡◌, ℕ, List, [], ◌∷◌, ◌++◌, Bool, true, false, cond, Option, None, Some, map, refl, ap, ◌∙◌, subst}
+use Rattle.std.proofs.Common.{◌≡◌, ℕ, List, [], ◌∷◌, ◌++◌, Bool, true, false, cond, Option, None, Some, refl, ap, ◌∙◌, subst}
 use Rattle.std.specs.List.{flat_map}
-use Rattle.l6_prog.specs.Statement.{Parts, plain_done}
 use Rattle.l6_prog.specs.Target.{targets_of, targets_of_operation}
 use Rattle.l6_prog.specs.declared.operand.Operand.{Operand}
 use Rattle.l6_prog.specs.declared.operation.Op.{Op}
@@ -10,12 +9,12 @@ use Rattle.std.specs.Prelude.{codes}
 use Rattle.std.specs.Str.{bytes_eq}
 use Rattle.l6_card.specs.Card.{Card, skipped, plain, unknown}
 use Rattle.l6_card.specs.Element.{chain_of, operand_of}
-use Rattle.l6_card.specs.Group.{◌>>=◌, of_two, of_three, operation_of, elements_of, reading_of}
+use Rattle.l6_card.specs.Group.{◌>>=◌, operation_of, elements_of}
 use Rattle.l6_card.specs.Spelling.{spelled}
 use Rattle.l6_card.specs.Items.{Item, group, word, unclosed, unopened, items_of}
 use Rattle.l6_card.specs.Reads.{ItemsSay, CardsSay}
 use Rattle.l6_card.specs.Statement.{WrittenParts}
-use Rattle.l6_asm.specs.Spells.{statement_of, assembled}
+use Rattle.l6_asm.specs.Spells.{assembled}
 
 -- the operation names no statement
 abbrev IsTargetless : Option (Op ℕ) → Type 0
@@ -30,7 +29,7 @@ on_chain true (Some chain) = refl
 
 on_operand : (sets adds : Bool) (chain : Option (List ℕ)) (operand : Option Operand) →
     IsTargetless ((cond sets (Some op.Set) (cond adds (Some op.Add) None))
-      >>= (λ make. chain >>= (λ c. operand >>= (λ v. Some (make c v)))))
+    >>= (λ make. chain >>= (λ c. operand >>= (λ v. Some (make c v)))))
 on_operand true adds None operand = tt
 on_operand true adds (Some chain) None = tt
 on_operand true adds (Some chain) (Some operand) = refl
@@ -71,7 +70,7 @@ cards_targetless (skipped ∷ cards) written say = cards_targetless cards writte
 cards_targetless (plain body ∷ cards) [] say = absurd say
 cards_targetless (plain body ∷ cards) (statement ∷ statements) say =
     let first : flat_map targets_of_operation statement.operations ≡ [] =
-        items_targetless (items_of body) statement.operations say.0.items in
+    items_targetless (items_of body) statement.operations say.0.items in
     ap (λ targets. (targets ++ []) ++ flat_map targets_of (assembled statements)) first
     ∙ cards_targetless cards statements say.1
 cards_targetless (unknown ∷ cards) written say = absurd say

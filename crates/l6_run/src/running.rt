@@ -42,11 +42,7 @@ pub fn run_deck<W: Sink>(
 }
 
 /// How the run of a deck ends, and what it prints.
-fn printout_of(
-    alloc: Global,
-    options: Options,
-    deck: &[u8],
-) -> Result<(Ending, Vec<u8>), RunFault>
+fn printout_of(alloc: Global, options: Options, deck: &[u8]) -> Result<(Ending, Vec<u8>), RunFault>
     requires { length deck.now ≤ most_deck_bytes }
     ensures prints { IfOk result (λ found. Prints options deck.now found.0 found.1.items) }
     ensures refuses { IfErr result (IsNoRun deck.now) }

@@ -1,8 +1,8 @@
 //! The texts of faults.
 
+use l6_asm::AsmFault;
 use l6_machine::MachineFault;
 use l6_prog::ProgFault;
-use l6_asm::AsmFault;
 use l6_run::{Part, RunFault};
 use std::test::Fail;
 

@@ -66,7 +66,7 @@ fn programs_are_run(rt: HostRuntime) -> Result<(), Fail> {
     let statements = vec![in alloc;
         statement(alloc, line, Exit::Label(2)),
         statement(alloc, Vec::new(alloc), Exit::Fail),
-        statement(alloc, Vec::new(alloc), Exit::Label(1))
+        statement(alloc, Vec::new(alloc), Exit::Label(1)),
     ]?;
     let text = printed(alloc, statements)?;
     assert_eq!(rt; text.as_slice(), b"\n== FAIL AFTER 7 STEPS\n".as_slice());
@@ -126,7 +126,7 @@ fn a_program_of_everything_is_copied(rt: HostRuntime) -> Result<(), Fail> {
         Op::Get(bug()?, number(2), Some(bug()?), Some(1)),
         Op::Free(bug()?, None),
         Op::Call(1, Some(0)),
-        Op::PrintText(text)
+        Op::PrintText(text),
     ]?;
     let tests = vec![in alloc; Test::Greater(bug()?, number(7))]?;
     let everything = Statement::new(Cond::Not, tests, operations, Exit::Label(1));

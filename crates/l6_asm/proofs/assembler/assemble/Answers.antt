@@ -10,5 +10,5 @@ unreachable-requires c =
     let read = c.in_ok-cards.ensures in
     let is_program = program_of-assembled c.args.deck.now c.in_ok-cards.cards read.reads read.limits in
     let clash : Ok (assembled c.in_ok-cards.cards) ≡ Err c.in-Err.field-0 =
-        sym is_program ∙ ap program_of (sym c.in_ok-statements.ensures) ∙ sym c.new.ensures ∙ c.in-Err.is in
+    sym is_program ∙ ap program_of (sym c.in_ok-statements.ensures) ∙ sym c.new.ensures ∙ c.in-Err.is in
     cc

@@ -43,14 +43,14 @@ pub trait Places: Sized {
     fn peek(&self, level: Level) -> Option<Place>
         requires { level ≤ largest_level }
         ensures pick { result ≡ picked rule (store self.now) level }
-        ensures open { IsAnswer (store self.now).units (store self.now).blocks (2 ^ level) result };
+        ensures fits { IsAnswer (store self.now).units (store self.now).blocks (2 ^ level) result };
 
     /// Makes a block of zeros at the place that the rule picks, or answers `None` where no place is open.
     /// Then blocks and order are unchanged.
     fn get(&mut self, level: Level) -> Option<Place>
         requires { level ≤ largest_level }
         ensures pick { result ≡ picked rule (store self.old) level }
-        ensures open { IsAnswer (store self.old).units (store self.old).blocks (2 ^ level) result }
+        ensures fits { IsAnswer (store self.old).units (store self.old).blocks (2 ^ level) result }
         ensures after { store self.new ≡ after_get rule (store self.old) level result }
         ensures sound { IsSound rule (store self.new) };
 

@@ -3,3 +3,7 @@ pub mod Scan
 pub mod Ranges
 pub mod Gathered
 pub mod Kept
+pub mod Changes
+pub mod Contents
+pub mod Runs
+pub mod Calls

@@ -5,10 +5,11 @@ ghost use Rattle.l6_word.specs.Numerals.{word_bits};
 ghost use Rattle.l6_store.specs.Numerals.{most_units};
 ghost use Rattle.l6_store.specs.Scan.{scan_rule};
 ghost use Rattle.l6_store.specs.Store.{fresh, IsSound};
+ghost use Rattle.l6_store.specs.inner.Marks.{IsCleared};
 
 use crate::fault::StoreFault;
 use crate::places::{Level, Place, Places};
-use crate::tag::Tag;
+use crate::tag::{Tag, fill, level_at, lowest_open, mark, size_of};
 use l6_word::{UNIT_SIZE, Word};
 use std::alloc::{AllocError, Global};
 use std::marker::Model;
@@ -71,10 +72,7 @@ impl Places for ScanStore {
     }
 
     fn live(&self, word: Word) -> Option<Level> {
-        match self.tags.get(word.get() as usize) {
-            Some(Tag::First(level)) => Some(*level),
-            _ => None,
-        }
+        level_at(&self.tags, word.get() as usize)
     }
 
     fn peek(&self, level: Level) -> Option<Place> {
@@ -89,14 +87,14 @@ impl Places for ScanStore {
     }
 
     fn free(&mut self, place: Place) {
-        let start = place as usize;
-        let size = size_at(&self.tags, start);
-        unmark(&mut self.tags, start, size);
+        let level = level_at(&self.tags, place as usize).unwrap();
+        fill(&mut self.tags, place as usize, size_of(level), Tag::Free);
     }
 
     fn copy(&mut self, from: Place, to: Place) {
-        let size = size_at(&self.tags, from as usize);
-        copy_words(&mut self.words, from as usize, to as usize, size);
+        let from = from as usize;
+        let level = level_at(&self.tags, from).unwrap();
+        self.words.copy_within(from..from + size_of(level), to as usize);
     }
 
     fn read(&self, place: Place) -> Word {
@@ -108,9 +106,9 @@ impl Places for ScanStore {
     }
 
     fn block(&self, place: Place) -> &[u64] {
-        let start = place as usize;
-        let size = size_at(&self.tags, start);
-        &self.words[start..start + size]
+        let place = place as usize;
+        let level = level_at(&self.tags, place).unwrap();
+        &self.words[place..place + size_of(level)]
     }
 
     fn duplicate(&self, alloc: Global) -> Result<Self, AllocError> {
@@ -126,69 +124,10 @@ impl Places for ScanStore {
     }
 }
 
-/// How many words a block of a level has.
-fn size_of(level: Level) -> usize
-{
-    1 << level
-}
-
-/// How many words the block has that begins at a place.
-fn size_at(tags: &[Tag], place: usize) -> usize
-{
-    match tags[place] {
-        Tag::First(level) => size_of(level),
-        _ => 0,
-    }
-}
-
-/// The lowest place where a block of a level may stand.
-fn lowest_open(tags: &[Tag], level: Level) -> Option<Place>
-{
-    let size = size_of(level);
-    for number in usize::from(UNIT_SIZE) >> level..tags.len() >> level {
-        let place = number * size;
-        if is_free(&tags[place..place + size]) {
-            return Some(place as Place);
-        }
-    }
-    None
-}
-
-/// Whether no block has any of these places.
-fn is_free(tags: &[Tag]) -> bool
-{
-    tags.iter().all(|tag| *tag == Tag::Free)
-}
-
-/// Marks the places of a new block.
-fn mark(tags: &mut [Tag], place: usize, level: Level)
-{
-    for at in place..place + size_of(level) {
-        tags[at] = Tag::Inside;
-    }
-    tags[place] = Tag::First(level);
-}
-
-/// Marks the places of a block as free again.
-fn unmark(tags: &mut [Tag], place: usize, size: usize)
-{
-    for at in place..place + size {
-        tags[at] = Tag::Free;
-    }
-}
-
-/// Clears the words of a block.
+/// Clears so many words from a place on.
 fn clear(words: &mut [u64], place: usize, size: usize)
+    requires { place + size ≤ length words.old }
+    ensures { IsCleared words.old words.new place size }
 {
-    for at in place..place + size {
-        words[at] = 0;
-    }
-}
-
-/// Copies so many words.
-fn copy_words(words: &mut [u64], from: usize, to: usize, size: usize)
-{
-    for index in 0..size {
-        words[to + index] = words[from + index];
-    }
+    words[place..place + size].fill(0);
 }

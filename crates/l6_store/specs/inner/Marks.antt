@@ -25,10 +25,10 @@ pub record IsMarked (old new : List Tag) (place level : ℕ) : Type 0 where
   pub before : (at : ℕ) → at < place → tag_at new at ≡ tag_at old at
   pub behind : (at : ℕ) → place + 2 ^ level ≤ at → tag_at new at ≡ tag_at old at
 
--- so many places from one on are free, and no others change
-pub record IsUnmarked (old new : List Tag) (place size : ℕ) : Type 0 where
+-- so many places from one on have a tag, and no others change
+pub record IsFilled (old new : List Tag) (place size : ℕ) (tag : Tag) : Type 0 where
   pub count : length new ≡ length old
-  pub free : (at : ℕ) → place ≤ at → at < place + size → tag_at new at ≡ Free
+  pub filled : (at : ℕ) → place ≤ at → at < place + size → tag_at new at ≡ tag
   pub before : (at : ℕ) → at < place → tag_at new at ≡ tag_at old at
   pub behind : (at : ℕ) → place + size ≤ at → tag_at new at ≡ tag_at old at
 

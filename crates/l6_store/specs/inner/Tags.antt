@@ -13,6 +13,12 @@ use Rattle.l6_store.specs.declared.tag.Tag.TheVariants.{Free, First, Inside}
 abbrev pub tag_at : List Tag → ℕ → Tag
 tag_at tags place = slice_index_or tags place Free
 
+-- the level of the block that begins at a place with that tag, if one does
+abbrev pub level_of : Tag → Option ℕ
+level_of (First level) = Some level
+level_of Inside = None
+level_of Free = None
+
 -- the words of the block that begins at a place with that tag, if one does
 abbrev pub tagged : List ℕ → ℕ → Tag → Option (List ℕ)
 tagged words place (First level) = Some (slice_range words place (place + 2 ^ level))

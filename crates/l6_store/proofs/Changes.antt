@@ -1,5 +1,5 @@
 -- What becomes of the tags of a plain store at a get and a free.
-use Rattle.std.proofs.Common.{◌≡◌, ◌≢◌, ℕ, ◌+◌, ◌^◌, ◌<◌, ◌≤◌, List, length, refl, ap, sym, ◌∙◌, subst, arith, inl, inr}
+use Rattle.std.proofs.Common.{◌≡◌, ℕ, ◌+◌, ◌^◌, ◌<◌, ◌≤◌, List, ap, sym, ◌∙◌, subst, arith, inl, inr}
 use Rattle.std.proofs.lemmas.Bool.{cases_lt, cases_eq}
 use Rattle.std.proofs.lemmas.Nat.{pow_pos}
 use Rattle.l6_store.specs.Blocks.{Stands}
@@ -19,9 +19,9 @@ marked_change old new place level marked at =
     elim (cases_lt at place) as (λ _. Change old new place (2 ^ level) at) [
       | inl less ↦ kept (marked.before at less)
       | inr from ↦ elim (cases_lt at (place + 2 ^ level)) as (λ _. Change old new place (2 ^ level) at) [
-          | inl less ↦ within from less
-          | inr past ↦ kept (marked.behind at past)
-        ]
+        | inl less ↦ within from less
+        | inr past ↦ kept (marked.behind at past)
+      ]
     ]
 
 pub unmarked_change : (old new : List Tag) (place size : ℕ) → IsFilled old new place size Free → (at : ℕ) → Change old new place size at
@@ -29,9 +29,9 @@ unmarked_change old new place size unmarked at =
     elim (cases_lt at place) as (λ _. Change old new place size at) [
       | inl less ↦ kept (unmarked.before at less)
       | inr from ↦ elim (cases_lt at (place + size)) as (λ _. Change old new place size at) [
-          | inl less ↦ within from less
-          | inr past ↦ kept (unmarked.behind at past)
-        ]
+        | inl less ↦ within from less
+        | inr past ↦ kept (unmarked.behind at past)
+      ]
     ]
 
 -- the one first place of a new block
@@ -103,9 +103,9 @@ module _ (units : ℕ) (old new : List Tag) (place level : ℕ) (were : AreTags 
       elim (cases_lt q place) as (λ _. ⊥) [
         | inl lower ↦ absurd (omega (arith, block_apart units old were q place k level was was_first lower))
         | inr upper ↦ elim (cases_eq place q) as (λ _. ⊥) [
-            | inl same ↦ let free = unmarked.filled q (omega arith) (omega (arith, pow_pos level)) in cc
-            | inr other ↦ absurd (omega (arith, block_apart units old were place q level k was_first was (omega arith)))
-          ]
+          | inl same ↦ let free = unmarked.filled q (omega arith) (omega (arith, pow_pos level)) in cc
+          | inr other ↦ absurd (omega (arith, block_apart units old were place q level k was_first was (omega arith)))
+        ]
       ]
 
   unmarked-rest_of : (q k at : ℕ) → tag_at new q ≡ First k → q < at → at < q + 2 ^ k → tag_at new at ≡ Inside

@@ -1,22 +1,18 @@
 -- What becomes of the blocks of a plain store when its tags and words change.
-use Rattle.std.proofs.Common.{◌≡◌, ◌≢◌, ℕ, ◌+◌, ◌-◌, ◌^◌, ◌<◌, ◌≤◌, List, [], length, get_or, set, slice_range, replicate, Option, Some, None, refl, ap, sym, ◌∙◌, subst, arith, inl, inr}
+use Rattle.std.proofs.Common.{◌≡◌, ◌≢◌, ℕ, ◌+◌, ◌^◌, ◌<◌, ◌≤◌, List, length, get_or, slice_range, replicate, Some, refl, ap, sym, ◌∙◌, arith, inl, inr}
 use Rattle.std.proofs.lemmas.Bool.{cases_lt, cases_eq}
 use Rattle.std.proofs.lemmas.Nat.{pow_pos}
-use Rattle.std.proofs.lemmas.List.{length-set}
-use Rattle.std.proofs.lemmas.List.Elements.{All-from_get_or, All-set}
-use Rattle.std.specs.List.{All}
 use Rattle.std.specs.Ordering.{nat_cmp}
 use Rattle.std.specs.FinMap as map
-use Rattle.l6_word.specs.Numerals.{word_bits}
-use Rattle.l6_store.specs.Blocks.{Blocks, Stands, end_of}
-use Rattle.l6_store.specs.inner.Tags.{tag_at, tagged, gathered, AreTags, IsInside, IsKept}
-use Rattle.l6_store.specs.inner.Marks.{IsFreeRun, IsMarked, IsFilled, IsCleared, IsCopied}
+use Rattle.l6_store.specs.Blocks.{Blocks, end_of}
+use Rattle.l6_store.specs.inner.Tags.{tag_at, tagged, gathered, AreTags}
+use Rattle.l6_store.specs.inner.Marks.{IsFreeRun, IsMarked, IsFilled, IsCleared}
 use Rattle.l6_store.specs.declared.tag.Tag.{Tag}
 use Rattle.l6_store.specs.declared.tag.Tag.TheVariants.{Free, First, Inside}
-use Rattle.l6_store.proofs.Ranges.{same_range, zero_range, set_range}
+use Rattle.l6_store.proofs.Ranges.{same_range, zero_range}
 use Rattle.l6_store.proofs.Gathered.{gathered_is, get-gathered, get-insert_same, get-insert_other, get-remove_same, get-remove_other}
 use Rattle.l6_store.proofs.Kept.{block_apart}
-use Rattle.l6_store.proofs.Changes.{Change, kept, within, marked_change, unmarked_change, marked-are_tags, unmarked-are_tags}
+use Rattle.l6_store.proofs.Changes.{kept, within, marked_change, unmarked_change}
 
 -- a block whose words are as they were is told alike
 told_alike : (old new : List ℕ) (q : ℕ) (tag : Tag)
@@ -41,7 +37,7 @@ module _ (units : ℕ) (tags : List Tag) (were : AreTags units tags) (words new 
   beside q k first apart =
       let stands = were.first q k first in
       same_range new words q q (2 ^ k) (omega (arith, stands.within, new_count, count)) (omega (arith, stands.within, count))
-          (λ j below. changed (q + j) (apart j below))
+      (λ j below. changed (q + j) (apart j below))
 
 -- the tag of a place of another block
 pub another : (units : ℕ) (tags : List Tag) → AreTags units tags → (place level q k j : ℕ) → tag_at tags place ≡ First level → tag_at tags q ≡ First k
@@ -61,17 +57,17 @@ changed_block units tags words new were count new_count place level first change
     let block : List ℕ = slice_range new place (place + 2 ^ level) in
     let blocks : Blocks = gathered tags words (length tags) in
     gathered_is tags new (map.insert blocks place block) (λ q.
-        elim (cases_eq q place) as (λ _. tagged new q (tag_at tags q) ≡ map.get (map.insert blocks place block) q) [
-          | inl same ↦
-              ap (λ (p : ℕ). tagged new p (tag_at tags p)) same
-              ∙ ap (tagged new place) first
-              ∙ sym (ap (map.get (map.insert blocks place block)) same ∙ get-insert_same blocks place block)
-          | inr other ↦
-              told_alike words new q (tag_at tags q) (λ k is.
-                  beside units tags were words new count new_count place (2 ^ level) changed q k is
-                      (λ j below run. another units tags were place level q k j first is other below run))
-              ∙ sym (get-insert_other blocks place block q other ∙ get-gathered tags words q)
-        ])
+    elim (cases_eq q place) as (λ _. tagged new q (tag_at tags q) ≡ map.get (map.insert blocks place block) q) [
+      | inl same ↦
+          ap (λ (p : ℕ). tagged new p (tag_at tags p)) same
+          ∙ ap (tagged new place) first
+          ∙ sym (ap (map.get (map.insert blocks place block)) same ∙ get-insert_same blocks place block)
+      | inr other ↦
+          told_alike words new q (tag_at tags q) (λ k is.
+          beside units tags were words new count new_count place (2 ^ level) changed q k is
+          (λ j below run. another units tags were place level q k j first is other below run))
+          ∙ sym (get-insert_other blocks place block q other ∙ get-gathered tags words q)
+    ])
 
 -- clearing a run changes no other word
 pub changed_of : (old new : List ℕ) (place size : ℕ) → IsCleared old new place size → ChangedAt old new (InRun place size)
@@ -79,9 +75,9 @@ changed_of old new place size clear at outside =
     elim (cases_lt at place) as (λ _. get_or new at 0 ≡ get_or old at 0) [
       | inl less ↦ clear.before at less
       | inr from ↦ elim (cases_lt at (place + size)) as (λ _. get_or new at 0 ≡ get_or old at 0) [
-          | inl less ↦ absurd (outside (from, less))
-          | inr past ↦ clear.behind at past
-        ]
+        | inl less ↦ absurd (outside (from, less))
+        | inr past ↦ clear.behind at past
+      ]
     ]
 
 -- no place of a block is tagged free
@@ -100,25 +96,25 @@ got_block units old new words cleared were count place level run marked clear =
     let block : List ℕ = replicate (2 ^ level) 0 in
     let blocks : Blocks = gathered old words (length old) in
     gathered_is new cleared (map.insert blocks place block) (λ q.
-        elim (cases_eq q place) as (λ _. tagged cleared q (tag_at new q) ≡ map.get (map.insert blocks place block) q) [
-          | inl same ↦
-              ap (λ (p : ℕ). tagged cleared p (tag_at new p)) same
-              ∙ ap (tagged cleared place) marked.first
-              ∙ ap (λ (b : List ℕ). Some b) (zero_range cleared place (2 ^ level) (omega (arith, run.within, clear.count, were.count, count)) clear.zeros)
-              ∙ sym (ap (map.get (map.insert blocks place block)) same ∙ get-insert_same blocks place block)
-          | inr other ↦
-              elim (marked_change old new place level marked q) as (λ _. tagged cleared q (tag_at new q) ≡ map.get (map.insert blocks place block) q) [
-                | kept is ↦
-                    ap (tagged cleared q) is
-                    ∙ told_alike words cleared q (tag_at old q) (λ k first.
-                        beside units old were words cleared count clear.count place (2 ^ level) (changed_of words cleared place (2 ^ level) clear) q k first
-                            (λ j below in_run. not_free units old were q k j first below (run.free (q + j) in_run.0 in_run.1)))
-                    ∙ sym (get-insert_other blocks place block q other ∙ get-gathered old words q)
-                | within from below ↦
-                    ap (tagged cleared q) (marked.rest q (omega (arith, other)) below)
-                    ∙ sym (get-insert_other blocks place block q other ∙ get-gathered old words q ∙ ap (tagged words q) (run.free q from below))
-              ]
-        ])
+    elim (cases_eq q place) as (λ _. tagged cleared q (tag_at new q) ≡ map.get (map.insert blocks place block) q) [
+      | inl same ↦
+          ap (λ (p : ℕ). tagged cleared p (tag_at new p)) same
+          ∙ ap (tagged cleared place) marked.first
+          ∙ ap (λ (b : List ℕ). Some b) (zero_range cleared place (2 ^ level) (omega (arith, run.within, clear.count, were.count, count)) clear.zeros)
+          ∙ sym (ap (map.get (map.insert blocks place block)) same ∙ get-insert_same blocks place block)
+      | inr other ↦
+          elim (marked_change old new place level marked q) as (λ _. tagged cleared q (tag_at new q) ≡ map.get (map.insert blocks place block) q) [
+            | kept is ↦
+                ap (tagged cleared q) is
+                ∙ told_alike words cleared q (tag_at old q) (λ k first.
+                beside units old were words cleared count clear.count place (2 ^ level) (changed_of words cleared place (2 ^ level) clear) q k first
+                (λ j below in_run. not_free units old were q k j first below (run.free (q + j) in_run.0 in_run.1)))
+                ∙ sym (get-insert_other blocks place block q other ∙ get-gathered old words q)
+            | within from below ↦
+                ap (tagged cleared q) (marked.rest q (omega (arith, other)) below)
+                ∙ sym (get-insert_other blocks place block q other ∙ get-gathered old words q ∙ ap (tagged words q) (run.free q from below))
+          ]
+    ])
 
 -- a block is freed
 pub freed_block : (units : ℕ) (old new : List Tag) (words : List ℕ) → AreTags units old → (place level : ℕ) → tag_at old place ≡ First level
@@ -126,19 +122,19 @@ pub freed_block : (units : ℕ) (old new : List Tag) (words : List ℕ) → AreT
 freed_block units old new words were place level first unmarked =
     let blocks : Blocks = gathered old words (length old) in
     gathered_is new words (map.remove blocks place) (λ q.
-        elim (cases_eq q place) as (λ _. tagged words q (tag_at new q) ≡ map.get (map.remove blocks place) q) [
-          | inl same ↦
-              ap (tagged words q) (unmarked.filled q (omega (arith, same)) (omega (arith, same, pow_pos level)))
-              ∙ sym (ap (map.get (map.remove blocks place)) same ∙ get-remove_same blocks place)
-          | inr other ↦
-              elim (unmarked_change old new place (2 ^ level) unmarked q) as (λ _. tagged words q (tag_at new q) ≡ map.get (map.remove blocks place) q) [
-                | kept is ↦ ap (tagged words q) is ∙ sym (get-remove_other blocks place q other ∙ get-gathered old words q)
-                | within from below ↦
-                    ap (tagged words q) (unmarked.filled q from below)
-                    ∙ sym (get-remove_other blocks place q other ∙ get-gathered old words q
-                        ∙ ap (tagged words q) (were.rest place level q first (omega (arith, other)) below))
-              ]
-        ])
+    elim (cases_eq q place) as (λ _. tagged words q (tag_at new q) ≡ map.get (map.remove blocks place) q) [
+      | inl same ↦
+          ap (tagged words q) (unmarked.filled q (omega (arith, same)) (omega (arith, same, pow_pos level)))
+          ∙ sym (ap (map.get (map.remove blocks place)) same ∙ get-remove_same blocks place)
+      | inr other ↦
+          elim (unmarked_change old new place (2 ^ level) unmarked q) as (λ _. tagged words q (tag_at new q) ≡ map.get (map.remove blocks place) q) [
+            | kept is ↦ ap (tagged words q) is ∙ sym (get-remove_other blocks place q other ∙ get-gathered old words q)
+            | within from below ↦
+                ap (tagged words q) (unmarked.filled q from below)
+                ∙ sym (get-remove_other blocks place q other ∙ get-gathered old words q
+                ∙ ap (tagged words q) (were.rest place level q first (omega (arith, other)) below))
+          ]
+    ])
 
 -- all places are free
 pub no_blocks : (tags : List Tag) (words : List ℕ) → ((at : ℕ) → tag_at tags at ≡ Free) → gathered tags words (length tags) ≡ map.empty

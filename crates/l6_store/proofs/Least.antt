@@ -1,5 +1,5 @@
 -- The least number that passes a test, and tests of all numbers below a bound.
-use Rattle.std.proofs.Common.{◌≡◌, ℕ, zero, suc, ◌+◌, ◌<◌, ◌≤◌, Bool, true, false, cond, ◌&&◌, Option, Some, None, if◌then◌else◌, refl, ap, sym, ◌∙◌, subst, arith, inl, inr, ◌⊎◌}
+use Rattle.std.proofs.Common.{◌≡◌, ℕ, zero, suc, ◌<◌, Bool, true, false, ◌&&◌, Option, Some, None, if◌then◌else◌, refl, ap, ◌∙◌, arith, inl, inr, ◌⊎◌}
 use Rattle.std.proofs.lemmas.Bool.{cases_lt}
 use Rattle.l6_store.specs.Scan.{all_below, least, or_else}
 
@@ -62,9 +62,9 @@ answers-alone bound test (Some n) (Some m) one other =
     elim (cases_lt n m) as (λ _. Some n ≡ Some m) [
       | inl less ↦ (let wrong = other.2 n less in let right = one.1 in cc)
       | inr not_less ↦ elim (cases_lt m n) as (λ _. Some n ≡ Some m) [
-          | inl less ↦ (let wrong = one.2 m less in let right = other.1 in cc)
-          | inr same ↦ ap (λ (k : ℕ). Some k) (omega arith)
-        ]
+        | inl less ↦ (let wrong = one.2 m less in let right = other.1 in cc)
+        | inr same ↦ ap (λ (k : ℕ). Some k) (omega arith)
+      ]
     ]
 answers-alone bound test (Some n) None one none = let wrong = none n one.0 in let right = one.1 in cc
 answers-alone bound test None (Some n) none one = let wrong = none n one.0 in let right = one.1 in cc

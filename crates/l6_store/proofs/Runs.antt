@@ -1,7 +1,7 @@
 -- Runs of free places, found in the tags.
-use Rattle.std.proofs.Common.{◌≡◌, ◌≢◌, ℕ, ◌+◌, ◌-◌, ◌*◌, ◌/◌, ◌%◌, ◌^◌, ◌<◌, ◌≤◌, List, length, get_or, set, take, drop, slice_range, refl, ap, sym, ◌∙◌, subst, arith, inl, inr}
-use Rattle.std.proofs.lemmas.Bool.{cases_lt, cases_eq}
-use Rattle.std.proofs.lemmas.Nat.{pow_pos, pow-add, shl-shr, div_below, le-div, shr_split, mod_low, mul-le, div-add-mod'}
+use Rattle.std.proofs.Common.{◌≡◌, ℕ, ◌+◌, ◌-◌, ◌*◌, ◌/◌, ◌%◌, ◌^◌, ◌<◌, ◌≤◌, List, length, set, drop, slice_range, ap, sym, ◌∙◌, arith, inl, inr}
+use Rattle.std.proofs.lemmas.Bool.{cases_lt}
+use Rattle.std.proofs.lemmas.Nat.{pow_pos, pow-add, shl-shr, div_below, le-div, mod_low, mul-le, div-add-mod'}
 use Rattle.std.proofs.lemmas.List.{length-take-le, length-drop, get_or-take, get_or-drop, get_or-set_same, get_or-set_other, length-set}
 use Rattle.l6_word.specs.Numerals.{largest_level, unit_size}
 use Rattle.l6_store.specs.inner.Tags.{tag_at}
@@ -63,11 +63,11 @@ free_run tags level number size is small from below free =
       above = omega (arith, whole, above);
       within = omega (arith, fits, is);
       free = λ at after before.
-        let index : number * size + (at - number * size) ≡ at = omega arith in
-        let inner : at - number * size < size = omega (arith, before, is) in
-        ap (tag_at tags) (sym index)
-        ∙ sym (tag_in tags (number * size) size (at - number * size) inner)
-        ∙ free (at - number * size) (omega (arith, inner, counts));
+          let index : number * size + (at - number * size) ≡ at = omega arith in
+          let inner : at - number * size < size = omega (arith, before, is) in
+          ap (tag_at tags) (sym index)
+          ∙ sym (tag_in tags (number * size) size (at - number * size) inner)
+          ∙ free (at - number * size) (omega (arith, inner, counts));
     }
 
 -- and where they are not, no block of the level stands below the next
@@ -90,6 +90,6 @@ none_lower tags level number size is none taken lower below run =
           let fits : number * size + size ≤ length tags = omega (arith, run.within, is, there) in
           let counts = length_in tags (number * size) size fits in
           taken (λ k within_part.
-              let inner : k < size = omega (arith, within_part, counts) in
-              tag_in tags (number * size) size k inner ∙ run.free (number * size + k) (omega (arith, there)) (omega (arith, there, is, inner)))
+          let inner : k < size = omega (arith, within_part, counts) in
+          tag_in tags (number * size) size k inner ∙ run.free (number * size + k) (omega (arith, there)) (omega (arith, there, is, inner)))
     ]

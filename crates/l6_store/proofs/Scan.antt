@@ -1,13 +1,12 @@
 -- The plain rule picks the lowest open place, and none exactly where no place is open.
-use Rattle.std.proofs.Common.{◌≡◌, ◌≢◌, ℕ, ◌+◌, ◌%◌, ◌^◌, ◌<◌, ◌≤◌, max, List, [], length, Bool, true, false, ◌&&◌, nat_le, nat_eq, Option, Some, None, refl, ap, sym, ◌∙◌, subst, arith, inl, inr, eq-eqb, ◌==◌}
+use Rattle.std.proofs.Common.{◌≡◌, ℕ, ◌+◌, ◌%◌, ◌^◌, ◌<◌, ◌≤◌, max, List, length, true, ◌&&◌, nat_le, Option, Some, None, refl, ap, arith, eq-eqb, ◌==◌}
 use Rattle.std.proofs.lemmas.Bool.{leb-true, le-leb, eqb-true}
 use Rattle.std.proofs.lemmas.Nat.{pow_pos}
 use Rattle.std.specs.FinMap as map
-use Rattle.l6_word.specs.Numerals.{largest_level, unit_size}
+use Rattle.l6_word.specs.Numerals.{unit_size}
 use Rattle.l6_store.specs.Blocks.{Blocks, end_of}
 use Rattle.l6_store.specs.Open.{IsOpen, IsAnswer}
-use Rattle.l6_store.specs.Rule.{Order}
-use Rattle.l6_store.specs.Scan.{leaves, is_open, all_below, least, scan_rule, ScanChooses, ScanPicksTheLowest}
+use Rattle.l6_store.specs.Scan.{leaves, is_open, all_below, least, ScanChooses, ScanPicksTheLowest}
 use Rattle.l6_store.proofs.Least.{and_both, Answers, all_below-holds, all_below-made, least-answers}
 
 -- what a block leaves free
@@ -25,7 +24,7 @@ leaves-made : (place start size : ℕ) (found : Option (List ℕ)) → 0 < size 
 leaves-made place start size None some before free = refl
 leaves-made place start size (Some words) some before free =
     le-leb (start + length words) (max place start)
-        (free words (max place start) refl (omega arith) (omega arith) (omega arith))
+    (free words (max place start) refl (omega arith) (omega arith) (omega arith))
 
 -- the test says what it should
 pub is_open-holds : (units : ℕ) (blocks : Blocks) (size place : ℕ) → is_open units blocks size place ≡ true → IsOpen units blocks size place
@@ -40,16 +39,16 @@ is_open-holds units blocks size place test =
       above = leb-true unit_size place second.1;
       within = leb-true (place + size) (end_of units) third.1;
       free = λ start words at is from before after.
-        leaves-holds place start at words (map.get blocks start) is
-            (all_below-holds (place + size) (λ s. leaves place s (map.get blocks s)) last.1 start (omega arith)) from after;
+          leaves-holds place start at words (map.get blocks start) is
+          (all_below-holds (place + size) (λ s. leaves place s (map.get blocks s)) last.1 start (omega arith)) from after;
     }
 
 pub is_open-made : (units : ℕ) (blocks : Blocks) (size place : ℕ) → 0 < size → IsOpen units blocks size place → is_open units blocks size place ≡ true
 unfolding is_open
 is_open-made units blocks size place some stands =
     let clear : all_below (place + size) (λ s. leaves place s (map.get blocks s)) ≡ true
-        = all_below-made (place + size) (λ s. leaves place s (map.get blocks s))
-            (λ start before. leaves-made place start size (map.get blocks start) some before (λ words at is. stands.free start words at is)) in
+    = all_below-made (place + size) (λ s. leaves place s (map.get blocks s))
+    (λ start before. leaves-made place start size (map.get blocks start) some before (λ words at is. stands.free start words at is)) in
     let first = eq-eqb (place % size) 0 stands.aligned in
     let second = le-leb unit_size place stands.above in
     let third = le-leb (place + size) (end_of units) stands.within in
@@ -68,7 +67,7 @@ scan_answers units blocks size some None none = λ place stands.
 pub scan-chooses : ScanChooses
 scan-chooses units blocks order level small =
     scan_answers units blocks (2 ^ level) (pow_pos level) (least (end_of units) (is_open units blocks (2 ^ level)))
-        (least-answers (end_of units) (is_open units blocks (2 ^ level)))
+    (least-answers (end_of units) (is_open units blocks (2 ^ level)))
 
 picked_lowest : (units : ℕ) (blocks : Blocks) (size : ℕ) → 0 < size → (answer : Option ℕ)
     → Answers (end_of units) (is_open units blocks size) answer → (place lower : ℕ) → answer ≡ Some place → lower < place
@@ -84,4 +83,4 @@ picked_lowest units blocks size some None none place lower same below stands = c
 pub scan-picks_the_lowest : ScanPicksTheLowest
 scan-picks_the_lowest units blocks order level place lower =
     picked_lowest units blocks (2 ^ level) (pow_pos level) (least (end_of units) (is_open units blocks (2 ^ level)))
-        (least-answers (end_of units) (is_open units blocks (2 ^ level))) place lower
+    (least-answers (end_of units) (is_open units blocks (2 ^ level))) place lower

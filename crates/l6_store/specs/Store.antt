@@ -1,5 +1,5 @@
 -- Stores: what one is, and what becomes of it.
-use Rattle.std.specs.Prelude.{ℕ, ◌^◌, ◌≤◌, List, [], replicate, Option, Some, None, refl}
+use Rattle.std.specs.Prelude.{ℕ, ◌^◌, ◌≤◌, List, replicate, Option, Some, None, refl}
 use Rattle.std.specs.Coded.{Coded, code_by, coded×, coded_ℕ, coded_list}
 use Rattle.std.specs.FinMap as map
 use Rattle.l6_store.specs.Numerals.{most_units}
@@ -17,9 +17,9 @@ pub record Store : Type 0 where
 abbrev pub store_code : Coded Store
 store_code =
     code_by (ℕ × (Blocks × (Order × ℕ))) (coded× coded_ℕ (coded× blocks_code (coded× (coded_list (coded_list coded_ℕ)) coded_ℕ)))
-        (λ s. (s.units, (s.blocks, (s.order, s.moves))))
-        (λ p. record { units = p.0; blocks = p.1.0; order = p.1.1.0; moves = p.1.1.1 })
-        (λ _. refl)
+    (λ s. (s.units, (s.blocks, (s.order, s.moves))))
+    (λ p. record { units = p.0; blocks = p.1.0; order = p.1.1.0; moves = p.1.1.1 })
+    (λ _. refl)
 
 -- what is true of each store under a rule: it has as many units as a store may have, its blocks fit, and the rule's
 -- pick answers for them

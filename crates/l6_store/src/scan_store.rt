@@ -94,7 +94,8 @@ impl Places for ScanStore {
     fn copy(&mut self, from: Place, to: Place) {
         let from = from as usize;
         let level = level_at(&self.tags, from).unwrap();
-        self.words.copy_within(from..from + size_of(level), to as usize);
+        self.words
+            .copy_within(from..from + size_of(level), to as usize);
     }
 
     fn read(&self, place: Place) -> Word {

@@ -11,26 +11,26 @@ use Rattle.l6_store.proofs.Kept.{block_apart}
 
 -- a place has its tag as it was, or is one of a run
 pub data Change (old new : List Tag) (place size at : ℕ) : Type 0 where
-  kept : tag_at new at ≡ tag_at old at → Change old new place size at
-  within : place ≤ at → at < place + size → Change old new place size at
+  as_before : tag_at new at ≡ tag_at old at → Change old new place size at
+  in_run : place ≤ at → at < place + size → Change old new place size at
 
 pub marked_change : (old new : List Tag) (place level : ℕ) → IsMarked old new place level → (at : ℕ) → Change old new place (2 ^ level) at
 marked_change old new place level marked at =
     elim (cases_lt at place) as (λ _. Change old new place (2 ^ level) at) [
-      | inl less ↦ kept (marked.before at less)
+      | inl less ↦ as_before (marked.before at less)
       | inr from ↦ elim (cases_lt at (place + 2 ^ level)) as (λ _. Change old new place (2 ^ level) at) [
-        | inl less ↦ within from less
-        | inr past ↦ kept (marked.behind at past)
+        | inl less ↦ in_run from less
+        | inr past ↦ as_before (marked.behind at past)
       ]
     ]
 
 pub unmarked_change : (old new : List Tag) (place size : ℕ) → IsFilled old new place size Free → (at : ℕ) → Change old new place size at
 unmarked_change old new place size unmarked at =
     elim (cases_lt at place) as (λ _. Change old new place size at) [
-      | inl less ↦ kept (unmarked.before at less)
+      | inl less ↦ as_before (unmarked.before at less)
       | inr from ↦ elim (cases_lt at (place + size)) as (λ _. Change old new place size at) [
-        | inl less ↦ within from less
-        | inr past ↦ kept (unmarked.behind at past)
+        | inl less ↦ in_run from less
+        | inr past ↦ as_before (unmarked.behind at past)
       ]
     ]
 
@@ -48,8 +48,8 @@ module _ (units : ℕ) (old new : List Tag) (place level : ℕ) (were : AreTags 
   marked-stands : (q k : ℕ) → tag_at new q ≡ First k → Stands units k q
   marked-stands q k is =
       elim (marked_change old new place level marked q) as (λ _. Stands units k q) [
-        | kept same ↦ were.first q k (sym same ∙ is)
-        | within from before ↦
+        | as_before same ↦ were.first q k (sym same ∙ is)
+        | in_run from before ↦
             let first = marked_first old new place level marked q k from before is in
             subst (λ (p : ℕ). Stands units k p) first.0 (subst (λ (l : ℕ). Stands units l place) first.1 stands)
       ]
@@ -57,13 +57,13 @@ module _ (units : ℕ) (old new : List Tag) (place level : ℕ) (were : AreTags 
   marked-rest_of : (q k at : ℕ) → tag_at new q ≡ First k → q < at → at < q + 2 ^ k → tag_at new at ≡ Inside
   marked-rest_of q k at is after before =
       elim (marked_change old new place level marked q) as (λ _. tag_at new at ≡ Inside) [
-        | kept same ↦
+        | as_before same ↦
             let inside : tag_at old at ≡ Inside = were.rest q k at (sym same ∙ is) after before in
             elim (marked_change old new place level marked at) as (λ _. tag_at new at ≡ Inside) [
-              | kept same_at ↦ same_at ∙ inside
-              | within from less ↦ let free = run.free at from less in cc
+              | as_before same_at ↦ same_at ∙ inside
+              | in_run from less ↦ let free = run.free at from less in cc
             ]
-        | within from less ↦
+        | in_run from less ↦
             let first = marked_first old new place level marked q k from less is in
             let power : 2 ^ level ≡ 2 ^ k = ap (λ (l : ℕ). 2 ^ l) first.1 in
             marked.rest at (omega (arith, first.0)) (omega (arith, first.0, power))
@@ -72,13 +72,13 @@ module _ (units : ℕ) (old new : List Tag) (place level : ℕ) (were : AreTags 
   marked-inside_of : (at : ℕ) → tag_at new at ≡ Inside → IsInside new at
   marked-inside_of at is =
       elim (marked_change old new place level marked at) as (λ _. IsInside new at) [
-        | kept same ↦
+        | as_before same ↦
             let was = were.inside at (sym same ∙ is) in
             elim (marked_change old new place level marked was.place) as (λ _. IsInside new at) [
-              | kept same_place ↦ record { place = was.place; level = was.level; is = same_place ∙ was.is; after = was.after; before = was.before }
-              | within from less ↦ let free = run.free was.place from less in let first = was.is in cc
+              | as_before same_place ↦ record { place = was.place; level = was.level; is = same_place ∙ was.is; after = was.after; before = was.before }
+              | in_run from less ↦ let free = run.free was.place from less in let first = was.is in cc
             ]
-        | within from less ↦
+        | in_run from less ↦
             elim (cases_eq place at) as (λ _. IsInside new at) [
               | inl same ↦ let first = sym (ap (tag_at new) same) ∙ marked.first in cc
               | inr other ↦ record { place = place; level = level; is = marked.first; after = omega arith; before = less }
@@ -93,8 +93,8 @@ module _ (units : ℕ) (old new : List Tag) (place level : ℕ) (were : AreTags 
   unmarked-stands : (q k : ℕ) → tag_at new q ≡ First k → Stands units k q
   unmarked-stands q k is =
       elim (unmarked_change old new place (2 ^ level) unmarked q) as (λ _. Stands units k q) [
-        | kept same ↦ were.first q k (sym same ∙ is)
-        | within from before ↦ let free = unmarked.filled q from before in cc
+        | as_before same ↦ were.first q k (sym same ∙ is)
+        | in_run from before ↦ let free = unmarked.filled q from before in cc
       ]
 
   -- another block has no place of the block that was freed
@@ -111,24 +111,24 @@ module _ (units : ℕ) (old new : List Tag) (place level : ℕ) (were : AreTags 
   unmarked-rest_of : (q k at : ℕ) → tag_at new q ≡ First k → q < at → at < q + 2 ^ k → tag_at new at ≡ Inside
   unmarked-rest_of q k at is after before =
       elim (unmarked_change old new place (2 ^ level) unmarked q) as (λ _. tag_at new at ≡ Inside) [
-        | kept same ↦
+        | as_before same ↦
             let was : tag_at old q ≡ First k = sym same ∙ is in
             let inside : tag_at old at ≡ Inside = were.rest q k at was after before in
             elim (unmarked_change old new place (2 ^ level) unmarked at) as (λ _. tag_at new at ≡ Inside) [
-              | kept same_at ↦ same_at ∙ inside
-              | within from less ↦ absurd (apart_from q k at was is after before from less)
+              | as_before same_at ↦ same_at ∙ inside
+              | in_run from less ↦ absurd (apart_from q k at was is after before from less)
             ]
-        | within from less ↦ let free = unmarked.filled q from less in cc
+        | in_run from less ↦ let free = unmarked.filled q from less in cc
       ]
 
   unmarked-inside_of : (at : ℕ) → tag_at new at ≡ Inside → IsInside new at
   unmarked-inside_of at is =
       elim (unmarked_change old new place (2 ^ level) unmarked at) as (λ _. IsInside new at) [
-        | kept same ↦
+        | as_before same ↦
             let was = were.inside at (sym same ∙ is) in
             elim (unmarked_change old new place (2 ^ level) unmarked was.place) as (λ _. IsInside new at) [
-              | kept same_place ↦ record { place = was.place; level = was.level; is = same_place ∙ was.is; after = was.after; before = was.before }
-              | within from less ↦
+              | as_before same_place ↦ record { place = was.place; level = was.level; is = same_place ∙ was.is; after = was.after; before = was.before }
+              | in_run from less ↦
                   elim (cases_eq place was.place) as (λ _. IsInside new at) [
                     | inl there ↦
                         let first : First level ≡ First was.level = sym was_first ∙ ap (tag_at old) there ∙ was.is in
@@ -139,7 +139,7 @@ module _ (units : ℕ) (old new : List Tag) (place level : ℕ) (were : AreTags 
                     | inr other ↦ let inside = were.rest place level was.place was_first (omega arith) less in let first = was.is in cc
                   ]
             ]
-        | within from less ↦ let free = unmarked.filled at from less in cc
+        | in_run from less ↦ let free = unmarked.filled at from less in cc
       ]
 
   pub unmarked-are_tags : AreTags units new

@@ -12,7 +12,7 @@ use Rattle.l6_store.specs.declared.tag.Tag.TheVariants.{Free, First, Inside}
 use Rattle.l6_store.proofs.Ranges.{same_range, zero_range}
 use Rattle.l6_store.proofs.Gathered.{gathered_is, get-gathered, get-insert_same, get-insert_other, get-remove_same, get-remove_other}
 use Rattle.l6_store.proofs.Kept.{block_apart}
-use Rattle.l6_store.proofs.Changes.{kept, within, marked_change, unmarked_change}
+use Rattle.l6_store.proofs.Changes.{as_before, in_run, marked_change, unmarked_change}
 
 -- a block whose words are as they were is told alike
 told_alike : (old new : List ℕ) (q : ℕ) (tag : Tag)
@@ -104,13 +104,13 @@ got_block units old new words cleared were count place level run marked clear =
           ∙ sym (ap (map.get (map.insert blocks place block)) same ∙ get-insert_same blocks place block)
       | inr other ↦
           elim (marked_change old new place level marked q) as (λ _. tagged cleared q (tag_at new q) ≡ map.get (map.insert blocks place block) q) [
-            | kept is ↦
+            | as_before is ↦
                 ap (tagged cleared q) is
                 ∙ told_alike words cleared q (tag_at old q) (λ k first.
                 beside units old were words cleared count clear.count place (2 ^ level) (changed_of words cleared place (2 ^ level) clear) q k first
                 (λ j below in_run. not_free units old were q k j first below (run.free (q + j) in_run.0 in_run.1)))
                 ∙ sym (get-insert_other blocks place block q other ∙ get-gathered old words q)
-            | within from below ↦
+            | in_run from below ↦
                 ap (tagged cleared q) (marked.rest q (omega (arith, other)) below)
                 ∙ sym (get-insert_other blocks place block q other ∙ get-gathered old words q ∙ ap (tagged words q) (run.free q from below))
           ]
@@ -128,8 +128,8 @@ freed_block units old new words were place level first unmarked =
           ∙ sym (ap (map.get (map.remove blocks place)) same ∙ get-remove_same blocks place)
       | inr other ↦
           elim (unmarked_change old new place (2 ^ level) unmarked q) as (λ _. tagged words q (tag_at new q) ≡ map.get (map.remove blocks place) q) [
-            | kept is ↦ ap (tagged words q) is ∙ sym (get-remove_other blocks place q other ∙ get-gathered old words q)
-            | within from below ↦
+            | as_before is ↦ ap (tagged words q) is ∙ sym (get-remove_other blocks place q other ∙ get-gathered old words q)
+            | in_run from below ↦
                 ap (tagged words q) (unmarked.filled q from below)
                 ∙ sym (get-remove_other blocks place q other ∙ get-gathered old words q
                 ∙ ap (tagged words q) (were.rest place level q first (omega (arith, other)) below))

@@ -9,7 +9,7 @@ ghost use Rattle.l6_store.specs.inner.Marks.{IsCleared};
 
 use crate::fault::StoreFault;
 use crate::places::{Level, Place, Places};
-use crate::tag::{Tag, fill, level_at, lowest_open, mark, size_of};
+use crate::tag::{Tag, fill, level_at, lowest_open, mark, raised, size_of};
 use l6_word::{UNIT_SIZE, Word};
 use std::alloc::{AllocError, Global};
 use std::marker::Model;
@@ -26,6 +26,8 @@ pub struct ScanStore {
     tags: Vec<Tag>,
     // the word at each place, below 2^36
     words: Vec<u64>,
+    // no place below this one is free
+    low: usize,
 }
 
 impl Model for ScanStore {
@@ -35,11 +37,12 @@ impl Model for ScanStore {
 
     ghost coded = { store_code };
 
-    ghost use Rattle.l6_store.specs.inner.Tags.{store_of, IsKept};
+    ghost use Rattle.l6_store.specs.inner.Tags.{store_of};
+    ghost use Rattle.l6_store.specs.inner.Marks.{IsHeld};
 
     ghost view = { λ s. store_of s.units s.tags.items s.words.items };
 
-    ghost invariant = { λ s. IsKept s.units s.tags.items s.words.items };
+    ghost invariant = { λ s. IsHeld s.units s.tags.items s.words.items s.low };
 }
 
 impl ScanStore {
@@ -58,6 +61,7 @@ impl ScanStore {
             units,
             tags: vec![in alloc; Tag::Free; places]?,
             words: vec![in alloc; 0; places]?,
+            low: usize::from(UNIT_SIZE),
         })
     }
 }
@@ -76,19 +80,21 @@ impl Places for ScanStore {
     }
 
     fn peek(&self, level: Level) -> Option<Place> {
-        lowest_open(&self.tags, level)
+        lowest_open(&self.tags, self.low, level)
     }
 
     fn get(&mut self, level: Level) -> Option<Place> {
-        let place = lowest_open(&self.tags, level)?;
+        let place = lowest_open(&self.tags, self.low, level)?;
         mark(&mut self.tags, place as usize, level);
         clear(&mut self.words, place as usize, size_of(level));
+        self.low = raised(self.low, place as usize, level);
         Some(place)
     }
 
     fn free(&mut self, place: Place) {
         let level = level_at(&self.tags, place as usize).unwrap();
         fill(&mut self.tags, place as usize, size_of(level), Tag::Free);
+        self.low = self.low.min(place as usize);
     }
 
     fn copy(&mut self, from: Place, to: Place) {
@@ -117,11 +123,13 @@ impl Places for ScanStore {
             units: self.units,
             tags: self.tags.to_vec(alloc)?,
             words: self.words.to_vec(alloc)?,
+            low: self.low,
         })
     }
 
     fn reset(&mut self) {
         self.tags.fill(Tag::Free);
+        self.low = usize::from(UNIT_SIZE);
     }
 }
 

@@ -5,10 +5,9 @@ ghost use Rattle.l6_word.specs.Numerals.{largest_level};
 ghost use Rattle.l6_store.specs.Numerals.{most_units};
 ghost use Rattle.l6_store.specs.Blocks.{end_of};
 ghost use Rattle.l6_store.specs.inner.Tags.{tag_at, level_of};
-ghost use Rattle.l6_store.specs.inner.Marks.{IsLowest, IsMarked, IsFilled};
+ghost use Rattle.l6_store.specs.inner.Marks.{IsLowest, IsFull, IsRaised, IsMarked, IsFilled};
 
 use crate::places::{Level, Place};
-use l6_word::UNIT_SIZE;
 
 /// What stands at a place.
 #[derive(Clone, Copy, Debug, PartialEq, Eq)]
@@ -51,20 +50,34 @@ fn are_free(tags: &[Tag]) -> bool
     true
 }
 
-/// The lowest place where a block of a level may stand.
-pub(crate) fn lowest_open(tags: &[Tag], level: Level) -> Option<Place>
+/// The lowest place where a block of a level may stand, where no place below `low` is free.
+pub(crate) fn lowest_open(tags: &[Tag], low: usize, level: Level) -> Option<Place>
     requires small { level ≤ largest_level }
     requires count { length tags.now ≤ end_of most_units }
+    requires full { IsFull tags.now low }
     ensures { IsLowest tags.now (2 ^ level) result }
 {
     let size = size_of(level);
-    for number in usize::from(UNIT_SIZE) / size..tags.len() / size {
+    for number in low / size..tags.len() / size {
         let place = number * size;
         if are_free(&tags[place..place + size]) {
             return Some(place as Place);
         }
     }
     None
+}
+
+/// The place below which none is free after a block is got, where none was free below `low`.
+pub(crate) fn raised(low: usize, place: usize, level: Level) -> usize
+    requires small { level ≤ largest_level }
+    requires within { place ≤ end_of most_units }
+    ensures { IsRaised low place level result }
+{
+    if level == 0 || place == low {
+        place + size_of(level)
+    } else {
+        low
+    }
 }
 
 /// Tags the places of a new block.

@@ -1,7 +1,7 @@
 -- What the helpers of a plain store do to its tags and words.
-use Rattle.std.specs.Prelude.{◌≡◌, ℕ, ◌+◌, ◌%◌, ◌^◌, ◌<◌, ◌≤◌, List, length, slice_index, Option, Some, None}
+use Rattle.std.specs.Prelude.{◌≡◌, ℕ, ◌+◌, ◌%◌, ◌^◌, ◌<◌, ◌≤◌, List, length, slice_index, Option, Some, None, ◌⊎◌}
 use Rattle.l6_word.specs.Numerals.{unit_size}
-use Rattle.l6_store.specs.inner.Tags.{tag_at}
+use Rattle.l6_store.specs.inner.Tags.{tag_at, IsKept}
 use Rattle.l6_store.specs.declared.tag.Tag.{Tag}
 use Rattle.l6_store.specs.declared.tag.Tag.TheVariants.{Free, First, Inside}
 
@@ -16,6 +16,20 @@ pub record IsFreeRun (tags : List Tag) (size place : ℕ) : Type 0 where
 abbrev pub IsLowest : List Tag → ℕ → Option ℕ → Type 0
 IsLowest tags size (Some place) = IsFreeRun tags size place × ((lower : ℕ) → lower < place → IsFreeRun tags size lower → ⊥)
 IsLowest tags size None = (place : ℕ) → IsFreeRun tags size place → ⊥
+
+-- no place of the store below this one is free
+pub record IsFull (tags : List Tag) (low : ℕ) : Type 0 where
+  pub above : unit_size ≤ low
+  pub taken : (at : ℕ) → unit_size ≤ at → at < low → tag_at tags at ≡ Free → ⊥
+
+-- the place below which none is free may rise behind a new block that has one word, or that begins at that place
+abbrev pub IsRaised : ℕ → ℕ → ℕ → ℕ → Type 0
+IsRaised low place level result = (result ≡ low) ⊎ ((result ≡ place + 2 ^ level) × ((level ≡ 0) ⊎ (place ≡ low)))
+
+-- what is true of each plain store
+pub record IsHeld (units : ℕ) (tags : List Tag) (words : List ℕ) (low : ℕ) : Type 0 where
+  pub kept : IsKept units tags words
+  pub full : IsFull tags low
 
 -- the places of a new block are tagged, and no others change
 pub record IsMarked (old new : List Tag) (place level : ℕ) : Type 0 where

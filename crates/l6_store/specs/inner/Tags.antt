@@ -53,7 +53,7 @@ pub record AreTags (units : ℕ) (tags : List Tag) : Type 0 where
   pub rest : (place level at : ℕ) → tag_at tags place ≡ First level → place < at → at < place + 2 ^ level → tag_at tags at ≡ Inside
   pub inside : (at : ℕ) → tag_at tags at ≡ Inside → IsInside tags at
 
--- what is true of each plain store
+-- what is true of the tags and words of each plain store
 pub record IsKept (units : ℕ) (tags : List Tag) (words : List ℕ) : Type 0 where
   pub some : 1 ≤ units
   pub most : units ≤ most_units

@@ -16,14 +16,14 @@ size_of-requires c =
     let first : tag_at c.self.inside.tags.items c.args.place ≡ First c.unwrap-level.result
     = first_at c.self.inside.tags.items c.deref.result.now c.args.place c.level_at.result c.unwrap-level.result c.deref.ensures.value
     c.level_at.ensures c.unwrap-level.ensures in
-    (c.self.invariant.are_tags.first c.args.place c.unwrap-level.result first).small
+    (c.self.invariant.kept.are_tags.first c.args.place c.unwrap-level.result first).small
 
 pub overflow_add-result : goal.overflow_add-result
 overflow_add-result c =
     let first : tag_at c.self.inside.tags.items c.args.place ≡ First c.unwrap-level.result
     = first_at c.self.inside.tags.items c.deref.result.now c.args.place c.level_at.result c.unwrap-level.result c.deref.ensures.value
     c.level_at.ensures c.unwrap-level.ensures in
-    let within = block_within c.self.inside.units c.self.inside.tags.items c.self.inside.words.items c.self.invariant c.args.place c.unwrap-level.result first in
+    let within = block_within c.self.inside.units c.self.inside.tags.items c.self.inside.words.items c.self.invariant.kept c.args.place c.unwrap-level.result first in
     let fits : c.args.place + c.size_of.result ≤ length c.deref-2.result.now = omega (arith, within, c.size_of.ensures, ap length c.deref-2.ensures.value) in
     omega (arith, fits)
 
@@ -32,7 +32,7 @@ slice_bounds-result-end c =
     let first : tag_at c.self.inside.tags.items c.args.place ≡ First c.unwrap-level.result
     = first_at c.self.inside.tags.items c.deref.result.now c.args.place c.level_at.result c.unwrap-level.result c.deref.ensures.value
     c.level_at.ensures c.unwrap-level.ensures in
-    let within = block_within c.self.inside.units c.self.inside.tags.items c.self.inside.words.items c.self.invariant c.args.place c.unwrap-level.result first in
+    let within = block_within c.self.inside.units c.self.inside.tags.items c.self.inside.words.items c.self.invariant.kept c.args.place c.unwrap-level.result first in
     let fits : c.args.place + c.size_of.result ≤ length c.deref-2.result.now = omega (arith, within, c.size_of.ensures, ap length c.deref-2.ensures.value) in
     search rules
 

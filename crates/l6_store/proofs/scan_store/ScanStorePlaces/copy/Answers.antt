@@ -1,7 +1,7 @@
 use Rattle.std.proofs.Common.{◌≡◌, ℕ, ◌+◌, ◌-◌, ◌^◌, ◌≤◌, get_or, ap, sym, ◌∙◌, arith}
 use Rattle.l6_store.specs.Blocks.{block_at}
 use Rattle.l6_store.specs.Store.{Store, with_block}
-use Rattle.l6_store.specs.inner.Tags.{tag_at}
+use Rattle.l6_store.specs.inner.Tags.{tag_at, IsKept}
 use Rattle.l6_store.specs.inner.Marks.{IsCopied}
 use Rattle.l6_store.specs.declared.tag.Tag.TheVariants.{First}
 use Rattle.l6_store.proofs.Kept.{sound_of}
@@ -18,14 +18,14 @@ size_of-requires c =
     let first : tag_at c.self.inside.tags.items c.args.from ≡ First c.unwrap-level.result
     = first_at c.self.inside.tags.items c.deref.result.now c.args.from c.level_at.result c.unwrap-level.result c.deref.ensures.value
     c.level_at.ensures c.unwrap-level.ensures in
-    (c.self.invariant.are_tags.first c.args.from c.unwrap-level.result first).small
+    (c.self.invariant.kept.are_tags.first c.args.from c.unwrap-level.result first).small
 
 pub overflow_add-from : goal.overflow_add-from
 overflow_add-from c =
     let first : tag_at c.self.inside.tags.items c.args.from ≡ First c.unwrap-level.result
     = first_at c.self.inside.tags.items c.deref.result.now c.args.from c.level_at.result c.unwrap-level.result c.deref.ensures.value
     c.level_at.ensures c.unwrap-level.ensures in
-    let within = block_within c.self.inside.units c.self.inside.tags.items c.self.inside.words.items c.self.invariant c.args.from c.unwrap-level.result first in
+    let within = block_within c.self.inside.units c.self.inside.tags.items c.self.inside.words.items c.self.invariant.kept c.args.from c.unwrap-level.result first in
     omega (arith, within, c.size_of.ensures, c.self.inside.words.ok.0)
 
 pub copy_within-requires-clause-in_bounds : goal.copy_within-requires-clause-in_bounds
@@ -33,7 +33,7 @@ copy_within-requires-clause-in_bounds c =
     let first : tag_at c.self.inside.tags.items c.args.from ≡ First c.unwrap-level.result
     = first_at c.self.inside.tags.items c.deref.result.now c.args.from c.level_at.result c.unwrap-level.result c.deref.ensures.value
     c.level_at.ensures c.unwrap-level.ensures in
-    let within = block_within c.self.inside.units c.self.inside.tags.items c.self.inside.words.items c.self.invariant c.args.from c.unwrap-level.result first in
+    let within = block_within c.self.inside.units c.self.inside.tags.items c.self.inside.words.items c.self.invariant.kept c.args.from c.unwrap-level.result first in
     omega (arith, within, c.size_of.ensures, c.self.inside.words.ok.0)
 
 first : (c : goal.After-copy_within) → tag_at c.self.inside.tags.items c.args.from ≡ First c.unwrap-level.result
@@ -43,7 +43,7 @@ first c =
 
 second : (c : goal.After-copy_within) → tag_at c.self.inside.tags.items c.args.to ≡ First c.unwrap-level.result
 second c =
-    same_level c.self.inside.units c.self.inside.tags.items c.self.inside.words.items c.args.self.now c.self.view_is c.self.invariant
+    same_level c.self.inside.units c.self.inside.tags.items c.self.inside.words.items c.args.self.now c.self.view_is c.self.invariant.kept
     c.args.from c.args.to c.unwrap-level.result (first c) c.requires.to_live c.requires.size
 
 copied : (c : goal.After-copy_within)
@@ -63,25 +63,28 @@ copy_within-requires-clause-dest_in_bounds c =
     let first : tag_at c.self.inside.tags.items c.args.from ≡ First c.unwrap-level.result
     = first_at c.self.inside.tags.items c.deref.result.now c.args.from c.level_at.result c.unwrap-level.result c.deref.ensures.value
     c.level_at.ensures c.unwrap-level.ensures in
-    let second = same_level c.self.inside.units c.self.inside.tags.items c.self.inside.words.items c.args.self.now c.self.view_is c.self.invariant
+    let second = same_level c.self.inside.units c.self.inside.tags.items c.self.inside.words.items c.args.self.now c.self.view_is c.self.invariant.kept
     c.args.from c.args.to c.unwrap-level.result first c.requires.to_live c.requires.size in
-    let within = block_within c.self.inside.units c.self.inside.tags.items c.self.inside.words.items c.self.invariant c.args.to c.unwrap-level.result second in
+    let within = block_within c.self.inside.units c.self.inside.tags.items c.self.inside.words.items c.self.invariant.kept c.args.to c.unwrap-level.result second in
     let fits : c.args.to + (c.args.from + c.size_of.result - c.args.from) ≤ c.self.inside.words.len
     = omega (arith, within, c.size_of.ensures, c.self.inside.words.ok.0) in
     fits
 
-pub invariant_of-self : goal.invariant_of-self
-invariant_of-self c =
-    let within = block_within c.self.inside.units c.self.inside.tags.items c.self.inside.words.items c.self.invariant c.args.from c.unwrap-level.result (first c) in
-    copied_kept c.self.inside.units c.self.inside.tags.items c.self.inside.words.items c.copy_within.new.self.items c.self.invariant
+kept : (c : goal.After-copy_within) → IsKept c.self.inside.units c.self.inside.tags.items c.copy_within.new.self.items
+kept c =
+    let within = block_within c.self.inside.units c.self.inside.tags.items c.self.inside.words.items c.self.invariant.kept c.args.from c.unwrap-level.result (first c) in
+    copied_kept c.self.inside.units c.self.inside.tags.items c.self.inside.words.items c.copy_within.new.self.items c.self.invariant.kept
     c.args.from c.args.to (2 ^ c.unwrap-level.result) within (copied c)
+
+pub invariant_of-self : goal.invariant_of-self
+invariant_of-self c = record { kept = kept c; full = c.self.invariant.full }
 
 pub returns-clause-after : goal.returns-clause-after
 returns-clause-after c =
-    copied_store c.self.inside.units c.self.inside.tags.items c.self.inside.words.items c.copy_within.new.self.items c.self.invariant
+    copied_store c.self.inside.units c.self.inside.tags.items c.self.inside.words.items c.copy_within.new.self.items c.self.invariant.kept
     c.args.from c.args.to c.unwrap-level.result (first c) (second c) (copied c)
     ∙ ap (λ (s : Store). with_block s c.args.to (block_at s.blocks c.args.from)) c.self.view_is
 
 pub returns-clause-sound : goal.returns-clause-sound
 returns-clause-sound c =
-    sound_of c.self.inside.units c.self.inside.tags.items c.copy_within.new.self.items (invariant_of-self c)
+    sound_of c.self.inside.units c.self.inside.tags.items c.copy_within.new.self.items (kept c)

@@ -15,4 +15,4 @@ returns-clause-sound c =
     let same = ap (λ (ts : List Tag). store_of c.self.inside.units ts c.in_ok-to_vec-2.field-0.items) tags
     ∙ ap (λ (ws : List ℕ). store_of c.self.inside.units c.self.inside.tags.items ws) words in
     subst (λ (s : Store). IsSound scan_rule s) (sym same)
-    (sound_of c.self.inside.units c.self.inside.tags.items c.self.inside.words.items c.self.invariant)
+    (sound_of c.self.inside.units c.self.inside.tags.items c.self.inside.words.items c.self.invariant.kept)

@@ -14,7 +14,7 @@ returns-clause-size c =
     = c.level_at.ensures ∙ ap (λ (tags : List Tag). level_of (tag_at tags c.get.result)) c.deref.ensures.value
     ∙ ap (λ (place : ℕ). level_of (tag_at c.self.inside.tags.items place)) c.get.ensures.value in
     ap (λ (answer : Option ℕ). option_map (λ (level : ℕ). 2 ^ level) answer) told
-    ∙ size_told c.self.inside.units c.self.inside.tags.items c.self.inside.words.items c.self.invariant c.args.word
+    ∙ size_told c.self.inside.units c.self.inside.tags.items c.self.inside.words.items c.self.invariant.kept c.args.word
     ∙ ap (λ (s : Store). option_map (λ (block : List ℕ). length block) (map.get s.blocks c.args.word)) c.self.view_is
 
 pub returns-clause-level : goal.returns-clause-level
@@ -22,4 +22,4 @@ returns-clause-level c =
     let told : c.level_at.result ≡ level_of (tag_at c.self.inside.tags.items c.get.result)
     = c.level_at.ensures ∙ ap (λ (tags : List Tag). level_of (tag_at tags c.get.result)) c.deref.ensures.value in
     subst (λ (answer : Option ℕ). IfSome answer (λ level. level ≤ largest_level)) (sym told)
-    (small_told c.self.inside.units c.self.inside.tags.items c.self.invariant.are_tags c.get.result)
+    (small_told c.self.inside.units c.self.inside.tags.items c.self.invariant.kept.are_tags c.get.result)

@@ -18,5 +18,5 @@ returns-clause-sound c =
     let tags : c.fill.new.self.items ≡ replicate (vec_len c.self.inside.tags) Free = c.fill.ensures.items (λ y same. same) in
     sound_of c.self.inside.units c.fill.new.self.items c.self.inside.words.items
     (empty_kept c.self.inside.units (vec_len c.self.inside.tags) c.fill.new.self.items c.self.inside.words.items
-    c.self.invariant.some c.self.invariant.most (c.self.inside.tags.ok.0 ∙ c.self.invariant.are_tags.count) tags
-    c.self.invariant.count c.self.invariant.are_words)
+    c.self.invariant.kept.some c.self.invariant.kept.most (c.self.inside.tags.ok.0 ∙ c.self.invariant.kept.are_tags.count) tags
+    c.self.invariant.kept.count c.self.invariant.kept.are_words)

@@ -48,6 +48,16 @@ live_by words place Free live = live
 pub live_level : (tags : List Tag) (words : List ℕ) (place : ℕ) → IsLive (gathered tags words (length tags)) place → IsSome (level_of (tag_at tags place))
 live_level tags words place live = live_by words place (tag_at tags place) (subst (λ (b : Option (List ℕ)). IsSome b) (get-gathered tags words place) live)
 
+told_live_by : (words : List ℕ) (place : ℕ) (tag : Tag) → IsSome (level_of tag) → IsSome (tagged words place tag)
+told_live_by words place (First level) live = refl
+told_live_by words place Inside live = live
+told_live_by words place Free live = live
+
+-- and where it tells one a block begins
+pub told_live : (tags : List Tag) (words : List ℕ) (place : ℕ) → IsSome (level_of (tag_at tags place)) → IsLive (gathered tags words (length tags)) place
+told_live tags words place told =
+    subst (λ (b : Option (List ℕ)). IsSome b) (sym (get-gathered tags words place)) (told_live_by words place (tag_at tags place) told)
+
 pub live_at : (units : ℕ) (tags : List Tag) (words : List ℕ) (store : Store) → store_of units tags words ≡ store
     → (now : List Tag) (place : ℕ) (answer : Option ℕ) → now ≡ tags → answer ≡ level_of (tag_at now place) → IsLive store.blocks place → IsSome answer
 live_at units tags words store view now place answer same tells live =

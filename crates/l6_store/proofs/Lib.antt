@@ -7,3 +7,4 @@ pub mod Changes
 pub mod Contents
 pub mod Runs
 pub mod Calls
+pub mod Live

@@ -153,6 +153,3 @@ filled_full old new low place size full above filled = record {
   above = omega (arith, full.above);
   taken = λ at from below free. full.taken at from (omega arith) (sym (filled.before at (omega arith)) ∙ free);
 }
-
-pub none_full : (tags : List Tag) → IsFull tags unit_size
-none_full tags = record { above = omega arith; taken = λ at from below free. absurd (omega arith) }

@@ -1,6 +1,6 @@
 //! What every store of blocks does.
 
-ghost use Rattle.std.specs.Prelude.{◌≡◌, ◌≢◌, ℕ, ◌<◌, ◌≤◌, ◌^◌, length, slice_set, option_map, IfSome, IfOk};
+ghost use Rattle.std.specs.Prelude.{◌≡◌, ◌≢◌, ℕ, ◌<◌, ◌≤◌, ◌^◌, length, slice_set, option_map, ◌↔◌, IsSome, IfSome, IfOk};
 ghost use Rattle.std.specs.List.{All};
 ghost use Rattle.std.specs.FinMap as map;
 ghost use Rattle.l6_word.specs.Numerals.{largest_level, word_bits};
@@ -36,6 +36,7 @@ pub trait Places: Sized {
 
     /// The level of the block that begins at the place of this number, or `None` where none does.
     fn live(&self, word: Word) -> Option<Level>
+        ensures live { IsSome result ↔ IsLive (store self.now).blocks word }
         ensures size { option_map (λ level. 2 ^ level) result ≡ option_map length (map.get (store self.now).blocks word) }
         ensures level { IfSome result (λ level. level ≤ largest_level) };
 

@@ -1,5 +1,5 @@
 -- What callers may conclude of a block that begins at a place.
-use Rattle.std.proofs.Common.{◌≡◌, ℕ, ◌+◌, ◌^◌, ◌<◌, List, [], length, Option, Some, None, refl, ap, sym, ◌∙◌, arith}
+use Rattle.std.proofs.Common.{◌≡◌, ℕ, ◌+◌, ◌^◌, ◌<◌, List, [], length, Option, Some, None, refl, ap, ◌∙◌, arith}
 use Rattle.std.specs.Option.{IsSome, option_map, unwrap_or}
 use Rattle.std.specs.FinMap as map
 use Rattle.l6_store.specs.Blocks.{Blocks, IsLive, LiesIn, block_at}
@@ -18,7 +18,7 @@ pub live_size : (blocks : Blocks) (place level : ℕ) → IsLive blocks place
     → length (block_at blocks place) ≡ 2 ^ level
 live_size blocks place level live size =
     let told : Some (2 ^ level) ≡ Some (length (block_at blocks place))
-        = size ∙ ap (option_map (λ (words : List ℕ). length words)) (live_words blocks place live) in
+    = size ∙ ap (option_map (λ (words : List ℕ). length words)) (live_words blocks place live) in
     cc
 
 -- and that their places lie in it

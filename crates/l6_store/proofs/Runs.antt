@@ -1,11 +1,11 @@
 -- Runs of free places, found in the tags.
-use Rattle.std.proofs.Common.{subst, ◌≡◌, ℕ, ◌+◌, ◌-◌, ◌*◌, ◌/◌, ◌%◌, ◌^◌, ◌<◌, ◌≤◌, List, length, min, Option, Some, set, drop, slice_range, ap, sym, ◌∙◌, arith, inl, inr}
+use Rattle.std.proofs.Common.{subst, ◌≡◌, ℕ, ◌+◌, ◌-◌, ◌*◌, ◌/◌, ◌%◌, ◌^◌, ◌<◌, ◌≤◌, List, length, min, Some, set, drop, slice_range, ap, sym, ◌∙◌, arith, inl, inr}
 use Rattle.std.proofs.lemmas.Bool.{cases_lt, cases_eq}
 use Rattle.std.proofs.lemmas.Nat.{pow_pos, pow-add, shl-shr, div_below, le-div, mod_low, mul-le, div-add-mod'}
 use Rattle.std.proofs.lemmas.List.{length-take-le, length-drop, get_or-take, get_or-drop, get_or-set_same, get_or-set_other, length-set}
 use Rattle.l6_word.specs.Numerals.{largest_level, unit_size}
 use Rattle.l6_store.specs.inner.Tags.{tag_at}
-use Rattle.l6_store.proofs.Changes.{Change, as_before, in_run, marked_change}
+use Rattle.l6_store.proofs.Changes.{as_before, in_run, marked_change}
 use Rattle.l6_store.specs.inner.Marks.{IsFreeRun, IsLowest, IsFull, IsRaised, IsMarked, IsFilled}
 use Rattle.l6_store.specs.declared.tag.Tag.{Tag}
 use Rattle.l6_store.specs.declared.tag.Tag.TheVariants.{Free, First, Inside}
@@ -119,9 +119,9 @@ not_free_kept old new place level at marked free before =
     elim (cases_lt at place) as (λ _. (at < place) × (tag_at old at ≡ Free)) [
       | inl less ↦ (less, sym (marked.before at less) ∙ free)
       | inr from ↦ elim (cases_eq at place) as (λ _. (at < place) × (tag_at old at ≡ Free)) [
-          | inl same ↦ let first = sym (ap (tag_at new) same) ∙ free in let is = marked.first in cc
-          | inr other ↦ let inside = marked.rest at (omega (arith, other)) before in cc
-        ]
+        | inl same ↦ let first = sym (ap (tag_at new) same) ∙ free in let is = marked.first in cc
+        | inr other ↦ let inside = marked.rest at (omega (arith, other)) before in cc
+      ]
     ]
 
 pub raised_full : (old new : List Tag) (low place level result : ℕ) → IsFull old low → IsLowest old (2 ^ level) (Some place)
@@ -141,8 +141,8 @@ raised_full old new low place level result full lowest marked (inr (is, why)) = 
       elim why as (λ _. ⊥) [
         | inl single ↦
             lowest.1 at was.0
-                (subst (λ (l : ℕ). IsFreeRun old (2 ^ l) at) (sym single)
-                    (one_free old at from (omega (arith, was.0, lowest.0.within)) was.1))
+            (subst (λ (l : ℕ). IsFreeRun old (2 ^ l) at) (sym single)
+            (one_free old at from (omega (arith, was.0, lowest.0.within)) was.1))
         | inr there ↦ full.taken at from (omega (arith, was.0, there)) was.1
       ];
 }

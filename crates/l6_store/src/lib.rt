@@ -6,6 +6,8 @@ mod laws;
 mod places;
 mod scan_store;
 mod tag;
+#[cfg(test)]
+mod tests;
 
 pub use fault::StoreFault;
 pub use laws::{scan_chooses, scan_picks_the_lowest, stores_have_their_limit};

@@ -1,4 +1,4 @@
-use Rattle.std.proofs.Common.{ℕ, ◌*◌, ◌/◌, ◌<◌, ◌≤◌, refl, subst}
+use Rattle.std.proofs.Common.{ℕ, ◌*◌, ◌<◌, refl, subst}
 use Rattle.l6_store.proofs.Runs.{free_run, none_lower, none_below}
 use Rattle.l6_store.proofs.tag.lowest_open.Goals as goal
 

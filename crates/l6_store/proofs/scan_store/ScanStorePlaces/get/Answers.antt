@@ -57,16 +57,16 @@ kept : (c : goal.After-self-3-1)
     → IsKept c.self.inside.units (with_items c.self.inside.tags c.mark.new.tags).items (with_items c.self.inside.words c.clear.new.words).items
 kept c =
     subst (λ (ts : List Tag). IsKept c.self.inside.units ts (with_items c.self.inside.words c.clear.new.words).items) (sym (tags_are c))
-        (subst (λ (ws : List ℕ). IsKept c.self.inside.units c.mark.new.tags ws) (sym (words_are c))
-            (got_kept c.self.inside.units c.self.inside.tags.items c.mark.new.tags c.self.inside.words.items c.clear.new.words c.self.invariant.kept
-                c.in_ok-place.place c.args.level c.requires (lowest c).0 (marked c) (cleared c)))
+    (subst (λ (ws : List ℕ). IsKept c.self.inside.units c.mark.new.tags ws) (sym (words_are c))
+    (got_kept c.self.inside.units c.self.inside.tags.items c.mark.new.tags c.self.inside.words.items c.clear.new.words c.self.invariant.kept
+    c.in_ok-place.place c.args.level c.requires (lowest c).0 (marked c) (cleared c)))
 
 pub invariant_of-self : goal.invariant_of-self
 invariant_of-self c = record {
   kept = kept c;
   full = subst (λ (ts : List Tag). IsFull ts c.raised-self-inside.result) (sym (tags_are c))
       (raised_full c.self.inside.tags.items c.mark.new.tags c.self.inside.low c.in_ok-place.place c.args.level c.raised-self-inside.result
-          c.self.invariant.full (lowest c) (marked c) c.raised-self-inside.ensures);
+      c.self.invariant.full (lowest c) (marked c) c.raised-self-inside.ensures);
 }
 
 pub returns-clause-pick : goal.returns-clause-pick

@@ -15,12 +15,13 @@ told c =
     ∙ ap (λ (place : ℕ). level_of (tag_at c.self.inside.tags.items place)) c.get.ensures.value
 
 pub returns-clause-live : goal.returns-clause-live
-returns-clause-live c =
-    ( λ some. subst (λ (s : Store). IsLive s.blocks c.args.word) c.self.view_is
-        (told_live c.self.inside.tags.items c.self.inside.words.items c.args.word (subst (λ (answer : Option ℕ). IsSome answer) (told c) some))
-    , λ live. subst (λ (answer : Option ℕ). IsSome answer) (sym (told c))
-        (live_level c.self.inside.tags.items c.self.inside.words.items c.args.word
-            (subst (λ (s : Store). IsLive s.blocks c.args.word) (sym c.self.view_is) live)) )
+returns-clause-live c = (
+  λ some. subst (λ (s : Store). IsLive s.blocks c.args.word) c.self.view_is
+      (told_live c.self.inside.tags.items c.self.inside.words.items c.args.word (subst (λ (answer : Option ℕ). IsSome answer) (told c) some)),
+  λ live. subst (λ (answer : Option ℕ). IsSome answer) (sym (told c))
+      (live_level c.self.inside.tags.items c.self.inside.words.items c.args.word
+      (subst (λ (s : Store). IsLive s.blocks c.args.word) (sym c.self.view_is) live)),
+)
 
 pub returns-clause-size : goal.returns-clause-size
 returns-clause-size c =
@@ -31,4 +32,4 @@ returns-clause-size c =
 pub returns-clause-level : goal.returns-clause-level
 returns-clause-level c =
     subst (λ (answer : Option ℕ). IfSome answer (λ level. level ≤ largest_level)) (sym (told c))
-        (small_told c.self.inside.units c.self.inside.tags.items c.self.invariant.kept.are_tags c.args.word)
+    (small_told c.self.inside.units c.self.inside.tags.items c.self.invariant.kept.are_tags c.args.word)

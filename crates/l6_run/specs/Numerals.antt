@@ -5,10 +5,6 @@ use Rattle.std.specs.Prelude.{ℕ}
 abbrev pub most_job_bytes : ℕ
 most_job_bytes = 16777216
 
--- how many units of 128 words a store may have
-abbrev pub most_units : ℕ
-most_units = 2047
-
 -- what a user has who chooses nothing: so many units, steps, and bytes of output
 abbrev pub default_units : ℕ
 default_units = 64

@@ -2,7 +2,8 @@
 use Rattle.std.specs.Prelude.{ℕ, Bool, ◌&&◌, nat_le}
 use Rattle.l6_machine.specs.declared.limits.Limits.{Limits}
 use Rattle.l6_machine.specs.Limits.{are_allowed}
-use Rattle.l6_run.specs.Numerals.{most_units, default_units, default_steps, default_output}
+use Rattle.l6_store.specs.Numerals.{most_units}
+use Rattle.l6_run.specs.Numerals.{default_units, default_steps, default_output}
 
 -- how many units the store has, and how far the run may go
 pub record OptionValues : Type 0 where

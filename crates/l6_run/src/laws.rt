@@ -2,10 +2,9 @@
 
 ghost use Rattle.std.specs.Prelude.{◌≡◌};
 ghost use Rattle.l6_run.specs.Laws.{PrintsInOneWay};
-ghost use Rattle.l6_run.specs.Numerals.{most_job_bytes, most_units};
+ghost use Rattle.l6_run.specs.Numerals.{most_job_bytes};
 
 use crate::fault::MAX_JOB_BYTES;
-use crate::options::MAX_UNITS;
 
 /// Whatever the options, a deck has at most one printout, and its run one ending: so the printout
 /// that `run_deck` speaks of is *the* printout of the deck.
@@ -16,8 +15,7 @@ pub fn printouts_are_determined()
     l6_machine::runs_are_determined();
 }
 
-/// Jobs are as long, and stores as large, as the language says.
-pub fn jobs_have_their_limits()
-    ensures job { MAX_JOB_BYTES ≡ most_job_bytes }
-    ensures units { MAX_UNITS ≡ most_units }
+/// Jobs are as long as the language says.
+pub fn jobs_have_their_limit()
+    ensures { MAX_JOB_BYTES ≡ most_job_bytes }
 {}

@@ -4,10 +4,8 @@ ghost use Rattle.std.specs.Prelude.{◌≡◌, ◌↔◌, true, IsSome, IfSome};
 ghost use Rattle.l6_machine.specs.Limits.{are_allowed};
 
 use l6_machine::Limits;
+use l6_store::MAX_UNITS;
 use std::marker::Model;
-
-/// The most units of 128 words that a store may have.
-pub const MAX_UNITS: u32 = 2_047;
 
 /// The size of the store, and the limits of the run.
 #[derive(Clone, Copy, Debug, PartialEq, Eq)]

@@ -1,4 +1,5 @@
 pub mod Numerals
 pub mod Code
 pub mod Lines
+pub mod Window
 pub mod inner

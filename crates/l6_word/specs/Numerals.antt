@@ -1,6 +1,14 @@
--- The numbers of the language that words stand on.
-use Rattle.std.specs.Prelude.{ℕ}
+-- The numbers of the language that words and windows stand on.
+use Rattle.std.specs.Prelude.{ℕ, ◌^◌}
 
 -- how many bits a word has
 abbrev pub word_bits : ℕ
 word_bits = 36
+
+-- the level of the largest block: a block of level k has 2^k words
+abbrev pub largest_level : ℕ
+largest_level = 7
+
+-- how many words the largest block has; the store is made of units of this size
+abbrev pub unit_size : ℕ
+unit_size = 2 ^ largest_level

@@ -1,14 +1,18 @@
-//! Machine words of 36 bits, the codes of characters, and the lines of a text.
+//! Machine words of 36 bits, windows on their bits, the codes of characters, and the lines of a text.
 #![tactic(auto)]
 
 mod code;
 mod laws;
 mod line;
 mod split;
+mod unit;
+mod window;
 mod word;
 
 pub use code::{character_of, code_of};
-pub use laws::words_have_their_bits;
+pub use laws::{units_have_their_size, words_have_their_bits};
 pub use line::{first_line, without_return};
 pub use split::split_at_mark;
+pub use unit::{LARGEST_LEVEL, UNIT_SIZE};
+pub use window::Window;
 pub use word::Word;

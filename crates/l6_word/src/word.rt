@@ -49,6 +49,14 @@ impl Word {
         }
     }
 
+    /// The word of a value that is known to fit.
+    pub(crate) fn from_value(value: u64) -> Self
+        requires { value < 2 ^ word_bits }
+        ensures { result ≡ value }
+    {
+        Word { value }
+    }
+
     /// The value, below 2^36.
     pub fn get(self) -> u64
         ensures value { result ≡ self }

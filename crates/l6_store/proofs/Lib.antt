@@ -1,0 +1,10 @@
+pub mod Least
+pub mod Scan
+pub mod Ranges
+pub mod Gathered
+pub mod Kept
+pub mod Changes
+pub mod Contents
+pub mod Runs
+pub mod Calls
+pub mod Live

@@ -1,0 +1,27 @@
+-- What callers may conclude of a block that begins at a place.
+use Rattle.std.proofs.Common.{◌≡◌, ℕ, ◌+◌, ◌^◌, ◌<◌, List, [], length, Option, Some, None, refl, ap, ◌∙◌, arith}
+use Rattle.std.specs.Option.{IsSome, option_map, unwrap_or}
+use Rattle.std.specs.FinMap as map
+use Rattle.l6_store.specs.Blocks.{Blocks, IsLive, LiesIn, block_at}
+
+some_of : (found : Option (List ℕ)) → IsSome found → found ≡ Some (unwrap_or found [])
+some_of (Some words) live = refl
+some_of None live = cc
+
+-- its words
+pub live_words : (blocks : Blocks) (place : ℕ) → IsLive blocks place → map.get blocks place ≡ Some (block_at blocks place)
+live_words blocks place live = some_of (map.get blocks place) live
+
+-- how many they are, by what `live` answers
+pub live_size : (blocks : Blocks) (place level : ℕ) → IsLive blocks place
+    → option_map (λ (k : ℕ). 2 ^ k) (Some level) ≡ option_map (λ (words : List ℕ). length words) (map.get blocks place)
+    → length (block_at blocks place) ≡ 2 ^ level
+live_size blocks place level live size =
+    let told : Some (2 ^ level) ≡ Some (length (block_at blocks place))
+    = size ∙ ap (option_map (λ (words : List ℕ). length words)) (live_words blocks place live) in
+    cc
+
+-- and that their places lie in it
+pub lies_in : (blocks : Blocks) (place index : ℕ) → IsLive blocks place → index < length (block_at blocks place) → LiesIn blocks (place + index)
+lies_in blocks place index live below =
+    record { start = place; words = block_at blocks place; is = live_words blocks place live; from = omega arith; below = omega arith }

@@ -1,0 +1,23 @@
+//! That the numbers of the code are those of the language, and the laws of the plain rule of choice.
+
+ghost use Rattle.std.specs.Prelude.{◌≡◌};
+ghost use Rattle.l6_store.specs.Numerals.{most_units};
+ghost use Rattle.l6_store.specs.Scan.{ScanChooses, ScanPicksTheLowest};
+
+use crate::scan_store::MAX_UNITS;
+
+/// A store has as many units as the language says.
+pub fn stores_have_their_limit()
+    ensures { MAX_UNITS ≡ most_units }
+{}
+
+/// Whatever the blocks, the plain rule picks an open place for each level, and none exactly where no place
+/// is open.
+pub fn scan_chooses()
+    ensures { ScanChooses }
+{}
+
+/// The plain rule picks the lowest open place.
+pub fn scan_picks_the_lowest()
+    ensures { ScanPicksTheLowest }
+{}

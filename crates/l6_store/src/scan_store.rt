@@ -1,0 +1,142 @@
+//! The plainest store: it looks for the lowest open place.
+
+ghost use Rattle.std.specs.Prelude.{◌≡◌, ◌↔◌, ◌⊎◌, ◌<◌, ◌≤◌, ◌+◌, ◌^◌, length, IfOk, OnOk, IsErrOf};
+ghost use Rattle.l6_word.specs.Numerals.{word_bits};
+ghost use Rattle.l6_store.specs.Numerals.{most_units};
+ghost use Rattle.l6_store.specs.Scan.{scan_rule};
+ghost use Rattle.l6_store.specs.Store.{fresh, IsSound};
+ghost use Rattle.l6_store.specs.inner.Marks.{IsCleared};
+
+use crate::fault::StoreFault;
+use crate::places::{Level, Place, Places};
+use crate::tag::{Tag, fill, level_at, lowest_open, mark, raised, size_of};
+use l6_word::{UNIT_SIZE, Word};
+use std::alloc::{AllocError, Global};
+use std::marker::Model;
+
+/// The most units that a store may have.
+pub const MAX_UNITS: u32 = 2047;
+
+/// A store that looks through its places for the lowest open one. Each other call but `reset` and
+/// `duplicate` goes straight to its block.
+#[derive(Debug, Drop)]
+pub struct ScanStore {
+    units: u32,
+    // what stands at each place
+    tags: Vec<Tag>,
+    // the word at each place, below 2^36
+    words: Vec<u64>,
+    // no place below this one is free
+    low: usize,
+}
+
+impl Model for ScanStore {
+    ghost use Rattle.l6_store.specs.Store.{Store, store_code};
+
+    ghost Value = { Store };
+
+    ghost coded = { store_code };
+
+    ghost use Rattle.l6_store.specs.inner.Tags.{store_of};
+    ghost use Rattle.l6_store.specs.inner.Marks.{IsHeld};
+
+    ghost view = { λ s. store_of s.units s.tags.items s.words.items };
+
+    ghost invariant = { λ s. IsHeld s.units s.tags.items s.words.items s.low };
+}
+
+impl ScanStore {
+    /// A store without blocks. `BadUnits` exactly for no unit or more than 2,047, before any growth.
+    pub fn new(alloc: Global, units: u32) -> Result<Self, StoreFault>
+        ensures fresh { IfOk result (λ store. store ≡ fresh scan_rule units) }
+        ensures bad_units { IsErrOf result StoreFault.BadUnits ↔ ((units < 1) ⊎ (most_units < units)) }
+        ensures range { OnOk result (units ≤ most_units) }
+        ensures sound { IfOk result (λ store. IsSound scan_rule store) }
+    {
+        if units < 1 || MAX_UNITS < units {
+            return Err(StoreFault::BadUnits);
+        }
+        let places = (units + 1) as usize * usize::from(UNIT_SIZE);
+        Ok(ScanStore {
+            units,
+            tags: vec![in alloc; Tag::Free; places]?,
+            words: vec![in alloc; 0; places]?,
+            low: usize::from(UNIT_SIZE),
+        })
+    }
+}
+
+impl Places for ScanStore {
+    ghost rule = { scan_rule };
+
+    ghost store = { λ store. store };
+
+    fn units(&self) -> u32 {
+        self.units
+    }
+
+    fn live(&self, word: Word) -> Option<Level> {
+        level_at(&self.tags, word.get() as usize)
+    }
+
+    fn peek(&self, level: Level) -> Option<Place> {
+        lowest_open(&self.tags, self.low, level)
+    }
+
+    fn get(&mut self, level: Level) -> Option<Place> {
+        let place = lowest_open(&self.tags, self.low, level)?;
+        mark(&mut self.tags, place as usize, level);
+        clear(&mut self.words, place as usize, size_of(level));
+        self.low = raised(self.low, place as usize, level);
+        Some(place)
+    }
+
+    fn free(&mut self, place: Place) {
+        let level = level_at(&self.tags, place as usize).unwrap();
+        fill(&mut self.tags, place as usize, size_of(level), Tag::Free);
+        self.low = self.low.min(place as usize);
+    }
+
+    fn copy(&mut self, from: Place, to: Place) {
+        let from = from as usize;
+        let level = level_at(&self.tags, from).unwrap();
+        self.words
+            .copy_within(from..from + size_of(level), to as usize);
+    }
+
+    fn read(&self, place: Place) -> Word {
+        Word::wrapping(self.words[place as usize])
+    }
+
+    fn write(&mut self, place: Place, word: Word) {
+        self.words[place as usize] = word.get();
+    }
+
+    fn block(&self, place: Place) -> &[u64] {
+        let place = place as usize;
+        let level = level_at(&self.tags, place).unwrap();
+        &self.words[place..place + size_of(level)]
+    }
+
+    fn duplicate(&self, alloc: Global) -> Result<Self, AllocError> {
+        Ok(ScanStore {
+            units: self.units,
+            tags: self.tags.to_vec(alloc)?,
+            words: self.words.to_vec(alloc)?,
+            low: self.low,
+        })
+    }
+
+    fn reset(&mut self) {
+        self.tags.fill(Tag::Free);
+        self.low = usize::from(UNIT_SIZE);
+    }
+}
+
+/// Clears so many words from a place on.
+fn clear(words: &mut [u64], place: usize, size: usize)
+    requires { place + size ≤ length words.old }
+    ensures { IsCleared words.old words.new place size }
+{
+    words[place..place + size].fill(0);
+}

@@ -1,0 +1,64 @@
+-- Elements, cut at their first comma.
+use Rattle.std.proofs.Common.{◌≡◌, ℕ, List, [], ◌∷◌, ◌++◌, refl, ap, ◌∙◌, Option, IfNone, IfSome, MatchOption, Bor, Bool, true, false, Some, None, cond}
+use Rattle.std.specs.List.{onto_first}
+use Rattle.std.specs.Str.{byte}
+use Rattle.l6_word.specs.inner.Split.{lacks, IsCutAt}
+use Rattle.l6_word.proofs.Cuts.{lacks-cons}
+use Rattle.l6_group.specs.Element.{is_comma, elements_of}
+use Rattle.l6_group.specs.Test.{test_from}
+use Rattle.l6_group.specs.Operation.{operation_from}
+
+elements-front : (front behind : List ℕ) →
+    lacks (byte ",") front ≡ true → elements_of (front ++ byte "," ∷ behind) ≡ front ∷ elements_of behind
+elements-front [] behind lacking = refl
+elements-front (first ∷ rest) behind lacking =
+    let parts = lacks-cons (byte ",") first rest lacking in
+    rw parts.0 (ap (onto_first first) (elements-front rest behind parts.1))
+
+-- the first element ends at the first comma
+elements-cut : {columns front behind : List ℕ} →
+    IsCutAt (byte ",") columns front behind → elements_of columns ≡ front ∷ elements_of behind
+elements-cut {columns} {front} {behind} cut = ap elements_of cut.whole ∙ elements-front front behind cut.first
+
+-- columns without a comma are one element
+elements-lacks : (columns : List ℕ) → lacks (byte ",") columns ≡ true → elements_of columns ≡ columns ∷ []
+elements-lacks [] lacking = refl
+elements-lacks (first ∷ rest) lacking =
+    let parts = lacks-cons (byte ",") first rest lacking in
+    rw parts.0 (ap (onto_first first) (elements-lacks rest parts.1))
+
+-- columns that may have been cut at their first comma: one element, or the first and those behind it
+pub elements-first : (columns : List ℕ) (found : Option (Bor (List ℕ) × Bor (List ℕ))) →
+    IfNone found (lacks (byte ",") columns ≡ true) →
+    IfSome found (λ parts. IsCutAt (byte ",") columns parts.0.now parts.1.now) →
+    MatchOption found (elements_of columns ≡ columns ∷ [])
+    (λ parts. elements_of columns ≡ parts.0.now ∷ elements_of parts.1.now)
+elements-first columns None lacking cut = elements-lacks columns lacking
+elements-first columns (Some parts) lacking cut = elements-cut cut
+
+-- there is a first element, and others
+pub record HasElement (elements : List (List ℕ)) : Type 0 where
+  pub first : List ℕ
+  pub others : List (List ℕ)
+  pub all : elements ≡ first ∷ others
+
+element_behind : (is_mark : Bool) (column : ℕ) (parts : List (List ℕ)) →
+    HasElement (cond is_mark ([] ∷ parts) (onto_first column parts))
+element_behind true column parts = record { first = []; others = parts; all = refl }
+element_behind false column [] = record { first = column ∷ []; others = []; all = refl }
+element_behind false column (part ∷ parts) = record { first = column ∷ part; others = parts; all = refl }
+
+-- columns have an element
+has_element : (columns : List ℕ) → HasElement (elements_of columns)
+has_element [] = record { first = []; others = []; all = refl }
+has_element (column ∷ columns) = element_behind (is_comma column) column (elements_of columns)
+
+-- six elements or more are no operation
+pub operation_from-many : (a b d e f others : List ℕ) →
+    operation_from (a ∷ b ∷ d ∷ e ∷ f ∷ elements_of others) ≡ None
+operation_from-many a b d e f others =
+    ap (λ elements. operation_from (a ∷ b ∷ d ∷ e ∷ f ∷ elements)) (has_element others).all
+
+-- four elements or more are no test
+pub test_from-many : (a b d others : List ℕ) → test_from (a ∷ b ∷ d ∷ elements_of others) ≡ None
+test_from-many a b d others = ap (λ elements. test_from (a ∷ b ∷ d ∷ elements)) (has_element others).all

@@ -1,0 +1,10 @@
+pub mod Numerals
+pub mod Character
+pub mod Spelling
+pub mod Element
+pub mod Number
+pub mod Label
+pub mod Value
+pub mod Test
+pub mod Operation
+pub mod inner

@@ -1,0 +1,19 @@
+//! Groups of a card: the operations and tests that they spell, and what labels are.
+#![tactic(auto)]
+
+mod cut;
+mod element;
+mod label;
+mod laws;
+mod number;
+mod operation;
+mod spelling;
+mod test;
+mod value;
+
+pub use element::{is_blank, is_letter};
+pub use label::{Label, MAX_LABEL_CHARACTERS, label_of};
+pub use laws::labels_have_their_limit;
+pub use operation::operation_of;
+pub use spelling::spelled;
+pub use test::test_of;

@@ -1,7 +1,8 @@
 -- The worked examples compute.
-use Rattle.std.proofs.Common.{◌≡◌, ℕ, List, [], ◌∷◌, refl, false, Option, None, Some, codes, lit≤}
+use Rattle.std.proofs.Common.{◌≡◌, ℕ, ◌-◌, List, [], ◌∷◌, refl, false, Option, None, Some, codes, lit≤}
 use Rattle.std.proofs.Math.ListN.{replicate}
 use Rattle.std.specs.Fmt.{digits}
+use Rattle.l6_prog.specs.Numerals.{letter_count}
 use Rattle.l6_prog.specs.declared.operand.Operand.TheVariants.{Number}
 use Rattle.l6_prog.specs.declared.operation.Op.TheVariants.{Set, PrintDecimal}
 use Rattle.l6_card.specs.Numerals.{card_width}
@@ -12,12 +13,12 @@ use Rattle.l6_machine.specs.State.{World, State, is_last}
 use Rattle.l6_machine.specs.Step.{Step, next}
 use Rattle.l6_run.specs.Options.{default_options}
 use Rattle.l6_run.specs.Prints.{world_under}
-use Rattle.l6.specs.Worked.{FiveIsSpelled, FiveIsPrinted, five_program}
+use Rattle.l6.specs.Worked.{FiveIsSpelled, FiveIsPrinted, five_program, name_a}
 
 pub five-spelled : FiveIsSpelled
 unfolding card_width
 five-spelled = record {
-  written = record { operations = Set (10 ∷ []) (Number 5) ∷ PrintDecimal (10 ∷ []) ∷ [] } ∷ [];
+  written = record { operations = Set (name_a ∷ []) (Number 5) ∷ PrintDecimal (name_a ∷ []) ∷ [] } ∷ [];
   reads = record {
     cards = (record { items = (refl, (refl, tt)); fits = lit≤ tt }, tt);
     fits = lit≤ tt;
@@ -32,7 +33,7 @@ world = world_under default_options five_program
 -- what bug A holds, the output, the statement, the action, the count and the ending make a state
 abbrev moment : ℕ → List ℕ → ℕ → ℕ → ℕ → Option Halt → State
 moment a output statement action count ending = record {
-  memory = record { bugs = a ∷ replicate 25 0; output = output };
+  memory = record { bugs = a ∷ replicate (letter_count - 1) 0; output = output };
   at = record { statement = statement; action = action };
   count = count;
   ending = ending;

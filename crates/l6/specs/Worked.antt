@@ -1,9 +1,10 @@
 -- Worked examples of the definitions, each by hand.
-use Rattle.std.specs.Prelude.{◌≡◌, ℕ, List, [], ◌∷◌, codes, Some}
+use Rattle.std.specs.Prelude.{◌≡◌, ℕ, ◌+◌, List, [], ◌∷◌, codes, Some}
 use Rattle.l6_prog.specs.declared.condition.Cond.TheVariants.{Always}
 use Rattle.l6_prog.specs.declared.exit.Exit.TheVariants.{Next}
 use Rattle.l6_prog.specs.declared.operand.Operand.TheVariants.{Number}
 use Rattle.l6_prog.specs.declared.operation.Op.TheVariants.{Set, PrintDecimal}
+use Rattle.l6_prog.specs.Numerals.{first_letter}
 use Rattle.l6_prog.specs.Statement.{Parts, plain_done}
 use Rattle.l6_card.specs.Fault.{fault_of, form}
 use Rattle.l6_machine.specs.declared.halt.Halt.TheVariants as halts
@@ -19,13 +20,20 @@ use Rattle.l6_asm.specs.Spells.{Spells}
 abbrev pub five_deck : List ℕ
 five_deck = codes "* five\n (A,E,5)(A,PD)\n"
 
--- its program: A is the name 10
+-- the names A and N
+abbrev pub name_a : ℕ
+name_a = first_letter
+
+abbrev pub name_n : ℕ
+name_n = first_letter + 13
+
+-- its program
 abbrev pub five_program : List Parts
 five_program =
     record {
       condition = Always;
       tests = [];
-      operations = Set (10 ∷ []) (Number 5) ∷ PrintDecimal (10 ∷ []) ∷ [];
+      operations = Set (name_a ∷ []) (Number 5) ∷ PrintDecimal (name_a ∷ []) ∷ [];
       exit = Next;
     } ∷ plain_done ∷ []
 
@@ -41,12 +49,12 @@ FiveIsPrinted = Prints default_options five_deck Done (codes "5\n== DONE AFTER 6
 abbrev pub UnknownIsRefused : Type 0
 UnknownIsRefused = fault_of (codes " (A,PD)\n (A,Q,1)\nX\n") ≡ Some (form 2)
 
--- the program that prints what field N of A's block holds (N is the name 23)
+-- the program that prints what field N of A's block holds
 abbrev pub field_world : World
 field_world = world_under default_options (record {
   condition = Always;
   tests = [];
-  operations = PrintDecimal (10 ∷ 23 ∷ []) ∷ [];
+  operations = PrintDecimal (name_a ∷ name_n ∷ []) ∷ [];
   exit = Next;
 } ∷ plain_done ∷ [])
 

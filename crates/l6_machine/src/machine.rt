@@ -1,6 +1,6 @@
 //! The machine.
 
-ghost use Rattle.std.specs.Prelude.{◌≡◌, ◌≤◌, ◌<◌, ◌^◌, ◌+◌, ◌-◌, ◌↔◌, true, false, IfOk, OnOk, IsErrOf, slice_index, length, All, None, Some};
+ghost use Rattle.std.specs.Prelude.{◌≡◌, ◌≤◌, ◌<◌, ◌^◌, ◌+◌, ◌↔◌, true, false, IfOk, OnOk, IsErrOf, slice_index, length, All, None, Some};
 ghost use Rattle.l6_word.specs.Numerals.{word_bits};
 ghost use Rattle.l6_prog.specs.Numerals.{first_letter};
 ghost use Rattle.l6_machine.specs.Limits.{are_allowed};

@@ -4,3 +4,4 @@ pub mod PrintText
 pub mod Statement
 pub mod Target
 pub mod Program
+pub mod Laws

@@ -1,6 +1,6 @@
 //! Chains of names.
 
-ghost use Rattle.std.specs.Prelude.{⊤, ◌≡◌, ◌<◌, ◌≤◌, ◌↔◌, length, slice_get, IsTrue, IsSome, IfSome, Some};
+ghost use Rattle.std.specs.Prelude.{⊤, ◌≡◌, ◌≤◌, ◌↔◌, slice_get, IsTrue, IsSome, IfSome, Some};
 ghost use Rattle.l6_prog.specs.Chain.{is_chain};
 ghost use Rattle.l6_prog.specs.Numerals.{first_letter};
 

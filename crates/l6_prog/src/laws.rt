@@ -2,7 +2,7 @@
 
 ghost use Rattle.std.specs.Prelude.{◌≡◌};
 ghost use Rattle.l6_prog.specs.Numerals.{name_count, first_letter, most_names, code_count, most_characters, most_statements, most_tests, most_operations};
-ghost use Rattle.l6_prog.specs.Program.{TakesJustPrograms};
+ghost use Rattle.l6_prog.specs.Laws.{TakesJustPrograms};
 
 use crate::chain::MAX_NAMES;
 use crate::name::{DIGITS, NAMES};

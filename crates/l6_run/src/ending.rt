@@ -1,7 +1,5 @@
 //! How a run has ended.
 
-ghost use Rattle.std.specs.Prelude.{◌≡◌};
-
 use l6_machine::Trap;
 
 /// How a run has ended.

@@ -1,6 +1,6 @@
 //! The parts of a job, and why a job is not done.
 
-ghost use Rattle.std.specs.Prelude.{◌≡◌, ◌≤◌, ℕ, Some};
+ghost use Rattle.std.specs.Prelude.{◌≡◌, ◌≤◌, Some};
 ghost use Rattle.l6_run.specs.Fault.{limit_of, part_text, run_fault};
 ghost use Rattle.l6_run.specs.Numerals.{most_job_bytes};
 ghost use Rattle.l6_run.specs.declared.fault.RunFault.TheVariants.{NoMemory};

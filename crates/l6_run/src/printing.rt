@@ -1,6 +1,6 @@
 //! The printout of a run: its output, and a line that tells how it has ended.
 
-ghost use Rattle.std.specs.Prelude.{◌≡◌, ◌++◌, true, OnOk, IfOk, codes, decimal, ◌-◌, length, slice_get};
+ghost use Rattle.std.specs.Prelude.{◌≡◌, ◌++◌, true, OnOk, IfOk, ◌-◌, length, slice_get};
 ghost use Rattle.l6_machine.specs.State.{is_last};
 ghost use Rattle.l6_run.specs.Printout.{ending_of, ending_text, ending_line, printout, lacks_line_feed};
 

@@ -4,4 +4,5 @@ pub mod Open
 pub mod Rule
 pub mod Store
 pub mod Scan
+pub mod Laws
 pub mod inner

@@ -3,8 +3,7 @@ use Rattle.std.specs.Prelude.{◌≡◌, ℕ, zero, suc, ◌+◌, ◌%◌, ◌^�
 use Rattle.std.specs.FinMap as map
 use Rattle.l6_word.specs.Numerals.{unit_size}
 use Rattle.l6_store.specs.Blocks.{Blocks, end_of}
-use Rattle.l6_store.specs.Open.{IsOpen}
-use Rattle.l6_store.specs.Rule.{Order, Rule, Chooses}
+use Rattle.l6_store.specs.Rule.{Rule}
 
 -- whether a block, if one begins there, leaves each place from the given one on free
 abbrev pub leaves : ℕ → ℕ → Option (List ℕ) → Bool
@@ -42,12 +41,3 @@ scan_rule = record {
   order_freed = λ _ _ _ _. [];
   moves_freed = λ _ _ _ _. 0;
 }
-
--- the rule's pick answers for any blocks
-abbrev pub ScanChooses : Type 0
-ScanChooses = (units : ℕ) (blocks : Blocks) (order : Order) → Chooses scan_rule units blocks order
-
--- and no place below the one picked is open
-abbrev pub ScanPicksTheLowest : Type 0
-ScanPicksTheLowest = (units : ℕ) (blocks : Blocks) (order : Order) (level place lower : ℕ)
-    → scan_rule.pick units blocks order level ≡ Some place → lower < place → IsOpen units blocks (2 ^ level) lower → ⊥

@@ -2,7 +2,7 @@
 
 ghost use Rattle.std.specs.Prelude.{◌≡◌};
 ghost use Rattle.l6_store.specs.Numerals.{most_units};
-ghost use Rattle.l6_store.specs.Scan.{ScanChooses, ScanPicksTheLowest};
+ghost use Rattle.l6_store.specs.Laws.{ScanChooses, ScanPicksTheLowest};
 
 use crate::scan_store::MAX_UNITS;
 

@@ -1,6 +1,6 @@
 //! What every store of blocks does.
 
-ghost use Rattle.std.specs.Prelude.{◌≡◌, ◌≢◌, ℕ, ◌<◌, ◌≤◌, ◌^◌, length, slice_set, option_map, ◌↔◌, IsSome, IfSome, IfOk};
+ghost use Rattle.std.specs.Prelude.{◌≡◌, ◌≢◌, ◌<◌, ◌≤◌, ◌^◌, length, slice_set, option_map, ◌↔◌, IsSome, IfSome, IfOk};
 ghost use Rattle.std.specs.List.{All};
 ghost use Rattle.std.specs.FinMap as map;
 ghost use Rattle.l6_word.specs.Numerals.{largest_level, word_bits};

@@ -1,7 +1,6 @@
 //! The plainest store: it looks for the lowest open place.
 
-ghost use Rattle.std.specs.Prelude.{◌≡◌, ◌↔◌, ◌⊎◌, ◌<◌, ◌≤◌, ◌+◌, ◌^◌, length, IfOk, OnOk, IsErrOf};
-ghost use Rattle.l6_word.specs.Numerals.{word_bits};
+ghost use Rattle.std.specs.Prelude.{◌≡◌, ◌↔◌, ◌⊎◌, ◌<◌, ◌≤◌, ◌+◌, length, IfOk, OnOk, IsErrOf};
 ghost use Rattle.l6_store.specs.Numerals.{most_units};
 ghost use Rattle.l6_store.specs.Scan.{scan_rule};
 ghost use Rattle.l6_store.specs.Store.{fresh, IsSound};

@@ -5,6 +5,11 @@ use Rattle.std.specs.Fmt.{digits}
 use Rattle.l6_prog.specs.Numerals.{letter_count}
 use Rattle.l6_prog.specs.declared.operand.Operand.TheVariants.{Number}
 use Rattle.l6_prog.specs.declared.operation.Op.TheVariants.{Set, PrintDecimal}
+use Rattle.l6_prog.specs.declared.operation.Op.{Op}
+use Rattle.l6_prog.specs.declared.condition.Cond.TheVariants.{Always}
+use Rattle.l6_prog.specs.declared.exit.Exit.TheVariants.{Next}
+use Rattle.l6_group.specs.declared.label.Label.{Label}
+use Rattle.l6_card.specs.declared.cards.Placed.{Placed}
 use Rattle.l6_card.specs.Numerals.{card_width}
 use Rattle.l6_machine.specs.Run.{IsRun}
 use Rattle.l6_machine.specs.declared.halt.Halt.{Halt}
@@ -13,14 +18,28 @@ use Rattle.l6_machine.specs.State.{World, State, is_last}
 use Rattle.l6_machine.specs.Step.{Step, next}
 use Rattle.l6_run.specs.Options.{default_options}
 use Rattle.l6_run.specs.Prints.{world_under}
-use Rattle.l6.specs.Worked.{FiveIsSpelled, FiveIsPrinted, five_program, name_a}
+use Rattle.l6.specs.Worked.{FiveIsSpelled, FiveIsPrinted, five_program, five_assembly, name_a}
+
+-- the operations of the second card
+abbrev five_operations : List (Placed (Op Label))
+five_operations =
+    record { reading = Set (name_a ∷ []) (Number 5); card = 2 }
+    ∷ record { reading = PrintDecimal (name_a ∷ []); card = 2 }
+    ∷ []
 
 pub five-spelled : FiveIsSpelled
 unfolding card_width
 five-spelled = record {
-  written = record { operations = Set (name_a ∷ []) (Number 5) ∷ PrintDecimal (name_a ∷ []) ∷ [] } ∷ [];
+  written = record {
+    label = None;
+    condition = Always;
+    tests = [];
+    operations = five_operations;
+    exit = Next;
+  } ∷ [];
   reads = record {
-    cards = (record { items = (refl, (refl, tt)); fits = lit≤ tt }, tt);
+    begins = refl;
+    cards = (record { draft = _; items_make = refl; whole = refl; statement_is = refl; few = lit≤ tt }, tt);
     fits = lit≤ tt;
   };
   whole = refl;
@@ -78,7 +97,7 @@ pub five-printed : FiveIsPrinted
 unfolding digits
 five-printed = record {
   fits = lit≤ tt;
-  program = five_program;
+  assembly = five_assembly;
   spelled = five-spelled;
   final = final;
   ends = record { reached = record { older = earlier; run = run }; last = refl };

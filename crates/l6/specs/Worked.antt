@@ -6,7 +6,9 @@ use Rattle.l6_prog.specs.declared.operand.Operand.TheVariants.{Number}
 use Rattle.l6_prog.specs.declared.operation.Op.TheVariants.{Set, PrintDecimal}
 use Rattle.l6_prog.specs.Numerals.{first_letter}
 use Rattle.l6_prog.specs.Statement.{Parts, plain_done}
-use Rattle.l6_card.specs.Fault.{fault_of, form}
+use Rattle.l6_card.specs.DeckFault.{form}
+use Rattle.l6_card.specs.Fault.{fault_of}
+use Rattle.l6_asm.specs.Assembled.{Assembled}
 use Rattle.l6_machine.specs.declared.halt.Halt.TheVariants as halts
 use Rattle.l6_machine.specs.declared.trap.Trap.TheVariants.{UndefinedField}
 use Rattle.l6_machine.specs.State.{World, State, start}
@@ -37,9 +39,13 @@ five_program =
       exit = Next;
     } ∷ plain_done ∷ []
 
+-- what the deck spells: the program, and no labels
+abbrev pub five_assembly : Assembled
+five_assembly = record { program = five_program; labels = [] }
+
 -- the deck spells its program
 abbrev pub FiveIsSpelled : Type 0
-FiveIsSpelled = Spells five_deck five_program
+FiveIsSpelled = Spells five_deck five_assembly
 
 -- its run ends by DONE and prints 5
 abbrev pub FiveIsPrinted : Type 0

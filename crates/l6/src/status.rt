@@ -19,7 +19,12 @@ pub fn status(answer: &Result<Outcome, RunFault>) -> u8
         Ok(Outcome::Ran(Ending::Limit)) => 3,
         Err(
             RunFault::TooLong(_)
-            | RunFault::Asm(AsmFault::Form(_) | AsmFault::Limit(_))
+            | RunFault::Asm(
+                AsmFault::Form(_)
+                | AsmFault::Limit(_)
+                | AsmFault::TwiceLabelled(_)
+                | AsmFault::NoLabel(_),
+            )
             | RunFault::NotYet,
         ) => 4,
         Err(

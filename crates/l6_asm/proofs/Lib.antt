@@ -1,2 +1,4 @@
-pub mod Targetless
-pub mod Assembled
+pub mod Makings
+pub mod Labels
+pub mod Programs
+pub mod Settling

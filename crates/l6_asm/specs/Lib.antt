@@ -1,1 +1,6 @@
+pub mod AssemblyFault
+pub mod Assembled
+pub mod Labels
+pub mod Resolution
 pub mod Spells
+pub mod inner

@@ -1,37 +1,66 @@
 -- The program that a deck spells.
-use Rattle.std.specs.Prelude.{◌≡◌, ℕ, List, [], ◌∷◌, ◌++◌, map, Some}
-use Rattle.l6_prog.specs.declared.condition.Cond.TheVariants.{Always}
-use Rattle.l6_prog.specs.declared.exit.Exit.TheVariants.{Next}
-use Rattle.l6_prog.specs.Statement.{Parts, plain_done}
-use Rattle.l6_card.specs.Fault.{DeckFault, fault_of}
+use Rattle.std.specs.Prelude.{◌≡◌, ◌⊎◌, ℕ, List, Some, Result, Ok, Err}
+use Rattle.l6_card.specs.Fault.{fault_of}
 use Rattle.l6_card.specs.Reads.{Reads}
 use Rattle.l6_card.specs.Statement.{WrittenParts}
+use Rattle.l6_asm.specs.AssemblyFault.{AssemblyFault, unread, twice_labelled, no_label}
+use Rattle.l6_asm.specs.Assembled.{Assembled}
+use Rattle.l6_asm.specs.Labels.{labels_of, and_then}
+use Rattle.l6_asm.specs.Resolution.{statements_of}
 
--- the statement of a program that a written one stands for: without a condition, and the next statement follows
-abbrev pub statement_of : WrittenParts → Parts
-statement_of written =
-    record { condition = Always; tests = []; operations = written.operations; exit = Next }
+-- what written statements come to: their labels, which must differ; then the statements with
+-- numbers in place of labels, each of which must be there
+abbrev pub assembled : List WrittenParts → Result Assembled AssemblyFault
+assembled written =
+    and_then (labels_of written) (λ labels.
+    and_then (statements_of labels written) (λ statements.
+    Ok (record { program = statements; labels = labels })))
 
--- the statements of a program: the written ones, and the plain DONE behind them
-abbrev pub assembled : List WrittenParts → List Parts
-assembled written = map statement_of written ++ plain_done ∷ []
-
--- the deck spells the program: it says some statements, and the program is assembled of them
-pub record Spells (deck : List ℕ) (program : List Parts) : Type 0 where
+-- the deck spells the program with these labels: it says some statements, and they come to these
+pub record Spells (deck : List ℕ) (assembly : Assembled) : Type 0 where
   pub written : List WrittenParts
   pub reads : Reads deck written
-  pub whole : program ≡ assembled written
+  pub whole : assembled written ≡ Ok assembly
 
 -- the deck spells no program
 abbrev pub SpellsNothing : List ℕ → Type 0
-SpellsNothing deck = (program : List Parts) → Spells deck program → ⊥
+SpellsNothing deck = (assembly : Assembled) → Spells deck assembly → ⊥
 
--- the deck spells the program and no other
-pub record SpellsJust (deck : List ℕ) (program : List Parts) : Type 0 where
-  pub spells : Spells deck program
-  pub only : (other : List Parts) → Spells deck other → other ≡ program
+-- the deck spells the program with these labels and no other
+pub record SpellsJust (deck : List ℕ) (assembly : Assembled) : Type 0 where
+  pub spells : Spells deck assembly
+  pub only : (other : Assembled) → Spells deck other → other ≡ assembly
+
+-- the deck is read, but its statements come to this fault
+pub record ComesTo (deck : List ℕ) (fault : AssemblyFault) : Type 0 where
+  pub written : List WrittenParts
+  pub reads : Reads deck written
+  pub stops : assembled written ≡ Err fault
+
+-- the fault is the deck's: the first objection to it, or else what its statements come to
+abbrev pub IsFault : List ℕ → AssemblyFault → Type 0
+IsFault deck (unread objection) = fault_of deck ≡ Some objection
+IsFault deck (twice_labelled card) = ComesTo deck (twice_labelled card)
+IsFault deck (no_label card) = ComesTo deck (no_label card)
 
 -- the fault is the deck's, which spells no program
-pub record IsUnspelled (deck : List ℕ) (fault : DeckFault) : Type 0 where
-  pub first : fault_of deck ≡ Some fault
+pub record IsUnspelled (deck : List ℕ) (fault : AssemblyFault) : Type 0 where
+  pub first : IsFault deck fault
   pub nothing : SpellsNothing deck
+
+-- each deck spells a program or has a fault
+abbrev pub SpellsOrFails : Type 0
+SpellsOrFails =
+    (deck : List ℕ) →
+    ((assembly : Assembled) × Spells deck assembly) ⊎ ((fault : AssemblyFault) × IsFault deck fault)
+
+-- no deck does both
+abbrev pub NeverBoth : Type 0
+NeverBoth =
+    (deck : List ℕ) (assembly : Assembled) (fault : AssemblyFault) →
+    Spells deck assembly → IsFault deck fault → ⊥
+
+-- a deck spells at most one program
+abbrev pub SpellsInOneWay : Type 0
+SpellsInOneWay =
+    (deck : List ℕ) (assembly other : Assembled) → Spells deck assembly → Spells deck other → other ≡ assembly

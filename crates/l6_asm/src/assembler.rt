@@ -1,47 +1,45 @@
 //! From a deck to the program that it spells.
 
-ghost use Rattle.std.specs.Prelude.{◌≡◌, ◌≤◌, length, IfOk, IfErr, IfSome};
-ghost use Rattle.l6_card.specs.Fault.{deck_fault};
+ghost use Rattle.std.specs.Prelude.{◌≤◌, length, IfOk, IfErr, IfSome};
 ghost use Rattle.l6_card.specs.Numerals.{most_deck_bytes};
+ghost use Rattle.l6_card.specs.Reads.{AreWithinLimits};
+ghost use Rattle.l6_asm.specs.AssemblyFault.{assembly_fault};
 ghost use Rattle.l6_asm.specs.Spells.{SpellsJust, IsUnspelled, assembled};
+ghost use Rattle.l6_asm.specs.inner.Gives.{Gives};
 
+use crate::assembly::Assembly;
 use crate::fault::AsmFault;
+use crate::label::labels_of;
+use crate::resolution::statements_of;
 use l6_card::{Cards, read_deck};
-use l6_prog::{Cond, Exit, Program, Statement};
-use std::alloc::{AllocError, Global};
+use l6_prog::Program;
+use std::alloc::Global;
 
-/// The program that a deck of at most 1,048,576 bytes spells.
+/// The program that a deck of at most 1,048,576 bytes spells, with its labels.
 ///
 /// # Errors
 ///
-/// The deck's fault, the first in the order of its cards, or want of memory.
-pub fn assemble(alloc: Global, deck: &[u8]) -> Result<Program, AsmFault>
+/// The deck's fault: the first objection in the order of its cards; else the first card with a
+/// label that an earlier card has; else the first card that names a label that no card has. Or
+/// want of memory.
+pub fn assemble(alloc: Global, deck: &[u8]) -> Result<Assembly, AsmFault>
     requires { length deck.now ≤ most_deck_bytes }
     ensures spells { IfOk result (SpellsJust deck.now) }
-    ensures refuses { IfErr result (λ fault. IfSome (deck_fault fault) (IsUnspelled deck.now)) }
+    ensures refuses { IfErr result (λ fault. IfSome (assembly_fault fault) (IsUnspelled deck.now)) }
 {
     let cards = read_deck(alloc, deck)?;
-    let statements = statements_of(alloc, cards)?;
-    match Program::new(statements) {
-        Ok(program) => Ok(program),
-        Err(_) => unreachable!(),
-    }
+    assembly_of(alloc, cards)
 }
 
-/// The statements of the program: those that the cards say, and the plain `DONE`.
-fn statements_of(alloc: Global, cards: Cards) -> Result<Vec<Statement>, AllocError>
-    ensures { IfOk result (λ statements. statements.items ≡ assembled cards) }
+/// The assembly of what cards say.
+fn assembly_of(alloc: Global, cards: Cards) -> Result<Assembly, AsmFault>
+    requires { AreWithinLimits cards }
+    ensures { Gives result (λ assembly. assembly) (assembled cards) }
 {
-    let written = cards.into_statements();
-    let mut statements = Vec::with_capacity(alloc, written.len() + 1)?;
-    for card in written {
-        statements.push(Statement::new(
-            Cond::Always,
-            Vec::new(alloc),
-            card.into_operations(),
-            Exit::Next,
-        ))?;
+    let labels = labels_of(alloc, cards.statements())?;
+    let statements = statements_of(alloc, &labels, cards.into_statements())?;
+    match Program::new(statements) {
+        Ok(program) => Ok(Assembly::new(program, labels)),
+        Err(_) => unreachable!(),
     }
-    statements.push(Statement::plain_done(alloc))?;
-    Ok(statements)
 }

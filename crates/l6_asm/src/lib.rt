@@ -2,7 +2,15 @@
 #![tactic(auto)]
 
 mod assembler;
+mod assembly;
 mod fault;
+mod label;
+mod laws;
+mod resolution;
+#[cfg(test)]
+mod tests;
 
 pub use assembler::assemble;
+pub use assembly::{Assembly, Labels};
 pub use fault::AsmFault;
+pub use laws::spelling_is_settled;

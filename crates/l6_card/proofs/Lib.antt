@@ -1,9 +1,9 @@
-pub mod Objections
-pub mod Statements
-pub mod Settling
-pub mod Names
-pub mod Numbers
-pub mod Cuts
 pub mod Bodies
 pub mod Words
+pub mod Characters
+pub mod Steps
+pub mod Statements
+pub mod Takings
+pub mod Fitness
+pub mod Settling
 pub mod Courses

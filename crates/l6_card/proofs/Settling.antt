@@ -1,48 +1,44 @@
 -- The fault of a deck and what it says settle each other.
-use Rattle.std.proofs.Common.{◌≡◌, ℕ, List, [], Some, None, Result, Ok, Err, refl, sym, ap, ◌∙◌, arith, length, subst}
+use Rattle.std.proofs.Common.{◌≡◌, ℕ, List, Some, None, Result, Ok, Err, refl, sym, ap, arith, length, subst}
 use Rattle.l6_card.specs.Card.{cards_of}
 use Rattle.l6_card.specs.Statement.{WrittenParts}
-use Rattle.l6_card.specs.Pieces.{pieces_of}
-use Rattle.l6_card.specs.Fault.{DeckFault, fault_of}
+use Rattle.l6_card.specs.DeckFault.{DeckFault}
+use Rattle.l6_card.specs.Fault.{Known, course_of, fault_in, fault_of}
 use Rattle.l6_card.specs.Reads.{Reads, CardsSay, AreWithinLimits}
 use Rattle.l6_card.specs.Laws.{ReadsOnlyWithoutFault, ReadsWithoutFault, ReadsInOneWay, IsOnlyReading, IsFirstFault}
-use Rattle.l6_card.specs.inner.Reader.{Known, nothing_known, after_pieces}
-use Rattle.l6_card.proofs.Objections.{fault_in, first_objection-told}
-use Rattle.l6_card.proofs.Statements.{cards_said, cards_go, same_statements, few_operations}
-
--- what the pieces of a deck come to
-abbrev pub course_of : List ℕ → Result Known DeckFault
-course_of deck = after_pieces nothing_known (pieces_of deck)
-
-fault_of-course : (deck : List ℕ) → fault_of deck ≡ fault_in (course_of deck)
-fault_of-course deck = first_objection-told [] (pieces_of deck)
+use Rattle.l6_card.proofs.Statements.{cards_said}
+use Rattle.l6_card.proofs.Takings.{cards_go, same_statements}
+use Rattle.l6_card.proofs.Fitness.{each_fit}
 
 -- a deck whose pieces are all taken reads
-pub reads_when_taken : (deck : List ℕ) (final : Known) → course_of deck ≡ Ok final → Reads deck final.statements
+pub reads_when_taken : (deck : List ℕ) (final : Known) → course_of deck ≡ Ok final →
+    Reads deck final.statements
 reads_when_taken deck final taken =
-    let said = cards_said (cards_of deck) 1 nothing_known final taken in
-    let same : final.statements ≡ said.statements = said.all in
+    let said = cards_said (cards_of deck) 1 final taken in
     record {
-      cards = subst (λ (s : List WrittenParts). CardsSay (cards_of deck) s) (sym same) said.say;
-      fits = omega (arith, said.fits (omega arith), ap length same);
+      begins = said.begins;
+      cards = subst (λ (s : List WrittenParts). CardsSay 1 (cards_of deck) s)
+          (sym said.all) said.say;
+      fits = omega (arith, said.fits, ap length said.all);
     }
 
 pub reads_only_without_fault : ReadsOnlyWithoutFault
 reads_only_without_fault deck statements reads =
-    let taken = cards_go (cards_of deck) 1 nothing_known statements reads.cards (omega (arith, reads.fits)) in
-    fault_of-course deck ∙ ap fault_in taken.1
+    let taken = cards_go (cards_of deck) 1 statements reads.begins reads.cards reads.fits in
+    ap fault_in taken.1
 
 reads_by_course : (deck : List ℕ) (course : Result Known DeckFault) →
-    course_of deck ≡ course → fault_in course ≡ None → (statements : List WrittenParts) × Reads deck statements
+    course_of deck ≡ course → fault_in course ≡ None →
+    (statements : List WrittenParts) × Reads deck statements
 reads_by_course deck (Ok final) taken none = (final.statements, reads_when_taken deck final taken)
 reads_by_course deck (Err fault) taken none = absurd (cc)
 
 pub reads_without_fault : ReadsWithoutFault
-reads_without_fault deck none =
-    reads_by_course deck (course_of deck) refl (sym (fault_of-course deck) ∙ none)
+reads_without_fault deck none = reads_by_course deck (course_of deck) refl none
 
 pub reads_in_one_way : ReadsInOneWay
-reads_in_one_way deck one other reads reads' = same_statements (cards_of deck) one other reads.cards reads'.cards
+reads_in_one_way deck one other reads reads' =
+    same_statements (cards_of deck) 1 one other reads.cards reads'.cards
 
 -- a reader that took each piece knows the only reading of the deck
 pub only_reading_taken : (deck : List ℕ) (final : Known) →
@@ -51,21 +47,23 @@ only_reading_taken deck final taken others reads =
     reads_in_one_way deck others final.statements reads (reads_when_taken deck final taken)
 
 -- the deck has no fault then
-pub no_fault_taken : (deck : List ℕ) (final : Known) → course_of deck ≡ Ok final → fault_of deck ≡ None
-no_fault_taken deck final taken = fault_of-course deck ∙ ap fault_in taken
+pub no_fault_taken : (deck : List ℕ) (final : Known) → course_of deck ≡ Ok final →
+    fault_of deck ≡ None
+no_fault_taken deck final taken = ap fault_in taken
 
 -- what a deck says is within the limits
 pub within_limits : (deck : List ℕ) (statements : List WrittenParts) →
     Reads deck statements → AreWithinLimits statements
 within_limits deck statements reads = record {
   count = reads.fits;
-  operations = few_operations (cards_of deck) statements reads.cards;
+  each = each_fit (cards_of deck) 1 statements reads.cards;
 }
 
 -- a reader that met an objection knows the fault of the deck
-pub first_fault_met : (deck : List ℕ) (fault : DeckFault) → course_of deck ≡ Err fault → IsFirstFault deck fault
+pub first_fault_met : (deck : List ℕ) (fault : DeckFault) → course_of deck ≡ Err fault →
+    IsFirstFault deck fault
 first_fault_met deck fault met =
-    let first : fault_of deck ≡ Some fault = fault_of-course deck ∙ ap fault_in met in
+    let first : fault_of deck ≡ Some fault = ap fault_in met in
     record {
       first = first;
       unread = λ statements reads. let none = reads_only_without_fault deck statements reads in cc;

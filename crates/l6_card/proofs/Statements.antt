@@ -1,214 +1,288 @@
--- What items and cards say is what taking their pieces comes to.
-use Rattle.std.proofs.Common.{◌≡◌, ℕ, ◌+◌, ◌<◌, ◌≤◌, List, [], ◌∷◌, ◌++◌, map, length, true, false, Option, Some, None, Result, Ok, refl, sym, ap, ◌∙◌, arith, length-append, append_assoc}
-use Rattle.std.proofs.lemmas.List.{append-nil}
-use Rattle.std.proofs.lemmas.Bool.{lt-ltb, le-leb, and_from}
-use Rattle.std.specs.List.{list_all}
-use Rattle.l6_prog.specs.Numerals.{most_operations}
-use Rattle.l6_prog.specs.declared.operation.Op.{Op}
-use Rattle.l6_card.specs.Numerals.{most_written}
-use Rattle.l6_card.specs.Items.{Item, group, word, unclosed, unopened, items_of}
-use Rattle.l6_card.specs.Card.{Card, skipped, plain, unknown}
-use Rattle.l6_card.specs.Group.{reading_of}
+-- What cards say is what taking their pieces comes to.
+use Rattle.std.proofs.Common.{◌≡◌, ℕ, ◌+◌, ◌<◌, ◌≤◌, List, [], ◌∷◌, ◌++◌, length, true, false, Bool, ltb, Option, Some, None, Ok, Err, refl, sym, ap, ◌∙◌, arith, length-append, append_assoc}
+use Rattle.std.proofs.lemmas.Bool.{ltb-true}
+use Rattle.l6_card.specs.declared.cards.PlacedLabel.{PlacedLabel}
+use Rattle.l6_card.specs.Numerals.{most_written, most_continuations}
+use Rattle.l6_card.specs.Items.{items_of}
+use Rattle.l6_card.specs.Card.{Card, skipped, plain, labelled, continued, unknown}
 use Rattle.l6_card.specs.Statement.{WrittenParts}
-use Rattle.l6_card.specs.Draft.{direct, with_operation}
-use Rattle.l6_card.specs.Pieces.{Piece, ends, item, pieces_from}
-use Rattle.l6_card.specs.Fault.{DeckFault, objection_of_reading, limit_unless_room}
-use Rattle.l6_card.specs.Reads.{ItemsSay, CardsSay, has_few_operations}
-use Rattle.l6_card.specs.inner.Reader.{Known, statements_when_over, statements_begun, known_with, known_unless, and_then, after_pieces}
-use Rattle.l6_card.proofs.Objections.{went_on, room_below, reading_stands}
+use Rattle.l6_card.specs.DeckFault.{DeckFault, form, limit}
+use Rattle.l6_card.specs.Draft.{Draft, new_draft, is_whole, statement_from}
+use Rattle.l6_card.specs.Pieces.{begins, label, items_on, pieces_from}
+use Rattle.l6_card.specs.Fault.{Known, nothing_known, label_on, known_if, and_then, after_pieces}
+use Rattle.l6_card.specs.Reads.{placed_items, continued_items, continuations, draft_of, SaysFrom, CardsSay}
+use Rattle.l6_card.proofs.Steps.{opened, went_if, went_labelled, Taken, items_taken, draft_of-append}
 
--- what is known within a statement with these operations so far, after these statements
-abbrev pub within : List WrittenParts → List (Op ℕ) → Known
-within statements operations = record { statements = statements; is_open = true; draft = direct operations }
-
--- what items say that were taken without an objection
-pub record Said (items : List Item) (statements : List WrittenParts) (operations : List (Op ℕ)) (rest : List Piece)
-    (final : Known) : Type 0 where
-  pub further : List (Op ℕ)
-  pub say : ItemsSay items further
-  pub fits : length operations ≤ most_operations → length (operations ++ further) ≤ most_operations
-  pub rest_goes : after_pieces (within statements (operations ++ further)) rest ≡ Ok final
-
-said_more : (columns : List ℕ) (items : List Item) (statements : List WrittenParts) (operations : List (Op ℕ))
-    (rest : List Piece) (final : Known) (operation : Op ℕ) →
-    reading_of columns ≡ Some operation → length operations < most_operations →
-    Said items statements (operations ++ operation ∷ []) rest final →
-    Said (group columns ∷ items) statements operations rest final
-said_more columns items statements operations rest final operation read room said =
-    let joined : (operations ++ operation ∷ []) ++ said.further ≡ operations ++ operation ∷ said.further =
-    append_assoc operations (operation ∷ []) said.further in
-    record {
-      further = operation ∷ said.further;
-      say = (read, said.say);
-      fits = λ _. omega (arith, ap length joined, said.fits (omega (arith, length-append operations (operation ∷ []))));
-      rest_goes = rw joined at said.rest_goes;
-    }
-
-pub items_said : (items : List Item) (number : ℕ) (statements : List WrittenParts) (operations : List (Op ℕ))
-    (rest : List Piece) (final : Known) →
-    after_pieces (within statements operations) (map (item number) items ++ rest) ≡ Ok final →
-    Said items statements operations rest final
-items_said [] number statements operations rest final taken =
-    let same : operations ++ [] ≡ operations = append-nil operations in
-    record { further = []; say = tt; fits = λ few. omega (arith, ap length same); rest_goes = rw same taken }
-items_said (group columns ∷ items) number statements operations rest final taken =
-    let reading = reading_of columns in
-    let first = went_on (objection_of_reading number (direct operations) reading)
-    (known_with (within statements operations) (item number (group columns)))
-    (λ next. after_pieces next (map (item number) items ++ rest)) final taken in
-    let stands = reading_stands number (direct operations) reading first.sound in
-    let more = operations ++ stands.operation ∷ [] in
-    let others : after_pieces (within statements more) (map (item number) items ++ rest) ≡ Ok final =
-    rw stands.read at first.rest in
-    said_more columns items statements operations rest final stands.operation stands.read stands.room
-    (items_said items number statements more rest final others)
-items_said (word columns ∷ items) number statements operations rest final taken = absurd (cc)
-items_said (unclosed ∷ items) number statements operations rest final taken = absurd (cc)
-items_said (unopened columns ∷ items) number statements operations rest final taken = absurd (cc)
-
--- what cards say that were taken without an objection
-pub record CardsSaid (cards : List Card) (known final : Known) : Type 0 where
+-- what cards say that were taken within a statement: its items, and the statements behind it
+pub record OpenSaid (number : ℕ) (cards : List Card) (known final : Known) : Type 0 where
+  pub draft : Draft
+  pub made : draft_of known.draft (continued_items number cards) ≡ Some draft
+  pub whole : is_whole draft ≡ true
+  pub few : known.continuations ≤ most_continuations →
+      known.continuations + continuations cards ≤ most_continuations
   pub statements : List WrittenParts
-  pub say : CardsSay cards statements
-  pub all : final.statements ≡ statements_when_over known ++ statements
-  pub fits : statements_begun known ≤ most_written → statements_begun known + length statements ≤ most_written
+  pub say : CardsSay number cards statements
+  pub all : final.statements ≡ known.statements ++ statement_from known.label draft ∷ statements
+  pub fits : length known.statements + 1 ≤ most_written →
+      length known.statements + 1 + length statements ≤ most_written
 
-said_statement : (body : List ℕ) (cards : List Card) (known final : Known) (operations : List (Op ℕ)) →
-    ItemsSay (items_of body) operations → length operations ≤ most_operations →
-    statements_begun known < most_written →
-    CardsSaid cards (within (statements_when_over known) operations) final →
-    CardsSaid (plain body ∷ cards) known final
-said_statement body cards known final operations say few room said =
-    let before = statements_when_over known in
-    let statement : WrittenParts = record { operations = operations } in
-    let count = length-append before (statement ∷ []) in
+-- what a statement's first card and those behind it say that were taken after these statements
+record Begun (number : ℕ) (given : Option PlacedLabel) (body : List ℕ) (cards : List Card)
+    (over : List WrittenParts) (final : Known) : Type 0 where
+  pub statement : WrittenParts
+  pub says : SaysFrom number given body cards statement
+  pub statements : List WrittenParts
+  pub say : CardsSay (number + 1) cards statements
+  pub all : final.statements ≡ over ++ statement ∷ statements
+  pub fits : length over + 1 + length statements ≤ most_written
+
+begun_said : (number : ℕ) (given : Option PlacedLabel) (body : List ℕ) (cards : List Card)
+    (over : List WrittenParts) (final : Known) →
+    length over < most_written →
+    (taken : Taken (items_of body) number (opened over given new_draft number 0) final
+    (pieces_from (number + 1) cards)) →
+    OpenSaid (number + 1) cards (opened over given taken.draft number 0) final →
+    Begun number given body cards over final
+begun_said number given body cards over final room taken said =
     record {
-      statements = statement ∷ said.statements;
-      say = (record { items = say; fits = few }, said.say);
-      all = said.all ∙ append_assoc before (statement ∷ []) said.statements;
-      fits = λ _. omega (arith, count, said.fits (omega (arith, count)));
+      statement = statement_from given said.draft;
+      says = record {
+        draft = said.draft;
+        items_make =
+            draft_of-append (placed_items number body) (continued_items (number + 1) cards)
+            new_draft taken.draft taken.made
+            ∙ said.made;
+        whole = said.whole;
+        statement_is = refl;
+        few = omega (arith, said.few (omega arith));
+      };
+      statements = said.statements;
+      say = said.say;
+      all = said.all;
+      fits = said.fits (omega arith);
     }
 
-pub cards_said : (cards : List Card) (number : ℕ) (known final : Known) →
-    after_pieces known (pieces_from number cards) ≡ Ok final → CardsSaid cards known final
-cards_said [] number known final taken =
-    let same : record { statements = statements_when_over known; is_open = false; draft = direct [] } ≡ final = cc in
+-- the cards behind one that begins a statement, within the statement before
+open_begun : (number : ℕ) (cards : List Card) (statements : List WrittenParts)
+    (given : Option PlacedLabel)
+    (draft : Draft) (card further : ℕ) (final : Known) →
+    is_whole draft ≡ true →
+    (next : List WrittenParts) →
+    CardsSay number cards next →
+    final.statements ≡ (statements ++ statement_from given draft ∷ []) ++ next →
+    length (statements ++ statement_from given draft ∷ []) + length next ≤ most_written →
+    continued_items number cards ≡ [] → continuations cards ≡ 0 →
+    OpenSaid number cards (opened statements given draft card further) final
+open_begun number cards statements given draft card further final whole next say all fits none_more
+    none =
+    record {
+      draft = draft;
+      made = ap (draft_of draft) none_more;
+      whole = whole;
+      few = λ few. omega arith;
+      statements = next;
+      say = say;
+      all = all ∙ append_assoc statements (statement_from given draft ∷ []) next;
+      fits = λ few. omega (arith, length-append statements (statement_from given draft ∷ []));
+    }
+
+-- an unknown card is never taken
+unknown_stops : (holds : Bool) (objection other : DeckFault) (known final : Known) →
+    and_then (known_if holds objection known) (λ next. Err other) ≡ Ok final → ⊥
+unknown_stops true objection other known final taken = cc
+unknown_stops false objection other known final taken = cc
+
+pub open_said : (cards : List Card) (number : ℕ) (statements : List WrittenParts)
+    (given : Option PlacedLabel)
+    (draft : Draft) (card further : ℕ) (final : Known) →
+    after_pieces (opened statements given draft card further) (pieces_from number cards)
+    ≡ Ok final →
+    OpenSaid number cards (opened statements given draft card further) final
+open_said [] number statements given draft card further final taken =
+    let over = statements ++ statement_from given draft ∷ [] in
+    let next : Known =
+    record {
+      statements = over;
+      is_open = false;
+      label = None;
+      draft = new_draft;
+      card =
+          card;
+      continuations = further;
+    } in
+    let went = went_if (is_whole draft) (form card) next (λ known. Ok known) final taken in
+    let same : next ≡ final = cc (went.rest) in
+    record {
+      draft = draft;
+      made = refl;
+      whole = went.sound;
+      few = λ few. omega arith;
+      statements = [];
+      say = tt;
+      all = sym (ap (λ (k : Known). k.statements) same);
+      fits = λ few. omega arith;
+    }
+open_said (skipped ∷ cards) number statements given draft card further final taken =
+    let said = open_said cards (number + 1) statements given draft card further final taken in
+    record {
+      draft = said.draft;
+      made = said.made;
+      whole = said.whole;
+      few = said.few;
+      statements = said.statements;
+      say = said.say;
+      all = said.all;
+      fits = said.fits;
+    }
+open_said (continued body ∷ cards) number statements given draft card further final taken =
+    let rest = pieces_from (number + 1) cards in
+    let went = went_if (ltb further most_continuations) (limit number)
+    (opened statements given draft number (further + 1))
+    (λ next. after_pieces next (items_on number body ++ rest)) final taken in
+    let items =
+    items_taken (items_of body) number (opened statements given draft number (further + 1))
+    final rest went.rest in
+    let said =
+    open_said cards (number + 1) statements given items.draft number
+    (further + 1) final items.rest_goes in
+    let room = ltb-true further most_continuations went.sound in
+    record {
+      draft = said.draft;
+      made = draft_of-append (placed_items number body) (continued_items (number + 1) cards)
+          draft items.draft items.made
+          ∙ said.made;
+      whole = said.whole;
+      few = λ few. omega (arith, said.few (omega arith));
+      statements = said.statements;
+      say = said.say;
+      all = said.all;
+      fits = said.fits;
+    }
+open_said (plain body ∷ cards) number statements given draft card further final taken =
+    let over = statements ++ statement_from given draft ∷ [] in
+    let closed : Known =
+    record {
+      statements = over;
+      is_open = false;
+      label = None;
+      draft = new_draft;
+      card =
+          card;
+      continuations = further;
+    } in
+    let rest = pieces_from (number + 1) cards in
+    let ended = went_if (is_whole draft) (form card) closed
+    (λ next. after_pieces next (begins number ∷ items_on number body ++ rest)) final taken in
+    let began =
+    went_if (ltb (length over) most_written) (limit number) (opened over None new_draft number 0)
+    (λ next. after_pieces next (items_on number body ++ rest)) final ended.rest in
+    let items =
+    items_taken (items_of body) number (opened over None new_draft number 0)
+    final rest began.rest in
+    let said = open_said cards (number + 1) over None items.draft number 0 final items.rest_goes in
+    let begun =
+    begun_said number None body cards over final (ltb-true (length over) most_written began.sound)
+    items said in
+    open_begun number (plain body ∷ cards) statements given draft card further final ended.sound
+    (begun.statement ∷ begun.statements) (begun.says, begun.say) begun.all
+    (omega (arith, begun.fits)) refl refl
+open_said (labelled columns body ∷ cards) number statements given draft card further final taken =
+    let over = statements ++ statement_from given draft ∷ [] in
+    let closed : Known =
+    record {
+      statements = over;
+      is_open = false;
+      label = None;
+      draft = new_draft;
+      card =
+          card;
+      continuations = further;
+    } in
+    let rest = pieces_from (number + 1) cards in
+    let ended = went_if (is_whole draft) (form card) closed
+    (λ next. after_pieces next
+    (begins number ∷ label number columns ∷ items_on number body ++ rest)) final taken in
+    let began =
+    went_if (ltb (length over) most_written) (limit number) (opened over None new_draft number 0)
+    (λ next. after_pieces next (label number columns ∷ items_on number body ++ rest))
+    final ended.rest in
+    let found = went_labelled number (label_on number columns) (opened over None new_draft number 0)
+    (λ next. after_pieces next (items_on number body ++ rest)) final began.rest in
+    let items =
+    items_taken (items_of body) number (opened over (Some found.given) new_draft number 0)
+    final rest found.rest in
+    let said =
+    open_said cards (number + 1) over
+    (Some found.given) items.draft number 0 final items.rest_goes in
+    let begun =
+    begun_said number (Some found.given) body cards over final
+    (ltb-true (length over) most_written began.sound) items said in
+    open_begun number (labelled columns body ∷ cards)
+    statements given draft card further final ended.sound
+    (begun.statement ∷ begun.statements) ((found.given, found.is_found, begun.says), begun.say)
+    begun.all (omega (arith, begun.fits)) refl refl
+open_said (unknown ∷ cards) number statements given draft card further final taken =
+    absurd (unknown_stops (is_whole draft) (form card) (form number) _ final taken)
+
+-- what cards say that were taken from the start
+pub record CardsSaid (number : ℕ) (cards : List Card) (final : Known) : Type 0 where
+  pub statements : List WrittenParts
+  pub say : CardsSay number cards statements
+  pub begins : continuations cards ≡ 0
+  pub all : final.statements ≡ statements
+  pub fits : length statements ≤ most_written
+
+pub cards_said : (cards : List Card) (number : ℕ) (final : Known) →
+    after_pieces nothing_known (pieces_from number cards) ≡ Ok final → CardsSaid number cards final
+cards_said [] number final taken =
+    let same : nothing_known ≡ final = cc in
     record {
       statements = [];
       say = tt;
-      all = sym (ap (λ (k : Known). k.statements) same) ∙ sym (append-nil (statements_when_over known));
-      fits = λ few. omega arith;
+      begins = refl;
+      all =
+          sym (ap (λ (k : Known). k.statements) same);
+      fits = omega arith;
     }
-cards_said (skipped ∷ cards) number known final taken =
-    let said = cards_said cards (number + 1) known final taken in
-    record { statements = said.statements; say = said.say; all = said.all; fits = said.fits }
-cards_said (plain body ∷ cards) number known final taken =
-    let before = statements_when_over known in
-    let over = known_with known ends in
+cards_said (skipped ∷ cards) number final taken =
+    let said = cards_said cards (number + 1) final taken in
+    record {
+      statements = said.statements;
+      say = said.say;
+      begins = said.begins;
+      all =
+          said.all;
+      fits = said.fits;
+    }
+cards_said (continued body ∷ cards) number final taken = absurd (cc)
+cards_said (plain body ∷ cards) number final taken =
     let rest = pieces_from (number + 1) cards in
-    let first = went_on (limit_unless_room number (statements_begun over) most_written) (within before [])
-    (λ next. after_pieces next (map (item number) (items_of body) ++ rest)) final taken in
-    let said = items_said (items_of body) number before [] rest final first.rest in
-    said_statement body cards known final said.further said.say (said.fits (omega arith))
-    (room_below number (statements_begun over) most_written first.sound)
-    (cards_said cards (number + 1) (within before said.further) final said.rest_goes)
-cards_said (unknown ∷ cards) number known final taken = absurd (cc)
-
--- where there is room no limit objects
-below_limit : (card count most : ℕ) → count < most → limit_unless_room card count most ≡ None
-below_limit card count most room = let below = lt-ltb count most room in rw below refl
-
--- items that say operations for which there is room are taken
-pub items_go : (items : List Item) (number : ℕ) (statements : List WrittenParts) (operations further : List (Op ℕ))
-    (rest : List Piece) →
-    ItemsSay items further → length operations + length further ≤ most_operations →
-    after_pieces (within statements operations) (map (item number) items ++ rest)
-    ≡ after_pieces (within statements (operations ++ further)) rest
-items_go [] number statements operations [] rest say fits =
-    ap (λ o. after_pieces (within statements o) rest) (sym (append-nil operations))
-items_go [] number statements operations (operation ∷ further) rest say fits = absurd say
-items_go (group columns ∷ items) number statements operations [] rest say fits = absurd say
-items_go (group columns ∷ items) number statements operations (operation ∷ further) rest say fits =
-    let after = map (item number) items ++ rest in
-    let by_reading : Option (Op ℕ) → Result Known DeckFault = λ reading.
-    and_then (known_unless (objection_of_reading number (direct operations) reading)
-    (record { statements = statements; is_open = true; draft = with_operation (direct operations) reading }))
-    (λ next. after_pieces next after) in
-    let by_objection : Option DeckFault → Result Known DeckFault = λ found.
-    and_then (known_unless found (within statements (operations ++ operation ∷ [])))
-    (λ next. after_pieces next after) in
-    ap by_reading say.0
-    ∙ ap by_objection (below_limit number (length operations) most_operations (omega arith))
-    ∙ items_go items number statements (operations ++ operation ∷ []) further rest say.1
-    (omega (arith, length-append operations (operation ∷ [])))
-    ∙ ap (λ o. after_pieces (within statements o) rest) (append_assoc operations (operation ∷ []) further)
-items_go (word columns ∷ items) number statements operations further rest say fits = absurd say
-items_go (unclosed ∷ items) number statements operations further rest say fits = absurd say
-items_go (unopened columns ∷ items) number statements operations further rest say fits = absurd say
-
--- cards that say statements for which there is room are taken
-pub cards_go : (cards : List Card) (number : ℕ) (known : Known) (statements : List WrittenParts) →
-    CardsSay cards statements → statements_begun known + length statements ≤ most_written →
-    (final : Known) × (after_pieces known (pieces_from number cards) ≡ Ok final)
-cards_go [] number known [] say fits = (known_with known ends, refl)
-cards_go [] number known (statement ∷ statements) say fits = absurd say
-cards_go (skipped ∷ cards) number known statements say fits = cards_go cards (number + 1) known statements say fits
-cards_go (plain body ∷ cards) number known [] say fits = absurd say
-cards_go (plain body ∷ cards) number known (statement ∷ statements) say fits =
-    let before = statements_when_over known in
+    let items =
+    items_taken (items_of body) number (opened [] None new_draft number 0) final rest taken in
+    let said = open_said cards (number + 1) [] None items.draft number 0 final items.rest_goes in
+    let begun = begun_said number None body cards [] final (omega arith) items said in
+    record {
+      statements = begun.statement ∷ begun.statements;
+      say = (begun.says, begun.say);
+      begins = refl;
+      all = begun.all;
+      fits = omega (arith, begun.fits);
+    }
+cards_said (labelled columns body ∷ cards) number final taken =
     let rest = pieces_from (number + 1) cards in
-    let by_objection : Option DeckFault → Result Known DeckFault = λ found.
-    and_then (known_unless found (within before []))
-    (λ next. after_pieces next (map (item number) (items_of body) ++ rest)) in
-    let others = cards_go cards (number + 1) (within before statement.operations) statements say.1
-    (omega (arith, length-append before (statement ∷ []))) in (
-      others.0,
-      ap by_objection (below_limit number (length before) most_written (omega arith))
-          ∙ items_go (items_of body) number before [] statement.operations rest say.0.items (omega (arith, say.0.fits))
-          ∙ others.1,
-    )
-cards_go (unknown ∷ cards) number known statements say fits = absurd say
-
--- items say one list of operations
-same_operations : (items : List Item) (one other : List (Op ℕ)) → ItemsSay items one → ItemsSay items other → one ≡ other
-same_operations [] [] [] say say' = refl
-same_operations [] [] (y ∷ ys) say say' = absurd say'
-same_operations [] (x ∷ xs) other say say' = absurd say
-same_operations (group columns ∷ items) [] other say say' = absurd say
-same_operations (group columns ∷ items) (x ∷ xs) [] say say' = absurd say'
-same_operations (group columns ∷ items) (x ∷ xs) (y ∷ ys) say say' =
-    let tail = same_operations items xs ys say.1 say'.1 in
-    let head : x ≡ y = cc (say.0, say'.0) in
-    cc
-same_operations (word columns ∷ items) one other say say' = absurd say
-same_operations (unclosed ∷ items) one other say say' = absurd say
-same_operations (unopened columns ∷ items) one other say say' = absurd say
-
--- cards say one list of statements
-pub same_statements : (cards : List Card) (one other : List WrittenParts) →
-    CardsSay cards one → CardsSay cards other → one ≡ other
-same_statements [] [] [] say say' = refl
-same_statements [] [] (y ∷ ys) say say' = absurd say'
-same_statements [] (x ∷ xs) other say say' = absurd say
-same_statements (skipped ∷ cards) one other say say' = same_statements cards one other say say'
-same_statements (plain body ∷ cards) [] other say say' = absurd say
-same_statements (plain body ∷ cards) (x ∷ xs) [] say say' = absurd say'
-same_statements (plain body ∷ cards) (x ∷ xs) (y ∷ ys) say say' =
-    let head : x ≡ y = ap (λ (operations : List (Op ℕ)). record { operations = operations })
-    (same_operations (items_of body) x.operations y.operations say.0.items say'.0.items) in
-    let tail = same_statements cards xs ys say.1 say'.1 in
-    cc
-same_statements (unknown ∷ cards) one other say say' = absurd say
-
--- the statements that cards say have few operations each
-pub few_operations : (cards : List Card) (statements : List WrittenParts) →
-    CardsSay cards statements → list_all has_few_operations statements ≡ true
-few_operations [] [] say = refl
-few_operations [] (statement ∷ statements) say = absurd say
-few_operations (skipped ∷ cards) statements say = few_operations cards statements say
-few_operations (plain body ∷ cards) [] say = absurd say
-few_operations (plain body ∷ cards) (statement ∷ statements) say =
-    let few = le-leb (length statement.operations) most_operations say.0.fits in
-    and_from (has_few_operations statement) (list_all has_few_operations statements) few
-    (few_operations cards statements say.1)
-few_operations (unknown ∷ cards) statements say = absurd say
+    let found = went_labelled number (label_on number columns) (opened [] None new_draft number 0)
+    (λ next. after_pieces next (items_on number body ++ rest)) final taken in
+    let items =
+    items_taken (items_of body) number (opened [] (Some found.given) new_draft number 0)
+    final rest found.rest in
+    let said =
+    open_said cards (number + 1) [] (Some found.given) items.draft number 0 final items.rest_goes in
+    let begun = begun_said number (Some found.given) body cards [] final (omega arith) items said in
+    record {
+      statements = begun.statement ∷ begun.statements;
+      say = ((found.given, found.is_found, begun.says), begun.say);
+      begins = refl;
+      all = begun.all;
+      fits = omega (arith, begun.fits);
+    }
+cards_said (unknown ∷ cards) number final taken = absurd (cc)

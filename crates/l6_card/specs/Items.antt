@@ -1,10 +1,10 @@
 -- The items of a card's body.
 use Rattle.std.specs.Prelude.{ℕ, ◌==◌, List, [], ◌∷◌, if◌then◌else◌}
 use Rattle.std.specs.Str.{byte}
-use Rattle.l6_card.specs.Element.{is_blank}
+use Rattle.l6_group.specs.Character.{is_blank}
 
--- an item of a body: a group from `(` to `)`; a word; a `(` that no `)` closes; a `)` that no `(` opens, with what
--- stands before it
+-- an item of a body: a group from `(` to `)`; a word; a `(` that no `)` closes; a `)` that no `(`
+-- opens, with what stands before it
 pub data Item : Type 0 where
   group : List ℕ → Item
   word : List ℕ → Item

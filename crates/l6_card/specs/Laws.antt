@@ -2,10 +2,11 @@
 use Rattle.std.specs.Prelude.{◌≡◌, ℕ, ◌==◌, not, true, false, Bool, List, ◌∷◌, ◌++◌, ◌&&◌, Some, None}
 use Rattle.std.specs.List.{list_all}
 use Rattle.std.specs.Str.{byte}
-use Rattle.l6_card.specs.Element.{is_blank}
+use Rattle.l6_group.specs.Character.{is_blank}
 use Rattle.l6_card.specs.Items.{Item, group, word, items_of}
 use Rattle.l6_card.specs.Statement.{WrittenParts}
-use Rattle.l6_card.specs.Fault.{DeckFault, fault_of}
+use Rattle.l6_card.specs.DeckFault.{DeckFault}
+use Rattle.l6_card.specs.Fault.{fault_of}
 use Rattle.l6_card.specs.Reads.{Reads}
 
 -- a deck that reads has no fault
@@ -16,16 +17,19 @@ ReadsOnlyWithoutFault =
 -- a deck without a fault reads
 abbrev pub ReadsWithoutFault : Type 0
 ReadsWithoutFault =
-    (deck : List ℕ) → fault_of deck ≡ None → (statements : List WrittenParts) × Reads deck statements
+    (deck : List ℕ) → fault_of deck ≡ None →
+    (statements : List WrittenParts) × Reads deck statements
 
 -- a deck reads in one way
 abbrev pub ReadsInOneWay : Type 0
 ReadsInOneWay =
-    (deck : List ℕ) (one other : List WrittenParts) → Reads deck one → Reads deck other → one ≡ other
+    (deck : List ℕ) (one other : List WrittenParts) → Reads deck one → Reads deck other →
+    one ≡ other
 
 -- whatever statements the deck says are these
 abbrev pub IsOnlyReading : List ℕ → List WrittenParts → Type 0
-IsOnlyReading deck statements = (others : List WrittenParts) → Reads deck others → others ≡ statements
+IsOnlyReading deck statements = (others : List WrittenParts) → Reads deck others →
+    others ≡ statements
 
 -- the fault is the first objection to the deck, which does not read
 pub record IsFirstFault (deck : List ℕ) (fault : DeckFault) : Type 0 where
@@ -53,4 +57,5 @@ abbrev pub LettersMakeWords : Type 0
 LettersMakeWords =
     (letter : ℕ) (columns letters : List ℕ) (items : List Item) →
     is_blank letter ≡ false → is_inner letter ≡ true →
-    items_of columns ≡ word letters ∷ items → items_of (letter ∷ columns) ≡ word (letter ∷ letters) ∷ items
+    items_of columns ≡ word letters ∷ items →
+    items_of (letter ∷ columns) ≡ word (letter ∷ letters) ∷ items

@@ -1,10 +1,8 @@
 pub mod Numerals
-pub mod Element
-pub mod Spelling
 pub mod Card
 pub mod Items
-pub mod Group
 pub mod Statement
+pub mod DeckFault
 pub mod Draft
 pub mod Pieces
 pub mod Fault

@@ -13,3 +13,7 @@ most_deck_bytes = 1048576
 -- how many statements a deck may write: the plain DONE that ends every program comes on top
 abbrev pub most_written : ℕ
 most_written = most_statements - 1
+
+-- how many cards may continue a statement
+abbrev pub most_continuations : ℕ
+most_continuations = 15

@@ -1,3 +1,4 @@
 pub mod Kinds
 pub mod First
+pub mod Drafted
 pub mod Reader

@@ -1,21 +1,25 @@
 //! Cards.
 
-ghost use Rattle.std.specs.Prelude.{◌≡◌, ◌≤◌, length, take};
+ghost use Rattle.std.specs.Prelude.{◌≡◌, take};
 ghost use Rattle.std.specs.List.{list_all};
-ghost use Rattle.l6_card.specs.Element as spec;
-ghost use Rattle.l6_card.specs.Card.{card_of, columns_of};
+ghost use Rattle.l6_group.specs.Character as spec;
+ghost use Rattle.l6_card.specs.Card.{card_of, columns_of, run_of, behind_run};
 ghost use Rattle.l6_card.specs.inner.Kinds.{card_seen};
 
-use crate::element::is_blank;
 use crate::limits::CARD_WIDTH;
+use l6_group::{is_blank, is_letter};
 use l6_word::without_return;
 
 /// What a card is.
 pub(crate) enum Kind<'a> {
     /// A comment, or blank: it says nothing.
     Skipped,
-    /// A statement of its own, with this body.
+    /// A statement without a label, with this body.
     Plain(&'a [u8]),
+    /// A statement with these columns as its label, and with this body.
+    Labelled(&'a [u8], &'a [u8]),
+    /// It continues the latest statement with this body.
+    Continued(&'a [u8]),
     /// A card with a column 1 that is not allowed.
     Unknown,
 }
@@ -23,16 +27,14 @@ pub(crate) enum Kind<'a> {
 /// The columns of a line that count: the first 72, once a carriage return at the line's end is off.
 #[tactic(auto, unfolding(crate::specs::Numerals::card_width))]
 pub(crate) fn columns_of(line: &[u8]) -> &[u8]
-    ensures columns { result.now ≡ columns_of line.now }
-    ensures width { length result.now ≤ CARD_WIDTH }
+    ensures { result.now ≡ columns_of line.now }
 {
     first_bytes(without_return(line), CARD_WIDTH)
 }
 
 /// So many bytes of a line, from its front.
 fn first_bytes(line: &[u8], count: usize) -> &[u8]
-    ensures bytes { result.now ≡ take count line.now }
-    ensures few { length result.now ≤ count }
+    ensures { result.now ≡ take count line.now }
 {
     if line.len() > count {
         &line[..count]
@@ -52,11 +54,36 @@ pub(crate) fn kind_of(columns: &[u8]) -> Kind<'_>
                 Kind::Skipped
             } else if is_blank(*mark) {
                 Kind::Plain(body)
+            } else if *mark == b'+' {
+                Kind::Continued(body)
+            } else if is_letter(*mark) {
+                let (label, body) = split_label(columns);
+                Kind::Labelled(label, body)
             } else {
                 Kind::Unknown
             }
         }
     }
+}
+
+/// The longest run of letters and digits that columns begin with, and what follows it.
+fn split_label(columns: &[u8]) -> (&[u8], &[u8])
+    ensures label { result.0.now ≡ run_of columns.now }
+    ensures body { result.1.now ≡ behind_run columns.now }
+{
+    for (place, column) in columns.iter().enumerate() {
+        if !is_alphanumeric(*column) {
+            return (&columns[..place], &columns[place..]);
+        }
+    }
+    (columns, &columns[columns.len()..])
+}
+
+/// Whether a byte is read as a letter or a digit.
+fn is_alphanumeric(byte: u8) -> bool
+    ensures { result ≡ spec.is_letter_or_digit byte }
+{
+    matches!(byte, b'A'..=b'Z' | b'a'..=b'z' | b'0'..=b'9')
 }
 
 /// Whether each column is a blank.

@@ -2,13 +2,47 @@
 
 ghost use Rattle.std.specs.Prelude.{◌≡◌};
 
-use l6_prog::Op;
+use l6_group::Label;
+use l6_prog::{Cond, Exit, Op, Test};
 use std::marker::Model;
+
+/// A label, given to a statement or named by one, and the card that it stands on, numbered from 1.
+#[derive(Debug, Drop)]
+pub struct PlacedLabel {
+    /// The label.
+    pub label: Label,
+    /// The card's number.
+    pub card: u32,
+}
+
+/// A test or an operation, and the card that its group stands on, numbered from 1.
+#[derive(Debug, Drop)]
+pub struct Placed<T> {
+    /// The test or the operation.
+    pub reading: T,
+    /// The card's number.
+    pub card: u32,
+}
+
+/// The parts of a statement as its cards give them.
+#[derive(Debug, Drop)]
+pub struct Parts {
+    /// The label, if it has one.
+    pub label: Option<PlacedLabel>,
+    /// The condition.
+    pub condition: Cond,
+    /// The tests of the condition, in order.
+    pub tests: Vec<Placed<Test>>,
+    /// The operations, in order.
+    pub operations: Vec<Placed<Op<Label>>>,
+    /// The exit.
+    pub exit: Exit<PlacedLabel>,
+}
 
 /// A statement as its cards give it.
 #[derive(Debug, Drop)]
 pub struct Written {
-    operations: Vec<Op>,
+    parts: Parts,
 }
 
 impl Model for Written {
@@ -16,30 +50,34 @@ impl Model for Written {
 
     ghost Value = { WrittenParts };
 
-    ghost view = { λ written. record { operations = written.operations.items } };
+    ghost view = { λ w. record { label = w.parts.label; condition = w.parts.condition; tests = w.parts.tests.items; operations = w.parts.operations.items; exit = w.parts.exit } };
 }
 
 impl Written {
-    /// The statement of these operations.
-    pub(crate) fn new(operations: Vec<Op>) -> Self
-        ensures { result ≡ record { operations = operations.items } }
+    /// The statement of these parts.
+    pub(crate) fn new(parts: Parts) -> Self
+        ensures { result ≡ record { label = parts.label; condition = parts.condition; tests = parts.tests.items; operations = parts.operations.items; exit = parts.exit } }
     {
-        Written { operations }
+        Written { parts }
     }
 
-    /// The operations, in order.
-    pub fn operations(&self) -> &[Op]
-        ensures { result.now ≡ self.now.operations }
+    /// The label, if it has one.
+    pub fn label(&self) -> &Option<PlacedLabel>
+        ensures { result.now ≡ self.now.label }
     {
-        self.operations.as_slice()
+        &self.parts.label
     }
 
-    /// The operations, in order, the statement given up for them.
-    pub fn into_operations(self) -> Vec<Op>
-        ensures { result.items ≡ self.operations }
+    /// The parts, the statement given up for them.
+    pub fn into_parts(self) -> Parts
+        ensures label { result.label ≡ self.label }
+        ensures condition { result.condition ≡ self.condition }
+        ensures tests { result.tests.items ≡ self.tests }
+        ensures operations { result.operations.items ≡ self.operations }
+        ensures exit { result.exit ≡ self.exit }
     {
-        let Written { operations } = self;
-        operations
+        let Written { parts } = self;
+        parts
     }
 }
 

@@ -2,7 +2,8 @@
 
 ghost use Rattle.std.specs.Prelude.{◌≡◌, ◌≤◌, length, IfOk, IfErr, IfSome};
 ghost use Rattle.l6_card.specs.Numerals.{most_deck_bytes};
-ghost use Rattle.l6_card.specs.Fault.{deck_fault, fault_of};
+ghost use Rattle.l6_card.specs.DeckFault.{deck_fault};
+ghost use Rattle.l6_card.specs.Fault.{fault_of};
 ghost use Rattle.l6_card.specs.Reads.{Reads, AreWithinLimits};
 ghost use Rattle.l6_card.specs.Laws.{IsFirstFault, IsOnlyReading};
 

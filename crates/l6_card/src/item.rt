@@ -1,12 +1,12 @@
 //! The items of a card's body.
 
-ghost use Rattle.std.specs.Prelude.{◌≡◌, ◌≤◌, ◌<◌, ◌++◌, ◌∷◌, List, ℕ, true, false, length, slice_index, MatchOption, IfSome};
+ghost use Rattle.std.specs.Prelude.{◌≡◌, ◌≤◌, ◌<◌, ◌++◌, ◌∷◌, List, ℕ, true, false, length, MatchOption, IfSome};
 ghost use Rattle.std.specs.List.{list_all};
-ghost use Rattle.l6_card.specs.Element as spec;
+ghost use Rattle.l6_group.specs.Character as spec;
 ghost use Rattle.l6_card.specs.Items.{items_of, after_opening, unopened};
-ghost use Rattle.l6_card.specs.inner.First.{BeginsWith, begins_with_other, IsShorter};
+ghost use Rattle.l6_card.specs.inner.First.{BeginsWith, begins_with_other, IsShorter, begins_with_blank, begins_a_word, begins_with_closing, AreWordAndRest};
 
-use crate::element::is_blank;
+use l6_group::is_blank;
 use l6_word::split_at_mark;
 
 /// What a body begins with.
@@ -15,7 +15,9 @@ pub(crate) enum First<'a> {
     End,
     /// A group with these columns between its parentheses, and what follows it.
     Group(&'a [u8], &'a [u8]),
-    /// An item, but no group.
+    /// A word with these columns, and what follows it.
+    Word(&'a [u8], &'a [u8]),
+    /// A parenthesis without its partner.
     Other,
 }
 
@@ -24,8 +26,16 @@ pub(crate) fn first_item(body: &[u8]) -> First<'_>
     ensures first { BeginsWith result body.now }
     ensures shorter { IsShorter result body.now }
 {
-    let rest = skip_blanks(body);
-    match rest.split_first() {
+    first_of(skip_blanks(body))
+}
+
+/// What a body begins with that begins with no blank.
+fn first_of(body: &[u8]) -> First<'_>
+    requires { begins_with_blank body.now ≡ false }
+    ensures first { BeginsWith result body.now }
+    ensures shorter { IsShorter result body.now }
+{
+    match body.split_first() {
         None => First::End,
         Some((mark, inside)) => {
             if *mark == b'(' {
@@ -34,19 +44,18 @@ pub(crate) fn first_item(body: &[u8]) -> First<'_>
                     None => First::Other,
                 }
             } else {
-                First::Other
+                first_word(body)
             }
         }
     }
 }
 
-/// The columns of the group whose `(` stands before, and what follows its `)`; `None` where another `(` or the
-/// body's end comes first.
+/// The columns of the group whose `(` stands before, and what follows its `)`; `None` where another
+/// `(` or the body's end comes first.
 fn first_group(inside: &[u8]) -> Option<(&[u8], &[u8])>
     ensures group { let items = items_of inside.now in
         MatchOption result (begins_with_other (after_opening items) ≡ true)
         (λ parts. items ≡ unopened parts.0.now ∷ items_of parts.1.now) }
-    ensures columns { IfSome result (λ parts. length parts.0.now ≤ length inside.now) }
     ensures behind { IfSome result (λ parts. length parts.1.now < length inside.now) }
 {
     let (columns, behind) = split_at_mark(inside, b')')?;
@@ -56,11 +65,47 @@ fn first_group(inside: &[u8]) -> Option<(&[u8], &[u8])>
     }
 }
 
+/// The word that a body begins with, if no `)` follows it.
+fn first_word(body: &[u8]) -> First<'_>
+    requires { begins_a_word body.now ≡ true }
+    ensures first { BeginsWith result body.now }
+    ensures shorter { IsShorter result body.now }
+{
+    let (word, rest) = split_word(body);
+    if begins_with_closing(rest) {
+        First::Other
+    } else {
+        First::Word(word, rest)
+    }
+}
+
+/// Whether columns begin with a `)`.
+fn begins_with_closing(columns: &[u8]) -> bool
+    ensures { result ≡ begins_with_closing columns.now }
+{
+    match columns.first() {
+        None => false,
+        Some(column) => *column == b')',
+    }
+}
+
+/// The columns in front of the first parenthesis, and those from there on.
+fn split_word(body: &[u8]) -> (&[u8], &[u8])
+    ensures { AreWordAndRest body.now result.0.now result.1.now }
+{
+    for (place, column) in body.iter().enumerate() {
+        if *column == b'(' || *column == b')' {
+            return (&body[..place], &body[place..]);
+        }
+    }
+    (body, &body[body.len()..])
+}
+
 /// The body without the blanks that it begins with.
 fn skip_blanks(body: &[u8]) -> &[u8]
     ensures blanks { (blanks : List ℕ) × (body.now ≡ blanks ++ result.now)
         × (list_all spec.is_blank blanks ≡ true) }
-    ensures first { 0 < length result.now → spec.is_blank (slice_index result.now 0) ≡ false }
+    ensures solid { begins_with_blank result.now ≡ false }
     ensures shorter { length result.now ≤ length body.now }
 {
     for (place, column) in body.iter().enumerate() {

@@ -1,10 +1,10 @@
 //! The laws of reading, and that the numbers of the code are those of the language.
 
 ghost use Rattle.std.specs.Prelude.{◌≡◌};
-ghost use Rattle.l6_card.specs.Numerals.{card_width, most_deck_bytes, most_written};
+ghost use Rattle.l6_card.specs.Numerals.{card_width, most_deck_bytes, most_written, most_continuations};
 ghost use Rattle.l6_card.specs.Laws.{ReadsOnlyWithoutFault, ReadsWithoutFault, ReadsInOneWay, GroupsAreInParentheses, BlanksVanishInWords, LettersMakeWords};
 
-use crate::limits::{CARD_WIDTH, MAX_DECK_BYTES, MAX_WRITTEN};
+use crate::limits::{CARD_WIDTH, MAX_CONTINUATIONS, MAX_DECK_BYTES, MAX_WRITTEN};
 
 /// Each deck reads exactly if no piece of it objects, and then in one way.
 pub fn reading_is_settled()
@@ -27,4 +27,5 @@ pub fn decks_have_their_limits()
     ensures width { CARD_WIDTH ≡ card_width }
     ensures bytes { MAX_DECK_BYTES ≡ most_deck_bytes }
     ensures written { MAX_WRITTEN ≡ most_written }
+    ensures continuations { MAX_CONTINUATIONS ≡ most_continuations }
 {}

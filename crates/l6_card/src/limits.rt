@@ -8,3 +8,5 @@ pub const MAX_DECK_BYTES: usize = 1_048_576;
 pub const CARD_WIDTH: usize = 72;
 /// How many statements a deck may write. The plain `DONE` that ends every program comes on top.
 pub const MAX_WRITTEN: usize = MAX_STATEMENTS - 1;
+/// How many cards may continue a statement.
+pub const MAX_CONTINUATIONS: usize = 15;

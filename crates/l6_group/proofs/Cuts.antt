@@ -9,7 +9,8 @@ use Rattle.l6_group.specs.Test.{test_from}
 use Rattle.l6_group.specs.Operation.{operation_from}
 
 elements-front : (front behind : List ℕ) →
-    lacks (byte ",") front ≡ true → elements_of (front ++ byte "," ∷ behind) ≡ front ∷ elements_of behind
+    lacks (byte ",") front ≡ true →
+    elements_of (front ++ byte "," ∷ behind) ≡ front ∷ elements_of behind
 elements-front [] behind lacking = refl
 elements-front (first ∷ rest) behind lacking =
     let parts = lacks-cons (byte ",") first rest lacking in
@@ -18,16 +19,19 @@ elements-front (first ∷ rest) behind lacking =
 -- the first element ends at the first comma
 elements-cut : {columns front behind : List ℕ} →
     IsCutAt (byte ",") columns front behind → elements_of columns ≡ front ∷ elements_of behind
-elements-cut {columns} {front} {behind} cut = ap elements_of cut.whole ∙ elements-front front behind cut.first
+elements-cut {columns} {front} {behind} cut = ap elements_of cut.whole
+    ∙ elements-front front behind cut.first
 
 -- columns without a comma are one element
-elements-lacks : (columns : List ℕ) → lacks (byte ",") columns ≡ true → elements_of columns ≡ columns ∷ []
+elements-lacks : (columns : List ℕ) → lacks (byte ",") columns ≡ true →
+    elements_of columns ≡ columns ∷ []
 elements-lacks [] lacking = refl
 elements-lacks (first ∷ rest) lacking =
     let parts = lacks-cons (byte ",") first rest lacking in
     rw parts.0 (ap (onto_first first) (elements-lacks rest parts.1))
 
--- columns that may have been cut at their first comma: one element, or the first and those behind it
+-- columns that may have been cut at their first comma: one element, or the first and those behind
+-- it
 pub elements-first : (columns : List ℕ) (found : Option (Bor (List ℕ) × Bor (List ℕ))) →
     IfNone found (lacks (byte ",") columns ≡ true) →
     IfSome found (λ parts. IsCutAt (byte ",") columns parts.0.now parts.1.now) →
@@ -46,7 +50,8 @@ element_behind : (is_mark : Bool) (column : ℕ) (parts : List (List ℕ)) →
     HasElement (cond is_mark ([] ∷ parts) (onto_first column parts))
 element_behind true column parts = record { first = []; others = parts; all = refl }
 element_behind false column [] = record { first = column ∷ []; others = []; all = refl }
-element_behind false column (part ∷ parts) = record { first = column ∷ part; others = parts; all = refl }
+element_behind false column (part ∷ parts) =
+    record { first = column ∷ part; others = parts; all = refl }
 
 -- columns have an element
 has_element : (columns : List ℕ) → HasElement (elements_of columns)
@@ -61,4 +66,5 @@ operation_from-many a b d e f others =
 
 -- four elements or more are no test
 pub test_from-many : (a b d others : List ℕ) → test_from (a ∷ b ∷ d ∷ elements_of others) ≡ None
-test_from-many a b d others = ap (λ elements. test_from (a ∷ b ∷ d ∷ elements)) (has_element others).all
+test_from-many a b d others =
+    ap (λ elements. test_from (a ∷ b ∷ d ∷ elements)) (has_element others).all

@@ -1,5 +1,5 @@
 -- Numbers, read digit by digit.
-use Rattle.std.proofs.Common.{◌≡◌, ℕ, ◌<◌, ◌≤◌, sym, ◌∙◌, ap, ◌^◌, List, [], ◌∷◌, length, None, Some, Option, Bool, true, false, arith, ltb, refl}
+use Rattle.std.proofs.Common.{◌≡◌, ℕ, ◌<◌, ◌≤◌, ◌^◌, List, length, None, Some, Option, Bool, arith, ltb, refl}
 use Rattle.std.specs.Prelude.{◌&&◌, ◌||◌, nat_lt, if◌then◌else◌}
 use Rattle.std.specs.Int.Digits.{number_from_digits, number_from_digits_after}
 use Rattle.std.proofs.lemmas.Int.Digits.{number_after_ge}
@@ -11,7 +11,8 @@ use Rattle.l6_word.specs.Numerals.{word_bits}
 abbrev pub number_behind : ℕ → ℕ → Bool → List ℕ → Option ℕ
 number_behind base value begun digits =
     let number = number_from_digits_after base value digits in
-    if (begun || nat_lt 0 (length digits)) && nat_lt number (2 ^ word_bits) then Some number else None
+    if (begun || nat_lt 0 (length digits)) && nat_lt number
+    (2 ^ word_bits) then Some number else None
 
 -- the same, of digits that were read
 abbrev pub number_after : ℕ → ℕ → Bool → Option (List ℕ) → Option ℕ

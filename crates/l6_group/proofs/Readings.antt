@@ -14,7 +14,8 @@ with_read front others = option_map (λ all. front ++ all) others
 -- an element from a place on: the character there is read as this, and then come those behind it
 pub read_on : (read : ℕ → Option ℕ) (element : List ℕ) (place one : ℕ) → place < length element →
     is_blank (get_or element place 0) ≡ false → read (get_or element place 0) ≡ Some one →
-    each_read read (drop place element) ≡ onto_read (Some one) (each_read read (drop (place + 1) element))
+    each_read read (drop place element) ≡ onto_read (Some one)
+    (each_read read (drop (place + 1) element))
 read_on read element place one within blank known =
     ap (each_read read) (drop-cons element place 0 within)
     ∙ rw (blank, known, add-one) refl
@@ -27,7 +28,8 @@ long_chain (bug ∷ fields) many =
     rw (and_right (leb first_letter bug) (leb (length (bug ∷ fields)) most_names) long) refl
 
 -- as many names as a chain may have, and one more, are no chain, whatever follows
-pub too_many_names : (front : List ℕ) (name : ℕ) (others : Option (List ℕ)) → length front ≡ most_names →
+pub too_many_names : (front : List ℕ) (name : ℕ) (others : Option (List ℕ)) →
+    length front ≡ most_names →
     option_and_then chain_from (with_read front (onto_read (Some name) others)) ≡ None
 too_many_names front name None full = refl
 too_many_names front name (Some names) full =

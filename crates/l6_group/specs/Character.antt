@@ -1,5 +1,5 @@
 -- The characters of an element.
-use Rattle.std.specs.Prelude.{ℕ, ◌+◌, ◌-◌, ◌==◌, ◌||◌, not, Bool, List, [], ◌∷◌, map, filter, Option, Some, None, if◌then◌else◌}
+use Rattle.std.specs.Prelude.{ℕ, ◌+◌, ◌-◌, ◌==◌, ◌||◌, not, Bool, List, map, filter, Option, Some, None, if◌then◌else◌}
 use Rattle.std.specs.Int.{is_in_range}
 use Rattle.std.specs.Str.{byte}
 use Rattle.l6_word.specs.Code.{character_of}
@@ -21,11 +21,16 @@ is_alphanumeric character = is_capital character || is_in_range (byte "0") (byte
 abbrev pub is_letter : ℕ → Bool
 is_letter given = is_capital (character_of given)
 
+-- the byte is read as a letter or a digit
+abbrev pub is_letter_or_digit : ℕ → Bool
+is_letter_or_digit given = is_alphanumeric (character_of given)
+
 -- the name that a character spells: a digit or a letter
 abbrev pub name_from : ℕ → Option ℕ
 name_from character =
     if is_in_range (byte "0") (byte "9") character then Some (character - byte "0")
-    else if is_in_range (byte "A") (byte "Z") character then Some (character - byte "A" + first_letter)
+    else if is_in_range (byte "A") (byte "Z") character then Some
+    (character - byte "A" + first_letter)
     else None
 
 -- the name that a byte is read as

@@ -14,7 +14,8 @@ begins_with_capital (first ∷ rest) = is_capital first
 abbrev pub is_plain_exit : List ℕ → Bool
 is_plain_exit characters = bytes_eq (codes "DONE") characters || bytes_eq (codes "FAIL") characters
 
--- the characters are a label: not too many letters and digits, the first a letter; DONE and FAIL are none
+-- the characters are a label: not too many letters and digits, the first a letter; DONE and FAIL
+-- are none
 abbrev pub is_label : List ℕ → Bool
 is_label characters =
     nat_le (length characters) most_label_characters && not (is_plain_exit characters)

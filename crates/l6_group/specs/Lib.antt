@@ -7,4 +7,5 @@ pub mod Label
 pub mod Value
 pub mod Test
 pub mod Operation
+pub mod Word
 pub mod inner

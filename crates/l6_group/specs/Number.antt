@@ -25,9 +25,11 @@ each_read read (first ∷ rest) =
 -- the digit that a byte is, below the base
 abbrev pub digit_of : ℕ → ℕ → Option ℕ
 digit_of base given =
-    if nat_le (byte "0") given && nat_lt given (byte "0" + base) then Some (given - byte "0") else None
+    if nat_le (byte "0") given && nat_lt given (byte "0" + base) then Some
+    (given - byte "0") else None
 
--- the digits write a number to the base that a word can hold: there is one, and the number is not too large
+-- the digits write a number to the base that a word can hold: there is one, and the number is not
+-- too large
 abbrev pub is_number : ℕ → List ℕ → Bool
 is_number base digits =
     nat_lt 0 (length digits) && nat_lt (number_from_digits base digits) (2 ^ word_bits)

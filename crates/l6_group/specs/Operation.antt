@@ -150,7 +150,8 @@ definition verb word first last = do
 abbrev pub spellings_of_five : List (Line (List ℕ → List ℕ → List ℕ → List ℕ → Option (Op Label)))
 spellings_of_five =
     "GT" means four chain_of operand_of chain_if_given label_of (λ c v d l. op.Get c v d (Some l))
-    ∷ "DP" means four chain_of operand_of nothing_given label_of (λ c v n l. op.Duplicate c v (Some l))
+    ∷ "DP" means four chain_of operand_of nothing_given label_of
+    (λ c v n l. op.Duplicate c v (Some l))
     ∷ []
 
 -- the operation of one element, and of two to five

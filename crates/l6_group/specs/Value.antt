@@ -7,7 +7,8 @@ use Rattle.l6_group.specs.Element.{operand_of}
 use Rattle.l6_group.specs.Number.{octal_of, text_of}
 use Rattle.l6_group.specs.Spelling.{Line, ◌means◌, find_spelled, ◌>>=◌}
 
--- a suffix only spells the value another way: none a chain or a decimal number, O an octal number, H a text
+-- a suffix only spells the value another way: none a chain or a decimal number, O an octal number,
+-- H a text
 abbrev pub suffixes : List (Line (List ℕ → Option Operand))
 suffixes =
     "" means operand_of

@@ -15,7 +15,7 @@ pub const MAX_LABEL_CHARACTERS: usize = 6;
 
 /// What names a statement in a deck: a capital letter, and up to 5 capital letters or digits behind
 /// it. `DONE` and `FAIL` are no labels.
-#[derive(Debug, Drop)]
+#[derive(Debug, Drop, PartialEq, Eq, Hash)]
 pub struct Label {
     characters: ArrayVec<u8, MAX_LABEL_CHARACTERS>,
 }

@@ -10,6 +10,7 @@ mod operation;
 mod spelling;
 mod test;
 mod value;
+mod word;
 
 pub use element::{is_blank, is_letter};
 pub use label::{Label, MAX_LABEL_CHARACTERS, label_of};
@@ -17,3 +18,4 @@ pub use laws::labels_have_their_limit;
 pub use operation::operation_of;
 pub use spelling::spelled;
 pub use test::test_of;
+pub use word::{after_then, condition_from, exit_from};

@@ -1,8 +1,8 @@
 -- The parts of a job, and why a job is not done.
 use Rattle.std.specs.Prelude.{ℕ, List, codes}
 use Rattle.l6_card.specs.Numerals.{most_deck_bytes}
-use Rattle.l6_card.specs.declared.fault.CardFault.{CardFault}
-use Rattle.l6_card.specs.declared.fault.CardFault.TheVariants.{NoMemory}
+use Rattle.l6_asm.specs.declared.fault.AsmFault.{AsmFault}
+use Rattle.l6_asm.specs.declared.fault.AsmFault.TheVariants.{NoMemory}
 use Rattle.l6_run.specs.Numerals.{most_job_bytes}
 use Rattle.l6_run.specs.declared.fault.Part.{Part}
 use Rattle.l6_run.specs.declared.fault.Part.TheVariants.{Deck, Job}
@@ -20,6 +20,6 @@ part_text Deck = codes "deck"
 part_text Job = codes "job"
 
 -- why a job is not done whose deck was not assembled: want of memory is told as such
-abbrev pub run_fault : CardFault → RunFault
+abbrev pub run_fault : AsmFault → RunFault
 run_fault NoMemory = run.NoMemory
 run_fault fault = run.Asm fault

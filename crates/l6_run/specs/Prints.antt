@@ -2,7 +2,8 @@
 use Rattle.std.specs.Prelude.{◌≡◌, ℕ, ◌<◌, ◌≤◌, List, false, length, IsSomeAnd}
 use Rattle.l6_prog.specs.Statement.{Parts}
 use Rattle.l6_card.specs.Numerals.{most_deck_bytes}
-use Rattle.l6_card.specs.Fault.{deck_fault}
+use Rattle.l6_asm.specs.AssemblyFault.{assembly_fault}
+use Rattle.l6_asm.specs.Assembled.{Assembled}
 use Rattle.l6_asm.specs.Spells.{Spells, IsUnspelled}
 use Rattle.l6_machine.specs.Ready.{is_ready}
 use Rattle.l6_machine.specs.Run.{EndsIn}
@@ -23,23 +24,23 @@ world_under options program =
 -- be and spells a program, and a whole run of the program ends in a state with that ending and that printout
 pub record Prints (options : OptionValues) (deck : List ℕ) (ending : Ending) (text : List ℕ) : Type 0 where
   pub fits : length deck ≤ most_deck_bytes
-  pub program : List Parts
-  pub spelled : Spells deck program
+  pub assembly : Assembled
+  pub spelled : Spells deck assembly
   pub final : State
-  pub ends : EndsIn (world_under options program) final
+  pub ends : EndsIn (world_under options assembly.program) final
   pub ended : ending ≡ ending_of final.ending
   pub printed : text ≡ printout final
 
 -- the deck spells a program that is not ready
 pub record SpellsUnready (deck : List ℕ) : Type 0 where
   pub fits : length deck ≤ most_deck_bytes
-  pub program : List Parts
-  pub spelled : Spells deck program
-  pub unready : is_ready program ≡ false
+  pub assembly : Assembled
+  pub spelled : Spells deck assembly
+  pub unready : is_ready assembly.program ≡ false
 
 -- why a deck is not run: it is too long, or its fault, or the machine lacks a row for its program
 abbrev pub RefusesDeck : List ℕ → RunFault → Type 0
 RefusesDeck deck (TooLong Deck) = most_deck_bytes < length deck
-RefusesDeck deck (Asm fault) = (length deck ≤ most_deck_bytes) × IsSomeAnd (deck_fault fault) (IsUnspelled deck)
+RefusesDeck deck (Asm fault) = (length deck ≤ most_deck_bytes) × IsSomeAnd (assembly_fault fault) (IsUnspelled deck)
 RefusesDeck deck NotYet = SpellsUnready deck
 RefusesDeck deck other = ⊥

@@ -84,7 +84,10 @@ impl From<AsmFault> for RunFault {
     fn from(fault: AsmFault) -> Self {
         match fault {
             AsmFault::NoMemory => RunFault::NoMemory,
-            AsmFault::Form(_) | AsmFault::Limit(_) => RunFault::Asm(fault),
+            AsmFault::Form(_)
+            | AsmFault::Limit(_)
+            | AsmFault::TwiceLabelled(_)
+            | AsmFault::NoLabel(_) => RunFault::Asm(fault),
         }
     }
 }

@@ -11,7 +11,7 @@ use crate::fault::MAX_JOB_BYTES;
 pub fn printouts_are_determined()
     ensures { PrintsInOneWay }
 {
-    l6_card::reading_is_settled();
+    l6_asm::spelling_is_settled();
     l6_machine::runs_are_determined();
 }
 

@@ -47,11 +47,12 @@ fn printout_of(alloc: Global, options: Options, deck: &[u8]) -> Result<(Ending, 
     ensures prints { IfOk result (λ found. Prints options deck.now found.0 found.1.items) }
     ensures refuses { IfErr result (IsNoRun deck.now) }
 {
-    let program = assemble(alloc, deck)?;
-    if !ready(&program) {
+    let assembly = assemble(alloc, deck)?;
+    let program = assembly.program();
+    if !ready(program) {
         return Err(RunFault::NotYet);
     }
-    let mut machine = match Machine::new(alloc, &program, &[], options.limits()) {
+    let mut machine = match Machine::new(alloc, program, &[], options.limits()) {
         Ok(machine) => machine,
         Err(MachineFault::NoMemory) => return Err(RunFault::NoMemory),
         Err(MachineFault::BadLimits) => unreachable!(),

@@ -13,6 +13,11 @@ fn faults_are_told(rt: HostRuntime) -> Result<(), Fail> {
         (RunFault::TooLong(Part::Job), "job too long"),
         (RunFault::Asm(AsmFault::Form(3)), "card 3: no reading"),
         (RunFault::Asm(AsmFault::Limit(7)), "card 7: past a limit"),
+        (
+            RunFault::Asm(AsmFault::TwiceLabelled(8)),
+            "card 8: label given twice",
+        ),
+        (RunFault::Asm(AsmFault::NoLabel(9)), "card 9: no such label"),
         (RunFault::Asm(AsmFault::NoMemory), "out of memory"),
         (RunFault::Read(Part::Job), "read failed"),
         (RunFault::Write(80), "write failed after 80 bytes"),

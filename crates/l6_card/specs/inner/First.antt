@@ -1,23 +1,61 @@
 -- What a body begins with, as far as a reader has to know.
-use Rattle.std.specs.Prelude.{◌≡◌, ℕ, ◌<◌, ◌≤◌, Bool, true, false, List, [], ◌∷◌, length}
+use Rattle.std.specs.Prelude.{◌≡◌, ℕ, ◌<◌, ◌==◌, not, ◌&&◌, ◌||◌, Bool, true, false, List, [], ◌∷◌, ◌++◌, length, filter}
+use Rattle.std.specs.Str.{byte}
+use Rattle.l6_word.specs.inner.Split.{lacks}
+use Rattle.l6_group.specs.Character.{is_blank}
 use Rattle.l6_card.specs.declared.item.First.{First}
-use Rattle.l6_card.specs.declared.item.First.TheVariants.{End, Group, Other}
-use Rattle.l6_card.specs.Items.{Item, group, items_of}
+use Rattle.l6_card.specs.declared.item.First.TheVariants.{End, Group, Word, Other}
+use Rattle.l6_card.specs.Items.{Item, group, word, items_of}
 
--- there is a first item, and it is no group
+-- there is a first item, and it is neither a group nor a word
 abbrev pub begins_with_other : List Item → Bool
 begins_with_other [] = false
 begins_with_other (group columns ∷ items) = false
+begins_with_other (word columns ∷ items) = false
 begins_with_other (other ∷ items) = true
 
--- the body begins so: it has no item, or a group with the items of the rest behind it, or another item
+-- the columns, their blanks left out
+abbrev pub letters_of : List ℕ → List ℕ
+letters_of columns = filter (λ given. not (is_blank given)) columns
+
+-- the body begins so: it has no item, or a group or a word with the items of the rest behind it, or
+-- another item
 abbrev pub BeginsWith : First → List ℕ → Type 0
 BeginsWith End body = items_of body ≡ []
 BeginsWith (Group columns rest) body = items_of body ≡ group columns.now ∷ items_of rest.now
+BeginsWith (Word columns rest) body =
+    items_of body ≡ word (letters_of columns.now) ∷ items_of rest.now
 BeginsWith Other body = begins_with_other (items_of body) ≡ true
 
--- what follows a group in a body is shorter than the body, and the group's columns are no longer
+-- what follows a group or a word in a body is shorter than the body
 abbrev pub IsShorter : First → List ℕ → Type 0
-IsShorter End body = Unit {0}
-IsShorter (Group columns rest) body = (length columns.now ≤ length body) × (length rest.now < length body)
-IsShorter Other body = Unit {0}
+IsShorter (Group columns rest) body = length rest.now < length body
+IsShorter (Word columns rest) body = length rest.now < length body
+IsShorter _ body = Unit {0}
+
+-- columns begin with a blank
+abbrev pub begins_with_blank : List ℕ → Bool
+begins_with_blank [] = false
+begins_with_blank (column ∷ columns) = is_blank column
+
+-- columns begin with neither a blank nor a `(`
+abbrev pub begins_a_word : List ℕ → Bool
+begins_a_word [] = false
+begins_a_word (column ∷ columns) = not (is_blank column) && not (column == byte "(")
+
+-- columns begin with a `)`
+abbrev pub begins_with_closing : List ℕ → Bool
+begins_with_closing [] = false
+begins_with_closing (column ∷ columns) = column == byte ")"
+
+-- there are no columns, or the first is a parenthesis
+abbrev pub begins_with_none : List ℕ → Bool
+begins_with_none [] = true
+begins_with_none (column ∷ columns) = column == byte "(" || column == byte ")"
+
+-- the body is the columns in front of the first parenthesis, and those from there on
+pub record AreWordAndRest (body word rest : List ℕ) : Type 0 where
+  pub whole : body ≡ word ++ rest
+  pub no_opening : lacks (byte "(") word ≡ true
+  pub no_closing : lacks (byte ")") word ≡ true
+  pub rest_begins : begins_with_none rest ≡ true

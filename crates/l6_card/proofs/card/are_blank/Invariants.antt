@@ -1,6 +1,6 @@
 use Rattle.std.proofs.Common.{◌≡◌, true, take}
 use Rattle.std.specs.List.{list_all}
-use Rattle.l6_card.specs.Element.{is_blank}
+use Rattle.l6_group.specs.Character.{is_blank}
 use Rattle.l6_card.proofs.card.are_blank.Given as goal
 
 -- each column so far is a blank

@@ -6,4 +6,5 @@ use Rattle.l6_group.proofs.number.number_of.Given as goal
 -- the value so far and the digits that are left make the number
 abbrev pub invariant-loop-byte : goal.invariant-loop-byte
 invariant-loop-byte l =
-    number_after l.base l.value l.has_digit (each_read (digit_of l.base) (drop l.byte-index l.element)) ≡ number_of l.base l.element
+    number_after l.base l.value l.has_digit
+    (each_read (digit_of l.base) (drop l.byte-index l.element)) ≡ number_of l.base l.element

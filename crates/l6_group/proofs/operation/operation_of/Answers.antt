@@ -10,4 +10,5 @@ returns-in-Some-first_element-4 c =
     let fourth = c.in-Some-first_element-3 in
     let fifth = c.in-Some-first_element-4 in
     rw (first.ensures, second.ensures, third.ensures, fourth.ensures, fifth.ensures)
-    (sym (operation_from-many first.first.now second.second.now third.third.now fourth.fourth.now fifth.field-0.0.now fifth.field-0.1.now))
+    (sym (operation_from-many first.first.now second.second.now third.third.now fourth.fourth.now
+    fifth.field-0.0.now fifth.field-0.1.now))

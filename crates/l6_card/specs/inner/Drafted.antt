@@ -1,0 +1,38 @@
+-- Drafts, as a reader keeps them.
+use Rattle.std.specs.Prelude.{◌≡◌, IfSome, Result, Ok, Err, MatchResult}
+use Rattle.l6_card.specs.declared.fault.CardFault.{CardFault}
+use Rattle.l6_card.specs.declared.draft.Draft.{Draft as Kept}
+use Rattle.l6_card.specs.declared.cards.Parts.{Parts}
+use Rattle.l6_card.specs.Statement.{WrittenParts}
+use Rattle.l6_card.specs.Draft.{Draft}
+use Rattle.l6_card.specs.DeckFault.{DeckFault, deck_fault}
+
+-- the draft that a reader keeps
+abbrev pub drafted : Kept → Draft
+drafted kept =
+    record {
+      phase = kept.phase;
+      condition = kept.condition;
+      tests = kept.tests.items;
+      operations = kept.operations.items;
+      exit = kept.exit;
+    }
+
+-- the statement of these parts
+abbrev pub drafted_parts : Parts → WrittenParts
+drafted_parts parts =
+    record {
+      label = parts.label;
+      condition = parts.condition;
+      tests = parts.tests.items;
+      operations = parts.operations.items;
+      exit = parts.exit;
+    }
+
+-- a step of a reader that has this draft afterwards made it, or stopped at the objection that was
+-- met; want of memory may stop it anywhere
+abbrev pub Takes : {X : Type 0} → Result X CardFault → Draft → Result Draft DeckFault → Type 0
+Takes result draft made =
+    MatchResult result
+    (λ _. made ≡ Ok draft)
+    (λ fault. IfSome (deck_fault fault) (λ objection. made ≡ Err objection))

@@ -39,7 +39,10 @@ five-spelled = record {
   } ∷ [];
   reads = record {
     begins = refl;
-    cards = (record { draft = _; items_make = refl; whole = refl; statement_is = refl; few = lit≤ tt }, tt);
+    cards = (
+      record { draft = _; items_make = refl; whole = refl; statement_is = refl; few = lit≤ tt },
+      tt,
+    );
     fits = lit≤ tt;
   };
   whole = refl;

@@ -11,7 +11,8 @@ use Rattle.l6.specs.declared.job.Verb.TheVariants.{Run}
 use Rattle.l6.specs.Performs.{Answers, Refuses}
 
 -- why a deck was not run is why the job was not done
-pub run_refused : (verb : Verb) (options : OptionValues) (job : List ℕ) (old new : Option (List ℕ)) (fault : RunFault) →
+pub run_refused : (verb : Verb) (options : OptionValues) (job : List ℕ) (old new : Option (List ℕ))
+    (fault : RunFault) →
     Serves (Prints options job) (RefusesDeck job) old new (Err fault) →
     Serves (Answers verb options job) (Refuses verb job) old new (Err fault)
 run_refused Run options job old new (TooLong part) served = served

@@ -22,19 +22,22 @@ abbrev pub Refuses : Verb → List ℕ → RunFault → Type 0
 Refuses Run job fault = RefusesDeck job fault
 
 -- the reader gave a whole job, and this became of it
-pub record PerformsJob (verb : Verb) (options : OptionValues) (left left' taken taken' : Option (List ℕ))
+pub record PerformsJob (verb : Verb) (options : OptionValues)
+    (left left' taken taken' : Option (List ℕ))
     (result : Result Outcome RunFault) : Type 0 where
   pub job : List ℕ
   pub given : GivesPart Job left left' job
   pub served : Serves (Answers verb options job) (Refuses verb job) taken taken' result
 
 -- what became of a job: what the reader gave, and what went out for it
-abbrev pub Performs : Verb → OptionValues → Option (List ℕ) → Option (List ℕ) → Option (List ℕ) → Option (List ℕ) →
+abbrev pub Performs : Verb → OptionValues → Option (List ℕ) → Option (List ℕ) → Option (List ℕ) →
+    Option (List ℕ) →
     Result Outcome RunFault → Type 0
 Performs verb options left left' taken taken' (Err (TooLong Job)) = GivesTooMuch Job left left'
 Performs verb options left left' taken taken' (Err (Read part)) = part ≡ Job
 Performs verb options left left' taken taken' (Err NoMemory) = Unit {0}
-Performs verb options left left' taken taken' result = PerformsJob verb options left left' taken taken' result
+Performs verb options left left' taken taken' result =
+    PerformsJob verb options left left' taken taken' result
 
 -- how the reader fared: a `Read` is its one trouble, and at any other answer it had none
 abbrev pub ReaderFared : Health → Health → Result Outcome RunFault → Type 0

@@ -72,4 +72,5 @@ at_field = record start { at = record { statement = 0; action = 1 }; count = 1 }
 abbrev pub FieldTraps : Type 0
 FieldTraps =
     (state_after field_world start ≡ at_field)
-    × (state_after field_world at_field ≡ record at_field { ending = Some (halts.Trap UndefinedField) })
+    × (state_after field_world at_field
+    ≡ record at_field { ending = Some (halts.Trap UndefinedField) })

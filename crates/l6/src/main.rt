@@ -1,4 +1,4 @@
-//! The program `l6`: it runs the deck of cards that standard input gives, and prints what the run prints.
+//! The program `l6`: it runs the deck that standard input gives, and prints what the run prints.
 #![tactic(auto)]
 
 mod job;

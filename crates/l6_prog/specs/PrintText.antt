@@ -12,7 +12,9 @@ is_code code (Some given) = code == given
 
 -- the code is that of a comma or a parenthesis: no card could spell these in a text
 abbrev pub is_barred : ℕ → Bool
-is_barred code = is_code code (code_of (byte ",")) || is_code code (code_of (byte "(")) || is_code code (code_of (byte ")"))
+is_barred code =
+    is_code code (code_of (byte ",")) || is_code code (code_of (byte "("))
+    || is_code code (code_of (byte ")"))
 
 -- a text may have this code
 abbrev pub may_print : ℕ → Bool
@@ -20,4 +22,5 @@ may_print code = nat_lt code code_count && not (is_barred code)
 
 -- at least one code and not too many, each of which a text may have
 abbrev pub is_print_text : List ℕ → Bool
-is_print_text codes = nat_lt 0 (length codes) && nat_le (length codes) most_characters && list_all may_print codes
+is_print_text codes =
+    nat_lt 0 (length codes) && nat_le (length codes) most_characters && list_all may_print codes

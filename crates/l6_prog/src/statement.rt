@@ -24,7 +24,12 @@ impl Model for Statement {
 
     ghost Value = { Parts };
 
-    ghost view = { λ s. record { condition = s.condition; tests = s.tests.items; operations = s.operations.items; exit = s.exit } };
+    ghost view = { λ s. record {
+      condition = s.condition;
+      tests = s.tests.items;
+      operations = s.operations.items;
+      exit = s.exit;
+    } };
 }
 
 impl Statement {
@@ -32,7 +37,12 @@ impl Statement {
 
     /// The statement of these parts.
     pub fn new(condition: Cond, tests: Vec<Test>, operations: Vec<Op>, exit: Exit) -> Self
-        ensures { result ≡ record { condition = condition; tests = tests.items; operations = operations.items; exit = exit } }
+        ensures { result ≡ record {
+          condition = condition;
+          tests = tests.items;
+          operations = operations.items;
+          exit = exit;
+        } }
     {
         Statement {
             condition,

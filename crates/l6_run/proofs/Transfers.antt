@@ -34,7 +34,8 @@ OneTrouble-none_taken old new count bytes none some is =
 pub after_write-some : (old : Health) (count : ℕ) (bytes : List ℕ) →
     count ≢ 0 → after_write old bytes (Ok count) ≡ old
 after_write-some old count bytes some =
-    ap (λ (b : Bool). cond (b && ltb 0 (length bytes)) (after_trouble old Failed) old) (ne_eqb count 0 some)
+    ap (λ (b : Bool). cond (b && ltb 0 (length bytes)) (after_trouble old Failed) old)
+    (ne_eqb count 0 some)
 
 -- a fault of a later read, where no read before it had trouble
 pub ReaderFaredAt-after : (first second third : Health) (fault : RunFault) →
@@ -56,11 +57,13 @@ EndsReading-read_fault part old new NotYet p = absurd p
 pub Consumes-more : (a b d : Option (List ℕ)) (bytes bytes' : List ℕ) (count : ℕ) →
     Consumes a b bytes → GivesMore b d bytes bytes' count → Consumes a d bytes'
 Consumes-more a b d bytes bytes' count before more =
-    subst (Consumes a d) (sym more.appended) (Consumes-trans a b d bytes more.more before more.given)
+    subst (Consumes a d) (sym more.appended)
+    (Consumes-trans a b d bytes more.more before more.given)
 
 -- the reader gave these bytes, and then none
 pub GivesPart-at_end : (part : Part) (a b d : Option (List ℕ)) (bytes bytes' : List ℕ) (count : ℕ) →
-    length bytes ≤ limit_of part → Consumes a b bytes → GivesMore b d bytes bytes' count → count ≡ 0 →
+    length bytes ≤ limit_of part → Consumes a b bytes → GivesMore b d bytes bytes' count →
+    count ≡ 0 →
     GivesPart part a d bytes'
 GivesPart-at_end part a b d bytes bytes' count few before more none = record {
   given = Consumes-more a b d bytes bytes' count before more;
@@ -80,7 +83,8 @@ GivesAtMost-after a b d bytes n most room before more = record {
 -- what was appended stands in the front of what was read into
 pub appended-front : (old new front rest : List ℕ) (n : ℕ) →
     n ≤ length front → new ≡ old ++ take n (front ++ rest) → new ≡ old ++ take n front
-appended-front old new front rest n few is = is ∙ ap (λ l. old ++ l) (take-append-le n front rest few)
+appended-front old new front rest n few is =
+    is ∙ ap (λ l. old ++ l) (take-append-le n front rest few)
 
 -- what a write takes of the rest of a text stands after what was taken before
 pub Appends-rest : (a b d : Option (List ℕ)) (text : List ℕ) (n m : ℕ) →

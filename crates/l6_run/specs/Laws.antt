@@ -8,4 +8,5 @@ use Rattle.l6_run.specs.Prints.{Prints}
 abbrev pub PrintsInOneWay : Type 0
 PrintsInOneWay =
     (options : OptionValues) (deck : List ℕ) (ending ending' : Ending) (text text' : List ℕ) →
-    Prints options deck ending text → Prints options deck ending' text' → (ending ≡ ending') × (text ≡ text')
+    Prints options deck ending text → Prints options deck ending' text' →
+    (ending ≡ ending') × (text ≡ text')

@@ -19,7 +19,8 @@ option_values units steps output = record {
 
 -- a user may choose so
 abbrev pub is_in_range : OptionValues → Bool
-is_in_range options = nat_le 1 options.units && nat_le options.units most_units && are_allowed options.limits
+is_in_range options =
+    nat_le 1 options.units && nat_le options.units most_units && are_allowed options.limits
 
 -- what a user has who chooses nothing
 abbrev pub default_options : OptionValues

@@ -20,9 +20,11 @@ abbrev pub world_under : OptionValues → List Parts → World
 world_under options program =
     record { program = program; setting = record { limits = options.limits } }
 
--- the deck is run under these options, the run ends so, and this is its printout: the deck is no longer than it may
--- be and spells a program, and a whole run of the program ends in a state with that ending and that printout
-pub record Prints (options : OptionValues) (deck : List ℕ) (ending : Ending) (text : List ℕ) : Type 0 where
+-- the deck is run under these options, the run ends so, and this is its printout: the deck is no
+-- longer than it may be and spells a program, and a whole run of the program ends in a state with
+-- that ending and that printout
+pub record Prints (options : OptionValues) (deck : List ℕ) (ending : Ending)
+    (text : List ℕ) : Type 0 where
   pub fits : length deck ≤ most_deck_bytes
   pub assembly : Assembled
   pub spelled : Spells deck assembly
@@ -41,6 +43,7 @@ pub record SpellsUnready (deck : List ℕ) : Type 0 where
 -- why a deck is not run: it is too long, or its fault, or the machine lacks a row for its program
 abbrev pub RefusesDeck : List ℕ → RunFault → Type 0
 RefusesDeck deck (TooLong Deck) = most_deck_bytes < length deck
-RefusesDeck deck (Asm fault) = (length deck ≤ most_deck_bytes) × IsSomeAnd (assembly_fault fault) (IsUnspelled deck)
+RefusesDeck deck (Asm fault) =
+    (length deck ≤ most_deck_bytes) × IsSomeAnd (assembly_fault fault) (IsUnspelled deck)
 RefusesDeck deck NotYet = SpellsUnready deck
 RefusesDeck deck other = ⊥

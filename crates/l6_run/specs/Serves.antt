@@ -6,14 +6,16 @@ use Rattle.l6_run.specs.declared.fault.RunFault.{RunFault}
 use Rattle.l6_run.specs.declared.fault.RunFault.TheVariants.{Write, NoMemory}
 
 -- the text of the answer went out
-pub record AnswersWhole {Outcome : Type 0} (Answers : Outcome → List ℕ → Type 0) (old new : Option (List ℕ))
+pub record AnswersWhole {Outcome : Type 0} (Answers : Outcome → List ℕ → Type 0)
+    (old new : Option (List ℕ))
     (outcome : Outcome) : Type 0 where
   pub text : List ℕ
   pub answers : Answers outcome text
   pub out : Appends old new text
 
 -- just the first n bytes of the text of the answer went out, and not all of it
-pub record AnswersFront {Outcome : Type 0} (Answers : Outcome → List ℕ → Type 0) (old new : Option (List ℕ))
+pub record AnswersFront {Outcome : Type 0} (Answers : Outcome → List ℕ → Type 0)
+    (old new : Option (List ℕ))
     (n : ℕ) : Type 0 where
   pub outcome : Outcome
   pub text : List ℕ
@@ -21,8 +23,8 @@ pub record AnswersFront {Outcome : Type 0} (Answers : Outcome → List ℕ → T
   pub short : n < length text
   pub out : Appends old new (take n text)
 
--- what became of a call, by what its answers are and what refuses it: the bytes that the writer has taken, where
--- they are known, are the old ones before it and the new ones after it
+-- what became of a call, by what its answers are and what refuses it: the bytes that the writer has
+-- taken, where they are known, are the old ones before it and the new ones after it
 abbrev pub Serves : {Outcome : Type 0} → (Outcome → List ℕ → Type 0) → (RunFault → Type 0) →
     Option (List ℕ) → Option (List ℕ) → Result Outcome RunFault → Type 0
 Serves Answers Refuses old new (Ok outcome) = AnswersWhole Answers old new outcome

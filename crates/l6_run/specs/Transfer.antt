@@ -32,7 +32,8 @@ EndsReading part old new (Read which) = which ≡ part
 EndsReading part old new NoMemory = Unit {0}
 EndsReading part old new other = ⊥
 
--- the writer took the first bytes of a text and not all, and n counts them and those before, up to `u64::MAX`
+-- the writer took the first bytes of a text and not all, and n counts them and those before, up to
+-- `u64::MAX`
 pub record TakesFront (text : List ℕ) (before n : ℕ) (old new : Option (List ℕ)) : Type 0 where
   pub count : ℕ
   pub short : count < length text

@@ -24,12 +24,12 @@ pub trait Source {
     // The bytes that reads will give from here on, where they are known.
     ghost left: { Self → Option (List ℕ) };
 
-    // How often it has answered `Interrupted`, and whether it has failed: from its first `Failed` on,
-    // and for no other cause.
+    // How often it has answered `Interrupted`, and whether it has failed: from its first `Failed`
+    // on, and for no other cause.
     ghost health: { Self → Health };
 
-    /// Reads into the front of the buffer, and answers how many bytes. None come only at the end, or
-    /// where the buffer has no room.
+    /// Reads into the front of the buffer, and answers how many bytes. None come only at the end,
+    /// or where the buffer has no room.
     ///
     /// # Errors
     ///
@@ -45,8 +45,8 @@ pub trait Sink {
     // The bytes that it has taken, where they are known.
     ghost taken: { Self → Option (List ℕ) };
 
-    // How often it has answered `Interrupted`, and whether it has failed: from its first `Failed` on,
-    // or from its first write of some bytes that took none, and for no other cause.
+    // How often it has answered `Interrupted`, and whether it has failed: from its first `Failed`
+    // on, or from its first write of some bytes that took none, and for no other cause.
     ghost health: { Self → Health };
 
     /// Takes bytes from the front of `bytes`, and answers how many.
@@ -89,8 +89,8 @@ impl<T> Host<T> {
         self.device
     }
 
-    // Notes down the device's error, and answers which trouble it is. An interruption that the count
-    // has no room for is a failure.
+    // Notes down the device's error, and answers which trouble it is. An interruption that the
+    // count has no room for is a failure.
     fn note(&mut self, error: io::Error) -> Trouble
         ensures device { device_of self.new ≡ device_of self.old }
         ensures which { (result ≡ Trouble.Interrupted)

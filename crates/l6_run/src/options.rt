@@ -31,8 +31,8 @@ impl Model for Options {
 impl Options {
     ghost use Rattle.l6_run.specs.Options.{is_in_range, option_values};
 
-    /// The options, or `None` out of range: a store of 1 to 2,047 units, 0 to 1,000,000,000 steps, and 0 to
-    /// 16,777,216 bytes of output.
+    /// The options, or `None` out of range: a store of 1 to 2,047 units, 0 to 1,000,000,000 steps,
+    /// and 0 to 16,777,216 bytes of output.
     pub fn new(units: u32, steps: u64, output: usize) -> Option<Self>
         ensures valid { IsSome result ↔ (is_in_range (option_values units steps output) ≡ true) }
         ensures value { IfSome result (λ options. options ≡ option_values units steps output) }

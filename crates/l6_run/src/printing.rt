@@ -22,7 +22,8 @@ pub fn ending_of(machine: &Machine) -> Ending
     }
 }
 
-/// The line that tells how the machine's run has ended, without a line feed. The caller owes a last state.
+/// The line that tells how the machine's run has ended, without a line feed. The caller owes a last
+/// state.
 pub fn ending_line(alloc: Global, machine: &Machine) -> Result<Vec<u8>, AllocError>
     requires { is_last machine.now.world machine.now.state ≡ true }
     ensures { IfOk result (λ line. line.items ≡ ending_line machine.now.state) }

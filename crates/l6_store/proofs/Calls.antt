@@ -34,97 +34,137 @@ level_is Inside level is = cc
 level_is Free level is = cc
 
 -- what the reader of tags answers at a block
-pub first_at : (tags now : List Tag) (place : ℕ) (answer : Option ℕ) (level : ℕ) → now ≡ tags → answer ≡ level_of (tag_at now place) → answer ≡ Some level
+pub first_at : (tags now : List Tag) (place : ℕ) (answer : Option ℕ) (level : ℕ) → now ≡ tags
+    → answer ≡ level_of (tag_at now place) → answer ≡ Some level
     → tag_at tags place ≡ First level
 first_at tags now place answer level same tells some =
-    level_is (tag_at tags place) level (ap (λ (ts : List Tag). level_of (tag_at ts place)) (sym same) ∙ sym tells ∙ some)
+    level_is (tag_at tags place) level
+    (ap (λ (ts : List Tag). level_of (tag_at ts place)) (sym same) ∙ sym tells ∙ some)
 
-live_by : (words : List ℕ) (place : ℕ) (tag : Tag) → IsSome (tagged words place tag) → IsSome (level_of tag)
+live_by : (words : List ℕ) (place : ℕ) (tag : Tag) → IsSome (tagged words place tag)
+    → IsSome (level_of tag)
 live_by words place (First level) live = refl
 live_by words place Inside live = live
 live_by words place Free live = live
 
 -- where a block begins, its tag tells a level
-pub live_level : (tags : List Tag) (words : List ℕ) (place : ℕ) → IsLive (gathered tags words (length tags)) place → IsSome (level_of (tag_at tags place))
-live_level tags words place live = live_by words place (tag_at tags place) (subst (λ (b : Option (List ℕ)). IsSome b) (get-gathered tags words place) live)
+pub live_level : (tags : List Tag) (words : List ℕ) (place : ℕ)
+    → IsLive (gathered tags words (length tags)) place → IsSome (level_of (tag_at tags place))
+live_level tags words place live =
+    live_by words place (tag_at tags place)
+    (subst (λ (b : Option (List ℕ)). IsSome b) (get-gathered tags words place) live)
 
-told_live_by : (words : List ℕ) (place : ℕ) (tag : Tag) → IsSome (level_of tag) → IsSome (tagged words place tag)
+told_live_by : (words : List ℕ) (place : ℕ) (tag : Tag) → IsSome (level_of tag)
+    → IsSome (tagged words place tag)
 told_live_by words place (First level) live = refl
 told_live_by words place Inside live = live
 told_live_by words place Free live = live
 
 -- and where it tells one a block begins
-pub told_live : (tags : List Tag) (words : List ℕ) (place : ℕ) → IsSome (level_of (tag_at tags place)) → IsLive (gathered tags words (length tags)) place
+pub told_live : (tags : List Tag) (words : List ℕ) (place : ℕ)
+    → IsSome (level_of (tag_at tags place)) → IsLive (gathered tags words (length tags)) place
 told_live tags words place told =
-    subst (λ (b : Option (List ℕ)). IsSome b) (sym (get-gathered tags words place)) (told_live_by words place (tag_at tags place) told)
+    subst (λ (b : Option (List ℕ)). IsSome b) (sym (get-gathered tags words place))
+    (told_live_by words place (tag_at tags place) told)
 
-pub live_at : (units : ℕ) (tags : List Tag) (words : List ℕ) (store : Store) → store_of units tags words ≡ store
-    → (now : List Tag) (place : ℕ) (answer : Option ℕ) → now ≡ tags → answer ≡ level_of (tag_at now place) → IsLive store.blocks place → IsSome answer
+pub live_at : (units : ℕ) (tags : List Tag) (words : List ℕ) (store : Store)
+    → store_of units tags words ≡ store
+    → (now : List Tag) (place : ℕ) (answer : Option ℕ) → now ≡ tags
+    → answer ≡ level_of (tag_at now place) → IsLive store.blocks place → IsSome answer
 live_at units tags words store view now place answer same tells live =
-    subst (λ (o : Option ℕ). IsSome o) (sym (tells ∙ ap (λ (ts : List Tag). level_of (tag_at ts place)) same))
+    subst (λ (o : Option ℕ). IsSome o)
+    (sym (tells ∙ ap (λ (ts : List Tag). level_of (tag_at ts place)) same))
     (live_level tags words place (subst (λ (s : Store). IsLive s.blocks place) (sym view) live))
 
-size_by : (units : ℕ) (tags : List Tag) (words : List ℕ) → IsKept units tags words → (place : ℕ) (tag : Tag) → tag_at tags place ≡ tag
-    → option_map (λ (level : ℕ). 2 ^ level) (level_of tag) ≡ option_map (λ (block : List ℕ). length block) (tagged words place tag)
-size_by units tags words kept place (First level) is = ap (λ (n : ℕ). Some n) (sym (length_of units tags words kept place level is))
+size_by : (units : ℕ) (tags : List Tag) (words : List ℕ) → IsKept units tags words
+    → (place : ℕ) (tag : Tag) → tag_at tags place ≡ tag
+    → option_map (λ (level : ℕ). 2 ^ level) (level_of tag)
+    ≡ option_map (λ (block : List ℕ). length block) (tagged words place tag)
+size_by units tags words kept place (First level) is =
+    ap (λ (n : ℕ). Some n) (sym (length_of units tags words kept place level is))
 size_by units tags words kept place Inside is = refl
 size_by units tags words kept place Free is = refl
 
-pub size_told : (units : ℕ) (tags : List Tag) (words : List ℕ) → IsKept units tags words → (place : ℕ)
+pub size_told : (units : ℕ) (tags : List Tag) (words : List ℕ) → IsKept units tags words
+    → (place : ℕ)
     → option_map (λ (level : ℕ). 2 ^ level) (level_of (tag_at tags place))
-    ≡ option_map (λ (block : List ℕ). length block) (map.get (gathered tags words (length tags)) place)
+    ≡ option_map (λ (block : List ℕ). length block)
+    (map.get (gathered tags words (length tags)) place)
 size_told units tags words kept place =
     size_by units tags words kept place (tag_at tags place) refl
     ∙ ap (option_map (λ (block : List ℕ). length block)) (sym (get-gathered tags words place))
 
-small_by : (units : ℕ) (tags : List Tag) → AreTags units tags → (place : ℕ) (tag : Tag) → tag_at tags place ≡ tag
+small_by : (units : ℕ) (tags : List Tag) → AreTags units tags → (place : ℕ) (tag : Tag)
+    → tag_at tags place ≡ tag
     → IfSome (level_of tag) (λ level. level ≤ largest_level)
 small_by units tags were place (First level) is = (were.first place level is).small
 small_by units tags were place Inside is = tt
 small_by units tags were place Free is = tt
 
-pub small_told : (units : ℕ) (tags : List Tag) → AreTags units tags → (place : ℕ) → IfSome (level_of (tag_at tags place)) (λ level. level ≤ largest_level)
+pub small_told : (units : ℕ) (tags : List Tag) → AreTags units tags → (place : ℕ)
+    → IfSome (level_of (tag_at tags place)) (λ level. level ≤ largest_level)
 small_told units tags were place = small_by units tags were place (tag_at tags place) refl
 
 -- a block lies among the words
-pub block_within : (units : ℕ) (tags : List Tag) (words : List ℕ) → IsKept units tags words → (place level : ℕ) → tag_at tags place ≡ First level
+pub block_within : (units : ℕ) (tags : List Tag) (words : List ℕ) → IsKept units tags words
+    → (place level : ℕ) → tag_at tags place ≡ First level
     → place + 2 ^ level ≤ length words
-block_within units tags words kept place level first = omega (arith, (kept.are_tags.first place level first).within, kept.count)
+block_within units tags words kept place level first =
+    omega (arith, (kept.are_tags.first place level first).within, kept.count)
 
-pub block_told : (tags : List Tag) (words : List ℕ) (place level : ℕ) → tag_at tags place ≡ First level
-    → slice_range words place (place + 2 ^ level) ≡ block_at (gathered tags words (length tags)) place
-block_told tags words place level first = sym (ap (λ (b : Option (List ℕ)). unwrap_or b []) (tells tags words place level first))
+pub block_told : (tags : List Tag) (words : List ℕ) (place level : ℕ)
+    → tag_at tags place ≡ First level
+    → slice_range words place (place + 2 ^ level) ≡ block_at (gathered tags words (length tags))
+    place
+block_told tags words place level first =
+    sym (ap (λ (b : Option (List ℕ)). unwrap_or b []) (tells tags words place level first))
 
 -- ---- one word
-pub found_within : (units : ℕ) (tags : List Tag) (words : List ℕ) → IsKept units tags words → (place : ℕ)
+pub found_within : (units : ℕ) (tags : List Tag) (words : List ℕ) → IsKept units tags words
+    → (place : ℕ)
     → LiesIn (gathered tags words (length tags)) place → place < length words
 found_within units tags words kept place found =
     let by = told tags words found.start found.words found.is in
-    let counts : length found.words ≡ 2 ^ by.level = ap length by.is ∙ length_of units tags words kept found.start by.level by.tag in
-    omega (arith, block_within units tags words kept found.start by.level by.tag, counts, found.below)
+    let counts : length found.words ≡ 2 ^ by.level = ap length by.is
+    ∙ length_of units tags words kept found.start by.level by.tag in
+    omega (
+      arith,
+      block_within units tags words kept found.start by.level by.tag,
+      counts,
+      found.below,
+    )
 
-pub found_word : (units : ℕ) (tags : List Tag) (words : List ℕ) → IsKept units tags words → (place : ℕ)
-    → (found : LiesIn (gathered tags words (length tags)) place) → get_or words place 0 ≡ word_at place found
+pub found_word : (units : ℕ) (tags : List Tag) (words : List ℕ) → IsKept units tags words
+    → (place : ℕ)
+    → (found : LiesIn (gathered tags words (length tags)) place)
+    → get_or words place 0 ≡ word_at place found
 found_word units tags words kept place found =
     let by = told tags words found.start found.words found.is in
-    let counts : length found.words ≡ 2 ^ by.level = ap length by.is ∙ length_of units tags words kept found.start by.level by.tag in
-    let inner : place - found.start < 2 ^ by.level = omega (arith, found.from, found.below, counts) in
+    let counts : length found.words ≡ 2 ^ by.level = ap length by.is
+    ∙ length_of units tags words kept found.start by.level by.tag in
+    let inner : place - found.start < 2 ^ by.level
+    = omega (arith, found.from, found.below, counts) in
     let index : found.start + (place - found.start) ≡ place = omega (arith, found.from) in
     sym (ap (λ (b : List ℕ). get_or b (place - found.start) 0) by.is
     ∙ index-range words found.start (2 ^ by.level) (place - found.start) inner
     ∙ ap (λ (i : ℕ). get_or words i 0) index)
 
 -- what is read is that word
-pub read_word : (units : ℕ) (tags : List Tag) (words : List ℕ) → IsKept units tags words → (place value : ℕ) → value ≡ get_or words place value
-    → (found : LiesIn (gathered tags words (length tags)) place) → value % 2 ^ word_bits ≡ word_at place found
+pub read_word : (units : ℕ) (tags : List Tag) (words : List ℕ) → IsKept units tags words
+    → (place value : ℕ) → value ≡ get_or words place value
+    → (found : LiesIn (gathered tags words (length tags)) place)
+    → value % 2 ^ word_bits ≡ word_at place found
 read_word units tags words kept place value is found =
     let within = found_within units tags words kept place found in
     let zero : value ≡ get_or words place 0 = is ∙ get_or_default_zero words place value within in
-    let fits : value < 2 ^ word_bits = subst (λ (w : ℕ). w < 2 ^ word_bits) (sym zero) (All-get_or (λ word. word < 2 ^ word_bits) words place 0 within kept.are_words) in
+    let fits : value < 2 ^ word_bits
+    = subst (λ (w : ℕ). w < 2 ^ word_bits) (sym zero)
+    (All-get_or (λ word. word < 2 ^ word_bits) words place 0 within kept.are_words) in
     let whole : value % 2 ^ word_bits ≡ value = omega (arith, fits) in
     whole ∙ zero ∙ found_word units tags words kept place found
 
-pub written_kept : (units : ℕ) (tags : List Tag) (words : List ℕ) → IsKept units tags words → (place value : ℕ) → value < 2 ^ word_bits
+pub written_kept : (units : ℕ) (tags : List Tag) (words : List ℕ) → IsKept units tags words
+    → (place value : ℕ) → value < 2 ^ word_bits
     → IsKept units tags (set words place value)
 written_kept units tags words kept place value fits = record {
   some = kept.some;
@@ -134,64 +174,94 @@ written_kept units tags words kept place value fits = record {
   are_words = All-set (λ word. word < 2 ^ word_bits) words place value fits kept.are_words;
 }
 
-pub written_store : (units : ℕ) (tags : List Tag) (words : List ℕ) → IsKept units tags words → (place value : ℕ)
+pub written_store : (units : ℕ) (tags : List Tag) (words : List ℕ) → IsKept units tags words
+    → (place value : ℕ)
     → (found : LiesIn (gathered tags words (length tags)) place)
-    → store_of units tags (set words place value) ≡ with_block (store_of units tags words) found.start (set found.words (index_in place found) value)
+    → store_of units tags (set words place value) ≡ with_block (store_of units tags words)
+    found.start (set found.words (index_in place found) value)
 unfolding with_blocks
 written_store units tags words kept place value found =
     let by = told tags words found.start found.words found.is in
-    let counts : length found.words ≡ 2 ^ by.level = ap length by.is ∙ length_of units tags words kept found.start by.level by.tag in
-    let inner : place - found.start < 2 ^ by.level = omega (arith, found.from, found.below, counts) in
+    let counts : length found.words ≡ 2 ^ by.level = ap length by.is
+    ∙ length_of units tags words kept found.start by.level by.tag in
+    let inner : place - found.start < 2 ^ by.level
+    = omega (arith, found.from, found.below, counts) in
     let index : place ≡ found.start + (place - found.start) = omega (arith, found.from) in
     let changed : ChangedAt words (set words place value) (InRun found.start (2 ^ by.level))
-    = λ at outside. get_or-set_other words place at value 0 (λ same. outside (omega (arith, found.from, same), omega (arith, found.below, counts, same))) in
-    let block : slice_range (set words place value) found.start (found.start + 2 ^ by.level) ≡ set found.words (place - found.start) value
+    = λ at outside. get_or-set_other words place at value 0
+    (λ same. outside
+    (omega (arith, found.from, same), omega (arith, found.below, counts, same))) in
+    let block : slice_range (set words place value) found.start (found.start + 2 ^ by.level)
+    ≡ set found.words (place - found.start) value
     = ap (λ (p : ℕ). slice_range (set words p value) found.start (found.start + 2 ^ by.level)) index
-    ∙ set_range words found.start (2 ^ by.level) (place - found.start) value (block_within units tags words kept found.start by.level by.tag) inner
+    ∙ set_range words found.start (2 ^ by.level) (place - found.start) value
+    (block_within units tags words kept found.start by.level by.tag) inner
     ∙ ap (λ (b : List ℕ). set b (place - found.start) value) (sym by.is) in
     ap (with_blocks units)
-    (changed_block units tags words (set words place value) kept.are_tags kept.count (length-set words place value) found.start by.level by.tag changed
+    (changed_block units tags words (set words place value) kept.are_tags kept.count
+    (length-set words place value) found.start by.level by.tag changed
     ∙ ap (map.insert (gathered tags words (length tags)) found.start) block)
 
 -- ---- a block
-words_by : (bits : ℕ) (old new : List ℕ) → length new ≡ length old → All (λ word. word < 2 ^ bits) old
-    → ((at : ℕ) → at < length new → (get_or new at 0 ≡ 0) ⊎ ((from : ℕ) × (from < length old) × (get_or new at 0 ≡ get_or old from 0)))
+words_by : (bits : ℕ) (old new : List ℕ) → length new ≡ length old
+    → All (λ word. word < 2 ^ bits) old
+    → ((at : ℕ) → at < length new
+    → (get_or new at 0 ≡ 0)
+    ⊎ ((from : ℕ) × (from < length old) × (get_or new at 0 ≡ get_or old from 0)))
     → All (λ word. word < 2 ^ bits) new
 words_by bits old new count fits each =
     All-from_get_or (λ word. word < 2 ^ bits) new 0 (λ at below.
     elim (each at below) as (λ _. get_or new at 0 < 2 ^ bits) [
       | inl zeroed ↦ omega (arith, zeroed, pow_pos bits)
-      | inr copied ↦ omega (arith, copied.2, All-get_or (λ word. word < 2 ^ bits) old copied.0 0 copied.1 fits)
+      | inr copied ↦
+          omega (arith, copied.2, All-get_or (λ word. word < 2 ^ bits) old copied.0 0 copied.1 fits)
     ])
 
-pub got_kept : (units : ℕ) (old new : List Tag) (words cleared : List ℕ) → IsKept units old words → (place level : ℕ) → level ≤ largest_level
-    → IsFreeRun old (2 ^ level) place → IsMarked old new place level → IsCleared words cleared place (2 ^ level) → IsKept units new cleared
+pub got_kept : (units : ℕ) (old new : List Tag) (words cleared : List ℕ) → IsKept units old words
+    → (place level : ℕ) → level ≤ largest_level
+    → IsFreeRun old (2 ^ level) place → IsMarked old new place level
+    → IsCleared words cleared place (2 ^ level) → IsKept units new cleared
 got_kept units old new words cleared kept place level small run marked clear = record {
   some = kept.some;
   most = kept.most;
   are_tags = marked-are_tags units old new place level kept.are_tags
-      (record { small = small; aligned = run.aligned; above = run.above; within = omega (arith, run.within, kept.are_tags.count) }) run marked;
+      (record {
+        small = small;
+        aligned = run.aligned;
+        above = run.above;
+        within = omega (arith, run.within, kept.are_tags.count);
+      }) run marked;
   count = clear.count ∙ kept.count;
   are_words = words_by word_bits words cleared clear.count kept.are_words (λ at below.
-      elim (cases_lt at place) as (λ _. (get_or cleared at 0 ≡ 0) ⊎ ((from : ℕ) × (from < length words) × (get_or cleared at 0 ≡ get_or words from 0))) [
+      elim (cases_lt at place)
+      as (λ _. (get_or cleared at 0 ≡ 0)
+      ⊎ ((from : ℕ) × (from < length words) × (get_or cleared at 0 ≡ get_or words from 0))) [
         | inl less ↦ inr (at, omega (arith, clear.count), clear.before at less)
-        | inr from ↦ elim (cases_lt at (place + 2 ^ level)) as (λ _. (get_or cleared at 0 ≡ 0) ⊎ ((from : ℕ) × (from < length words) × (get_or cleared at 0 ≡ get_or words from 0))) [
-          | inl less ↦
-              let index : at ≡ place + (at - place) = omega arith in
-              inl (ap (λ (i : ℕ). get_or cleared i 0) index ∙ clear.zeros (at - place) (omega arith))
-          | inr past ↦ inr (at, omega (arith, clear.count), clear.behind at past)
-        ]
+        | inr from ↦ elim (cases_lt at (place + 2 ^ level))
+            as (λ _. (get_or cleared at 0 ≡ 0)
+            ⊎ ((from : ℕ) × (from < length words) × (get_or cleared at 0 ≡ get_or words from 0))) [
+              | inl less ↦
+                  let index : at ≡ place + (at - place) = omega arith in
+                  inl (ap (λ (i : ℕ). get_or cleared i 0) index
+                  ∙ clear.zeros (at - place) (omega arith))
+              | inr past ↦ inr (at, omega (arith, clear.count), clear.behind at past)
+            ]
       ]);
 }
 
-pub got_store : (units : ℕ) (old new : List Tag) (words cleared : List ℕ) → IsKept units old words → (place level : ℕ)
-    → IsFreeRun old (2 ^ level) place → IsMarked old new place level → IsCleared words cleared place (2 ^ level)
+pub got_store : (units : ℕ) (old new : List Tag) (words cleared : List ℕ) → IsKept units old words
+    → (place level : ℕ)
+    → IsFreeRun old (2 ^ level) place → IsMarked old new place level
+    → IsCleared words cleared place (2 ^ level)
     → store_of units new cleared ≡ after_get scan_rule (store_of units old words) level (Some place)
 unfolding with_blocks
 got_store units old new words cleared kept place level run marked clear =
-    ap (with_blocks units) (got_block units old new words cleared kept.are_tags kept.count place level run marked clear)
+    ap (with_blocks units)
+    (got_block units old new words cleared kept.are_tags kept.count place level run marked
+    clear)
 
-pub freed_kept : (units : ℕ) (old new : List Tag) (words : List ℕ) → IsKept units old words → (place level : ℕ) → tag_at old place ≡ First level
+pub freed_kept : (units : ℕ) (old new : List Tag) (words : List ℕ) → IsKept units old words
+    → (place level : ℕ) → tag_at old place ≡ First level
     → IsFilled old new place (2 ^ level) Free → IsKept units new words
 freed_kept units old new words kept place level first filled = record {
   some = kept.some;
@@ -201,8 +271,10 @@ freed_kept units old new words kept place level first filled = record {
   are_words = kept.are_words;
 }
 
-pub freed_store : (units : ℕ) (old new : List Tag) (words : List ℕ) → IsKept units old words → (place level : ℕ) → tag_at old place ≡ First level
-    → IsFilled old new place (2 ^ level) Free → store_of units new words ≡ after_free scan_rule (store_of units old words) place
+pub freed_store : (units : ℕ) (old new : List Tag) (words : List ℕ) → IsKept units old words
+    → (place level : ℕ) → tag_at old place ≡ First level
+    → IsFilled old new place (2 ^ level) Free
+    → store_of units new words ≡ after_free scan_rule (store_of units old words) place
 unfolding with_blocks
 freed_store units old new words kept place level first filled =
     ap (with_blocks units) (freed_block units old new words kept.are_tags place level first filled)
@@ -218,27 +290,37 @@ same_power one other same =
       ]
     ]
 
-level_by : (units : ℕ) (tags : List Tag) (words : List ℕ) → IsKept units tags words → (to level : ℕ) (tag : Tag) → tag_at tags to ≡ tag
-    → IsSome (tagged words to tag) → length (block_at (gathered tags words (length tags)) to) ≡ 2 ^ level → tag ≡ First level
+level_by : (units : ℕ) (tags : List Tag) (words : List ℕ) → IsKept units tags words
+    → (to level : ℕ) (tag : Tag) → tag_at tags to ≡ tag
+    → IsSome (tagged words to tag)
+    → length (block_at (gathered tags words (length tags)) to) ≡ 2 ^ level → tag ≡ First level
 level_by units tags words kept to level (First k) is live size =
-    let sizes : 2 ^ k ≡ 2 ^ level = sym (length_of units tags words kept to k is) ∙ ap length (block_told tags words to k is) ∙ size in
+    let sizes : 2 ^ k ≡ 2 ^ level = sym (length_of units tags words kept to k is)
+    ∙ ap length (block_told tags words to k is) ∙ size in
     ap (λ (l : ℕ). First l) (same_power k level sizes)
 level_by units tags words kept to level Inside is live size = cc
 level_by units tags words kept to level Free is live size = cc
 
-pub same_level : (units : ℕ) (tags : List Tag) (words : List ℕ) (store : Store) → store_of units tags words ≡ store → IsKept units tags words
+pub same_level : (units : ℕ) (tags : List Tag) (words : List ℕ) (store : Store)
+    → store_of units tags words ≡ store → IsKept units tags words
     → (from to level : ℕ) → tag_at tags from ≡ First level → IsLive store.blocks to
-    → length (block_at store.blocks from) ≡ length (block_at store.blocks to) → tag_at tags to ≡ First level
+    → length (block_at store.blocks from) ≡ length (block_at store.blocks to)
+    → tag_at tags to ≡ First level
 same_level units tags words store view kept from to level first live same =
-    let here : length (block_at (gathered tags words (length tags)) from) ≡ length (block_at (gathered tags words (length tags)) to)
-    = subst (λ (s : Store). length (block_at s.blocks from) ≡ length (block_at s.blocks to)) (sym view) same in
+    let here : length (block_at (gathered tags words (length tags)) from)
+    ≡ length (block_at (gathered tags words (length tags)) to)
+    = subst (λ (s : Store). length (block_at s.blocks from) ≡ length (block_at s.blocks to))
+    (sym view) same in
     let size : length (block_at (gathered tags words (length tags)) to) ≡ 2 ^ level
-    = sym here ∙ sym (ap length (block_told tags words from level first)) ∙ length_of units tags words kept from level first in
-    let there : IsSome (map.get (gathered tags words (length tags)) to) = subst (λ (s : Store). IsLive s.blocks to) (sym view) live in
+    = sym here ∙ sym (ap length (block_told tags words from level first))
+    ∙ length_of units tags words kept from level first in
+    let there : IsSome (map.get (gathered tags words (length tags)) to)
+    = subst (λ (s : Store). IsLive s.blocks to) (sym view) live in
     level_by units tags words kept to level (tag_at tags to) refl
     (subst (λ (b : Option (List ℕ)). IsSome b) (get-gathered tags words to) there) size
 
-pub copied_kept : (units : ℕ) (tags : List Tag) (words new : List ℕ) → IsKept units tags words → (from to size : ℕ) → from + size ≤ length words
+pub copied_kept : (units : ℕ) (tags : List Tag) (words new : List ℕ) → IsKept units tags words
+    → (from to size : ℕ) → from + size ≤ length words
     → IsCopied words new from to size → IsKept units tags new
 copied_kept units tags words new kept from to size within copied = record {
   some = kept.some;
@@ -246,20 +328,32 @@ copied_kept units tags words new kept from to size within copied = record {
   are_tags = kept.are_tags;
   count = copied.count ∙ kept.count;
   are_words = words_by word_bits words new copied.count kept.are_words (λ at below.
-      elim (cases_lt at to) as (λ _. (get_or new at 0 ≡ 0) ⊎ ((from : ℕ) × (from < length words) × (get_or new at 0 ≡ get_or words from 0))) [
+      elim (cases_lt at to)
+      as (λ _. (get_or new at 0 ≡ 0)
+      ⊎ ((from : ℕ) × (from < length words) × (get_or new at 0 ≡ get_or words from 0))) [
         | inl less ↦ inr (at, omega (arith, copied.count), copied.before at less)
-        | inr after ↦ elim (cases_lt at (to + size)) as (λ _. (get_or new at 0 ≡ 0) ⊎ ((from : ℕ) × (from < length words) × (get_or new at 0 ≡ get_or words from 0))) [
-          | inl less ↦
-              let index : at ≡ to + (at - to) = omega arith in
-              inr (from + (at - to), omega arith, ap (λ (i : ℕ). get_or new i 0) index ∙ copied.copied (at - to) (omega arith))
-          | inr past ↦ inr (at, omega (arith, copied.count), copied.behind at past)
-        ]
+        | inr after ↦ elim (cases_lt at (to + size))
+            as (λ _. (get_or new at 0 ≡ 0)
+            ⊎ ((from : ℕ) × (from < length words) × (get_or new at 0 ≡ get_or words from 0))) [
+              | inl less ↦
+                  let index : at ≡ to + (at - to) = omega arith in
+                  inr (
+                    from + (at - to),
+                    omega arith,
+                    ap (λ (i : ℕ). get_or new i 0) index
+                        ∙ copied.copied (at - to) (omega arith),
+                  )
+              | inr past ↦ inr (at, omega (arith, copied.count), copied.behind at past)
+            ]
       ]);
 }
 
-pub copied_store : (units : ℕ) (tags : List Tag) (words new : List ℕ) → IsKept units tags words → (from to level : ℕ)
-    → tag_at tags from ≡ First level → tag_at tags to ≡ First level → IsCopied words new from to (2 ^ level)
-    → store_of units tags new ≡ with_block (store_of units tags words) to (block_at (gathered tags words (length tags)) from)
+pub copied_store : (units : ℕ) (tags : List Tag) (words new : List ℕ) → IsKept units tags words
+    → (from to level : ℕ)
+    → tag_at tags from ≡ First level → tag_at tags to ≡ First level
+    → IsCopied words new from to (2 ^ level)
+    → store_of units tags new ≡ with_block (store_of units tags words) to
+    (block_at (gathered tags words (length tags)) from)
 unfolding with_blocks
 copied_store units tags words new kept from to level first second copied =
     let within = block_within units tags words kept from level first in
@@ -267,15 +361,19 @@ copied_store units tags words new kept from to level first second copied =
     let changed : ChangedAt words new (InRun to (2 ^ level)) = λ at outside.
     elim (cases_lt at to) as (λ _. get_or new at 0 ≡ get_or words at 0) [
       | inl less ↦ copied.before at less
-      | inr after ↦ elim (cases_lt at (to + 2 ^ level)) as (λ _. get_or new at 0 ≡ get_or words at 0) [
-        | inl less ↦ absurd (outside (after, less))
-        | inr past ↦ copied.behind at past
-      ]
+      | inr after ↦ elim (cases_lt at (to + 2 ^ level))
+          as (λ _. get_or new at 0 ≡ get_or words at 0) [
+            | inl less ↦ absurd (outside (after, less))
+            | inr past ↦ copied.behind at past
+          ]
     ] in
-    let block : slice_range new to (to + 2 ^ level) ≡ block_at (gathered tags words (length tags)) from
-    = same_range new words to from (2 ^ level) (omega (arith, within_to, copied.count)) within copied.copied ∙ block_told tags words from level first in
+    let block : slice_range new to (to + 2 ^ level) ≡ block_at (gathered tags words (length tags))
+    from
+    = same_range new words to from (2 ^ level) (omega (arith, within_to, copied.count)) within
+    copied.copied ∙ block_told tags words from level first in
     ap (with_blocks units)
-    (changed_block units tags words new kept.are_tags kept.count copied.count to level second changed
+    (changed_block units tags words new kept.are_tags kept.count copied.count to level second
+    changed
     ∙ ap (map.insert (gathered tags words (length tags)) to) block)
 
 -- ---- no block
@@ -287,25 +385,33 @@ all_free tags n is at =
       | inr past ↦ get_or_past (replicate n Free) at Free (omega (arith, length-replicate n Free))
     ]
 
-pub empty_kept : (units n : ℕ) (tags : List Tag) (words : List ℕ) → 1 ≤ units → units ≤ most_units → n ≡ end_of units → tags ≡ replicate n Free
-    → length words ≡ end_of units → All (λ word. word < 2 ^ word_bits) words → IsKept units tags words
+pub empty_kept : (units n : ℕ) (tags : List Tag) (words : List ℕ) → 1 ≤ units → units ≤ most_units
+    → n ≡ end_of units → tags ≡ replicate n Free
+    → length words ≡ end_of units → All (λ word. word < 2 ^ word_bits) words
+    → IsKept units tags words
 empty_kept units n tags words some most count is words_count fits = record {
   some = some;
   most = most;
-  are_tags = no_tags units tags (ap length is ∙ length-replicate n Free ∙ count) (all_free tags n is);
+  are_tags = no_tags units tags (ap length is ∙ length-replicate n Free ∙ count)
+      (all_free tags n is);
   count = words_count;
   are_words = fits;
 }
 
-pub made_kept : (units n : ℕ) (tags : List Tag) (words : List ℕ) → 1 ≤ units → units ≤ most_units → n ≡ end_of units → tags ≡ replicate n Free
+pub made_kept : (units n : ℕ) (tags : List Tag) (words : List ℕ) → 1 ≤ units → units ≤ most_units
+    → n ≡ end_of units → tags ≡ replicate n Free
     → words ≡ replicate n 0 → IsKept units tags words
 made_kept units n tags words some most count is zeros =
-    empty_kept units n tags words some most count is (ap length zeros ∙ length-replicate n 0 ∙ count)
-    (All-same (λ word. word < 2 ^ word_bits) words (replicate n 0) zeros (All-replicate (λ word. word < 2 ^ word_bits) n 0 (pow_pos word_bits)))
+    empty_kept units n tags words some most count is
+    (ap length zeros ∙ length-replicate n 0 ∙ count)
+    (All-same (λ word. word < 2 ^ word_bits) words (replicate n 0) zeros
+    (All-replicate (λ word. word < 2 ^ word_bits) n 0 (pow_pos word_bits)))
 
-pub empty_store : (units n : ℕ) (tags : List Tag) (words : List ℕ) → tags ≡ replicate n Free → store_of units tags words ≡ fresh scan_rule units
+pub empty_store : (units n : ℕ) (tags : List Tag) (words : List ℕ) → tags ≡ replicate n Free
+    → store_of units tags words ≡ fresh scan_rule units
 unfolding with_blocks
-empty_store units n tags words is = ap (with_blocks units) (no_blocks tags words (all_free tags n is))
+empty_store units n tags words is =
+    ap (with_blocks units) (no_blocks tags words (all_free tags n is))
 
 -- the places of a new store
 pub made_count : (units unit : ℕ) → unit ≡ unit_size → (units + 1) * unit ≡ end_of units

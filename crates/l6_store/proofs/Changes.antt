@@ -14,17 +14,20 @@ pub data Change (old new : List Tag) (place size at : ℕ) : Type 0 where
   as_before : tag_at new at ≡ tag_at old at → Change old new place size at
   in_run : place ≤ at → at < place + size → Change old new place size at
 
-pub marked_change : (old new : List Tag) (place level : ℕ) → IsMarked old new place level → (at : ℕ) → Change old new place (2 ^ level) at
+pub marked_change : (old new : List Tag) (place level : ℕ) → IsMarked old new place level → (at : ℕ)
+    → Change old new place (2 ^ level) at
 marked_change old new place level marked at =
     elim (cases_lt at place) as (λ _. Change old new place (2 ^ level) at) [
       | inl less ↦ as_before (marked.before at less)
-      | inr from ↦ elim (cases_lt at (place + 2 ^ level)) as (λ _. Change old new place (2 ^ level) at) [
-        | inl less ↦ in_run from less
-        | inr past ↦ as_before (marked.behind at past)
-      ]
+      | inr from ↦ elim (cases_lt at (place + 2 ^ level))
+          as (λ _. Change old new place (2 ^ level) at) [
+            | inl less ↦ in_run from less
+            | inr past ↦ as_before (marked.behind at past)
+          ]
     ]
 
-pub unmarked_change : (old new : List Tag) (place size : ℕ) → IsFilled old new place size Free → (at : ℕ) → Change old new place size at
+pub unmarked_change : (old new : List Tag) (place size : ℕ) → IsFilled old new place size Free
+    → (at : ℕ) → Change old new place size at
 unmarked_change old new place size unmarked at =
     elim (cases_lt at place) as (λ _. Change old new place size at) [
       | inl less ↦ as_before (unmarked.before at less)
@@ -35,15 +38,18 @@ unmarked_change old new place size unmarked at =
     ]
 
 -- the one first place of a new block
-marked_first : (old new : List Tag) (place level : ℕ) → IsMarked old new place level → (q k : ℕ) → place ≤ q → q < place + 2 ^ level
+marked_first : (old new : List Tag) (place level : ℕ) → IsMarked old new place level → (q k : ℕ)
+    → place ≤ q → q < place + 2 ^ level
     → tag_at new q ≡ First k → (place ≡ q) × (level ≡ k)
 marked_first old new place level marked q k from before is =
     elim (cases_eq place q) as (λ _. (place ≡ q) × (level ≡ k)) [
-      | inl same ↦ let first : First level ≡ First k = sym marked.first ∙ ap (tag_at new) same ∙ is in (same, (cc))
+      | inl same ↦ let first : First level ≡ First k = sym marked.first ∙ ap (tag_at new) same
+          ∙ is in (same, (cc))
       | inr other ↦ let inside = marked.rest q (omega arith) before in cc
     ]
 
-module _ (units : ℕ) (old new : List Tag) (place level : ℕ) (were : AreTags units old) (stands : Stands units level place)
+module _ (units : ℕ) (old new : List Tag) (place level : ℕ) (were : AreTags units old)
+    (stands : Stands units level place)
     (run : IsFreeRun old (2 ^ level) place) (marked : IsMarked old new place level) where
   marked-stands : (q k : ℕ) → tag_at new q ≡ First k → Stands units k q
   marked-stands q k is =
@@ -51,10 +57,12 @@ module _ (units : ℕ) (old new : List Tag) (place level : ℕ) (were : AreTags 
         | as_before same ↦ were.first q k (sym same ∙ is)
         | in_run from before ↦
             let first = marked_first old new place level marked q k from before is in
-            subst (λ (p : ℕ). Stands units k p) first.0 (subst (λ (l : ℕ). Stands units l place) first.1 stands)
+            subst (λ (p : ℕ). Stands units k p) first.0
+            (subst (λ (l : ℕ). Stands units l place) first.1 stands)
       ]
 
-  marked-rest_of : (q k at : ℕ) → tag_at new q ≡ First k → q < at → at < q + 2 ^ k → tag_at new at ≡ Inside
+  marked-rest_of : (q k at : ℕ) → tag_at new q ≡ First k → q < at → at < q + 2 ^ k
+      → tag_at new at ≡ Inside
   marked-rest_of q k at is after before =
       elim (marked_change old new place level marked q) as (λ _. tag_at new at ≡ Inside) [
         | as_before same ↦
@@ -75,20 +83,42 @@ module _ (units : ℕ) (old new : List Tag) (place level : ℕ) (were : AreTags 
         | as_before same ↦
             let was = were.inside at (sym same ∙ is) in
             elim (marked_change old new place level marked was.place) as (λ _. IsInside new at) [
-              | as_before same_place ↦ record { place = was.place; level = was.level; is = same_place ∙ was.is; after = was.after; before = was.before }
-              | in_run from less ↦ let free = run.free was.place from less in let first = was.is in cc
+              | as_before same_place ↦
+                  record {
+                    place = was.place;
+                    level = was.level;
+                    is = same_place ∙ was.is;
+                    after = was.after;
+                    before = was.before;
+                  }
+              | in_run from less ↦ let free = run.free was.place from less in let first = was.is in
+                  cc
             ]
         | in_run from less ↦
             elim (cases_eq place at) as (λ _. IsInside new at) [
               | inl same ↦ let first = sym (ap (tag_at new) same) ∙ marked.first in cc
-              | inr other ↦ record { place = place; level = level; is = marked.first; after = omega arith; before = less }
+              | inr other ↦
+                  record {
+                    place = place;
+                    level = level;
+                    is = marked.first;
+                    after = omega arith;
+                    before = less;
+                  }
             ]
       ]
 
   pub marked-are_tags : AreTags units new
-  marked-are_tags = record { count = marked.count ∙ were.count; first = marked-stands; rest = marked-rest_of; inside = marked-inside_of }
+  marked-are_tags
+      = record {
+        count = marked.count ∙ were.count;
+        first = marked-stands;
+        rest = marked-rest_of;
+        inside = marked-inside_of;
+      }
 
-module _ (units : ℕ) (old new : List Tag) (place level : ℕ) (were : AreTags units old) (was_first : tag_at old place ≡ First level)
+module _ (units : ℕ) (old new : List Tag) (place level : ℕ) (were : AreTags units old)
+    (was_first : tag_at old place ≡ First level)
     (unmarked : IsFilled old new place (2 ^ level) Free) where
   unmarked-stands : (q k : ℕ) → tag_at new q ≡ First k → Stands units k q
   unmarked-stands q k is =
@@ -98,23 +128,34 @@ module _ (units : ℕ) (old new : List Tag) (place level : ℕ) (were : AreTags 
       ]
 
   -- another block has no place of the block that was freed
-  apart_from : (q k at : ℕ) → tag_at old q ≡ First k → tag_at new q ≡ First k → q < at → at < q + 2 ^ k → place ≤ at → at < place + 2 ^ level → ⊥
+  apart_from : (q k at : ℕ) → tag_at old q ≡ First k → tag_at new q ≡ First k → q < at
+      → at < q + 2 ^ k → place ≤ at → at < place + 2 ^ level → ⊥
   apart_from q k at was is after before from less =
       elim (cases_lt q place) as (λ _. ⊥) [
-        | inl lower ↦ absurd (omega (arith, block_apart units old were q place k level was was_first lower))
+        | inl lower ↦
+            absurd (omega (arith, block_apart units old were q place k level was was_first lower))
         | inr upper ↦ elim (cases_eq place q) as (λ _. ⊥) [
-          | inl same ↦ let free = unmarked.filled q (omega arith) (omega (arith, pow_pos level)) in cc
-          | inr other ↦ absurd (omega (arith, block_apart units old were place q level k was_first was (omega arith)))
+          | inl same ↦ let free = unmarked.filled q (omega arith) (omega (arith, pow_pos level)) in
+              cc
+          | inr other ↦
+              absurd
+              (omega (
+                arith,
+                block_apart units old were place q level k was_first was
+                    (omega arith),
+              ))
         ]
       ]
 
-  unmarked-rest_of : (q k at : ℕ) → tag_at new q ≡ First k → q < at → at < q + 2 ^ k → tag_at new at ≡ Inside
+  unmarked-rest_of : (q k at : ℕ) → tag_at new q ≡ First k → q < at → at < q + 2 ^ k
+      → tag_at new at ≡ Inside
   unmarked-rest_of q k at is after before =
       elim (unmarked_change old new place (2 ^ level) unmarked q) as (λ _. tag_at new at ≡ Inside) [
         | as_before same ↦
             let was : tag_at old q ≡ First k = sym same ∙ is in
             let inside : tag_at old at ≡ Inside = were.rest q k at was after before in
-            elim (unmarked_change old new place (2 ^ level) unmarked at) as (λ _. tag_at new at ≡ Inside) [
+            elim (unmarked_change old new place (2 ^ level) unmarked at)
+            as (λ _. tag_at new at ≡ Inside) [
               | as_before same_at ↦ same_at ∙ inside
               | in_run from less ↦ absurd (apart_from q k at was is after before from less)
             ]
@@ -126,21 +167,40 @@ module _ (units : ℕ) (old new : List Tag) (place level : ℕ) (were : AreTags 
       elim (unmarked_change old new place (2 ^ level) unmarked at) as (λ _. IsInside new at) [
         | as_before same ↦
             let was = were.inside at (sym same ∙ is) in
-            elim (unmarked_change old new place (2 ^ level) unmarked was.place) as (λ _. IsInside new at) [
-              | as_before same_place ↦ record { place = was.place; level = was.level; is = same_place ∙ was.is; after = was.after; before = was.before }
+            elim (unmarked_change old new place (2 ^ level) unmarked was.place)
+            as (λ _. IsInside new at) [
+              | as_before same_place ↦
+                  record {
+                    place = was.place;
+                    level = was.level;
+                    is = same_place ∙ was.is;
+                    after = was.after;
+                    before = was.before;
+                  }
               | in_run from less ↦
                   elim (cases_eq place was.place) as (λ _. IsInside new at) [
                     | inl there ↦
-                        let first : First level ≡ First was.level = sym was_first ∙ ap (tag_at old) there ∙ was.is in
+                        let first : First level ≡ First was.level = sym was_first
+                        ∙ ap (tag_at old) there ∙ was.is in
                         let levels : level ≡ was.level = cc in
                         let power : 2 ^ level ≡ 2 ^ was.level = ap (λ (l : ℕ). 2 ^ l) levels in
-                        let free = unmarked.filled at (omega (arith, was.after)) (omega (arith, was.before, power, there)) in
+                        let free
+                        = unmarked.filled at (omega (arith, was.after))
+                        (omega (arith, was.before, power, there)) in
                         cc
-                    | inr other ↦ let inside = were.rest place level was.place was_first (omega arith) less in let first = was.is in cc
+                    | inr other ↦
+                        let inside = were.rest place level was.place was_first (omega arith) less in
+                        let first = was.is in cc
                   ]
             ]
         | in_run from less ↦ let free = unmarked.filled at from less in cc
       ]
 
   pub unmarked-are_tags : AreTags units new
-  unmarked-are_tags = record { count = unmarked.count ∙ were.count; first = unmarked-stands; rest = unmarked-rest_of; inside = unmarked-inside_of }
+  unmarked-are_tags
+      = record {
+        count = unmarked.count ∙ were.count;
+        first = unmarked-stands;
+        rest = unmarked-rest_of;
+        inside = unmarked-inside_of;
+      }

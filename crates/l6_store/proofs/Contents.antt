@@ -16,7 +16,8 @@ use Rattle.l6_store.proofs.Changes.{as_before, in_run, marked_change, unmarked_c
 
 -- a block whose words are as they were is told alike
 told_alike : (old new : List ℕ) (q : ℕ) (tag : Tag)
-    → ((k : ℕ) → tag ≡ First k → slice_range new q (q + 2 ^ k) ≡ slice_range old q (q + 2 ^ k)) → tagged new q tag ≡ tagged old q tag
+    → ((k : ℕ) → tag ≡ First k → slice_range new q (q + 2 ^ k) ≡ slice_range old q (q + 2 ^ k))
+    → tagged new q tag ≡ tagged old q tag
 told_alike old new q Free same = refl
 told_alike old new q Inside same = refl
 told_alike old new q (First k) same = ap (λ (block : List ℕ). Some block) (same k refl)
@@ -29,39 +30,57 @@ ChangedAt old new Changed = (at : ℕ) → (Changed at → ⊥) → get_or new a
 abbrev pub InRun : ℕ → ℕ → ℕ → Type 0
 InRun place size at = (place ≤ at) × (at < place + size)
 
-module _ (units : ℕ) (tags : List Tag) (were : AreTags units tags) (words new : List ℕ) (count : length words ≡ end_of units)
-    (new_count : length new ≡ length words) (place size : ℕ) (changed : ChangedAt words new (InRun place size)) where
+module _ (units : ℕ) (tags : List Tag) (were : AreTags units tags) (words new : List ℕ)
+    (count : length words ≡ end_of units)
+    (new_count : length new ≡ length words) (place size : ℕ)
+    (changed : ChangedAt words new (InRun place size)) where
   -- a block with no place in the run
-  beside : (q k : ℕ) → tag_at tags q ≡ First k → ((j : ℕ) → j < 2 ^ k → InRun place size (q + j) → ⊥)
+  beside : (q k : ℕ) → tag_at tags q ≡ First k
+      → ((j : ℕ) → j < 2 ^ k → InRun place size (q + j) → ⊥)
       → slice_range new q (q + 2 ^ k) ≡ slice_range words q (q + 2 ^ k)
   beside q k first apart =
       let stands = were.first q k first in
-      same_range new words q q (2 ^ k) (omega (arith, stands.within, new_count, count)) (omega (arith, stands.within, count))
+      same_range new words q q (2 ^ k) (omega (arith, stands.within, new_count, count))
+      (omega (arith, stands.within, count))
       (λ j below. changed (q + j) (apart j below))
 
 -- the tag of a place of another block
-pub another : (units : ℕ) (tags : List Tag) → AreTags units tags → (place level q k j : ℕ) → tag_at tags place ≡ First level → tag_at tags q ≡ First k
+pub another : (units : ℕ) (tags : List Tag) → AreTags units tags → (place level q k j : ℕ)
+    → tag_at tags place ≡ First level → tag_at tags q ≡ First k
     → q ≢ place → j < 2 ^ k → InRun place (2 ^ level) (q + j) → ⊥
 another units tags were place level q k j first is other below run =
     elim (cases_lt q place) as (λ _. ⊥) [
-      | inl lower ↦ absurd (omega (arith, run.0, run.1, block_apart units tags were q place k level is first lower))
+      | inl lower ↦
+          absurd
+          (omega (arith, run.0, run.1, block_apart units tags were q place k level is first lower))
       | inr upper ↦ let order : place < q = (omega (arith, other)) in
-          absurd (omega (arith, run.0, run.1, block_apart units tags were place q level k first is order))
+          absurd
+          (omega (
+            arith,
+            run.0,
+            run.1,
+            block_apart units tags were place q level k first is order,
+          ))
     ]
 
 -- the words of one block change
-pub changed_block : (units : ℕ) (tags : List Tag) (words new : List ℕ) → AreTags units tags → length words ≡ end_of units → length new ≡ length words
-    → (place level : ℕ) → tag_at tags place ≡ First level → ChangedAt words new (InRun place (2 ^ level))
-    → gathered tags new (length tags) ≡ map.insert (gathered tags words (length tags)) place (slice_range new place (place + 2 ^ level))
+pub changed_block : (units : ℕ) (tags : List Tag) (words new : List ℕ) → AreTags units tags
+    → length words ≡ end_of units → length new ≡ length words
+    → (place level : ℕ) → tag_at tags place ≡ First level
+    → ChangedAt words new (InRun place (2 ^ level))
+    → gathered tags new (length tags) ≡ map.insert (gathered tags words (length tags)) place
+    (slice_range new place (place + 2 ^ level))
 changed_block units tags words new were count new_count place level first changed =
     let block : List ℕ = slice_range new place (place + 2 ^ level) in
     let blocks : Blocks = gathered tags words (length tags) in
     gathered_is tags new (map.insert blocks place block) (λ q.
-    elim (cases_eq q place) as (λ _. tagged new q (tag_at tags q) ≡ map.get (map.insert blocks place block) q) [
+    elim (cases_eq q place)
+    as (λ _. tagged new q (tag_at tags q) ≡ map.get (map.insert blocks place block) q) [
       | inl same ↦
           ap (λ (p : ℕ). tagged new p (tag_at tags p)) same
           ∙ ap (tagged new place) first
-          ∙ sym (ap (map.get (map.insert blocks place block)) same ∙ get-insert_same blocks place block)
+          ∙ sym (ap (map.get (map.insert blocks place block)) same
+          ∙ get-insert_same blocks place block)
       | inr other ↦
           told_alike words new q (tag_at tags q) (λ k is.
           beside units tags were words new count new_count place (2 ^ level) changed q k is
@@ -70,7 +89,8 @@ changed_block units tags words new were count new_count place level first change
     ])
 
 -- clearing a run changes no other word
-pub changed_of : (old new : List ℕ) (place size : ℕ) → IsCleared old new place size → ChangedAt old new (InRun place size)
+pub changed_of : (old new : List ℕ) (place size : ℕ) → IsCleared old new place size
+    → ChangedAt old new (InRun place size)
 changed_of old new place size clear at outside =
     elim (cases_lt at place) as (λ _. get_or new at 0 ≡ get_or old at 0) [
       | inl less ↦ clear.before at less
@@ -81,54 +101,73 @@ changed_of old new place size clear at outside =
     ]
 
 -- no place of a block is tagged free
-not_free : (units : ℕ) (tags : List Tag) → AreTags units tags → (q k j : ℕ) → tag_at tags q ≡ First k → j < 2 ^ k → tag_at tags (q + j) ≡ Free → ⊥
+not_free : (units : ℕ) (tags : List Tag) → AreTags units tags → (q k j : ℕ)
+    → tag_at tags q ≡ First k → j < 2 ^ k → tag_at tags (q + j) ≡ Free → ⊥
 not_free units tags were q k j first below free =
     elim (cases_eq j 0) as (λ _. ⊥) [
       | inl none ↦ let there : q + j ≡ q = omega arith in let same = ap (tag_at tags) there in cc
-      | inr some ↦ let inside = were.rest q k (q + j) first (omega (arith, some)) (omega arith) in cc
+      | inr some ↦ let inside = were.rest q k (q + j) first (omega (arith, some)) (omega arith) in
+          cc
     ]
 
 -- a block is got
-pub got_block : (units : ℕ) (old new : List Tag) (words cleared : List ℕ) → AreTags units old → length words ≡ end_of units
-    → (place level : ℕ) → IsFreeRun old (2 ^ level) place → IsMarked old new place level → IsCleared words cleared place (2 ^ level)
-    → gathered new cleared (length new) ≡ map.insert (gathered old words (length old)) place (replicate (2 ^ level) 0)
+pub got_block : (units : ℕ) (old new : List Tag) (words cleared : List ℕ) → AreTags units old
+    → length words ≡ end_of units
+    → (place level : ℕ) → IsFreeRun old (2 ^ level) place → IsMarked old new place level
+    → IsCleared words cleared place (2 ^ level)
+    → gathered new cleared (length new) ≡ map.insert (gathered old words (length old)) place
+    (replicate (2 ^ level) 0)
 got_block units old new words cleared were count place level run marked clear =
     let block : List ℕ = replicate (2 ^ level) 0 in
     let blocks : Blocks = gathered old words (length old) in
     gathered_is new cleared (map.insert blocks place block) (λ q.
-    elim (cases_eq q place) as (λ _. tagged cleared q (tag_at new q) ≡ map.get (map.insert blocks place block) q) [
+    elim (cases_eq q place)
+    as (λ _. tagged cleared q (tag_at new q) ≡ map.get (map.insert blocks place block) q) [
       | inl same ↦
           ap (λ (p : ℕ). tagged cleared p (tag_at new p)) same
           ∙ ap (tagged cleared place) marked.first
-          ∙ ap (λ (b : List ℕ). Some b) (zero_range cleared place (2 ^ level) (omega (arith, run.within, clear.count, were.count, count)) clear.zeros)
-          ∙ sym (ap (map.get (map.insert blocks place block)) same ∙ get-insert_same blocks place block)
+          ∙ ap (λ (b : List ℕ). Some b)
+          (zero_range cleared place (2 ^ level)
+          (omega (arith, run.within, clear.count, were.count, count)) clear.zeros)
+          ∙ sym (ap (map.get (map.insert blocks place block)) same
+          ∙ get-insert_same blocks place block)
       | inr other ↦
-          elim (marked_change old new place level marked q) as (λ _. tagged cleared q (tag_at new q) ≡ map.get (map.insert blocks place block) q) [
+          elim (marked_change old new place level marked q)
+          as (λ _. tagged cleared q (tag_at new q) ≡ map.get (map.insert blocks place block) q) [
             | as_before is ↦
                 ap (tagged cleared q) is
                 ∙ told_alike words cleared q (tag_at old q) (λ k first.
-                beside units old were words cleared count clear.count place (2 ^ level) (changed_of words cleared place (2 ^ level) clear) q k first
-                (λ j below in_run. not_free units old were q k j first below (run.free (q + j) in_run.0 in_run.1)))
+                beside units old were words cleared count clear.count place (2 ^ level)
+                (changed_of words cleared place (2 ^ level) clear) q k first
+                (λ j below in_run. not_free units old were q k j first below
+                (run.free (q + j) in_run.0 in_run.1)))
                 ∙ sym (get-insert_other blocks place block q other ∙ get-gathered old words q)
             | in_run from below ↦
                 ap (tagged cleared q) (marked.rest q (omega (arith, other)) below)
-                ∙ sym (get-insert_other blocks place block q other ∙ get-gathered old words q ∙ ap (tagged words q) (run.free q from below))
+                ∙ sym (get-insert_other blocks place block q other ∙ get-gathered old words q
+                ∙ ap (tagged words q) (run.free q from below))
           ]
     ])
 
 -- a block is freed
-pub freed_block : (units : ℕ) (old new : List Tag) (words : List ℕ) → AreTags units old → (place level : ℕ) → tag_at old place ≡ First level
-    → IsFilled old new place (2 ^ level) Free → gathered new words (length new) ≡ map.remove (gathered old words (length old)) place
+pub freed_block : (units : ℕ) (old new : List Tag) (words : List ℕ) → AreTags units old
+    → (place level : ℕ) → tag_at old place ≡ First level
+    → IsFilled old new place (2 ^ level) Free
+    → gathered new words (length new) ≡ map.remove (gathered old words (length old)) place
 freed_block units old new words were place level first unmarked =
     let blocks : Blocks = gathered old words (length old) in
     gathered_is new words (map.remove blocks place) (λ q.
-    elim (cases_eq q place) as (λ _. tagged words q (tag_at new q) ≡ map.get (map.remove blocks place) q) [
+    elim (cases_eq q place)
+    as (λ _. tagged words q (tag_at new q) ≡ map.get (map.remove blocks place) q) [
       | inl same ↦
-          ap (tagged words q) (unmarked.filled q (omega (arith, same)) (omega (arith, same, pow_pos level)))
+          ap (tagged words q)
+          (unmarked.filled q (omega (arith, same)) (omega (arith, same, pow_pos level)))
           ∙ sym (ap (map.get (map.remove blocks place)) same ∙ get-remove_same blocks place)
       | inr other ↦
-          elim (unmarked_change old new place (2 ^ level) unmarked q) as (λ _. tagged words q (tag_at new q) ≡ map.get (map.remove blocks place) q) [
-            | as_before is ↦ ap (tagged words q) is ∙ sym (get-remove_other blocks place q other ∙ get-gathered old words q)
+          elim (unmarked_change old new place (2 ^ level) unmarked q)
+          as (λ _. tagged words q (tag_at new q) ≡ map.get (map.remove blocks place) q) [
+            | as_before is ↦ ap (tagged words q) is
+                ∙ sym (get-remove_other blocks place q other ∙ get-gathered old words q)
             | in_run from below ↦
                 ap (tagged words q) (unmarked.filled q from below)
                 ∙ sym (get-remove_other blocks place q other ∙ get-gathered old words q
@@ -137,10 +176,14 @@ freed_block units old new words were place level first unmarked =
     ])
 
 -- all places are free
-pub no_blocks : (tags : List Tag) (words : List ℕ) → ((at : ℕ) → tag_at tags at ≡ Free) → gathered tags words (length tags) ≡ map.empty
-no_blocks tags words free = gathered_is tags words map.empty (λ q. ap (tagged words q) (free q) ∙ sym (map.get-empty nat_cmp q))
+pub no_blocks : (tags : List Tag) (words : List ℕ) → ((at : ℕ) → tag_at tags at ≡ Free)
+    → gathered tags words (length tags) ≡ map.empty
+no_blocks tags words free =
+    gathered_is tags words map.empty
+    (λ q. ap (tagged words q) (free q) ∙ sym (map.get-empty nat_cmp q))
 
-pub no_tags : (units : ℕ) (tags : List Tag) → length tags ≡ end_of units → ((at : ℕ) → tag_at tags at ≡ Free) → AreTags units tags
+pub no_tags : (units : ℕ) (tags : List Tag) → length tags ≡ end_of units
+    → ((at : ℕ) → tag_at tags at ≡ Free) → AreTags units tags
 no_tags units tags count free = record {
   count = count;
   first = λ place level is. (let was = free place in cc);

@@ -15,7 +15,8 @@ last_or_below k bound below =
       | inr not_less ↦ inr (omega arith)
     ]
 
-pub all_below-holds : (bound : ℕ) (test : ℕ → Bool) → all_below bound test ≡ true → (k : ℕ) → k < bound → test k ≡ true
+pub all_below-holds : (bound : ℕ) (test : ℕ → Bool) → all_below bound test ≡ true → (k : ℕ)
+    → k < bound → test k ≡ true
 unfolding all_below
 all_below-holds zero test all k below = absurd (omega arith)
 all_below-holds (suc bound) test all k below =
@@ -25,7 +26,8 @@ all_below-holds (suc bound) test all k below =
       | inr is ↦ ap test is ∙ both.0
     ]
 
-pub all_below-made : (bound : ℕ) (test : ℕ → Bool) → ((k : ℕ) → k < bound → test k ≡ true) → all_below bound test ≡ true
+pub all_below-made : (bound : ℕ) (test : ℕ → Bool) → ((k : ℕ) → k < bound → test k ≡ true)
+    → all_below bound test ≡ true
 unfolding all_below
 all_below-made zero test each = refl
 all_below-made (suc bound) test each =
@@ -38,11 +40,13 @@ Answers bound test (Some n) = (n < bound) × (test n ≡ true) × ((k : ℕ) →
 Answers bound test None = (k : ℕ) → k < bound → test k ≡ false
 
 none_more : (bound : ℕ) (test : ℕ → Bool) (last : Bool) → test bound ≡ last
-    → ((k : ℕ) → k < bound → test k ≡ false) → Answers (suc bound) test (if last then Some bound else None)
+    → ((k : ℕ) → k < bound → test k ≡ false)
+    → Answers (suc bound) test (if last then Some bound else None)
 unfolding Answers
 none_more bound test true is none = (omega arith, is, none)
 none_more bound test false is none = λ k below.
-    elim (last_or_below k bound below) as (λ _. test k ≡ false) [ inl less ↦ none k less | inr same ↦ ap test same ∙ is ]
+    elim (last_or_below k bound below)
+    as (λ _. test k ≡ false) [ inl less ↦ none k less | inr same ↦ ap test same ∙ is ]
 
 more : (bound : ℕ) (test : ℕ → Bool) (answer : Option ℕ) → Answers bound test answer
     → Answers (suc bound) test (or_else answer (if test bound then Some bound else None))
@@ -56,7 +60,8 @@ least-answers zero test = λ k below. absurd (omega arith)
 least-answers (suc bound) test = more bound test (least bound test) (least-answers bound test)
 
 -- an answer is the only one
-pub answers-alone : (bound : ℕ) (test : ℕ → Bool) (one other : Option ℕ) → Answers bound test one → Answers bound test other → one ≡ other
+pub answers-alone : (bound : ℕ) (test : ℕ → Bool) (one other : Option ℕ) → Answers bound test one
+    → Answers bound test other → one ≡ other
 unfolding Answers
 answers-alone bound test (Some n) (Some m) one other =
     elim (cases_lt n m) as (λ _. Some n ≡ Some m) [
@@ -66,6 +71,8 @@ answers-alone bound test (Some n) (Some m) one other =
         | inr same ↦ ap (λ (k : ℕ). Some k) (omega arith)
       ]
     ]
-answers-alone bound test (Some n) None one none = let wrong = none n one.0 in let right = one.1 in cc
-answers-alone bound test None (Some n) none one = let wrong = none n one.0 in let right = one.1 in cc
+answers-alone bound test (Some n) None one none =
+    let wrong = none n one.0 in let right = one.1 in cc
+answers-alone bound test None (Some n) none one =
+    let wrong = none n one.0 in let right = one.1 in cc
 answers-alone bound test None None one other = refl

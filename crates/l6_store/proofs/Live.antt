@@ -9,12 +9,14 @@ some_of (Some words) live = refl
 some_of None live = cc
 
 -- its words
-pub live_words : (blocks : Blocks) (place : ℕ) → IsLive blocks place → map.get blocks place ≡ Some (block_at blocks place)
+pub live_words : (blocks : Blocks) (place : ℕ) → IsLive blocks place
+    → map.get blocks place ≡ Some (block_at blocks place)
 live_words blocks place live = some_of (map.get blocks place) live
 
 -- how many they are, by what `live` answers
 pub live_size : (blocks : Blocks) (place level : ℕ) → IsLive blocks place
-    → option_map (λ (k : ℕ). 2 ^ k) (Some level) ≡ option_map (λ (words : List ℕ). length words) (map.get blocks place)
+    → option_map (λ (k : ℕ). 2 ^ k) (Some level) ≡ option_map (λ (words : List ℕ). length words)
+    (map.get blocks place)
     → length (block_at blocks place) ≡ 2 ^ level
 live_size blocks place level live size =
     let told : Some (2 ^ level) ≡ Some (length (block_at blocks place))
@@ -22,6 +24,13 @@ live_size blocks place level live size =
     cc
 
 -- and that their places lie in it
-pub lies_in : (blocks : Blocks) (place index : ℕ) → IsLive blocks place → index < length (block_at blocks place) → LiesIn blocks (place + index)
+pub lies_in : (blocks : Blocks) (place index : ℕ) → IsLive blocks place
+    → index < length (block_at blocks place) → LiesIn blocks (place + index)
 lies_in blocks place index live below =
-    record { start = place; words = block_at blocks place; is = live_words blocks place live; from = omega arith; below = omega arith }
+    record {
+      start = place;
+      words = block_at blocks place;
+      is = live_words blocks place live;
+      from = omega arith;
+      below = omega arith;
+    }

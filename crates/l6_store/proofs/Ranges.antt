@@ -4,22 +4,28 @@ use Rattle.std.proofs.lemmas.List.{length-take-le, length-drop, get_or-take, get
 use Rattle.std.proofs.lemmas.Bool.{cases_eq}
 use Rattle.std.proofs.lemmas.Grind.{same_number_lists}
 
-pub length-range : (words : List ℕ) (place size : ℕ) → place + size ≤ length words → length (slice_range words place (place + size)) ≡ size
+pub length-range : (words : List ℕ) (place size : ℕ) → place + size ≤ length words
+    → length (slice_range words place (place + size)) ≡ size
 length-range words place size within =
     let counts : place + size - place ≡ size = omega arith in
-    length-take-le (place + size - place) (drop place words) (omega (arith, length-drop place words)) ∙ counts
+    length-take-le (place + size - place) (drop place words)
+    (omega (arith, length-drop place words)) ∙ counts
 
-pub index-range : (words : List ℕ) (place size k : ℕ) → k < size → get_or (slice_range words place (place + size)) k 0 ≡ get_or words (place + k) 0
+pub index-range : (words : List ℕ) (place size k : ℕ) → k < size
+    → get_or (slice_range words place (place + size)) k 0 ≡ get_or words (place + k) 0
 index-range words place size k below =
-    get_or-take (place + size - place) (drop place words) k 0 (omega arith) ∙ get_or-drop place words k 0
+    get_or-take (place + size - place) (drop place words) k 0 (omega arith)
+    ∙ get_or-drop place words k 0
 
 -- two parts are equal where each word is
-pub same_range : (one other : List ℕ) (place there size : ℕ) → place + size ≤ length one → there + size ≤ length other
+pub same_range : (one other : List ℕ) (place there size : ℕ) → place + size ≤ length one
+    → there + size ≤ length other
     → ((k : ℕ) → k < size → get_or one (place + k) 0 ≡ get_or other (there + k) 0)
     → slice_range one place (place + size) ≡ slice_range other there (there + size)
 same_range one other place there size within within_other each =
     let counts = length-range one place size within in
-    same_number_lists (slice_range one place (place + size)) (slice_range other there (there + size))
+    same_number_lists (slice_range one place (place + size))
+    (slice_range other there (there + size))
     (counts ∙ sym (length-range other there size within_other))
     (λ k below.
     index-range one place size k (omega arith)
@@ -27,7 +33,8 @@ same_range one other place there size within within_other each =
     ∙ sym (index-range other there size k (omega arith)))
 
 pub zero_range : (words : List ℕ) (place size : ℕ) → place + size ≤ length words
-    → ((k : ℕ) → k < size → get_or words (place + k) 0 ≡ 0) → slice_range words place (place + size) ≡ replicate size 0
+    → ((k : ℕ) → k < size → get_or words (place + k) 0 ≡ 0)
+    → slice_range words place (place + size) ≡ replicate size 0
 zero_range words place size within each =
     let counts = length-range words place size within in
     same_number_lists (slice_range words place (place + size)) (replicate size 0)
@@ -39,21 +46,27 @@ zero_range words place size within each =
 
 -- a word written into a part
 pub set_range : (words : List ℕ) (place size k value : ℕ) → place + size ≤ length words → k < size
-    → slice_range (set words (place + k) value) place (place + size) ≡ set (slice_range words place (place + size)) k value
+    → slice_range (set words (place + k) value) place (place + size)
+    ≡ set (slice_range words place (place + size)) k value
 set_range words place size k value within below =
     let there : place + k < length words = omega arith in
-    let longer : place + size ≤ length (set words (place + k) value) = omega (arith, length-set words (place + k) value) in
+    let longer : place + size ≤ length (set words (place + k) value)
+    = omega (arith, length-set words (place + k) value) in
     let counts = length-range (set words (place + k) value) place size longer in
     let others = length-range words place size within in
-    same_number_lists (slice_range (set words (place + k) value) place (place + size)) (set (slice_range words place (place + size)) k value)
+    same_number_lists (slice_range (set words (place + k) value) place (place + size))
+    (set (slice_range words place (place + size)) k value)
     (counts ∙ sym others ∙ sym (length-set (slice_range words place (place + size)) k value))
     (λ j within_part.
     index-range (set words (place + k) value) place size j (omega arith)
-    ∙ elim (cases_eq j k) as (λ _. get_or (set words (place + k) value) (place + j) 0 ≡ get_or (set (slice_range words place (place + size)) k value) j 0) [
+    ∙ elim (cases_eq j k)
+    as (λ _. get_or (set words (place + k) value) (place + j) 0
+    ≡ get_or (set (slice_range words place (place + size)) k value) j 0) [
       | inl same ↦
           ap (λ (i : ℕ). get_or (set words (place + k) value) (place + i) 0) same
           ∙ get_or-set_same words (place + k) value 0 there
-          ∙ sym (ap (λ (i : ℕ). get_or (set (slice_range words place (place + size)) k value) i 0) same
+          ∙ sym (ap (λ (i : ℕ). get_or (set (slice_range words place (place + size)) k value) i 0)
+          same
           ∙ get_or-set_same (slice_range words place (place + size)) k value 0 (omega arith))
       | inr other ↦
           get_or-set_other words (place + k) (place + j) value 0 (λ same. other (omega arith))
@@ -62,8 +75,10 @@ set_range words place size k value within below =
     ])
 
 -- a word written beside a part
-pub set_beside : (words : List ℕ) (place size at value : ℕ) → place + size ≤ length words → ((k : ℕ) → k < size → place + k ≢ at)
+pub set_beside : (words : List ℕ) (place size at value : ℕ) → place + size ≤ length words
+    → ((k : ℕ) → k < size → place + k ≢ at)
     → slice_range (set words at value) place (place + size) ≡ slice_range words place (place + size)
 set_beside words place size at value within apart =
-    same_range (set words at value) words place place size (omega (arith, length-set words at value)) within
+    same_range (set words at value) words place place size
+    (omega (arith, length-set words at value)) within
     (λ k below. get_or-set_other words at (place + k) value 0 (apart k below))

@@ -11,32 +11,41 @@ use Rattle.l6_store.specs.declared.tag.Tag.{Tag}
 use Rattle.l6_store.specs.declared.tag.Tag.TheVariants.{Free, First, Inside}
 
 -- the first place of a new block is tagged after the others
-pub marked_of_filled : (old filled : List Tag) (place level : ℕ) → place + 2 ^ level ≤ length old → IsFilled old filled place (2 ^ level) Inside
+pub marked_of_filled : (old filled : List Tag) (place level : ℕ) → place + 2 ^ level ≤ length old
+    → IsFilled old filled place (2 ^ level) Inside
     → IsMarked old (set filled place (First level)) place level
 marked_of_filled old filled place level within is = record {
   count = length-set filled place (First level) ∙ is.count;
   first = get_or-set_same filled place (First level) Free (omega (arith, is.count, pow_pos level));
-  rest = λ at after before. get_or-set_other filled place at (First level) Free (λ same. absurd (omega arith)) ∙ is.filled at (omega arith) before;
-  before = λ at less. get_or-set_other filled place at (First level) Free (λ same. absurd (omega arith)) ∙ is.before at less;
-  behind = λ at past. get_or-set_other filled place at (First level) Free (λ same. absurd (omega (arith, pow_pos level))) ∙ is.behind at past;
+  rest = λ at after before. get_or-set_other filled place at (First level) Free
+      (λ same. absurd (omega arith)) ∙ is.filled at (omega arith) before;
+  before = λ at less. get_or-set_other filled place at (First level) Free
+      (λ same. absurd (omega arith)) ∙ is.before at less;
+  behind = λ at past. get_or-set_other filled place at (First level) Free
+      (λ same. absurd (omega (arith, pow_pos level))) ∙ is.behind at past;
 }
 
 -- the tags of a part
-tag_in : (tags : List Tag) (place size k : ℕ) → k < size → tag_at (slice_range tags place (place + size)) k ≡ tag_at tags (place + k)
+tag_in : (tags : List Tag) (place size k : ℕ) → k < size
+    → tag_at (slice_range tags place (place + size)) k ≡ tag_at tags (place + k)
 tag_in tags place size k below =
-    get_or-take (place + size - place) (drop place tags) k Free (omega arith) ∙ get_or-drop place tags k Free
+    get_or-take (place + size - place) (drop place tags) k Free (omega arith)
+    ∙ get_or-drop place tags k Free
 
-length_in : (tags : List Tag) (place size : ℕ) → place + size ≤ length tags → length (slice_range tags place (place + size)) ≡ size
+length_in : (tags : List Tag) (place size : ℕ) → place + size ≤ length tags
+    → length (slice_range tags place (place + size)) ≡ size
 length_in tags place size within =
     let counts : place + size - place ≡ size = omega arith in
-    length-take-le (place + size - place) (drop place tags) (omega (arith, length-drop place tags)) ∙ counts
+    length-take-le (place + size - place) (drop place tags) (omega (arith, length-drop place tags))
+    ∙ counts
 
 -- a unit is a whole number of blocks of each level
 unit_whole : (level : ℕ) → level ≤ largest_level → unit_size / 2 ^ level * 2 ^ level ≡ unit_size
 unit_whole level small =
     let rest : ℕ = largest_level - level in
     let sum : rest + level ≡ largest_level = omega arith in
-    let product : unit_size ≡ 2 ^ rest * 2 ^ level = ap (λ (k : ℕ). 2 ^ k) (sym sum) ∙ pow-add 2 rest level in
+    let product : unit_size ≡ 2 ^ rest * 2 ^ level = ap (λ (k : ℕ). 2 ^ k) (sym sum)
+    ∙ pow-add 2 rest level in
     ap (λ (u : ℕ). u / 2 ^ level * 2 ^ level) product
     ∙ ap (λ (q : ℕ). q * 2 ^ level) (shl-shr (2 ^ rest) level)
     ∙ sym product
@@ -47,17 +56,24 @@ multiple number level =
     ap (λ (p : ℕ). p % 2 ^ level) padded ∙ mod_low number level 0 (pow_pos level)
 
 -- the tags of a block's places are all free
-pub free_run : (tags : List Tag) (low level number size : ℕ) → unit_size ≤ low → size ≡ 2 ^ level → level ≤ largest_level → low / size ≤ number
+pub free_run : (tags : List Tag) (low level number size : ℕ) → unit_size ≤ low → size ≡ 2 ^ level
+    → level ≤ largest_level → low / size ≤ number
     → number < length tags / size
-    → ((k : ℕ) → k < length (slice_range tags (number * size) (number * size + size)) → tag_at (slice_range tags (number * size) (number * size + size)) k ≡ Free)
+    → ((k : ℕ) → k < length (slice_range tags (number * size) (number * size + size))
+    → tag_at (slice_range tags (number * size) (number * size + size)) k ≡ Free)
     → IsFreeRun tags (2 ^ level) (number * size)
 free_run tags low level number size high is small from below free =
     let some : 0 < size = omega (arith, pow_pos level, is) in
-    let whole : unit_size / size * size ≡ unit_size = ap (λ (s : ℕ). unit_size / s * s) is ∙ unit_whole level small in
-    let first : unit_size / size ≤ low / size = le-div (unit_size / size) low size some (omega (arith, whole)) in
-    let above : unit_size / size * size ≤ number * size = mul-le (unit_size / size) size number size (omega arith) (omega arith) in
-    let next : (number + 1) * size ≤ length tags / size * size = mul-le (number + 1) size (length tags / size) size (omega arith) (omega arith) in
-    let divided : length tags / size * size + length tags % size ≡ length tags = div-add-mod' (length tags) size in
+    let whole : unit_size / size * size ≡ unit_size = ap (λ (s : ℕ). unit_size / s * s) is
+    ∙ unit_whole level small in
+    let first : unit_size / size ≤ low / size
+    = le-div (unit_size / size) low size some (omega (arith, whole)) in
+    let above : unit_size / size * size ≤ number * size
+    = mul-le (unit_size / size) size number size (omega arith) (omega arith) in
+    let next : (number + 1) * size ≤ length tags / size * size
+    = mul-le (number + 1) size (length tags / size) size (omega arith) (omega arith) in
+    let divided : length tags / size * size + length tags % size ≡ length tags
+    = div-add-mod' (length tags) size in
     let fits : number * size + size ≤ length tags = omega (arith, next, divided) in
     let counts = length_in tags (number * size) size fits in
     record {
@@ -75,25 +91,30 @@ free_run tags low level number size high is small from below free =
 -- and where they are not, no block of the level stands below the next
 pub none_lower : (tags : List Tag) (level number size : ℕ) → size ≡ 2 ^ level
     → ((lower : ℕ) → lower < number * 2 ^ level → IsFreeRun tags (2 ^ level) lower → ⊥)
-    → (((k : ℕ) → k < length (slice_range tags (number * size) (number * size + size)) → tag_at (slice_range tags (number * size) (number * size + size)) k ≡ Free) → ⊥)
+    → (((k : ℕ) → k < length (slice_range tags (number * size) (number * size + size))
+    → tag_at (slice_range tags (number * size) (number * size + size)) k ≡ Free) → ⊥)
     → (lower : ℕ) → lower < (number + 1) * 2 ^ level → IsFreeRun tags (2 ^ level) lower → ⊥
 none_lower tags level number size is none taken lower below run =
     elim (cases_lt lower (number * 2 ^ level)) as (λ _. ⊥) [
       | inl less ↦ none lower less run
       | inr from ↦
           let some : 0 < 2 ^ level = pow_pos level in
-          let less : lower / 2 ^ level < number + 1 = div_below lower (2 ^ level) (number + 1) some below in
+          let less : lower / 2 ^ level < number + 1
+          = div_below lower (2 ^ level) (number + 1) some below in
           let more : number ≤ lower / 2 ^ level = le-div number lower (2 ^ level) some from in
           let number_is : lower / 2 ^ level ≡ number = omega arith in
-          let divided : lower / 2 ^ level * 2 ^ level + lower % 2 ^ level ≡ lower = div-add-mod' lower (2 ^ level) in
-          let product : lower / 2 ^ level * 2 ^ level ≡ number * 2 ^ level = ap (λ (n : ℕ). n * 2 ^ level) number_is in
+          let divided : lower / 2 ^ level * 2 ^ level + lower % 2 ^ level ≡ lower
+          = div-add-mod' lower (2 ^ level) in
+          let product : lower / 2 ^ level * 2 ^ level ≡ number * 2 ^ level
+          = ap (λ (n : ℕ). n * 2 ^ level) number_is in
           let sizes : number * size ≡ number * 2 ^ level = ap (λ (s : ℕ). number * s) is in
           let there : number * size ≡ lower = omega (arith, divided, product, sizes, run.aligned) in
           let fits : number * size + size ≤ length tags = omega (arith, run.within, is, there) in
           let counts = length_in tags (number * size) size fits in
           taken (λ k within_part.
           let inner : k < size = omega (arith, within_part, counts) in
-          tag_in tags (number * size) size k inner ∙ run.free (number * size + k) (omega (arith, there)) (omega (arith, there, is, inner)))
+          tag_in tags (number * size) size k inner
+          ∙ run.free (number * size + k) (omega (arith, there)) (omega (arith, there, is, inner)))
     ]
 
 -- below the place where the scan begins no block may stand
@@ -102,10 +123,12 @@ pub none_below : (tags : List Tag) (low level size : ℕ) → size ≡ 2 ^ level
 none_below tags low level size is full lower below run =
     let divided : low / size * size + low % size ≡ low = div-add-mod' low size in
     let sizes : low / size * size ≡ low / size * 2 ^ level = ap (λ (s : ℕ). low / size * s) is in
-    full.taken lower run.above (omega (arith, divided, sizes)) (run.free lower (omega arith) (omega (arith, pow_pos level)))
+    full.taken lower run.above (omega (arith, divided, sizes))
+    (run.free lower (omega arith) (omega (arith, pow_pos level)))
 
 -- one free place is a run of one
-one_free : (tags : List Tag) (at : ℕ) → unit_size ≤ at → at < length tags → tag_at tags at ≡ Free → IsFreeRun tags (2 ^ 0) at
+one_free : (tags : List Tag) (at : ℕ) → unit_size ≤ at → at < length tags → tag_at tags at ≡ Free
+    → IsFreeRun tags (2 ^ 0) at
 one_free tags at above below free = record {
   aligned = omega arith;
   above = above;
@@ -113,7 +136,8 @@ one_free tags at above below free = record {
   free = λ other from before. (let same : other ≡ at = omega arith in ap (tag_at tags) same ∙ free);
 }
 
-not_free_kept : (old new : List Tag) (place level at : ℕ) → IsMarked old new place level → tag_at new at ≡ Free
+not_free_kept : (old new : List Tag) (place level at : ℕ) → IsMarked old new place level
+    → tag_at new at ≡ Free
     → (at < place + 2 ^ level) → (at < place) × (tag_at old at ≡ Free)
 not_free_kept old new place level at marked free before =
     elim (cases_lt at place) as (λ _. (at < place) × (tag_at old at ≡ Free)) [
@@ -124,14 +148,17 @@ not_free_kept old new place level at marked free before =
       ]
     ]
 
-pub raised_full : (old new : List Tag) (low place level result : ℕ) → IsFull old low → IsLowest old (2 ^ level) (Some place)
+pub raised_full : (old new : List Tag) (low place level result : ℕ) → IsFull old low
+    → IsLowest old (2 ^ level) (Some place)
     → IsMarked old new place level → IsRaised low place level result → IsFull new result
 raised_full old new low place level result full lowest marked (inl same) = record {
   above = omega (arith, same, full.above);
   taken = λ at from below free.
       elim (marked_change old new place level marked at) as (λ _. ⊥) [
         | as_before was ↦ full.taken at from (omega (arith, same)) (sym was ∙ free)
-        | in_run after before ↦ let less = (not_free_kept old new place level at marked free before).0 in absurd (omega (arith, less))
+        | in_run after before ↦
+            let less = (not_free_kept old new place level at marked free before).0 in
+            absurd (omega (arith, less))
       ];
 }
 raised_full old new low place level result full lowest marked (inr (is, why)) = record {
@@ -147,9 +174,11 @@ raised_full old new low place level result full lowest marked (inr (is, why)) = 
       ];
 }
 
-pub filled_full : (old new : List Tag) (low place size : ℕ) → IsFull old low → unit_size ≤ place → IsFilled old new place size Free
+pub filled_full : (old new : List Tag) (low place size : ℕ) → IsFull old low → unit_size ≤ place
+    → IsFilled old new place size Free
     → IsFull new (min low place)
 filled_full old new low place size full above filled = record {
   above = omega (arith, full.above);
-  taken = λ at from below free. full.taken at from (omega arith) (sym (filled.before at (omega arith)) ∙ free);
+  taken = λ at from below free. full.taken at from (omega arith)
+      (sym (filled.before at (omega arith)) ∙ free);
 }

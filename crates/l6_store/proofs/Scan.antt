@@ -11,7 +11,8 @@ use Rattle.l6_store.specs.Laws.{ScanChooses, ScanPicksTheLowest}
 use Rattle.l6_store.proofs.Least.{and_both, Answers, all_below-holds, all_below-made, least-answers}
 
 -- what a block leaves free
-leaves-holds : (place start at : ℕ) (words : List ℕ) (found : Option (List ℕ)) → found ≡ Some words → leaves place start found ≡ true
+leaves-holds : (place start at : ℕ) (words : List ℕ) (found : Option (List ℕ)) → found ≡ Some words
+    → leaves place start found ≡ true
     → place ≤ at → start ≤ at → start + length words ≤ at
 leaves-holds place start at words (Some others) is test from after =
     let same : others ≡ words = cc in
@@ -20,7 +21,8 @@ leaves-holds place start at words (Some others) is test from after =
 leaves-holds place start at words None is test from after = cc
 
 leaves-made : (place start size : ℕ) (found : Option (List ℕ)) → 0 < size → start < place + size
-    → ((words : List ℕ) (at : ℕ) → found ≡ Some words → place ≤ at → at < place + size → start ≤ at → start + length words ≤ at)
+    → ((words : List ℕ) (at : ℕ) → found ≡ Some words → place ≤ at → at < place + size → start ≤ at
+    → start + length words ≤ at)
     → leaves place start found ≡ true
 leaves-made place start size None some before free = refl
 leaves-made place start size (Some words) some before free =
@@ -28,12 +30,17 @@ leaves-made place start size (Some words) some before free =
     (free words (max place start) refl (omega arith) (omega arith) (omega arith))
 
 -- the test says what it should
-pub is_open-holds : (units : ℕ) (blocks : Blocks) (size place : ℕ) → is_open units blocks size place ≡ true → IsOpen units blocks size place
+pub is_open-holds : (units : ℕ) (blocks : Blocks) (size place : ℕ)
+    → is_open units blocks size place ≡ true → IsOpen units blocks size place
 unfolding is_open
 is_open-holds units blocks size place test =
     let clear = all_below (place + size) (λ start. leaves place start (map.get blocks start)) in
-    let last = and_both (place % size == 0 && nat_le unit_size place && nat_le (place + size) (end_of units)) clear test in
-    let third = and_both (place % size == 0 && nat_le unit_size place) (nat_le (place + size) (end_of units)) last.0 in
+    let last
+    = and_both (place % size == 0 && nat_le unit_size place && nat_le (place + size) (end_of units))
+    clear test in
+    let third
+    = and_both (place % size == 0 && nat_le unit_size place) (nat_le (place + size) (end_of units))
+    last.0 in
     let second = and_both (place % size == 0) (nat_le unit_size place) third.0 in
     record {
       aligned = eqb-true (place % size) 0 second.0;
@@ -41,15 +48,18 @@ is_open-holds units blocks size place test =
       within = leb-true (place + size) (end_of units) third.1;
       free = λ start words at is from before after.
           leaves-holds place start at words (map.get blocks start) is
-          (all_below-holds (place + size) (λ s. leaves place s (map.get blocks s)) last.1 start (omega arith)) from after;
+          (all_below-holds (place + size) (λ s. leaves place s (map.get blocks s)) last.1 start
+          (omega arith)) from after;
     }
 
-pub is_open-made : (units : ℕ) (blocks : Blocks) (size place : ℕ) → 0 < size → IsOpen units blocks size place → is_open units blocks size place ≡ true
+pub is_open-made : (units : ℕ) (blocks : Blocks) (size place : ℕ) → 0 < size
+    → IsOpen units blocks size place → is_open units blocks size place ≡ true
 unfolding is_open
 is_open-made units blocks size place some stands =
     let clear : all_below (place + size) (λ s. leaves place s (map.get blocks s)) ≡ true
     = all_below-made (place + size) (λ s. leaves place s (map.get blocks s))
-    (λ start before. leaves-made place start size (map.get blocks start) some before (λ words at is. stands.free start words at is)) in
+    (λ start before. leaves-made place start size (map.get blocks start) some before
+    (λ words at is. stands.free start words at is)) in
     let first = eq-eqb (place % size) 0 stands.aligned in
     let second = le-leb unit_size place stands.above in
     let third = le-leb (place + size) (end_of units) stands.within in
@@ -67,11 +77,13 @@ scan_answers units blocks size some None none = λ place stands.
 
 pub scan-chooses : ScanChooses
 scan-chooses units blocks order level small =
-    scan_answers units blocks (2 ^ level) (pow_pos level) (least (end_of units) (is_open units blocks (2 ^ level)))
+    scan_answers units blocks (2 ^ level) (pow_pos level)
+    (least (end_of units) (is_open units blocks (2 ^ level)))
     (least-answers (end_of units) (is_open units blocks (2 ^ level)))
 
 picked_lowest : (units : ℕ) (blocks : Blocks) (size : ℕ) → 0 < size → (answer : Option ℕ)
-    → Answers (end_of units) (is_open units blocks size) answer → (place lower : ℕ) → answer ≡ Some place → lower < place
+    → Answers (end_of units) (is_open units blocks size) answer → (place lower : ℕ)
+    → answer ≡ Some place → lower < place
     → IsOpen units blocks size lower → ⊥
 unfolding Answers
 picked_lowest units blocks size some (Some found) is place lower same below stands =
@@ -83,5 +95,6 @@ picked_lowest units blocks size some None none place lower same below stands = c
 
 pub scan-picks_the_lowest : ScanPicksTheLowest
 scan-picks_the_lowest units blocks order level place lower =
-    picked_lowest units blocks (2 ^ level) (pow_pos level) (least (end_of units) (is_open units blocks (2 ^ level)))
+    picked_lowest units blocks (2 ^ level) (pow_pos level)
+    (least (end_of units) (is_open units blocks (2 ^ level)))
     (least-answers (end_of units) (is_open units blocks (2 ^ level))) place lower

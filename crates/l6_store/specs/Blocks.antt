@@ -13,11 +13,13 @@ Blocks = map.FinMap {K = ℕ} nat_cmp (List ℕ)
 abbrev pub blocks_code : Coded Blocks
 blocks_code = map.code coded_ℕ (coded_list coded_ℕ)
 
--- the place behind a store of so many units. The first unit begins at the place unit_size: place 0 is no block.
+-- the place behind a store of so many units. The first unit begins at the place unit_size: place 0
+-- is no block.
 abbrev pub end_of : ℕ → ℕ
 end_of units = unit_size * units + unit_size
 
--- a block of a level may stand at a place: it has 2^level words, begins at a multiple of that, and lies in the store
+-- a block of a level may stand at a place: it has 2^level words, begins at a multiple of that, and
+-- lies in the store
 pub record Stands (units level place : ℕ) : Type 0 where
   pub small : level ≤ largest_level
   pub aligned : place % 2 ^ level ≡ 0
@@ -33,8 +35,10 @@ pub record IsBlock (units place : ℕ) (words : List ℕ) : Type 0 where
 
 -- the blocks of a store: each is one, and no two share a word
 pub record Fits (units : ℕ) (blocks : Blocks) : Type 0 where
-  pub each : (place : ℕ) (words : List ℕ) → map.get blocks place ≡ Some words → IsBlock units place words
-  pub apart : (one other : ℕ) (words others : List ℕ) → map.get blocks one ≡ Some words → map.get blocks other ≡ Some others
+  pub each : (place : ℕ) (words : List ℕ) → map.get blocks place ≡ Some words
+      → IsBlock units place words
+  pub apart : (one other : ℕ) (words others : List ℕ) → map.get blocks one ≡ Some words
+      → map.get blocks other ≡ Some others
       → one < other → one + length words ≤ other
 
 -- a block begins at a place

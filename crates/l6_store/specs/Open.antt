@@ -4,8 +4,8 @@ use Rattle.std.specs.FinMap as map
 use Rattle.l6_word.specs.Numerals.{largest_level, unit_size}
 use Rattle.l6_store.specs.Blocks.{Blocks, end_of}
 
--- so many words from a place on are open: the place is a multiple of their number, they lie in the store, and none of
--- them lies in a block
+-- so many words from a place on are open: the place is a multiple of their number, they lie in the
+-- store, and none of them lies in a block
 pub record IsOpen (units : ℕ) (blocks : Blocks) (size place : ℕ) : Type 0 where
   pub aligned : place % size ≡ 0
   pub above : unit_size ≤ place
@@ -24,4 +24,5 @@ Choice = ℕ → Option ℕ
 
 -- a choice answers for the blocks of each level
 abbrev pub FitsStore : ℕ → Blocks → Choice → Type 0
-FitsStore units blocks choice = (level : ℕ) → level ≤ largest_level → IsAnswer units blocks (2 ^ level) (choice level)
+FitsStore units blocks choice =
+    (level : ℕ) → level ≤ largest_level → IsAnswer units blocks (2 ^ level) (choice level)

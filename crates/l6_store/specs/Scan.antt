@@ -1,5 +1,5 @@
 -- The plain rule of choice: the lowest open place.
-use Rattle.std.specs.Prelude.{◌≡◌, ℕ, zero, suc, ◌+◌, ◌%◌, ◌^◌, ◌<◌, max, Bool, true, ◌&&◌, ◌==◌, nat_le, List, [], length, Option, Some, None, if◌then◌else◌}
+use Rattle.std.specs.Prelude.{ℕ, zero, suc, ◌+◌, ◌%◌, ◌^◌, max, Bool, true, ◌&&◌, ◌==◌, nat_le, List, [], length, Option, Some, None, if◌then◌else◌}
 use Rattle.std.specs.FinMap as map
 use Rattle.l6_word.specs.Numerals.{unit_size}
 use Rattle.l6_store.specs.Blocks.{Blocks, end_of}

@@ -6,8 +6,8 @@ use Rattle.l6_store.specs.Numerals.{most_units}
 use Rattle.l6_store.specs.Blocks.{Blocks, blocks_code, Fits}
 use Rattle.l6_store.specs.Rule.{Order, Rule, Chooses}
 
--- how many units, the blocks, the order that the rule of choice keeps, and how often the last get or free halved or
--- joined pieces
+-- how many units, the blocks, the order that the rule of choice keeps, and how often the last get
+-- or free halved or joined pieces
 pub record Store : Type 0 where
   pub units : ℕ
   pub blocks : Blocks
@@ -16,13 +16,14 @@ pub record Store : Type 0 where
 
 abbrev pub store_code : Coded Store
 store_code =
-    code_by (ℕ × (Blocks × (Order × ℕ))) (coded× coded_ℕ (coded× blocks_code (coded× (coded_list (coded_list coded_ℕ)) coded_ℕ)))
+    code_by (ℕ × (Blocks × (Order × ℕ)))
+    (coded× coded_ℕ (coded× blocks_code (coded× (coded_list (coded_list coded_ℕ)) coded_ℕ)))
     (λ s. (s.units, (s.blocks, (s.order, s.moves))))
     (λ p. record { units = p.0; blocks = p.1.0; order = p.1.1.0; moves = p.1.1.1 })
     (λ _. refl)
 
--- what is true of each store under a rule: it has as many units as a store may have, its blocks fit, and the rule's
--- pick answers for them
+-- what is true of each store under a rule: it has as many units as a store may have, its blocks
+-- fit, and the rule's pick answers for them
 pub record IsSound (rule : Rule) (store : Store) : Type 0 where
   pub some : 1 ≤ store.units
   pub most : store.units ≤ most_units
@@ -41,7 +42,8 @@ picked rule store level = rule.pick store.units store.blocks store.order level
 abbrev pub with_block : Store → ℕ → List ℕ → Store
 with_block store place words = record store { blocks = map.insert store.blocks place words }
 
--- after a get of a level that had this answer: there is a block of zeros at the place given, or nothing has changed
+-- after a get of a level that had this answer: there is a block of zeros at the place given, or
+-- nothing has changed
 abbrev pub after_get : Rule → Store → ℕ → Option ℕ → Store
 after_get rule store level (Some place) = record {
   units = store.units;

@@ -1,4 +1,4 @@
-//! That the numbers of the code are those of the language, and the laws of the plain rule of choice.
+//! That the numbers of the code are those of the language, and the laws of the plain rule.
 
 ghost use Rattle.std.specs.Prelude.{◌≡◌};
 ghost use Rattle.l6_store.specs.Numerals.{most_units};
@@ -11,8 +11,8 @@ pub fn stores_have_their_limit()
     ensures { MAX_UNITS ≡ most_units }
 {}
 
-/// Whatever the blocks, the plain rule picks an open place for each level, and none exactly where no place
-/// is open.
+/// Whatever the blocks, the plain rule picks an open place for each level, and none exactly where
+/// no place is open.
 pub fn scan_chooses()
     ensures { ScanChooses }
 {}

@@ -12,16 +12,18 @@ ghost use Rattle.l6_store.specs.Store.{Store, IsSound, fresh, picked, with_block
 use l6_word::Word;
 use std::alloc::{AllocError, Global};
 
-/// The place of a word in a store. The first unit begins at the place `UNIT_SIZE`, so place 0 is no block.
+/// The place of a word in a store. The first unit begins at the place `UNIT_SIZE`, so place 0 is no
+/// block.
 pub type Place = u32;
 
 /// The level of a block, 0 to `LARGEST_LEVEL`. A block of level k has `2^k` words.
 pub type Level = u8;
 
-/// A store of blocks. A block of `2^k` words begins at a multiple of `2^k`, and no two blocks share a word.
+/// A store of blocks. A block of `2^k` words begins at a multiple of `2^k`, and no two blocks share
+/// a word.
 ///
-/// Which of the open places a get gives is told by the store's rule of choice, which may keep an order of
-/// places beside the blocks.
+/// Which of the open places a get gives is told by the store's rule of choice, which may keep an
+/// order of places beside the blocks.
 pub trait Places: Sized {
     // The rule of choice.
     ghost rule: { Rule };
@@ -37,7 +39,8 @@ pub trait Places: Sized {
     /// The level of the block that begins at the place of this number, or `None` where none does.
     fn live(&self, word: Word) -> Option<Level>
         ensures live { IsSome result ↔ IsLive (store self.now).blocks word }
-        ensures size { option_map (λ level. 2 ^ level) result ≡ option_map length (map.get (store self.now).blocks word) }
+        ensures size { option_map (λ level. 2 ^ level) result
+            ≡ option_map length (map.get (store self.now).blocks word) }
         ensures level { IfSome result (λ level. level ≤ largest_level) };
 
     /// The place that `get` would give.
@@ -46,8 +49,8 @@ pub trait Places: Sized {
         ensures pick { result ≡ picked rule (store self.now) level }
         ensures fits { IsAnswer (store self.now).units (store self.now).blocks (2 ^ level) result };
 
-    /// Makes a block of zeros at the place that the rule picks, or answers `None` where no place is open.
-    /// Then blocks and order are unchanged.
+    /// Makes a block of zeros at the place that the rule picks, or answers `None` where no place is
+    /// open. Then blocks and order are unchanged.
     fn get(&mut self, level: Level) -> Option<Place>
         requires { level ≤ largest_level }
         ensures pick { result ≡ picked rule (store self.old) level }
@@ -66,8 +69,10 @@ pub trait Places: Sized {
         requires from_live { IsLive (store self.old).blocks from }
         requires to_live { IsLive (store self.old).blocks to }
         requires different { from ≢ to }
-        requires size { length (block_at (store self.old).blocks from) ≡ length (block_at (store self.old).blocks to) }
-        ensures after { store self.new ≡ with_block (store self.old) to (block_at (store self.old).blocks from) }
+        requires size { length (block_at (store self.old).blocks from)
+            ≡ length (block_at (store self.old).blocks to) }
+        ensures after { store self.new
+            ≡ with_block (store self.old) to (block_at (store self.old).blocks from) }
         ensures sound { IsSound rule (store self.new) };
 
     /// The word at a place. The caller owes that the place lies in a block.
@@ -79,7 +84,9 @@ pub trait Places: Sized {
     fn write(&mut self, place: Place, word: Word)
         requires { LiesIn (store self.old).blocks place }
         ensures after { (found : LiesIn (store self.old).blocks place)
-            → store self.new ≡ with_block (store self.old) found.start (slice_set found.words (index_in place found) word) }
+            → store self.new
+            ≡ with_block (store self.old) found.start
+            (slice_set found.words (index_in place found) word) }
         ensures sound { IsSound rule (store self.new) };
 
     /// The words of the block that begins at this place. The caller owes that one does.

@@ -45,10 +45,12 @@ impl Model for ScanStore {
 }
 
 impl ScanStore {
-    /// A store without blocks. `BadUnits` exactly for no unit or more than 2,047, before any growth.
+    /// A store without blocks. `BadUnits` exactly for no unit or more than 2,047, before any
+    /// growth.
     pub fn new(alloc: Global, units: u32) -> Result<Self, StoreFault>
         ensures fresh { IfOk result (λ store. store ≡ fresh scan_rule units) }
-        ensures bad_units { IsErrOf result StoreFault.BadUnits ↔ ((units < 1) ⊎ (most_units < units)) }
+        ensures bad_units { IsErrOf result StoreFault.BadUnits
+            ↔ ((units < 1) ⊎ (most_units < units)) }
         ensures range { OnOk result (units ≤ most_units) }
         ensures sound { IfOk result (λ store. IsSound scan_rule store) }
     {

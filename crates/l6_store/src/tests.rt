@@ -8,8 +8,8 @@ use l6_word::{LARGEST_LEVEL, UNIT_SIZE, Word};
 use std::alloc::{AllocError, Global};
 use std::test::Fail;
 
-/// What a store should hold: the block that each place lies in, and its word. The places below the first
-/// unit are in a block that never begins.
+/// What a store should hold: the block that each place lies in, and its word. The places below the
+/// first unit are in a block that never begins.
 #[derive(Drop)]
 struct Ledger {
     blocks: Vec<Option<usize>>,
@@ -143,7 +143,8 @@ fn free<S: Places>(store: &mut S, ledger: &mut Ledger, number: usize) -> bool {
     true
 }
 
-/// Writes a word into the block that the number chooses, in both, and says whether they agreed on the old one.
+/// Writes a word into the block that the number chooses, in both, and says whether they agreed on
+/// the old one.
 fn write<S: Places>(store: &mut S, ledger: &mut Ledger, number: usize) -> bool {
     let Some(start) = ledger.chosen(number) else {
         return true;

@@ -23,7 +23,8 @@ lacks-append mark (first ∷ rest) behind lacking =
     rw parts.0 (lacks-append mark rest behind parts.1)
 
 lines_of-front : (front behind : List ℕ) →
-    lacks (byte "\n") front ≡ true → lines_of (front ++ byte "\n" ∷ behind) ≡ front ∷ lines_of behind
+    lacks (byte "\n") front ≡ true →
+    lines_of (front ++ byte "\n" ∷ behind) ≡ front ∷ lines_of behind
 lines_of-front [] behind lacking = refl
 lines_of-front (first ∷ rest) behind lacking =
     let parts = lacks-cons (byte "\n") first rest lacking in
@@ -32,7 +33,8 @@ lines_of-front (first ∷ rest) behind lacking =
 -- the first line ends at the first line feed
 pub lines_of-cut : {text front behind : List ℕ} →
     IsCutAt (byte "\n") text front behind → lines_of text ≡ front ∷ lines_of behind
-lines_of-cut {text} {front} {behind} cut = ap lines_of cut.whole ∙ lines_of-front front behind cut.first
+lines_of-cut {text} {front} {behind} cut =
+    ap lines_of cut.whole ∙ lines_of-front front behind cut.first
 
 lines_of-last : (first : ℕ) (rest : List ℕ) →
     lacks (byte "\n") (first ∷ rest) ≡ true → lines_of (first ∷ rest) ≡ (first ∷ rest) ∷ []

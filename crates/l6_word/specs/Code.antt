@@ -3,15 +3,18 @@ use Rattle.std.specs.Prelude.{ℕ, ◌+◌, ◌-◌, ◌==◌, Option, Some, Non
 use Rattle.std.specs.Int.{is_in_range}
 use Rattle.std.specs.Str.{byte}
 
--- the character that a byte is read as: a tab as a blank, a small letter as its capital, any other byte as itself
+-- the character that a byte is read as: a tab as a blank, a small letter as its capital, any other
+-- byte as itself
 abbrev pub character_of : ℕ → ℕ
 character_of given =
     if given == byte "\t" then byte " "
     else if is_in_range (byte "a") (byte "z") given then given - byte "a" + byte "A"
     else given
 
--- a character's code: its ASCII code less that of the blank, for the 64 characters from the blank to the underscore;
--- no other character has one
+-- a character's code: its ASCII code less that of the blank, for the 64 characters from the blank
+-- to the underscore; no other character has one
 abbrev pub code_of : ℕ → Option ℕ
 code_of given =
-    if is_in_range (byte " ") (byte "_") (character_of given) then Some (character_of given - byte " ") else None
+    if is_in_range (byte " ") (byte "_") (character_of given)
+    then Some (character_of given - byte " ")
+    else None

@@ -3,7 +3,8 @@ use Rattle.std.specs.Prelude.{ℕ, ◌==◌, ◌-◌, List, [], ◌∷◌, lengt
 use Rattle.std.specs.List.{onto_first}
 use Rattle.std.specs.Str.{byte}
 
--- the lines of a text: each ends at a line feed, and the last one, if it has a byte, at the end of the text
+-- the lines of a text: each ends at a line feed, and the last one, if it has a byte, at the end of
+-- the text
 abbrev pub lines_of : List ℕ → List (List ℕ)
 lines_of [] = []
 lines_of (first ∷ rest) =

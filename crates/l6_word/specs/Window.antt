@@ -2,7 +2,8 @@
 use Rattle.std.specs.Prelude.{ℕ, ◌+◌, ◌-◌, ◌*◌, ◌/◌, ◌%◌, ◌^◌, ◌<◌, ◌≤◌}
 use Rattle.l6_word.specs.Numerals.{word_bits, unit_size}
 
--- which word of a block, and the first and the last of the window's bits; bit 0 is the leftmost of a word
+-- which word of a block, and the first and the last of the window's bits; bit 0 is the leftmost of
+-- a word
 pub record Window : Type 0 where
   pub word : ℕ
   pub first : ℕ
@@ -26,7 +27,8 @@ right_of window = word_bits - 1 - window.last
 abbrev pub take : Window → ℕ → ℕ
 take window word = word / 2 ^ right_of window % 2 ^ width window
 
--- the word with a value in the window, as many of the value's lowest bits as the window has; the other bits stay
+-- the word with a value in the window, as many of the value's lowest bits as the window has; the
+-- other bits stay
 abbrev pub put : Window → ℕ → ℕ → ℕ
 put window word value =
     word - take window word * 2 ^ right_of window + value % 2 ^ width window * 2 ^ right_of window

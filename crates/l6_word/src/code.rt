@@ -15,8 +15,9 @@ pub fn character_of(byte: u8) -> u8
     }
 }
 
-/// The code of the character that a byte is read as, below 64: its ASCII code less 32. A small letter is
-/// read as its capital, and a tab as a blank. `None` for any other byte, which has no code.
+/// The code of the character that a byte is read as, below 64: its ASCII code less 32. A small
+/// letter is read as its capital, and a tab as a blank. `None` for any other byte, which has no
+/// code.
 pub fn code_of(byte: u8) -> Option<u8>
     ensures { result ≡ spec.code_of byte }
 {

@@ -1,4 +1,4 @@
-//! Machine words of 36 bits, windows on their bits, the codes of characters, and the lines of a text.
+//! Machine words of 36 bits, windows on their bits, the codes of characters, and lines of text.
 #![tactic(auto)]
 
 mod code;

@@ -5,7 +5,8 @@ ghost use Rattle.l6_word.specs.Lines as spec;
 
 use crate::split::split_at_mark;
 
-/// The first line of a text, without its line feed, and the text behind it; `None` where there is no line.
+/// The first line of a text, without its line feed, and the text behind it; `None` where there is
+/// no line.
 pub fn first_line(text: &[u8]) -> Option<(&[u8], &[u8])>
     ensures lines { let lines = spec.lines_of text.now in
         MatchOption result (lines ≡ []) (λ parts. lines ≡ parts.0.now ∷ spec.lines_of parts.1.now) }

@@ -8,8 +8,8 @@ use crate::unit::UNIT_SIZE;
 use crate::word::Word;
 use std::marker::Model;
 
-/// Bits side by side in a word of a block: the word's index in the block, and the first and the last bit.
-/// Bits are numbered from 0 (leftmost) to 35.
+/// Bits side by side in a word of a block: the word's index in the block, and the first and the
+/// last bit. Bits are numbered from 0 (leftmost) to 35.
 #[derive(Clone, Copy, Debug, PartialEq, Eq)]
 pub struct Window {
     word: u16,
@@ -32,11 +32,13 @@ impl Model for Window {
 }
 
 impl Window {
-    /// The window on these bits of a word, or `None` where the largest block has no such word (from 128
-    /// on), a word has no such bit (from 36 on), or the first bit comes after the last.
+    /// The window on these bits of a word, or `None` where the largest block has no such word (from
+    /// 128 on), a word has no such bit (from 36 on), or the first bit comes after the last.
     pub fn new(word: u16, first: u8, last: u8) -> Option<Self>
-        ensures valid { IsSome result ↔ IsWindow (record { word = word; first = first; last = last }) }
-        ensures value { IfSome result (λ window. window ≡ record { word = word; first = first; last = last }) }
+        ensures valid { IsSome result
+            ↔ IsWindow (record { word = word; first = first; last = last }) }
+        ensures value { IfSome result
+            (λ window. window ≡ record { word = word; first = first; last = last }) }
     {
         if word < UNIT_SIZE && first <= last && u32::from(last) < Word::BITS {
             Some(Window { word, first, last })

@@ -14,7 +14,8 @@ pub record IsFreeRun (tags : List Tag) (size place : ℕ) : Type 0 where
 
 -- the lowest such place, or none where there is none
 abbrev pub IsLowest : List Tag → ℕ → Option ℕ → Type 0
-IsLowest tags size (Some place) = IsFreeRun tags size place × ((lower : ℕ) → lower < place → IsFreeRun tags size lower → ⊥)
+IsLowest tags size (Some place) =
+    IsFreeRun tags size place × ((lower : ℕ) → lower < place → IsFreeRun tags size lower → ⊥)
 IsLowest tags size None = (place : ℕ) → IsFreeRun tags size place → ⊥
 
 -- no place of the store below this one is free
@@ -22,9 +23,11 @@ pub record IsFull (tags : List Tag) (low : ℕ) : Type 0 where
   pub above : unit_size ≤ low
   pub taken : (at : ℕ) → unit_size ≤ at → at < low → tag_at tags at ≡ Free → ⊥
 
--- the place below which none is free may rise behind a new block that has one word, or that begins at that place
+-- the place below which none is free may rise behind a new block that has one word, or that begins
+-- at that place
 abbrev pub IsRaised : ℕ → ℕ → ℕ → ℕ → Type 0
-IsRaised low place level result = (result ≡ low) ⊎ ((result ≡ place + 2 ^ level) × ((level ≡ 0) ⊎ (place ≡ low)))
+IsRaised low place level result =
+    (result ≡ low) ⊎ ((result ≡ place + 2 ^ level) × ((level ≡ 0) ⊎ (place ≡ low)))
 
 -- what is true of each plain store
 pub record IsHeld (units : ℕ) (tags : List Tag) (words : List ℕ) (low : ℕ) : Type 0 where

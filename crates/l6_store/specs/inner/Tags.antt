@@ -32,11 +32,13 @@ with place (Some words) blocks = map.insert blocks place words
 -- the blocks that begin below a place
 unfoldable pub gathered : List Tag → List ℕ → ℕ → Blocks
 gathered tags words zero = map.empty
-gathered tags words (suc place) = with place (tagged words place (tag_at tags place)) (gathered tags words place)
+gathered tags words (suc place) =
+    with place (tagged words place (tag_at tags place)) (gathered tags words place)
 
 -- a store of so many units, with these tags and words
 abbrev pub store_of : ℕ → List Tag → List ℕ → Store
-store_of units tags words = record { units = units; blocks = gathered tags words (length tags); order = []; moves = 0 }
+store_of units tags words =
+    record { units = units; blocks = gathered tags words (length tags); order = []; moves = 0 }
 
 -- a place lies behind the first place of a block
 pub record IsInside (tags : List Tag) (at : ℕ) : Type 0 where
@@ -46,11 +48,13 @@ pub record IsInside (tags : List Tag) (at : ℕ) : Type 0 where
   pub after : place < at
   pub before : at < place + 2 ^ level
 
--- the tags of a store: each first place begins a block, whose other places are tagged as inside it, and no others are
+-- the tags of a store: each first place begins a block, whose other places are tagged as inside it,
+-- and no others are
 pub record AreTags (units : ℕ) (tags : List Tag) : Type 0 where
   pub count : length tags ≡ end_of units
   pub first : (place level : ℕ) → tag_at tags place ≡ First level → Stands units level place
-  pub rest : (place level at : ℕ) → tag_at tags place ≡ First level → place < at → at < place + 2 ^ level → tag_at tags at ≡ Inside
+  pub rest : (place level at : ℕ) → tag_at tags place ≡ First level → place < at →
+      at < place + 2 ^ level → tag_at tags at ≡ Inside
   pub inside : (at : ℕ) → tag_at tags at ≡ Inside → IsInside tags at
 
 -- what is true of the tags and words of each plain store

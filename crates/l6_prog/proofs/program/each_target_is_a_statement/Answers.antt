@@ -5,8 +5,11 @@ use Rattle.l6_prog.proofs.program.each_target_is_a_statement.Goals as goal
 
 pub returns-then-not-leads_below : goal.returns-then-not-leads_below
 returns-then-not-leads_below c =
-    fails_at (is_below (length c.args.statements.now)) targets_of c.args.statements.now c.loop-statement.statement-index c.statement-item.result c.loop-statement-test.true c.statement-item.is (sym c.leads_below.ensures ∙ c.if-not-leads_below.true)
+    fails_at (is_below (length c.args.statements.now)) targets_of c.args.statements.now
+    c.loop-statement.statement-index c.statement-item.result c.loop-statement-test.true
+    c.statement-item.is (sym c.leads_below.ensures ∙ c.if-not-leads_below.true)
 
 pub returns : goal.returns
 returns c =
-    passes_to (is_below (length c.args.statements.now)) targets_of c.args.statements.now c.loop-statement.statement-index c.loop-statement-test.false c.loop-statement.invariant
+    passes_to (is_below (length c.args.statements.now)) targets_of c.args.statements.now
+    c.loop-statement.statement-index c.loop-statement-test.false c.loop-statement.invariant

@@ -6,4 +6,5 @@ use Rattle.l6_prog.proofs.statement.each_leads_below.Given as goal
 -- the targets of each operation so far are below the end
 abbrev pub invariant-loop-operation : goal.invariant-loop-operation
 invariant-loop-operation l =
-    list_all (λ o. list_all (is_below l.end) (targets_of_operation o)) (take l.operation-index l.operations) ≡ true
+    list_all (λ o. list_all (is_below l.end) (targets_of_operation o))
+    (take l.operation-index l.operations) ≡ true

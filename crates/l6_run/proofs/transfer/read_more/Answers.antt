@@ -10,7 +10,15 @@ returns-in_ok-extend_from_slice-in-Ok-clause-ok g c =
     record {
       more = take c.in-Ok.count c.read.new.buffer;
       given = read.bytes.0;
-      appended = appended-front _ _ _ _ _ read.bound.0 c.in_ok-extend_from_slice-in-Ok.ensures.items;
+      appended
+          = appended-front _ _ _ _ _ read.bound.0 c.in_ok-extend_from_slice-in-Ok.ensures.items;
       counted = sym read.bound.1;
-      ended = λ none. read.bytes.1 none (omega (arith, c.read.auto.buffer, length-take c.min-room.result c.args.chunk.now, c.requires.room));
+      ended =
+          λ none. read.bytes.1 none
+          (omega (
+            arith,
+            c.read.auto.buffer,
+            length-take c.min-room.result c.args.chunk.now,
+            c.requires.room,
+          ));
     }

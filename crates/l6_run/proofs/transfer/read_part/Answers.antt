@@ -25,18 +25,24 @@ loop-reader-preserved g c =
 
 pub returns-in_err-count-clause-bytes : goal.returns-in_err-count-clause-bytes
 returns-in_err-count-clause-bytes g c =
-    let p = err_from_is_err_and c.from_residual-in_err-count.result c.from_residual-in_err-count.ensures.1 in
+    let p =
+    err_from_is_err_and c.from_residual-in_err-count.result
+    c.from_residual-in_err-count.ensures.1 in
     rw (p.1, p.2) (EndsReading-read_fault _ _ _ _ c.in_err-count.ensures.err)
 
 pub returns-in_err-count-clause-at_most : goal.returns-in_err-count-clause-at_most
 returns-in_err-count-clause-at_most g c =
     let so_far = c.loop-reader.invariant in
-    GivesAtMost-after _ _ _ _ _ _ (omega (arith, c.loop-reader.bytes.ok.0, so_far.within)) so_far.given c.in_err-count.ensures.at_most
+    GivesAtMost-after _ _ _ _ _ _ (omega (arith, c.loop-reader.bytes.ok.0, so_far.within))
+    so_far.given c.in_err-count.ensures.at_most
 
 pub returns-in_err-count-clause-fared : goal.returns-in_err-count-clause-fared
 returns-in_err-count-clause-fared g c =
-    let p = err_from_is_err_and c.from_residual-in_err-count.result c.from_residual-in_err-count.ensures.1 in
-    rw (p.1, p.2) (ReaderFaredAt-after _ _ _ _ c.loop-reader.invariant.quiet c.in_err-count.ensures.fared)
+    let p =
+    err_from_is_err_and c.from_residual-in_err-count.result
+    c.from_residual-in_err-count.ensures.1 in
+    rw (p.1, p.2)
+    (ReaderFaredAt-after _ _ _ _ c.loop-reader.invariant.quiet c.in_err-count.ensures.fared)
 
 pub returns-then-count-eq0-clause-bytes : goal.returns-then-count-eq0-clause-bytes
 returns-then-count-eq0-clause-bytes g c =
@@ -46,10 +52,12 @@ returns-then-count-eq0-clause-bytes g c =
 pub returns-then-count-eq0-clause-at_most : goal.returns-then-count-eq0-clause-at_most
 returns-then-count-eq0-clause-at_most g c =
     let so_far = c.loop-reader.invariant in
-    GivesAtMost-after _ _ _ _ _ _ (omega (arith, c.loop-reader.bytes.ok.0, so_far.within)) so_far.given c.in_ok-count.ensures.at_most
+    GivesAtMost-after _ _ _ _ _ _ (omega (arith, c.loop-reader.bytes.ok.0, so_far.within))
+    so_far.given c.in_ok-count.ensures.at_most
 
 pub returns-then-count-eq0-clause-fared : goal.returns-then-count-eq0-clause-fared
-returns-then-count-eq0-clause-fared g c = c.in_ok-count.ensures.fared ∙ c.loop-reader.invariant.quiet
+returns-then-count-eq0-clause-fared g c =
+    c.in_ok-count.ensures.fared ∙ c.loop-reader.invariant.quiet
 
 pub returns-clause-bytes : goal.returns-clause-bytes
 returns-clause-bytes g c =

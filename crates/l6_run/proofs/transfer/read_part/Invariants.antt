@@ -1,4 +1,5 @@
--- The bytes so far are all that the reader gave, with no trouble, and at most one more than the limit.
+-- The bytes so far are all that the reader gave, with no trouble, and at most one more than the
+-- limit.
 use Rattle.std.proofs.Common.{◌≡◌, ◌+◌, ◌-◌, ◌≤◌, vec_len}
 use Rattle.std.specs.Io.KnownBytes.{Consumes}
 use Rattle.l6_run.specs.Fault.{limit_of}

@@ -8,7 +8,8 @@ abbrev rest_of : List ℕ → ℕ → List ℕ
 rest_of text n = take (length text - n) (drop n text)
 
 length-rest_of : (text : List ℕ) (n : ℕ) → length (rest_of text n) ≡ length text - n
-length-rest_of text n = omega (arith, length-take (length text - n) (drop n text), length-drop n text)
+length-rest_of text n =
+    omega (arith, length-take (length text - n) (drop n text), length-drop n text)
 
 pub loop-count-preserved : goal.loop-count-preserved
 loop-count-preserved g c =

@@ -1,4 +1,5 @@
--- The writer has taken the first `count` bytes, with no trouble, and is as it was while that is none.
+-- The writer has taken the first `count` bytes, with no trouble, and is as it was while that is
+-- none.
 use Rattle.std.proofs.Common.{◌≡◌, ◌-◌, ◌≤◌, length, take}
 use Rattle.std.specs.Io.KnownBytes.{Appends}
 use Rattle.l6_run.specs.Device.{NoTrouble}

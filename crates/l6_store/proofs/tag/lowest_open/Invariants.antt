@@ -4,4 +4,5 @@ use Rattle.l6_store.proofs.tag.lowest_open.Given as goal
 
 -- no block of the level may stand lower
 abbrev pub invariant-loop-number : goal.invariant-loop-number
-invariant-loop-number l = (lower : ℕ) → lower < l.number * 2 ^ l.level → IsFreeRun l.tags (2 ^ l.level) lower → ⊥
+invariant-loop-number l =
+    (lower : ℕ) → lower < l.number * 2 ^ l.level → IsFreeRun l.tags (2 ^ l.level) lower → ⊥

@@ -7,4 +7,5 @@ use Rattle.l6_store.proofs.tag.mark.Goals as goal
 pub returns : goal.returns
 returns c =
     marked_of_filled c.args.tags.now c.fill.new.tags c.args.place c.args.level c.requires.within
-    (subst (λ (size : ℕ). IsFilled c.args.tags.now c.fill.new.tags c.args.place size Inside) c.size_of.ensures c.fill.ensures)
+    (subst (λ (size : ℕ). IsFilled c.args.tags.now c.fill.new.tags c.args.place size Inside)
+    c.size_of.ensures c.fill.ensures)

@@ -6,4 +6,5 @@ pub returns-in-Some-clause-lines : goal.returns-in-Some-clause-lines
 returns-in-Some-clause-lines c = lines_of-cut c.in-Some.ensures.parts
 
 pub returns-clause-lines : goal.returns-clause-lines
-returns-clause-lines c = lines_of-lacks c.args.text.now (sym c.if-is_empty.ensures) c.in_default.ensures.none
+returns-clause-lines c =
+    lines_of-lacks c.args.text.now (sym c.if-is_empty.ensures) c.in_default.ensures.none

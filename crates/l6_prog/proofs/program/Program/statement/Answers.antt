@@ -9,22 +9,31 @@ use Rattle.l6_prog.proofs.program.Program.statement.Goals as goal
 
 pub returns-clause-count : goal.returns-clause-count
 returns-clause-count c =
-    at_most c.args.self.now (subst (λ (p : List Parts). is_ok (program_of p) ≡ true) c.self.view_is c.self.invariant)
+    at_most c.args.self.now
+    (subst (λ (p : List Parts). is_ok (program_of p) ≡ true) c.self.view_is c.self.invariant)
 
 pub returns-clause-targets : goal.returns-clause-targets
 returns-clause-targets c =
-    let is = subst (λ (p : List Parts). is_ok (program_of p) ≡ true) c.self.view_is c.self.invariant in
-    let here = read_at c.self.inside.statements.items c.args.self.now c.from.result c.args.number c.index.result.now c.self.view_is c.from.ensures c.index.ensures in
-    subst (λ (s : Parts). list_all (is_below (length c.args.self.now)) (targets_of s) ≡ true) (sym here) (targets_at c.args.self.now c.args.number c.index.result.now is c.requires)
+    let is
+    = subst (λ (p : List Parts). is_ok (program_of p) ≡ true) c.self.view_is c.self.invariant in
+    let here = read_at c.self.inside.statements.items c.args.self.now c.from.result c.args.number
+    c.index.result.now c.self.view_is c.from.ensures c.index.ensures in
+    subst (λ (s : Parts). list_all (is_below (length c.args.self.now)) (targets_of s) ≡ true)
+    (sym here) (targets_at c.args.self.now c.args.number c.index.result.now is c.requires)
 
 pub returns-clause-tests : goal.returns-clause-tests
 returns-clause-tests c =
-    let is = subst (λ (p : List Parts). is_ok (program_of p) ≡ true) c.self.view_is c.self.invariant in
-    let here = read_at c.self.inside.statements.items c.args.self.now c.from.result c.args.number c.index.result.now c.self.view_is c.from.ensures c.index.ensures in
-    subst (λ (s : Parts). has_its_tests s ≡ true) (sym here) (tests_at c.args.self.now c.args.number c.index.result.now is c.requires)
+    let is
+    = subst (λ (p : List Parts). is_ok (program_of p) ≡ true) c.self.view_is c.self.invariant in
+    let here = read_at c.self.inside.statements.items c.args.self.now c.from.result c.args.number
+    c.index.result.now c.self.view_is c.from.ensures c.index.ensures in
+    subst (λ (s : Parts). has_its_tests s ≡ true) (sym here)
+    (tests_at c.args.self.now c.args.number c.index.result.now is c.requires)
 
 pub returns-clause-last : goal.returns-clause-last
 returns-clause-last c count =
-    let is = subst (λ (p : List Parts). is_ok (program_of p) ≡ true) c.self.view_is c.self.invariant in
-    let here = read_at c.self.inside.statements.items c.args.self.now c.from.result c.args.number c.index.result.now c.self.view_is c.from.ensures c.index.ensures in
+    let is
+    = subst (λ (p : List Parts). is_ok (program_of p) ≡ true) c.self.view_is c.self.invariant in
+    let here = read_at c.self.inside.statements.items c.args.self.now c.from.result c.args.number
+    c.index.result.now c.self.view_is c.from.ensures c.index.ensures in
     here ∙ last_is_plain c.args.self.now c.args.number c.index.result.now is count

@@ -10,70 +10,90 @@ use Rattle.l6_store.proofs.scan_store.ScanStorePlaces.copy.Goals as goal
 
 pub unwrap-level-requires : goal.unwrap-level-requires
 unwrap-level-requires c =
-    live_at c.self.inside.units c.self.inside.tags.items c.self.inside.words.items c.args.self.now c.self.view_is
-    c.deref.result.now c.args.from c.level_at.result c.deref.ensures.value c.level_at.ensures c.requires.from_live
+    live_at c.self.inside.units c.self.inside.tags.items c.self.inside.words.items c.args.self.now
+    c.self.view_is
+    c.deref.result.now c.args.from c.level_at.result c.deref.ensures.value c.level_at.ensures
+    c.requires.from_live
 
 pub size_of-requires : goal.size_of-requires
 size_of-requires c =
     let first : tag_at c.self.inside.tags.items c.args.from ≡ First c.unwrap-level.result
-    = first_at c.self.inside.tags.items c.deref.result.now c.args.from c.level_at.result c.unwrap-level.result c.deref.ensures.value
+    = first_at c.self.inside.tags.items c.deref.result.now c.args.from c.level_at.result
+    c.unwrap-level.result c.deref.ensures.value
     c.level_at.ensures c.unwrap-level.ensures in
     (c.self.invariant.kept.are_tags.first c.args.from c.unwrap-level.result first).small
 
 pub overflow_add-from : goal.overflow_add-from
 overflow_add-from c =
     let first : tag_at c.self.inside.tags.items c.args.from ≡ First c.unwrap-level.result
-    = first_at c.self.inside.tags.items c.deref.result.now c.args.from c.level_at.result c.unwrap-level.result c.deref.ensures.value
+    = first_at c.self.inside.tags.items c.deref.result.now c.args.from c.level_at.result
+    c.unwrap-level.result c.deref.ensures.value
     c.level_at.ensures c.unwrap-level.ensures in
-    let within = block_within c.self.inside.units c.self.inside.tags.items c.self.inside.words.items c.self.invariant.kept c.args.from c.unwrap-level.result first in
+    let within = block_within c.self.inside.units c.self.inside.tags.items c.self.inside.words.items
+    c.self.invariant.kept c.args.from c.unwrap-level.result first in
     omega (arith, within, c.size_of.ensures, c.self.inside.words.ok.0)
 
 pub copy_within-requires-clause-in_bounds : goal.copy_within-requires-clause-in_bounds
 copy_within-requires-clause-in_bounds c =
     let first : tag_at c.self.inside.tags.items c.args.from ≡ First c.unwrap-level.result
-    = first_at c.self.inside.tags.items c.deref.result.now c.args.from c.level_at.result c.unwrap-level.result c.deref.ensures.value
+    = first_at c.self.inside.tags.items c.deref.result.now c.args.from c.level_at.result
+    c.unwrap-level.result c.deref.ensures.value
     c.level_at.ensures c.unwrap-level.ensures in
-    let within = block_within c.self.inside.units c.self.inside.tags.items c.self.inside.words.items c.self.invariant.kept c.args.from c.unwrap-level.result first in
+    let within = block_within c.self.inside.units c.self.inside.tags.items c.self.inside.words.items
+    c.self.invariant.kept c.args.from c.unwrap-level.result first in
     omega (arith, within, c.size_of.ensures, c.self.inside.words.ok.0)
 
-first : (c : goal.After-copy_within) → tag_at c.self.inside.tags.items c.args.from ≡ First c.unwrap-level.result
+first : (c : goal.After-copy_within)
+    → tag_at c.self.inside.tags.items c.args.from ≡ First c.unwrap-level.result
 first c =
-    first_at c.self.inside.tags.items c.deref.result.now c.args.from c.level_at.result c.unwrap-level.result c.deref.ensures.value
+    first_at c.self.inside.tags.items c.deref.result.now c.args.from c.level_at.result
+    c.unwrap-level.result c.deref.ensures.value
     c.level_at.ensures c.unwrap-level.ensures
 
-second : (c : goal.After-copy_within) → tag_at c.self.inside.tags.items c.args.to ≡ First c.unwrap-level.result
+second : (c : goal.After-copy_within)
+    → tag_at c.self.inside.tags.items c.args.to ≡ First c.unwrap-level.result
 second c =
-    same_level c.self.inside.units c.self.inside.tags.items c.self.inside.words.items c.args.self.now c.self.view_is c.self.invariant.kept
+    same_level c.self.inside.units c.self.inside.tags.items c.self.inside.words.items
+    c.args.self.now c.self.view_is c.self.invariant.kept
     c.args.from c.args.to c.unwrap-level.result (first c) c.requires.to_live c.requires.size
 
 copied : (c : goal.After-copy_within)
-    → IsCopied c.self.inside.words.items c.copy_within.new.self.items c.args.from c.args.to (2 ^ c.unwrap-level.result)
+    → IsCopied c.self.inside.words.items c.copy_within.new.self.items c.args.from c.args.to
+    (2 ^ c.unwrap-level.result)
 copied c = record {
   count = sym c.copy_within.new.self.ok.0 ∙ c.copy_within.ensures.len ∙ c.self.inside.words.ok.0;
   copied = λ k below.
       let index : c.args.from + (c.args.to + k - c.args.to) ≡ c.args.from + k = omega arith in
-      c.copy_within.ensures.by_index.0 (c.args.to + k) 0 (omega arith) (omega (arith, below, c.size_of.ensures))
+      c.copy_within.ensures.by_index.0 (c.args.to + k) 0 (omega arith)
+      (omega (arith, below, c.size_of.ensures))
       ∙ ap (λ (i : ℕ). get_or c.self.inside.words.items i 0) index;
   before = λ at less. c.copy_within.ensures.by_index.1 at 0 less;
-  behind = λ at past. c.copy_within.ensures.by_index.2 at 0 (omega (arith, past, c.size_of.ensures));
+  behind
+      = λ at past. c.copy_within.ensures.by_index.2 at 0 (omega (arith, past, c.size_of.ensures));
 }
 
 pub copy_within-requires-clause-dest_in_bounds : goal.copy_within-requires-clause-dest_in_bounds
 copy_within-requires-clause-dest_in_bounds c =
     let first : tag_at c.self.inside.tags.items c.args.from ≡ First c.unwrap-level.result
-    = first_at c.self.inside.tags.items c.deref.result.now c.args.from c.level_at.result c.unwrap-level.result c.deref.ensures.value
+    = first_at c.self.inside.tags.items c.deref.result.now c.args.from c.level_at.result
+    c.unwrap-level.result c.deref.ensures.value
     c.level_at.ensures c.unwrap-level.ensures in
-    let second = same_level c.self.inside.units c.self.inside.tags.items c.self.inside.words.items c.args.self.now c.self.view_is c.self.invariant.kept
+    let second = same_level c.self.inside.units c.self.inside.tags.items c.self.inside.words.items
+    c.args.self.now c.self.view_is c.self.invariant.kept
     c.args.from c.args.to c.unwrap-level.result first c.requires.to_live c.requires.size in
-    let within = block_within c.self.inside.units c.self.inside.tags.items c.self.inside.words.items c.self.invariant.kept c.args.to c.unwrap-level.result second in
+    let within = block_within c.self.inside.units c.self.inside.tags.items c.self.inside.words.items
+    c.self.invariant.kept c.args.to c.unwrap-level.result second in
     let fits : c.args.to + (c.args.from + c.size_of.result - c.args.from) ≤ c.self.inside.words.len
     = omega (arith, within, c.size_of.ensures, c.self.inside.words.ok.0) in
     fits
 
-kept : (c : goal.After-copy_within) → IsKept c.self.inside.units c.self.inside.tags.items c.copy_within.new.self.items
+kept : (c : goal.After-copy_within)
+    → IsKept c.self.inside.units c.self.inside.tags.items c.copy_within.new.self.items
 kept c =
-    let within = block_within c.self.inside.units c.self.inside.tags.items c.self.inside.words.items c.self.invariant.kept c.args.from c.unwrap-level.result (first c) in
-    copied_kept c.self.inside.units c.self.inside.tags.items c.self.inside.words.items c.copy_within.new.self.items c.self.invariant.kept
+    let within = block_within c.self.inside.units c.self.inside.tags.items c.self.inside.words.items
+    c.self.invariant.kept c.args.from c.unwrap-level.result (first c) in
+    copied_kept c.self.inside.units c.self.inside.tags.items c.self.inside.words.items
+    c.copy_within.new.self.items c.self.invariant.kept
     c.args.from c.args.to (2 ^ c.unwrap-level.result) within (copied c)
 
 pub invariant_of-self : goal.invariant_of-self
@@ -81,7 +101,8 @@ invariant_of-self c = record { kept = kept c; full = c.self.invariant.full }
 
 pub returns-clause-after : goal.returns-clause-after
 returns-clause-after c =
-    copied_store c.self.inside.units c.self.inside.tags.items c.self.inside.words.items c.copy_within.new.self.items c.self.invariant.kept
+    copied_store c.self.inside.units c.self.inside.tags.items c.self.inside.words.items
+    c.copy_within.new.self.items c.self.invariant.kept
     c.args.from c.args.to c.unwrap-level.result (first c) (second c) (copied c)
     ∙ ap (λ (s : Store). with_block s c.args.to (block_at s.blocks c.args.from)) c.self.view_is
 

@@ -12,7 +12,9 @@ returns-clause-sound c =
     = c.in_ok-to_vec.ensures.items_if_clones_equal (λ x y same. same) ∙ c.deref.ensures.value in
     let words : c.in_ok-to_vec-2.field-0.items ≡ c.self.inside.words.items
     = c.in_ok-to_vec-2.ensures.items_if_clones_equal (λ x y same. same) ∙ c.deref-2.ensures.value in
-    let same = ap (λ (ts : List Tag). store_of c.self.inside.units ts c.in_ok-to_vec-2.field-0.items) tags
+    let same
+    = ap (λ (ts : List Tag). store_of c.self.inside.units ts c.in_ok-to_vec-2.field-0.items) tags
     ∙ ap (λ (ws : List ℕ). store_of c.self.inside.units c.self.inside.tags.items ws) words in
     subst (λ (s : Store). IsSound scan_rule s) (sym same)
-    (sound_of c.self.inside.units c.self.inside.tags.items c.self.inside.words.items c.self.invariant.kept)
+    (sound_of c.self.inside.units c.self.inside.tags.items c.self.inside.words.items
+    c.self.invariant.kept)

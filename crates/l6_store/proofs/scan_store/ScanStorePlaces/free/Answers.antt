@@ -14,61 +14,87 @@ use Rattle.l6_store.proofs.scan_store.ScanStorePlaces.free.Goals as goal
 
 pub unwrap-level-requires : goal.unwrap-level-requires
 unwrap-level-requires c =
-    live_at c.self.inside.units c.self.inside.tags.items c.self.inside.words.items c.args.self.now c.self.view_is
-    c.deref.result.now c.args.place c.level_at.result c.deref.ensures.value c.level_at.ensures c.requires
+    live_at c.self.inside.units c.self.inside.tags.items c.self.inside.words.items c.args.self.now
+    c.self.view_is
+    c.deref.result.now c.args.place c.level_at.result c.deref.ensures.value c.level_at.ensures
+    c.requires
 
 pub size_of-requires : goal.size_of-requires
 size_of-requires c =
     let first : tag_at c.self.inside.tags.items c.args.place ≡ First c.unwrap-level.result
-    = first_at c.self.inside.tags.items c.deref.result.now c.args.place c.level_at.result c.unwrap-level.result c.deref.ensures.value
+    = first_at c.self.inside.tags.items c.deref.result.now c.args.place c.level_at.result
+    c.unwrap-level.result c.deref.ensures.value
     c.level_at.ensures c.unwrap-level.ensures in
     (c.self.invariant.kept.are_tags.first c.args.place c.unwrap-level.result first).small
 
 pub fill-requires : goal.fill-requires
 fill-requires c =
     let first : tag_at c.self.inside.tags.items c.args.place ≡ First c.unwrap-level.result
-    = first_at c.self.inside.tags.items c.deref.result.now c.args.place c.level_at.result c.unwrap-level.result c.deref.ensures.value
+    = first_at c.self.inside.tags.items c.deref.result.now c.args.place c.level_at.result
+    c.unwrap-level.result c.deref.ensures.value
     c.level_at.ensures c.unwrap-level.ensures in
     let stands = c.self.invariant.kept.are_tags.first c.args.place c.unwrap-level.result first in
-    omega (arith, stands.within, c.size_of.ensures, ap length c.deref_mut.ensures.value, c.self.invariant.kept.are_tags.count)
+    omega (
+      arith,
+      stands.within,
+      c.size_of.ensures,
+      ap length c.deref_mut.ensures.value,
+      c.self.invariant.kept.are_tags.count,
+    )
 
-first : (c : goal.After-self-2-1) → tag_at c.self.inside.tags.items c.args.place ≡ First c.unwrap-level.result
+first : (c : goal.After-self-2-1) →
+    tag_at c.self.inside.tags.items c.args.place ≡ First c.unwrap-level.result
 first c =
-    first_at c.self.inside.tags.items c.deref.result.now c.args.place c.level_at.result c.unwrap-level.result c.deref.ensures.value
+    first_at c.self.inside.tags.items c.deref.result.now c.args.place c.level_at.result
+    c.unwrap-level.result c.deref.ensures.value
     c.level_at.ensures c.unwrap-level.ensures
 
-filled : (c : goal.After-self-2-1) → IsFilled c.self.inside.tags.items c.fill.new.tags c.args.place (2 ^ c.unwrap-level.result) Free
+filled : (c : goal.After-self-2-1) →
+    IsFilled c.self.inside.tags.items c.fill.new.tags c.args.place (2 ^ c.unwrap-level.result) Free
 filled c =
-    subst (λ (size : ℕ). IsFilled c.self.inside.tags.items c.fill.new.tags c.args.place size Free) c.size_of.ensures
-    (subst (λ (old : List Tag). IsFilled old c.fill.new.tags c.args.place c.size_of.result Free) c.deref_mut.ensures.value c.fill.ensures)
+    subst (λ (size : ℕ). IsFilled c.self.inside.tags.items c.fill.new.tags c.args.place size Free)
+    c.size_of.ensures
+    (subst (λ (old : List Tag). IsFilled old c.fill.new.tags c.args.place c.size_of.result Free)
+    c.deref_mut.ensures.value c.fill.ensures)
 
-tags_are : (c : goal.After-self-2-1) → (with_items c.self.inside.tags c.fill.new.tags).items ≡ c.fill.new.tags
-tags_are c = with_items_is c.self.inside.tags c.fill.new.tags ((filled c).count ∙ sym c.self.inside.tags.ok.0)
+tags_are : (c : goal.After-self-2-1) →
+    (with_items c.self.inside.tags c.fill.new.tags).items ≡ c.fill.new.tags
+tags_are c =
+    with_items_is c.self.inside.tags c.fill.new.tags
+    ((filled c).count ∙ sym c.self.inside.tags.ok.0)
 
-kept : (c : goal.After-self-2-1) → IsKept c.self.inside.units (with_items c.self.inside.tags c.fill.new.tags).items c.self.inside.words.items
+kept : (c : goal.After-self-2-1) →
+    IsKept c.self.inside.units (with_items c.self.inside.tags c.fill.new.tags).items
+    c.self.inside.words.items
 kept c =
-    subst (λ (ts : List Tag). IsKept c.self.inside.units ts c.self.inside.words.items) (sym (tags_are c))
-    (freed_kept c.self.inside.units c.self.inside.tags.items c.fill.new.tags c.self.inside.words.items c.self.invariant.kept c.args.place
+    subst (λ (ts : List Tag). IsKept c.self.inside.units ts c.self.inside.words.items)
+    (sym (tags_are c))
+    (freed_kept c.self.inside.units c.self.inside.tags.items c.fill.new.tags
+    c.self.inside.words.items c.self.invariant.kept c.args.place
     c.unwrap-level.result (first c) (filled c))
 
 pub invariant_of-self : goal.invariant_of-self
 invariant_of-self c =
-    let stands = c.self.invariant.kept.are_tags.first c.args.place c.unwrap-level.result (first c) in
+    let stands = c.self.invariant.kept.are_tags.first c.args.place c.unwrap-level.result
+    (first c) in
     record {
       kept = kept c;
       full = subst (λ (ts : List Tag). IsFull ts c.min-self-inside.result) (sym (tags_are c))
           (subst (λ (low : ℕ). IsFull c.fill.new.tags low) (sym c.min-self-inside.ensures)
-          (filled_full c.self.inside.tags.items c.fill.new.tags c.self.inside.low c.args.place (2 ^ c.unwrap-level.result)
+          (filled_full c.self.inside.tags.items c.fill.new.tags c.self.inside.low c.args.place
+          (2 ^ c.unwrap-level.result)
           c.self.invariant.full stands.above (filled c)));
     }
 
 pub returns-clause-after : goal.returns-clause-after
 returns-clause-after c =
     ap (λ (ts : List Tag). store_of c.self.inside.units ts c.self.inside.words.items) (tags_are c)
-    ∙ freed_store c.self.inside.units c.self.inside.tags.items c.fill.new.tags c.self.inside.words.items c.self.invariant.kept c.args.place
+    ∙ freed_store c.self.inside.units c.self.inside.tags.items c.fill.new.tags
+    c.self.inside.words.items c.self.invariant.kept c.args.place
     c.unwrap-level.result (first c) (filled c)
     ∙ ap (λ (s : Store). after_free scan_rule s c.args.place) c.self.view_is
 
 pub returns-clause-sound : goal.returns-clause-sound
 returns-clause-sound c =
-    sound_of c.self.inside.units (with_items c.self.inside.tags c.fill.new.tags).items c.self.inside.words.items (kept c)
+    sound_of c.self.inside.units (with_items c.self.inside.tags c.fill.new.tags).items
+    c.self.inside.words.items (kept c)

@@ -14,81 +14,116 @@ use Rattle.l6_store.proofs.Calls.{got_kept, got_store}
 use Rattle.l6_store.proofs.scan_store.ScanStorePlaces.get.Goals as goal
 
 -- what the scan found, told of the store's own tags
-lowest_none : (c : goal.After-from_residual) → IsLowest c.self.inside.tags.items (2 ^ c.args.level) c.lowest_open.result
-lowest_none c = subst (λ (tags : List Tag). IsLowest tags (2 ^ c.args.level) c.lowest_open.result) c.deref.ensures.value c.lowest_open.ensures
+lowest_none : (c : goal.After-from_residual)
+    → IsLowest c.self.inside.tags.items (2 ^ c.args.level) c.lowest_open.result
+lowest_none c =
+    subst (λ (tags : List Tag). IsLowest tags (2 ^ c.args.level) c.lowest_open.result)
+    c.deref.ensures.value c.lowest_open.ensures
 
 pub returns-in_err-place-clause-pick : goal.returns-in_err-place-clause-pick
 returns-in_err-place-clause-pick c =
     c.from_residual.ensures ∙ sym c.in_err-place.was
-    ∙ picked_of_lowest c.self.inside.units c.self.inside.tags.items c.self.inside.words.items c.self.invariant.kept c.args.level c.lowest_open.result (lowest_none c)
+    ∙ picked_of_lowest c.self.inside.units c.self.inside.tags.items c.self.inside.words.items
+    c.self.invariant.kept c.args.level c.lowest_open.result (lowest_none c)
     ∙ ap (λ (s : Store). picked scan_rule s c.args.level) c.self.view_is
 
 pub returns-in_err-place-clause-fits : goal.returns-in_err-place-clause-fits
 returns-in_err-place-clause-fits c =
-    subst (λ (answer : Option ℕ). IsAnswer c.args.self.now.units c.args.self.now.blocks (2 ^ c.args.level) answer) (c.in_err-place.was ∙ sym c.from_residual.ensures)
-    (subst (λ (s : Store). IsAnswer s.units s.blocks (2 ^ c.args.level) c.lowest_open.result) c.self.view_is
-    (answer_of_lowest c.self.inside.units c.self.inside.tags.items c.self.inside.words.items c.self.invariant.kept c.args.level c.lowest_open.result
+    subst (λ (answer : Option ℕ). IsAnswer c.args.self.now.units c.args.self.now.blocks
+    (2 ^ c.args.level) answer) (c.in_err-place.was ∙ sym c.from_residual.ensures)
+    (subst (λ (s : Store). IsAnswer s.units s.blocks (2 ^ c.args.level) c.lowest_open.result)
+    c.self.view_is
+    (answer_of_lowest c.self.inside.units c.self.inside.tags.items c.self.inside.words.items
+    c.self.invariant.kept c.args.level c.lowest_open.result
     c.requires (lowest_none c)))
 
 pub returns-in_err-place-clause-sound : goal.returns-in_err-place-clause-sound
 returns-in_err-place-clause-sound c =
-    subst (λ (s : Store). IsSound scan_rule s) c.self.view_is (sound_of c.self.inside.units c.self.inside.tags.items c.self.inside.words.items c.self.invariant.kept)
+    subst (λ (s : Store). IsSound scan_rule s) c.self.view_is
+    (sound_of c.self.inside.units c.self.inside.tags.items c.self.inside.words.items
+    c.self.invariant.kept)
 
-lowest : (c : goal.After-self-3-1) → IsLowest c.self.inside.tags.items (2 ^ c.args.level) (Some c.in_ok-place.place)
+lowest : (c : goal.After-self-3-1)
+    → IsLowest c.self.inside.tags.items (2 ^ c.args.level) (Some c.in_ok-place.place)
 lowest c =
-    subst (λ (answer : Option ℕ). IsLowest c.self.inside.tags.items (2 ^ c.args.level) answer) c.in_ok-place.was
-    (subst (λ (tags : List Tag). IsLowest tags (2 ^ c.args.level) c.lowest_open.result) c.deref.ensures.value c.lowest_open.ensures)
+    subst (λ (answer : Option ℕ). IsLowest c.self.inside.tags.items (2 ^ c.args.level) answer)
+    c.in_ok-place.was
+    (subst (λ (tags : List Tag). IsLowest tags (2 ^ c.args.level) c.lowest_open.result)
+    c.deref.ensures.value c.lowest_open.ensures)
 
-marked : (c : goal.After-self-3-1) → IsMarked c.self.inside.tags.items c.mark.new.tags c.in_ok-place.place c.args.level
-marked c = subst (λ (old : List Tag). IsMarked old c.mark.new.tags c.in_ok-place.place c.args.level) c.deref_mut.ensures.value c.mark.ensures
+marked : (c : goal.After-self-3-1)
+    → IsMarked c.self.inside.tags.items c.mark.new.tags c.in_ok-place.place c.args.level
+marked c =
+    subst (λ (old : List Tag). IsMarked old c.mark.new.tags c.in_ok-place.place c.args.level)
+    c.deref_mut.ensures.value c.mark.ensures
 
-cleared : (c : goal.After-self-3-1) → IsCleared c.self.inside.words.items c.clear.new.words c.in_ok-place.place (2 ^ c.args.level)
+cleared : (c : goal.After-self-3-1)
+    → IsCleared c.self.inside.words.items c.clear.new.words c.in_ok-place.place (2 ^ c.args.level)
 cleared c =
-    subst (λ (size : ℕ). IsCleared c.self.inside.words.items c.clear.new.words c.in_ok-place.place size) c.size_of.ensures
-    (subst (λ (old : List ℕ). IsCleared old c.clear.new.words c.in_ok-place.place c.size_of.result) c.deref_mut-2.ensures.value c.clear.ensures)
+    subst (λ (size : ℕ). IsCleared c.self.inside.words.items c.clear.new.words c.in_ok-place.place
+    size) c.size_of.ensures
+    (subst (λ (old : List ℕ). IsCleared old c.clear.new.words c.in_ok-place.place c.size_of.result)
+    c.deref_mut-2.ensures.value c.clear.ensures)
 
-tags_are : (c : goal.After-self-3-1) → (with_items c.self.inside.tags c.mark.new.tags).items ≡ c.mark.new.tags
-tags_are c = with_items_is c.self.inside.tags c.mark.new.tags ((marked c).count ∙ sym c.self.inside.tags.ok.0)
+tags_are : (c : goal.After-self-3-1)
+    → (with_items c.self.inside.tags c.mark.new.tags).items ≡ c.mark.new.tags
+tags_are c =
+    with_items_is c.self.inside.tags c.mark.new.tags
+    ((marked c).count ∙ sym c.self.inside.tags.ok.0)
 
-words_are : (c : goal.After-self-3-1) → (with_items c.self.inside.words c.clear.new.words).items ≡ c.clear.new.words
-words_are c = with_items_is c.self.inside.words c.clear.new.words ((cleared c).count ∙ sym c.self.inside.words.ok.0)
+words_are : (c : goal.After-self-3-1)
+    → (with_items c.self.inside.words c.clear.new.words).items ≡ c.clear.new.words
+words_are c =
+    with_items_is c.self.inside.words c.clear.new.words
+    ((cleared c).count ∙ sym c.self.inside.words.ok.0)
 
 kept : (c : goal.After-self-3-1)
-    → IsKept c.self.inside.units (with_items c.self.inside.tags c.mark.new.tags).items (with_items c.self.inside.words c.clear.new.words).items
+    → IsKept c.self.inside.units (with_items c.self.inside.tags c.mark.new.tags).items
+    (with_items c.self.inside.words c.clear.new.words).items
 kept c =
-    subst (λ (ts : List Tag). IsKept c.self.inside.units ts (with_items c.self.inside.words c.clear.new.words).items) (sym (tags_are c))
+    subst (λ (ts : List Tag). IsKept c.self.inside.units ts
+    (with_items c.self.inside.words c.clear.new.words).items) (sym (tags_are c))
     (subst (λ (ws : List ℕ). IsKept c.self.inside.units c.mark.new.tags ws) (sym (words_are c))
-    (got_kept c.self.inside.units c.self.inside.tags.items c.mark.new.tags c.self.inside.words.items c.clear.new.words c.self.invariant.kept
+    (got_kept c.self.inside.units c.self.inside.tags.items c.mark.new.tags c.self.inside.words.items
+    c.clear.new.words c.self.invariant.kept
     c.in_ok-place.place c.args.level c.requires (lowest c).0 (marked c) (cleared c)))
 
 pub invariant_of-self : goal.invariant_of-self
 invariant_of-self c = record {
   kept = kept c;
   full = subst (λ (ts : List Tag). IsFull ts c.raised-self-inside.result) (sym (tags_are c))
-      (raised_full c.self.inside.tags.items c.mark.new.tags c.self.inside.low c.in_ok-place.place c.args.level c.raised-self-inside.result
+      (raised_full c.self.inside.tags.items c.mark.new.tags c.self.inside.low c.in_ok-place.place
+      c.args.level c.raised-self-inside.result
       c.self.invariant.full (lowest c) (marked c) c.raised-self-inside.ensures);
 }
 
 pub returns-clause-pick : goal.returns-clause-pick
 returns-clause-pick c =
-    picked_of_lowest c.self.inside.units c.self.inside.tags.items c.self.inside.words.items c.self.invariant.kept c.args.level (Some c.in_ok-place.place) (lowest c)
+    picked_of_lowest c.self.inside.units c.self.inside.tags.items c.self.inside.words.items
+    c.self.invariant.kept c.args.level (Some c.in_ok-place.place) (lowest c)
     ∙ ap (λ (s : Store). picked scan_rule s c.args.level) c.self.view_is
 
 pub returns-clause-fits : goal.returns-clause-fits
 returns-clause-fits c =
-    subst (λ (s : Store). IsAnswer s.units s.blocks (2 ^ c.args.level) (Some c.in_ok-place.place)) c.self.view_is
-    (answer_of_lowest c.self.inside.units c.self.inside.tags.items c.self.inside.words.items c.self.invariant.kept c.args.level (Some c.in_ok-place.place)
+    subst (λ (s : Store). IsAnswer s.units s.blocks (2 ^ c.args.level) (Some c.in_ok-place.place))
+    c.self.view_is
+    (answer_of_lowest c.self.inside.units c.self.inside.tags.items c.self.inside.words.items
+    c.self.invariant.kept c.args.level (Some c.in_ok-place.place)
     c.requires (lowest c))
 
 pub returns-clause-after : goal.returns-clause-after
 returns-clause-after c =
-    ap (λ (ts : List Tag). store_of c.self.inside.units ts (with_items c.self.inside.words c.clear.new.words).items) (tags_are c)
+    ap (λ (ts : List Tag). store_of c.self.inside.units ts
+    (with_items c.self.inside.words c.clear.new.words).items) (tags_are c)
     ∙ ap (λ (ws : List ℕ). store_of c.self.inside.units c.mark.new.tags ws) (words_are c)
-    ∙ got_store c.self.inside.units c.self.inside.tags.items c.mark.new.tags c.self.inside.words.items c.clear.new.words c.self.invariant.kept
+    ∙ got_store c.self.inside.units c.self.inside.tags.items c.mark.new.tags
+    c.self.inside.words.items c.clear.new.words c.self.invariant.kept
     c.in_ok-place.place c.args.level (lowest c).0 (marked c) (cleared c)
-    ∙ ap (λ (s : Store). after_get scan_rule s c.args.level (Some c.in_ok-place.place)) c.self.view_is
+    ∙ ap (λ (s : Store). after_get scan_rule s c.args.level (Some c.in_ok-place.place))
+    c.self.view_is
 
 pub returns-clause-sound : goal.returns-clause-sound
 returns-clause-sound c =
-    sound_of c.self.inside.units (with_items c.self.inside.tags c.mark.new.tags).items (with_items c.self.inside.words c.clear.new.words).items
+    sound_of c.self.inside.units (with_items c.self.inside.tags c.mark.new.tags).items
+    (with_items c.self.inside.words c.clear.new.words).items
     (kept c)

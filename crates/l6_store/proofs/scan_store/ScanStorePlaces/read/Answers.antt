@@ -6,13 +6,21 @@ use Rattle.l6_store.proofs.scan_store.ScanStorePlaces.read.Goals as goal
 
 pub index-requires : goal.index-requires
 index-requires c =
-    let found : LiesIn _ c.args.place = subst (λ (s : Store). LiesIn s.blocks c.args.place) (sym c.self.view_is) c.requires in
-    omega (arith, c.self.inside.words.ok.0, found_within c.self.inside.units c.self.inside.tags.items c.self.inside.words.items c.self.invariant.kept c.args.place found)
+    let found : LiesIn _ c.args.place
+    = subst (λ (s : Store). LiesIn s.blocks c.args.place) (sym c.self.view_is) c.requires in
+    omega (
+      arith,
+      c.self.inside.words.ok.0,
+      found_within c.self.inside.units c.self.inside.tags.items c.self.inside.words.items
+          c.self.invariant.kept c.args.place found,
+    )
 
 pub returns : goal.returns
 returns c =
-    subst (λ (s : Store). (found : LiesIn s.blocks c.args.place) → c.wrapping.result ≡ word_at c.args.place found) c.self.view_is
+    subst (λ (s : Store). (found : LiesIn s.blocks c.args.place) →
+    c.wrapping.result ≡ word_at c.args.place found) c.self.view_is
     (λ found.
     c.wrapping.ensures
-    ∙ read_word c.self.inside.units c.self.inside.tags.items c.self.inside.words.items c.self.invariant.kept c.args.place c.index.result.now
+    ∙ read_word c.self.inside.units c.self.inside.tags.items c.self.inside.words.items
+    c.self.invariant.kept c.args.place c.index.result.now
     c.index.ensures found)

@@ -9,14 +9,19 @@ use Rattle.l6_store.proofs.scan_store.ScanStorePlaces.reset.Goals as goal
 
 pub returns-clause-after : goal.returns-clause-after
 returns-clause-after c =
-    let tags : c.fill.new.self.items ≡ replicate (vec_len c.self.inside.tags) Free = c.fill.ensures.items (λ y same. same) in
-    empty_store c.self.inside.units (vec_len c.self.inside.tags) c.fill.new.self.items c.self.inside.words.items tags
+    let tags : c.fill.new.self.items ≡ replicate (vec_len c.self.inside.tags) Free
+    = c.fill.ensures.items (λ y same. same) in
+    empty_store c.self.inside.units (vec_len c.self.inside.tags) c.fill.new.self.items
+    c.self.inside.words.items tags
     ∙ ap (λ (s : Store). fresh scan_rule s.units) c.self.view_is
 
 pub returns-clause-sound : goal.returns-clause-sound
 returns-clause-sound c =
-    let tags : c.fill.new.self.items ≡ replicate (vec_len c.self.inside.tags) Free = c.fill.ensures.items (λ y same. same) in
+    let tags : c.fill.new.self.items ≡ replicate (vec_len c.self.inside.tags) Free
+    = c.fill.ensures.items (λ y same. same) in
     sound_of c.self.inside.units c.fill.new.self.items c.self.inside.words.items
-    (empty_kept c.self.inside.units (vec_len c.self.inside.tags) c.fill.new.self.items c.self.inside.words.items
-    c.self.invariant.kept.some c.self.invariant.kept.most (c.self.inside.tags.ok.0 ∙ c.self.invariant.kept.are_tags.count) tags
+    (empty_kept c.self.inside.units (vec_len c.self.inside.tags) c.fill.new.self.items
+    c.self.inside.words.items
+    c.self.invariant.kept.some c.self.invariant.kept.most
+    (c.self.inside.tags.ok.0 ∙ c.self.invariant.kept.are_tags.count) tags
     c.self.invariant.kept.count c.self.invariant.kept.are_words)

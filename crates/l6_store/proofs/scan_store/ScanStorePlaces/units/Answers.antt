@@ -6,4 +6,6 @@ use Rattle.l6_store.proofs.scan_store.ScanStorePlaces.units.Goals as goal
 
 pub returns-clause-sound : goal.returns-clause-sound
 returns-clause-sound c =
-    subst (λ (s : Store). IsSound scan_rule s) c.self.view_is (sound_of c.self.inside.units c.self.inside.tags.items c.self.inside.words.items c.self.invariant.kept)
+    subst (λ (s : Store). IsSound scan_rule s) c.self.view_is
+    (sound_of c.self.inside.units c.self.inside.tags.items c.self.inside.words.items
+    c.self.invariant.kept)

@@ -38,8 +38,5 @@ fn assembly_of(alloc: Global, cards: Cards) -> Result<Assembly, AsmFault>
 {
     let labels = labels_of(alloc, cards.statements())?;
     let statements = statements_of(alloc, &labels, cards.into_statements())?;
-    match Program::new(statements) {
-        Ok(program) => Ok(Assembly::new(program, labels)),
-        Err(_) => unreachable!(),
-    }
+    Ok(Assembly::new(Program::from_known(statements), labels))
 }

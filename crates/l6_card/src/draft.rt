@@ -9,8 +9,7 @@ ghost use Rattle.l6_card.specs.inner.Drafted.{drafted, drafted_parts, Takes};
 
 use crate::cards::{Parts, Placed, PlacedLabel};
 use crate::fault::CardFault;
-use arrayvec::ArrayVec;
-use l6_group::{Label, after_then, condition_from, exit_from, operation_of, spelled, test_of};
+use l6_group::{Label, Spelling, after_then, condition_from, exit_from, operation_of, spelled, test_of};
 use l6_prog::{Cond, Exit, MAX_OPERATIONS, MAX_TESTS, Op, Test};
 use std::alloc::Global;
 
@@ -141,7 +140,7 @@ impl Draft {
         ensures { let item = word (letters_of columns.now) in
             Takes result (drafted self.new) (spec.with_item card (drafted self.old) item) }
     {
-        let characters: Option<ArrayVec<u8, MAX_WORD>> = spelled(columns);
+        let characters: Option<Spelling<'_, MAX_WORD>> = spelled(columns);
         match characters {
             None => Err(CardFault::Form(card)),
             Some(characters) => self.take_characters(card, characters.as_slice()),

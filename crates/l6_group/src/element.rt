@@ -49,7 +49,7 @@ pub(crate) fn chain_of(element: &[u8]) -> Option<Chain>
             names.push(name);
         }
     }
-    Chain::new(names.as_slice())
+    Chain::from_names(names)
 }
 
 /// The operand that an element spells: a chain or a decimal number.

@@ -5,7 +5,7 @@ ghost use Rattle.std.specs.List.{list_all};
 ghost use Rattle.l6_group.specs.Character as spelling;
 ghost use Rattle.l6_group.specs.Label as spec;
 
-use crate::spelling::spelled;
+use crate::spelling::{Spelling, spelled};
 use arrayvec::ArrayVec;
 use std::alloc::AllocError;
 use std::marker::Model;
@@ -91,7 +91,7 @@ fn are_alphanumeric(characters: &[u8]) -> bool
 pub fn label_of(element: &[u8]) -> Option<Label>
     ensures { result ≡ spec.label_of element.now }
 {
-    let characters: ArrayVec<u8, MAX_LABEL_CHARACTERS> = spelled(element)?;
+    let characters: Spelling<'_, MAX_LABEL_CHARACTERS> = spelled(element)?;
     Label::new(characters.as_slice())
 }
 

@@ -16,6 +16,6 @@ pub use element::{is_blank, is_letter};
 pub use label::{Label, MAX_LABEL_CHARACTERS, label_of};
 pub use laws::labels_have_their_limit;
 pub use operation::operation_of;
-pub use spelling::spelled;
+pub use spelling::{Spelling, spelled};
 pub use test::test_of;
 pub use word::{after_then, condition_from, exit_from};

@@ -1,15 +1,76 @@
 //! What elements spell, character by character.
 
-ghost use Rattle.std.specs.Prelude.{◌≡◌, ◌<◌, length, MatchOption};
+ghost use Rattle.std.specs.Prelude.{◌≡◌, ◌<◌, true, length, MatchOption};
 ghost use Rattle.l6_group.specs.Character as spec;
 
 use crate::element::is_blank;
 use arrayvec::ArrayVec;
 use l6_word::character_of;
+use std::marker::Model;
 
-/// The characters of an element, its blanks left out, small letters as capitals; `None` where they
-/// are more than there is room for.
-pub fn spelled<const ROOM: usize>(element: &[u8]) -> Option<ArrayVec<u8, ROOM>>
+/// The characters of an element, its blanks left out, small letters as capitals.
+#[derive(Drop)]
+pub struct Spelling<'a, const ROOM: usize> {
+    characters: Characters<'a, ROOM>,
+}
+
+/// Where characters stand. Most elements are spelled as they stand on the card, and need no copy.
+#[derive(Drop)]
+enum Characters<'a, const ROOM: usize> {
+    /// On the card.
+    Standing(&'a [u8]),
+    /// In a copy, without the card's blanks and small letters.
+    Copied(ArrayVec<u8, ROOM>),
+}
+
+impl<'a, const ROOM: usize> Model for Spelling<'a, ROOM> {
+    ghost use Rattle.std.specs.Prelude.{ℕ, List};
+    ghost use Rattle.l6_group.specs.inner.Spelled.{characters_of};
+
+    ghost Value = { List ℕ };
+
+    ghost view = { λ spelling. characters_of spelling.characters };
+}
+
+impl<'a, const ROOM: usize> Spelling<'a, ROOM> {
+    /// The characters, in order.
+    pub fn as_slice(&self) -> &[u8]
+        ensures { result.now ≡ self.now }
+    {
+        match &self.characters {
+            Characters::Standing(characters) => characters,
+            Characters::Copied(characters) => characters.as_slice(),
+        }
+    }
+}
+
+/// The characters of an element, its blanks left out, small letters as capitals; `None` only where
+/// they are more than there is room for.
+pub fn spelled<const ROOM: usize>(element: &[u8]) -> Option<Spelling<'_, ROOM>>
+    ensures { let characters = spec.spelled element.now in
+        MatchOption result (ROOM < length characters) (λ given. given ≡ characters) }
+{
+    if stands_spelled(element) {
+        return Some(Spelling { characters: Characters::Standing(element) });
+    }
+    let characters = copied(element)?;
+    Some(Spelling { characters: Characters::Copied(characters) })
+}
+
+/// Whether an element has neither blanks nor small letters.
+fn stands_spelled(element: &[u8]) -> bool
+    ensures { result ≡ true → spec.spelled element.now ≡ element.now }
+{
+    for byte in element {
+        if is_blank(*byte) || character_of(*byte) != *byte {
+            return false;
+        }
+    }
+    true
+}
+
+/// A copy of the characters of an element; `None` where they are more than there is room for.
+fn copied<const ROOM: usize>(element: &[u8]) -> Option<ArrayVec<u8, ROOM>>
     ensures { let characters = spec.spelled element.now in
         MatchOption result (ROOM < length characters) (λ given. given.items ≡ characters) }
 {

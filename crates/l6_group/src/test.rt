@@ -26,7 +26,7 @@ pub fn test_of(columns: &[u8]) -> Option<Test>
 fn of_three(target: &[u8], verb: &[u8], operand: &[u8]) -> Option<Test>
     ensures { result ≡ spec.of_three target.now verb.now operand.now }
 {
-    let verb: Verb = spelled(verb)?;
+    let verb: Verb<'_> = spelled(verb)?;
     let (letter, suffix) = verb.as_slice().split_first()?;
     let chain = chain_of(target)?;
     let value = value_of(suffix, operand)?;

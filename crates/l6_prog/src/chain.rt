@@ -39,12 +39,20 @@ impl Chain {
         ensures valid { IsSome result ↔ IsTrue (is_chain names.now) }
         ensures value { IfSome result (λ chain. chain ≡ names.now) }
     {
-        let first = names.first()?;
-        if !first.is_letter() {
-            return None;
+        Self::from_names(ArrayVec::try_from(names).ok()?)
+    }
+
+    /// The chain of these names, or `None` where they are no chain: where there is none, or where
+    /// the first is no letter.
+    pub fn from_names(names: ArrayVec<Name, MAX_NAMES>) -> Option<Self>
+        ensures valid { IsSome result ↔ IsTrue (is_chain names.items) }
+        ensures value { IfSome result (λ chain. chain ≡ names.items) }
+    {
+        if names.first()?.is_letter() {
+            Some(Chain { names })
+        } else {
+            None
         }
-        let names = ArrayVec::try_from(names).ok()?;
-        Some(Chain { names })
     }
 
     /// The names, the bug first.

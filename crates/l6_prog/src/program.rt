@@ -1,6 +1,6 @@
 //! Programs.
 
-ghost use Rattle.std.specs.Prelude.{◌≡◌, ◌+◌, ◌-◌, ◌<◌, ◌≤◌, IfOk, IsTrue, length, slice_get, slice_index_or};
+ghost use Rattle.std.specs.Prelude.{◌≡◌, ◌+◌, ◌-◌, ◌<◌, ◌≤◌, IfOk, IsTrue, is_ok, true, length, slice_get, slice_index_or};
 ghost use Rattle.std.specs.List.{list_all};
 ghost use Rattle.l6_prog.specs.Program.{program_of, IsProgram, fits, has_its_targets, has_its_tests, is_plain_done};
 ghost use Rattle.l6_prog.specs.Numerals.{most_statements};
@@ -71,6 +71,14 @@ impl Program {
             return Err(ProgFault::Shape);
         }
         Ok(Program { statements })
+    }
+
+    /// The program of these statements. The caller owes that they are one.
+    pub fn from_known(statements: Vec<Statement>) -> Self
+        requires { is_ok (program_of statements.items) ≡ true }
+        ensures { result ≡ statements.items }
+    {
+        Program { statements }
     }
 
     /// The statements, in order.

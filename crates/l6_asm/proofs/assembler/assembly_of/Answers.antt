@@ -1,12 +1,12 @@
-use Rattle.std.proofs.Common.{sym, ap, ◌∙◌}
+use Rattle.std.proofs.Common.{is_ok, sym, ap, ◌∙◌}
 use Rattle.l6_asm.specs.Labels.{labels_of}
 use Rattle.l6_asm.specs.Resolution.{statements_of}
 use Rattle.l6_asm.proofs.Programs.{program_of-made}
 use Rattle.l6_asm.proofs.assembler.assembly_of.Goals as goal
 
--- what the cards say makes a program, so none is refused
-pub unreachable-requires : goal.unreachable-requires
-unreachable-requires c =
+-- what the cards say makes a program
+pub from_known-requires : goal.from_known-requires
+from_known-requires c =
     let labels = c.in_ok-labels.labels.entries in
     let labelled = ap labels_of (sym c.statements.ensures) ∙ c.in_ok-labels.ensures in
     let made = ap (statements_of labels) (sym c.into_statements.ensures)
@@ -14,4 +14,4 @@ unreachable-requires c =
     let whole =
     program_of-made c.args.cards labels c.in_ok-statements.statements.items c.requires labelled made
     in
-    Prim.cc (whole, c.new.ensures, c.in-Err.is)
+    ap is_ok whole

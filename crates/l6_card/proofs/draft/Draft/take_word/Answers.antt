@@ -18,4 +18,4 @@ returns-in-Some c =
     subst (λ (cs : List ℕ).
     Takes c.take_characters.result (drafted c.take_characters.new.self)
     (with_characters c.args.card draft cs))
-    (c.as_slice.ensures.value ∙ same) c.take_characters.ensures
+    (c.as_slice.ensures ∙ same) c.take_characters.ensures

@@ -1,6 +1,6 @@
 use Rattle.std.proofs.Common.{◌≡◌, ◌++◌, drop}
 use Rattle.l6_group.specs.Character.{spelled}
-use Rattle.l6_group.proofs.spelling.spelled.Given as goal
+use Rattle.l6_group.proofs.spelling.copied.Given as goal
 
 -- the characters so far and those of what is left are those of the element
 abbrev pub invariant-loop-byte : goal.invariant-loop-byte

@@ -1,6 +1,6 @@
 //! The machine.
 
-ghost use Rattle.std.specs.Prelude.{◌≡◌, ◌≤◌, ◌<◌, ◌^◌, ◌+◌, ◌↔◌, true, false, IfOk, OnOk, IsErrOf, slice_index, length, All, None, Some};
+ghost use Rattle.std.specs.Prelude.{◌≡◌, ◌≤◌, ◌<◌, ◌^◌, ◌+◌, ◌↔◌, true, false, IfOk, IfErr, OnOk, IsErrOf, slice_index, length, All, None, Some};
 ghost use Rattle.l6_word.specs.Numerals.{word_bits};
 ghost use Rattle.l6_prog.specs.Numerals.{first_letter};
 ghost use Rattle.l6_machine.specs.Limits.{are_allowed};
@@ -45,6 +45,18 @@ impl From<AllocError> for MachineFault {
     }
 }
 
+/// Whether a run may have these limits.
+fn check(limits: Limits) -> Result<(), MachineFault>
+    ensures bad_limits { IsErrOf result MachineFault.BadLimits ↔ (are_allowed limits ≡ false) }
+    ensures refused { IfErr result (λ fault. fault ≡ MachineFault.BadLimits) }
+{
+    if limits.are_allowed() {
+        Ok(())
+    } else {
+        Err(MachineFault::BadLimits)
+    }
+}
+
 /// A machine with a program to run, at some state of its run.
 #[derive(Drop)]
 pub struct Machine {
@@ -72,7 +84,7 @@ impl Machine {
     pub fn new(
         alloc: Global,
         program: &Program,
-        _input: &[u8],
+        input: &[u8],
         limits: Limits,
     ) -> Result<Self, MachineFault>
         requires { is_ready program.now ≡ true }
@@ -83,11 +95,27 @@ impl Machine {
         ensures bad_limits { IsErrOf result MachineFault.BadLimits ↔ (are_allowed limits ≡ false) }
         ensures allowed { OnOk result (are_allowed limits ≡ true) }
     {
-        if !limits.are_allowed() {
-            return Err(MachineFault::BadLimits);
-        }
+        check(limits)?;
+        Self::with_program(alloc, program.duplicate(alloc)?, input, limits)
+    }
+
+    /// A machine before the first step of the program, which is given up to it; else as `new`.
+    pub fn with_program(
+        alloc: Global,
+        program: Program,
+        _input: &[u8],
+        limits: Limits,
+    ) -> Result<Self, MachineFault>
+        requires { is_ready program ≡ true }
+        ensures start { IfOk result (λ m. m.state ≡ start) }
+        ensures world { IfOk result
+            (λ m. m.world ≡ record { program = program; setting = record { limits = limits } }) }
+        ensures reached { IfOk result (λ m. IsReached m.world m.state) }
+        ensures bad_limits { IsErrOf result MachineFault.BadLimits ↔ (are_allowed limits ≡ false) }
+        ensures allowed { OnOk result (are_allowed limits ≡ true) }
+    {
+        check(limits)?;
         let registers = Registers::new(alloc, limits)?;
-        let program = program.duplicate(alloc)?;
         let progress = Progress {
             registers,
             at: Position {

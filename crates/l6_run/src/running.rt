@@ -48,11 +48,11 @@ fn printout_of(alloc: Global, options: Options, deck: &[u8]) -> Result<(Ending, 
     ensures refuses { IfErr result (IsNoRun deck.now) }
 {
     let assembly = assemble(alloc, deck)?;
-    let program = assembly.program();
-    if !ready(program) {
+    let program = assembly.into_program();
+    if !ready(&program) {
         return Err(RunFault::NotYet);
     }
-    let mut machine = match Machine::new(alloc, program, &[], options.limits()) {
+    let mut machine = match Machine::with_program(alloc, program, &[], options.limits()) {
         Ok(machine) => machine,
         Err(MachineFault::NoMemory) => return Err(RunFault::NoMemory),
         Err(MachineFault::BadLimits) => unreachable!(),

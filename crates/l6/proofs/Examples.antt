@@ -23,8 +23,16 @@ use Rattle.l6.specs.Worked.{FiveIsSpelled, FiveIsPrinted, five_program, five_ass
 -- the operations of the second card
 abbrev five_operations : List (Placed (Op Label))
 five_operations =
-    record { reading = Set (name_a ∷ []) (Number 5); card = 2 }
-    ∷ record { reading = PrintDecimal (name_a ∷ []); card = 2 }
+    record {
+      reading = Set (name_a ∷ []) (Number 5);
+      card = 2;
+      span = record { offset = 8; length = 7 };
+    }
+    ∷ record {
+      reading = PrintDecimal (name_a ∷ []);
+      card = 2;
+      span = record { offset = 15; length = 6 };
+    }
     ∷ []
 
 pub five-spelled : FiveIsSpelled

@@ -91,7 +91,11 @@ fn operation_of(labels: &Labels, group: Placed<Op<Label>>) -> Result<Op, AsmFaul
     ensures { let made = spec.operation_of labels.now.entries group in
         Gives result (λ operation. operation) made }
 {
-    let Placed { reading, card } = group;
+    let Placed {
+        reading,
+        card,
+        span: _,
+    } = group;
     match resolved(labels, reading) {
         None => Err(AsmFault::NoLabel(card)),
         Some(operation) => Ok(operation),
@@ -105,7 +109,11 @@ fn tests_of(alloc: Global, groups: Vec<Placed<Test>>) -> Result<Vec<Test>, Alloc
 {
     let mut tests = Vec::with_capacity(alloc, groups.len())?;
     for group in groups {
-        let Placed { reading, card: _ } = group;
+        let Placed {
+            reading,
+            card: _,
+            span: _,
+        } = group;
         tests.push(reading)?;
     }
     Ok(tests)

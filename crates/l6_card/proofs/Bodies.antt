@@ -1,5 +1,5 @@
 -- The items of a body, from its front.
-use Rattle.std.proofs.Common.{◌≡◌, ℕ, ◌<◌, ◌≤◌, List, [], ◌∷◌, ◌++◌, Bool, true, false, cond, eqb, refl, sym, ap, ◌∙◌, subst, inl, inr, append_assoc, length, length-append, arith}
+use Rattle.std.proofs.Common.{◌≡◌, ℕ, ◌+◌, ◌<◌, ◌≤◌, List, [], ◌∷◌, ◌++◌, Bool, true, false, cond, eqb, refl, sym, ap, ◌∙◌, subst, inl, inr, append_assoc, length, length-append, arith}
 use Rattle.std.specs.Prelude.{not, ◌||◌}
 use Rattle.std.specs.List.{list_all}
 use Rattle.std.specs.Str.{byte}
@@ -10,24 +10,25 @@ use Rattle.l6_group.specs.Character.{is_blank}
 use Rattle.l6_card.specs.Items.{Item, group, word, unclosed, unopened, after_opening, after_blank, after_letter, after_column, items_of}
 use Rattle.l6_card.specs.declared.item.First.{First}
 use Rattle.l6_card.specs.declared.item.First.TheVariants.{End, Group, Word, Other}
-use Rattle.l6_card.specs.inner.First.{BeginsWith, IsShorter, AreWordAndRest, letters_of, begins_with_other, begins_with_none, begins_with_closing, begins_a_word}
+use Rattle.l6_card.specs.inner.First.{BeginsWith, GroupFirst, WordFirst, IsUnclosed, ClosesFirst, IsShorter, AreWordAndRest, letters_of, begins_with_other, begins_with_none, begins_with_closing, begins_a_word}
 
 -- the first item is a `)` that no `(` opens
 abbrev closes_first : List Item → Bool
 closes_first (unopened columns ∷ items) = true
 closes_first items = false
 
-closes_first-opening : (items : List Item) → closes_first (after_opening items) ≡ false
-closes_first-opening [] = refl
-closes_first-opening (group columns ∷ items) = refl
-closes_first-opening (word columns ∷ items) = refl
-closes_first-opening (unclosed ∷ items) = refl
-closes_first-opening (unopened columns ∷ items) = refl
+closes_first-opening : (offset : ℕ) (items : List Item) →
+    closes_first (after_opening offset items) ≡ false
+closes_first-opening offset [] = refl
+closes_first-opening offset (group at columns ∷ items) = refl
+closes_first-opening offset (word columns ∷ items) = refl
+closes_first-opening offset (unclosed ∷ items) = refl
+closes_first-opening offset (unopened columns ∷ items) = refl
 
 closes_first-blank : (blank : ℕ) (items : List Item) →
     closes_first items ≡ false → closes_first (after_blank blank items) ≡ false
 closes_first-blank blank [] open' = refl
-closes_first-blank blank (group columns ∷ items) open' = refl
+closes_first-blank blank (group at columns ∷ items) open' = refl
 closes_first-blank blank (word columns ∷ items) open' = refl
 closes_first-blank blank (unclosed ∷ items) open' = refl
 closes_first-blank blank (unopened columns ∷ items) open' = absurd (cc)
@@ -35,70 +36,75 @@ closes_first-blank blank (unopened columns ∷ items) open' = absurd (cc)
 closes_first-letter : (letter : ℕ) (items : List Item) →
     closes_first items ≡ false → closes_first (after_letter letter items) ≡ false
 closes_first-letter letter [] open' = refl
-closes_first-letter letter (group columns ∷ items) open' = refl
+closes_first-letter letter (group at columns ∷ items) open' = refl
 closes_first-letter letter (word columns ∷ items) open' = refl
 closes_first-letter letter (unclosed ∷ items) open' = refl
 closes_first-letter letter (unopened columns ∷ items) open' = absurd (cc)
 
-closes_first-cond : (opens blank : Bool) (column : ℕ) (items : List Item) →
+closes_first-cond : (opens blank : Bool) (offset column : ℕ) (items : List Item) →
     closes_first items ≡ false →
     closes_first
-    (cond opens (after_opening items)
+    (cond opens (after_opening offset items)
     (cond blank (after_blank column items) (after_letter column items)))
     ≡ false
-closes_first-cond true blank column items open' = closes_first-opening items
-closes_first-cond false true column items open' = closes_first-blank column items open'
-closes_first-cond false false column items open' = closes_first-letter column items open'
+closes_first-cond true blank offset column items open' = closes_first-opening offset items
+closes_first-cond false true offset column items open' = closes_first-blank column items open'
+closes_first-cond false false offset column items open' = closes_first-letter column items open'
 
-closes_first-column : (column : ℕ) (items : List Item) →
+closes_first-column : (offset column : ℕ) (items : List Item) →
     eqb column (byte ")") ≡ false → closes_first items ≡ false →
-    closes_first (after_column column items) ≡ false
-closes_first-column column items other open' =
-    rw other (closes_first-cond (eqb column (byte "(")) (is_blank column) column items open')
+    closes_first (after_column offset column items) ≡ false
+closes_first-column offset column items other open' =
+    rw other
+    (closes_first-cond (eqb column (byte "(")) (is_blank column) offset column items open')
 
 -- bytes without a `)` have none that no `(` opens
-closes_first-lacks : (columns : List ℕ) → lacks (byte ")") columns ≡ true →
-    closes_first (items_of columns) ≡ false
-closes_first-lacks [] lacking = refl
-closes_first-lacks (column ∷ columns) lacking =
+closes_first-lacks : (offset : ℕ) (columns : List ℕ) → lacks (byte ")") columns ≡ true →
+    closes_first (items_of offset columns) ≡ false
+closes_first-lacks offset [] lacking = refl
+closes_first-lacks offset (column ∷ columns) lacking =
     let parts = lacks-cons (byte ")") column columns lacking in
-    closes_first-column column (items_of columns) parts.0 (closes_first-lacks columns parts.1)
+    closes_first-column offset column (items_of (offset + 1) columns) parts.0
+    (closes_first-lacks (offset + 1) columns parts.1)
 
 -- a `(` before the first `)` leaves none that no `(` opens
-closes_first-open : (front behind : List ℕ) →
-    lacks (byte ")") front ≡ true → closes_first (items_of (front ++ byte "(" ∷ behind)) ≡ false
-closes_first-open [] behind lacking = closes_first-opening (items_of behind)
-closes_first-open (column ∷ columns) behind lacking =
+closes_first-open : (offset : ℕ) (front behind : List ℕ) →
+    lacks (byte ")") front ≡ true →
+    closes_first (items_of offset (front ++ byte "(" ∷ behind)) ≡ false
+closes_first-open offset [] behind lacking =
+    closes_first-opening offset (items_of (offset + 1) behind)
+closes_first-open offset (column ∷ columns) behind lacking =
     let parts = lacks-cons (byte ")") column columns lacking in
-    closes_first-column column (items_of (columns ++ byte "(" ∷ behind)) parts.0
-    (closes_first-open columns behind parts.1)
+    closes_first-column offset column (items_of (offset + 1) (columns ++ byte "(" ∷ behind))
+    parts.0 (closes_first-open (offset + 1) columns behind parts.1)
 
-other_opened : (items : List Item) → closes_first items ≡ false →
-    begins_with_other (after_opening items) ≡ true
-other_opened [] open' = refl
-other_opened (group columns ∷ items) open' = refl
-other_opened (word columns ∷ items) open' = refl
-other_opened (unclosed ∷ items) open' = refl
-other_opened (unopened columns ∷ items) open' = absurd (cc)
+other_opened : (offset : ℕ) (items : List Item) → closes_first items ≡ false →
+    begins_with_other (after_opening offset items) ≡ true
+other_opened offset [] open' = refl
+other_opened offset (group at columns ∷ items) open' = refl
+other_opened offset (word columns ∷ items) open' = refl
+other_opened offset (unclosed ∷ items) open' = refl
+other_opened offset (unopened columns ∷ items) open' = absurd (cc)
 
 -- a `(` that no `)` follows is no group's
-pub unclosed-lacks : (inside : List ℕ) →
-    lacks (byte ")") inside ≡ true → begins_with_other (after_opening (items_of inside)) ≡ true
-unclosed-lacks inside lacking = other_opened (items_of inside) (closes_first-lacks inside lacking)
+pub unclosed-lacks : (inside : List ℕ) → lacks (byte ")") inside ≡ true → IsUnclosed inside
+unclosed-lacks inside lacking offset =
+    other_opened offset (items_of (offset + 1) inside)
+    (closes_first-lacks (offset + 1) inside lacking)
 
 -- a `(` that another follows before the first `)` is no group's
 pub unclosed-open : {inside columns behind front others : List ℕ} →
     IsCutAt (byte ")") inside columns behind → IsCutAt (byte "(") columns front others →
-    begins_with_other (after_opening (items_of inside)) ≡ true
-unclosed-open {inside} {columns} {behind} {front} {others} close open' =
+    IsUnclosed inside
+unclosed-open {inside} {columns} {behind} {front} {others} close open' offset =
     let lacking : lacks (byte ")") front ≡ true =
     lacks-append (byte ")") front (byte "(" ∷ others) (rw open'.whole at close.first) in
     let whole : inside ≡ front ++ byte "(" ∷ (others ++ byte ")" ∷ behind) =
     close.whole ∙ ap (λ c. c ++ byte ")" ∷ behind) open'.whole
     ∙ append_assoc front (byte "(" ∷ others) (byte ")" ∷ behind) in
-    other_opened (items_of inside)
-    (ap (λ i. closes_first (items_of i)) whole
-    ∙ closes_first-open front (others ++ byte ")" ∷ behind) lacking)
+    other_opened offset (items_of (offset + 1) inside)
+    (ap (λ i. closes_first (items_of (offset + 1) i)) whole
+    ∙ closes_first-open (offset + 1) front (others ++ byte ")" ∷ behind) lacking)
 
 joined : (blank : Bool) (column : ℕ) (columns : List ℕ) (items : List Item) →
     cond blank (after_blank column (unopened columns ∷ items))
@@ -107,30 +113,51 @@ joined : (blank : Bool) (column : ℕ) (columns : List ℕ) (items : List Item) 
 joined true column columns items = refl
 joined false column columns items = refl
 
-pub closed-front : (columns behind : List ℕ) →
+pub closed-front : (offset : ℕ) (columns behind : List ℕ) →
     lacks (byte ")") columns ≡ true → lacks (byte "(") columns ≡ true →
-    items_of (columns ++ byte ")" ∷ behind) ≡ unopened columns ∷ items_of behind
-closed-front [] behind no_close no_open = refl
-closed-front (column ∷ columns) behind no_close no_open =
+    items_of offset (columns ++ byte ")" ∷ behind)
+    ≡ unopened columns ∷ items_of (offset + length columns + 1) behind
+closed-front offset [] behind no_close no_open =
+    ap (λ o. unopened [] ∷ items_of o behind) (omega arith)
+closed-front offset (column ∷ columns) behind no_close no_open =
     let closes = lacks-cons (byte ")") column columns no_close in
     let opens = lacks-cons (byte "(") column columns no_open in
-    let alone : after_column column (unopened columns ∷ items_of behind) ≡ unopened
-    (column ∷ columns) ∷ items_of behind =
-    rw (closes.0, opens.0) (joined (is_blank column) column columns (items_of behind)) in
-    ap (after_column column) (closed-front columns behind closes.1 opens.1) ∙ alone
+    let next = offset + 1 + length columns + 1 in
+    let alone : after_column offset column (unopened columns ∷ items_of next behind) ≡ unopened
+    (column ∷ columns) ∷ items_of next behind =
+    rw (closes.0, opens.0) (joined (is_blank column) column columns (items_of next behind)) in
+    ap (after_column offset column) (closed-front (offset + 1) columns behind closes.1 opens.1)
+    ∙ alone
+    ∙ ap (λ o. unopened (column ∷ columns) ∷ items_of o behind) (omega arith)
 
 -- the columns up to the first `)`, without a `(`, are those of a group
 pub closed-cut : {inside columns behind : List ℕ} →
     IsCutAt (byte ")") inside columns behind → lacks (byte "(") columns ≡ true →
-    items_of inside ≡ unopened columns ∷ items_of behind
-closed-cut {inside} {columns} {behind} cut no_open =
-    ap items_of cut.whole ∙ closed-front columns behind cut.first no_open
+    ClosesFirst inside columns behind
+closed-cut {inside} {columns} {behind} cut no_open = record {
+  items = λ offset. ap (items_of offset) cut.whole
+      ∙ closed-front offset columns behind cut.first no_open;
+  whole = omega (arith, ap length cut.whole, length-append columns (byte ")" ∷ behind));
+}
+
+-- a `(` in front of columns up to the first `)` makes a group
+pub opened_first : {body inside columns behind : List ℕ} {mark : ℕ} → body ≡ mark ∷ inside →
+    mark ≡ byte "(" →
+    ClosesFirst inside columns behind → (offset : ℕ) → GroupFirst offset body columns behind
+opened_first {body} {inside} {columns} {behind} {mark} whole opens closes offset = record {
+  opening = offset;
+  items = ap (items_of offset) whole
+      ∙ ap (λ m. items_of offset (m ∷ inside)) opens
+      ∙ ap (after_opening offset) (closes.items (offset + 1))
+      ∙ ap (λ o. group offset columns ∷ items_of o behind) (omega arith);
+  ends = omega (arith, ap length whole, closes.whole);
+}
 
 -- a blank is no parenthesis
-pub blank_column : (column : ℕ) (items : List Item) →
-    is_blank column ≡ true → after_column column items ≡ after_blank column items
-blank_column column items blank =
-    let P : ℕ → Type 0 = λ c. after_column c items ≡ after_blank c items in
+pub blank_column : (offset column : ℕ) (items : List Item) →
+    is_blank column ≡ true → after_column offset column items ≡ after_blank column items
+blank_column offset column items blank =
+    let P : ℕ → Type 0 = λ c. after_column offset c items ≡ after_blank c items in
     elim (or_cases (eqb column (byte " ")) (eqb column (byte "\t")) blank) [
       | inl same ↦ subst P (sym (eqb-true column (byte " ") same)) refl
       | inr same ↦ subst P (sym (eqb-true column (byte "\t") same)) refl
@@ -139,37 +166,50 @@ blank_column column items blank =
 nothing_blank : (column : ℕ) (items : List Item) → closes_first items ≡ false →
     after_blank column items ≡ items
 nothing_blank column [] open' = refl
-nothing_blank column (group columns ∷ items) open' = refl
+nothing_blank column (group at columns ∷ items) open' = refl
 nothing_blank column (word columns ∷ items) open' = refl
 nothing_blank column (unclosed ∷ items) open' = refl
 nothing_blank column (unopened columns ∷ items) open' = absurd (cc)
 
-skipped-blanks : (blanks columns : List ℕ) →
-    list_all is_blank blanks ≡ true → closes_first (items_of columns) ≡ false →
-    items_of (blanks ++ columns) ≡ items_of columns
-skipped-blanks [] columns all_blank open' = refl
-skipped-blanks (blank ∷ blanks) columns all_blank open' =
+skipped-blanks : (offset : ℕ) (blanks columns : List ℕ) →
+    list_all is_blank blanks ≡ true →
+    closes_first (items_of (offset + length blanks) columns) ≡ false →
+    items_of offset (blanks ++ columns) ≡ items_of (offset + length blanks) columns
+skipped-blanks offset [] columns all_blank open' = ap (λ o. items_of o columns) (omega arith)
+skipped-blanks offset (blank ∷ blanks) columns all_blank open' =
     let parts = and_parts (is_blank blank) (list_all is_blank blanks) all_blank in
-    ap (after_column blank) (skipped-blanks blanks columns parts.1 open')
-    ∙ blank_column blank (items_of columns) parts.0
-    ∙ nothing_blank blank (items_of columns) open'
+    let next = offset + 1 + length blanks in
+    let same : offset + length (blank ∷ blanks) ≡ next = omega arith in
+    let still : closes_first (items_of next columns) ≡ false =
+    ap (λ o. closes_first (items_of o columns)) (sym same) ∙ open' in
+    ap (after_column offset blank) (skipped-blanks (offset + 1) blanks columns parts.1 still)
+    ∙ blank_column offset blank (items_of next columns) parts.0
+    ∙ nothing_blank blank (items_of next columns) still
+    ∙ ap (λ o. items_of o columns) (sym same)
 
 other-blank : (blank : ℕ) (items : List Item) →
     begins_with_other items ≡ true → begins_with_other (after_blank blank items) ≡ true
 other-blank blank [] other = absurd (cc)
-other-blank blank (group columns ∷ items) other = absurd (cc)
+other-blank blank (group at columns ∷ items) other = absurd (cc)
 other-blank blank (word columns ∷ items) other = absurd (cc)
 other-blank blank (unclosed ∷ items) other = refl
 other-blank blank (unopened columns ∷ items) other = refl
 
-other-blanks : (blanks columns : List ℕ) →
-    list_all is_blank blanks ≡ true → begins_with_other (items_of columns) ≡ true →
-    begins_with_other (items_of (blanks ++ columns)) ≡ true
-other-blanks [] columns all_blank other = other
-other-blanks (blank ∷ blanks) columns all_blank other =
+other-blanks : (offset : ℕ) (blanks columns : List ℕ) →
+    list_all is_blank blanks ≡ true →
+    begins_with_other (items_of (offset + length blanks) columns) ≡ true →
+    begins_with_other (items_of offset (blanks ++ columns)) ≡ true
+other-blanks offset [] columns all_blank other =
+    let same : offset ≡ offset + length {A = ℕ} [] = omega arith in
+    ap (λ o. begins_with_other (items_of o columns)) same ∙ other
+other-blanks offset (blank ∷ blanks) columns all_blank other =
     let parts = and_parts (is_blank blank) (list_all is_blank blanks) all_blank in
-    rw (blank_column blank (items_of (blanks ++ columns)) parts.0)
-    (other-blank blank (items_of (blanks ++ columns)) (other-blanks blanks columns parts.1 other))
+    let same : offset + 1 + length blanks ≡ offset + length (blank ∷ blanks) = omega arith in
+    let behind =
+    other-blanks (offset + 1) blanks columns parts.1
+    (ap (λ o. begins_with_other (items_of o columns)) same ∙ other) in
+    rw (blank_column offset blank (items_of (offset + 1) (blanks ++ columns)) parts.0)
+    (other-blank blank (items_of (offset + 1) (blanks ++ columns)) behind)
 
 -- a test that holds where the other fails
 or_true_left : (one other : Bool) → (one || other) ≡ true → other ≡ false → one ≡ true
@@ -180,17 +220,29 @@ or_true_left false other either fails = absurd (cc)
 pub begins_behind_blanks : (first : First) (blanks body rest : List ℕ) →
     body ≡ blanks ++ rest → list_all is_blank blanks ≡ true → BeginsWith first rest →
     BeginsWith first body
-begins_behind_blanks End blanks body rest whole all_blank begins =
-    let closes = ap closes_first begins in
-    ap items_of whole ∙ skipped-blanks blanks rest all_blank closes ∙ begins
-begins_behind_blanks (Group columns behind) blanks body rest whole all_blank begins =
-    let closes = ap closes_first begins in
-    ap items_of whole ∙ skipped-blanks blanks rest all_blank closes ∙ begins
-begins_behind_blanks (Word columns behind) blanks body rest whole all_blank begins =
-    let closes = ap closes_first begins in
-    ap items_of whole ∙ skipped-blanks blanks rest all_blank closes ∙ begins
-begins_behind_blanks Other blanks body rest whole all_blank begins =
-    ap (λ b. begins_with_other (items_of b)) whole ∙ other-blanks blanks rest all_blank begins
+begins_behind_blanks End blanks body rest whole all_blank begins = λ offset.
+    let none = begins (offset + length blanks) in
+    ap (items_of offset) whole
+    ∙ skipped-blanks offset blanks rest all_blank (ap closes_first none) ∙ none
+begins_behind_blanks (Group columns behind) blanks body rest whole all_blank begins = λ offset.
+    let one = begins (offset + length blanks) in
+    record {
+      opening = one.opening;
+      items = ap (items_of offset) whole
+          ∙ skipped-blanks offset blanks rest all_blank (ap closes_first one.items) ∙ one.items;
+      ends = omega (arith, one.ends, ap length whole, length-append blanks rest);
+    }
+begins_behind_blanks (Word columns behind) blanks body rest whole all_blank begins = λ offset.
+    let one = begins (offset + length blanks) in
+    record {
+      next = one.next;
+      items = ap (items_of offset) whole
+          ∙ skipped-blanks offset blanks rest all_blank (ap closes_first one.items) ∙ one.items;
+      ends = omega (arith, one.ends, ap length whole, length-append blanks rest);
+    }
+begins_behind_blanks Other blanks body rest whole all_blank begins = λ offset.
+    ap (λ b. begins_with_other (items_of offset b)) whole
+    ∙ other-blanks offset blanks rest all_blank (begins (offset + length blanks))
 
 -- what follows the first item is shorter than the body, too
 pub shorter_behind_blanks : (first : First) (body rest : List ℕ) →
@@ -206,12 +258,13 @@ starts_fresh (word columns ∷ items) = false
 starts_fresh (unopened columns ∷ items) = false
 starts_fresh _ = true
 
-fresh-opening : (items : List Item) → starts_fresh (after_opening items) ≡ true
-fresh-opening [] = refl
-fresh-opening (group columns ∷ items) = refl
-fresh-opening (word columns ∷ items) = refl
-fresh-opening (unclosed ∷ items) = refl
-fresh-opening (unopened columns ∷ items) = refl
+fresh-opening : (offset : ℕ) (items : List Item) →
+    starts_fresh (after_opening offset items) ≡ true
+fresh-opening offset [] = refl
+fresh-opening offset (group at columns ∷ items) = refl
+fresh-opening offset (word columns ∷ items) = refl
+fresh-opening offset (unclosed ∷ items) = refl
+fresh-opening offset (unopened columns ∷ items) = refl
 
 -- these letters, if there are any, as a word in front of items
 abbrev word_then : List ℕ → List Item → List Item
@@ -223,7 +276,7 @@ then-blank : (blank : ℕ) (letters : List ℕ) (items : List Item) →
     after_blank blank (word_then letters items) ≡ word_then letters items
 then-blank blank (letter ∷ letters) items fresh = refl
 then-blank blank [] [] fresh = refl
-then-blank blank [] (group columns ∷ items) fresh = refl
+then-blank blank [] (group at columns ∷ items) fresh = refl
 then-blank blank [] (unclosed ∷ items) fresh = refl
 then-blank blank [] (word columns ∷ items) fresh = absurd (cc)
 then-blank blank [] (unopened columns ∷ items) fresh = absurd (cc)
@@ -233,7 +286,7 @@ then-letter : (letter : ℕ) (letters : List ℕ) (items : List Item) →
     after_letter letter (word_then letters items) ≡ word (letter ∷ letters) ∷ items
 then-letter letter (other ∷ letters) items fresh = refl
 then-letter letter [] [] fresh = refl
-then-letter letter [] (group columns ∷ items) fresh = refl
+then-letter letter [] (group at columns ∷ items) fresh = refl
 then-letter letter [] (unclosed ∷ items) fresh = refl
 then-letter letter [] (word columns ∷ items) fresh = absurd (cc)
 then-letter letter [] (unopened columns ∷ items) fresh = absurd (cc)
@@ -247,37 +300,41 @@ then-column true column letters items fresh = then-blank column letters items fr
 then-column false column letters items fresh = then-letter column letters items fresh
 
 -- columns without a parenthesis are a word, unless they are blank
-word_front : (columns rest : List ℕ) → lacks (byte ")") columns ≡ true →
+word_front : (offset : ℕ) (columns rest : List ℕ) → lacks (byte ")") columns ≡ true →
     lacks (byte "(") columns ≡ true →
-    starts_fresh (items_of rest) ≡ true →
-    items_of (columns ++ rest) ≡ word_then (letters_of columns) (items_of rest)
-word_front [] rest no_close no_open fresh = refl
-word_front (column ∷ columns) rest no_close no_open fresh =
+    starts_fresh (items_of (offset + length columns) rest) ≡ true →
+    items_of offset (columns ++ rest)
+    ≡ word_then (letters_of columns) (items_of (offset + length columns) rest)
+word_front offset [] rest no_close no_open fresh =
+    ap (λ o. items_of o rest) (omega arith)
+word_front offset (column ∷ columns) rest no_close no_open fresh =
     let closes = lacks-cons (byte ")") column columns no_close in
     let opens = lacks-cons (byte "(") column columns no_open in
     let letters = letters_of columns in
-    let alone : after_column column (word_then letters (items_of rest))
-    ≡ cond (is_blank column) (after_blank column (word_then letters (items_of rest)))
-    (after_letter column (word_then letters (items_of rest))) =
+    let same : offset + length (column ∷ columns) ≡ offset + 1 + length columns = omega arith in
+    let items = items_of (offset + 1 + length columns) rest in
+    let still : starts_fresh items ≡ true =
+    ap (λ o. starts_fresh (items_of o rest)) (sym same) ∙ fresh in
+    let alone : after_column offset column (word_then letters items)
+    ≡ cond (is_blank column) (after_blank column (word_then letters items))
+    (after_letter column (word_then letters items)) =
     rw (closes.0, opens.0) refl in
-    ap (after_column column) (word_front columns rest closes.1 opens.1 fresh)
+    ap (after_column offset column)
+    (word_front (offset + 1) columns rest closes.1 opens.1 still)
     ∙ alone
-    ∙ then-column (is_blank column) column letters (items_of rest) fresh
+    ∙ then-column (is_blank column) column letters items still
+    ∙ ap (λ o. word_then (letters_of (column ∷ columns)) (items_of o rest)) (sym same)
 
-rest_fresh : (rest : List ℕ) → begins_with_none rest ≡ true → begins_with_closing rest ≡ false →
-    starts_fresh (items_of rest) ≡ true
-rest_fresh [] none closing = refl
-rest_fresh (column ∷ columns) none closing =
+rest_fresh : (offset : ℕ) (rest : List ℕ) → begins_with_none rest ≡ true →
+    begins_with_closing rest ≡ false → starts_fresh (items_of offset rest) ≡ true
+rest_fresh offset [] none closing = refl
+rest_fresh offset (column ∷ columns) none closing =
     let opening =
     eqb-true column (byte "(")
     (or_true_left (eqb column (byte "(")) (eqb column (byte ")")) none closing) in
-    let P : ℕ → Type 0 = λ c. starts_fresh (after_column c (items_of columns)) ≡ true in
-    subst P (sym opening) (fresh-opening (items_of columns))
-
--- the word that a body begins with
-pub record WordFirst (body word_columns rest : List ℕ) : Type 0 where
-  pub items : items_of body ≡ word (letters_of word_columns) ∷ items_of rest
-  pub shorter : length rest < length body
+    let items = items_of (offset + 1) columns in
+    let P : ℕ → Type 0 = λ c. starts_fresh (after_column offset c items) ≡ true in
+    subst P (sym opening) (fresh-opening offset items)
 
 no_word : (rest : List ℕ) → begins_with_none rest ≡ true → begins_with_closing rest ≡ false →
     begins_a_word rest ≡ true → ⊥
@@ -288,30 +345,43 @@ no_word (column ∷ columns) none closing begins =
     let other = not-true (eqb column (byte "(")) solid.1 in
     cc
 
+-- the word that a body begins with, at each offset
+pub record IsWordFirst (body columns rest : List ℕ) : Type 0 where
+  pub each : (offset : ℕ) → WordFirst offset body columns rest
+  pub shorter : length rest < length body
+
 pub word_first : (body columns rest : List ℕ) → AreWordAndRest body columns rest →
-    begins_a_word body ≡ true → begins_with_closing rest ≡ false → WordFirst body columns rest
+    begins_a_word body ≡ true → begins_with_closing rest ≡ false → IsWordFirst body columns rest
 word_first body [] rest parts begins closing =
     absurd (no_word rest parts.rest_begins closing (ap begins_a_word (sym parts.whole) ∙ begins))
 word_first body (column ∷ columns) rest parts begins closing =
     let solid =
     and_parts (not (is_blank column)) (not (eqb column (byte "(")))
     (ap begins_a_word (sym parts.whole) ∙ begins) in
-    let fresh = rest_fresh rest parts.rest_begins closing in
     let letters : letters_of (column ∷ columns) ≡ column ∷ letters_of columns = rw solid.0 refl in
     record {
-      items = ap items_of parts.whole
-          ∙ word_front (column ∷ columns) rest parts.no_closing parts.no_opening fresh
-          ∙ ap (λ l. word_then l (items_of rest)) letters
-          ∙ ap (λ l. word l ∷ items_of rest) (sym letters);
+      each = λ offset.
+          let next = offset + length (column ∷ columns) in
+          let fresh = rest_fresh next rest parts.rest_begins closing in
+          record {
+            next = next;
+            items = ap (items_of offset) parts.whole
+                ∙ word_front offset (column ∷ columns) rest parts.no_closing parts.no_opening fresh
+                ∙ ap (λ l. word_then l (items_of next rest)) letters
+                ∙ ap (λ l. word l ∷ items_of next rest) (sym letters);
+            ends = omega (arith, ap length parts.whole, length-append (column ∷ columns) rest);
+          };
       shorter = omega (arith, ap length parts.whole, length-append (column ∷ columns) rest);
     }
 
 -- columns that a `)` follows are no word
 pub closing_first : (body columns rest : List ℕ) → AreWordAndRest body columns rest →
-    begins_with_closing rest ≡ true → begins_with_other (items_of body) ≡ true
-closing_first body columns [] parts closing = absurd (cc)
-closing_first body columns (column ∷ rest) parts closing =
+    begins_with_closing rest ≡ true →
+    (offset : ℕ) → begins_with_other (items_of offset body) ≡ true
+closing_first body columns [] parts closing offset = absurd (cc)
+closing_first body columns (column ∷ rest) parts closing offset =
     let whole : body ≡ columns ++ byte ")" ∷ rest =
     parts.whole ∙ ap (λ c. columns ++ c ∷ rest) (eqb-true column (byte ")") closing) in
-    ap (λ b. begins_with_other (items_of b)) whole
-    ∙ ap begins_with_other (closed-front columns rest parts.no_closing parts.no_opening)
+    ap (λ b. begins_with_other (items_of offset b)) whole
+    ∙ ap begins_with_other
+    (closed-front offset columns rest parts.no_closing parts.no_opening)

@@ -21,9 +21,11 @@ use Rattle.l6_group.specs.Test.{test_of}
 use Rattle.l6_group.specs.Word.{conditions, condition_from, exit_from, after_then}
 use Rattle.l6_card.specs.declared.cards.Placed.{Placed}
 use Rattle.l6_card.specs.declared.cards.PlacedLabel.{PlacedLabel}
+use Rattle.l6_card.specs.declared.span.Span.{Span}
 use Rattle.l6_card.specs.declared.draft.Phase.{Phase}
 use Rattle.l6_card.specs.declared.draft.Phase.TheVariants.{New, Worded, Tested, Open, Closed}
 use Rattle.l6_card.specs.DeckFault.{DeckFault}
+use Rattle.l6_card.specs.Spans.{group_span}
 use Rattle.l6_card.specs.Items.{Item, group, word, unclosed, unopened}
 use Rattle.l6_card.specs.Card.{Card, skipped, plain, labelled, continued, unknown}
 use Rattle.l6_card.specs.Statement.{WrittenParts}
@@ -48,11 +50,11 @@ pub record IsSound (draft : Draft) : Type 0 where
   pub condition : is_sound_in draft.phase draft.condition (length draft.tests) ≡ true
 
 -- a test that decided for what is known
-record Decided {A : Type 0} (holds : Bool) (one other : A) : Type 0 where
-  holds_so : holds ≡ true
-  same : one ≡ other
+pub record Decided {A : Type 0} (holds : Bool) (one other : A) : Type 0 where
+  pub holds_so : holds ≡ true
+  pub same : one ≡ other
 
-decided : {A E : Type 0} (holds : Bool) (one other : A) (fault : E) →
+pub decided : {A E : Type 0} (holds : Bool) (one other : A) (fault : E) →
     ◌≡◌ {A = Result A E} (cond holds (Ok one) (Err fault)) (Ok other) → Decided holds one other
 decided true one other fault so = record { holds_so = refl; same = cc }
 decided false one other fault so = absurd (cc)
@@ -79,12 +81,12 @@ sound_open Open condition tests sound whole = sound
 sound_open Closed condition tests sound whole = sound
 
 -- an operation leaves a sound draft, where the condition may have its tests
-operation_sound : (card : ℕ) (draft next : Draft) (found : Option (Op Label)) →
+operation_sound : (card : ℕ) (span : Span) (draft next : Draft) (found : Option (Op Label)) →
     IsSound draft → may_have draft.condition (length draft.tests) ≡ true →
-    with_operation card draft found ≡ Ok next → IsSound next
-operation_sound card draft next None sound fit made = absurd (cc)
-operation_sound card draft next (Some operation) sound fit made =
-    let more = draft.operations ++ record { reading = operation; card = card } ∷ [] in
+    with_operation card span draft found ≡ Ok next → IsSound next
+operation_sound card span draft next None sound fit made = absurd (cc)
+operation_sound card span draft next (Some operation) sound fit made =
+    let more = draft.operations ++ record { reading = operation; card = card; span = span } ∷ [] in
     let so = decided {E =
     DeckFault} (ltb (length draft.operations) most_operations) (record draft {
       phase =
@@ -99,20 +101,21 @@ operation_sound card draft next (Some operation) sound fit made =
             arith,
             length-append draft.operations (record {
               reading = operation;
-              card =
-                  card;
+              card = card;
+              span = span;
             } ∷ []),
           );
       condition = fit;
     })
 
 -- a test leaves a sound draft, where the condition may have one more
-test_sound : (card : ℕ) (draft next : Draft) (condition : Cond) (found : Option Test) →
+test_sound : (card : ℕ) (span : Span) (draft next : Draft) (condition : Cond)
+    (found : Option Test) →
     IsSound draft → may_have condition (length draft.tests + 1) ≡ true →
-    with_test card draft condition found ≡ Ok next → IsSound next
-test_sound card draft next condition None sound fit made = absurd (cc)
-test_sound card draft next condition (Some test) sound fit made =
-    let one : Placed Test = record { reading = test; card = card } in
+    with_test card span draft condition found ≡ Ok next → IsSound next
+test_sound card span draft next condition None sound fit made = absurd (cc)
+test_sound card span draft next condition (Some test) sound fit made =
+    let one : Placed Test = record { reading = test; card = card; span = span } in
     let more = draft.tests ++ one ∷ [] in
     let so = decided {E = DeckFault} (ltb (length draft.tests) most_tests)
     (record draft {
@@ -204,24 +207,28 @@ tested_always tests fit =
     absurd (omega arith)
 
 -- a further test
-further_sound : (card : ℕ) (draft next : Draft) (condition : Cond) (found : Option Test) →
+further_sound : (card : ℕ) (span : Span) (draft next : Draft) (condition : Cond)
+    (found : Option Test) →
     IsSound draft → is_sound_in Tested condition (length draft.tests) ≡ true →
-    with_further_test card draft condition found ≡ Ok next → IsSound next
-further_sound card draft next Always found sound fit made =
+    with_further_test card span draft condition found ≡ Ok next → IsSound next
+further_sound card span draft next Always found sound fit made =
     absurd (tested_always (length draft.tests) fit)
-further_sound card draft next If found sound fit made = absurd (cc)
-further_sound card draft next Not found sound fit made = absurd (cc)
-further_sound card draft next IfAll found sound fit made =
-    test_sound card draft next IfAll found sound (lt-ltb 0 (length draft.tests + 1) (omega arith))
+further_sound card span draft next If found sound fit made = absurd (cc)
+further_sound card span draft next Not found sound fit made = absurd (cc)
+further_sound card span draft next IfAll found sound fit made =
+    test_sound card span draft next IfAll found sound (lt-ltb 0 (length draft.tests + 1)
+    (omega arith))
     made
-further_sound card draft next IfAny found sound fit made =
-    test_sound card draft next IfAny found sound (lt-ltb 0 (length draft.tests + 1) (omega arith))
+further_sound card span draft next IfAny found sound fit made =
+    test_sound card span draft next IfAny found sound (lt-ltb 0 (length draft.tests + 1)
+    (omega arith))
     made
-further_sound card draft next IfNone found sound fit made =
-    test_sound card draft next IfNone found sound (lt-ltb 0 (length draft.tests + 1) (omega arith))
+further_sound card span draft next IfNone found sound fit made =
+    test_sound card span draft next IfNone found sound (lt-ltb 0 (length draft.tests + 1)
+    (omega arith))
     made
-further_sound card draft next IfNotAll found sound fit made =
-    test_sound card draft next IfNotAll found sound
+further_sound card span draft next IfNotAll found sound fit made =
+    test_sound card span draft next IfNotAll found sound
     (lt-ltb 0 (length draft.tests + 1) (omega arith)) made
 
 -- what stands behind THEN
@@ -240,20 +247,20 @@ rest_sound card draft next (Some []) sound fit made =
 rest_sound card draft next (Some (first ∷ rest)) sound fit made =
     exit_sound card draft next Closed (exit_from (first ∷ rest)) sound fit made
 
-group_sound : (phase : Phase) (card : ℕ) (draft next : Draft) (columns : List ℕ) →
+group_sound : (phase : Phase) (card : ℕ) (span : Span) (draft next : Draft) (columns : List ℕ) →
     IsSound draft → is_sound_in phase draft.condition (length draft.tests) ≡ true →
-    with_group_in phase card draft columns ≡ Ok next → IsSound next
-group_sound New card draft next columns sound fit made =
-    operation_sound card draft next (operation_of columns) sound
+    with_group_in phase card span draft columns ≡ Ok next → IsSound next
+group_sound New card span draft next columns sound fit made =
+    operation_sound card span draft next (operation_of columns) sound
     (sound_open New draft.condition (length draft.tests) fit refl) made
-group_sound Open card draft next columns sound fit made =
-    operation_sound card draft next (operation_of columns) sound fit made
-group_sound (Worded w) card draft next columns sound fit made =
-    test_sound card draft next w (test_of columns) sound
+group_sound Open card span draft next columns sound fit made =
+    operation_sound card span draft next (operation_of columns) sound fit made
+group_sound (Worded w) card span draft next columns sound fit made =
+    test_sound card span draft next w (test_of columns) sound
     (worded_fits w draft.condition (length draft.tests) fit) made
-group_sound Tested card draft next columns sound fit made =
-    further_sound card draft next draft.condition (test_of columns) sound fit made
-group_sound Closed card draft next columns sound fit made = absurd (cc)
+group_sound Tested card span draft next columns sound fit made =
+    further_sound card span draft next draft.condition (test_of columns) sound fit made
+group_sound Closed card span draft next columns sound fit made = absurd (cc)
 
 word_sound : (phase : Phase) (card : ℕ) (draft next : Draft) (characters : List ℕ) →
     IsSound draft → is_sound_in phase draft.condition (length draft.tests) ≡ true →
@@ -273,8 +280,9 @@ word_sound Closed card draft next characters sound fit made = absurd (cc)
 
 item_sound : (card : ℕ) (draft next : Draft) (i : Item) →
     IsSound draft → with_item card draft i ≡ Ok next → IsSound next
-item_sound card draft next (group columns) sound made =
-    group_sound draft.phase card draft next columns sound sound.condition made
+item_sound card draft next (group offset columns) sound made =
+    group_sound draft.phase card (group_span offset columns) draft next columns sound
+    sound.condition made
 item_sound card draft next (word columns) sound made =
     word_sound draft.phase card draft next (spelled columns) sound sound.condition made
 item_sound card draft next unclosed sound made = absurd (cc)
@@ -315,19 +323,19 @@ statement_fit given items further statement says =
     condition
 
 -- each statement that cards say is fit
-pub each_fit : (cards : List Card) (number : ℕ) (statements : List WrittenParts) →
-    CardsSay number cards statements → list_all is_fit statements ≡ true
-each_fit [] number [] say = refl
-each_fit [] number (statement ∷ statements) say = absurd say
-each_fit (skipped ∷ cards) number statements say = each_fit cards (number + 1) statements say
-each_fit (continued body ∷ cards) number statements say = each_fit cards (number + 1) statements say
-each_fit (plain body ∷ cards) number [] say = absurd say
-each_fit (plain body ∷ cards) number (statement ∷ statements) say =
+pub each_fit : (cards : List Card) (statements : List WrittenParts) →
+    CardsSay cards statements → list_all is_fit statements ≡ true
+each_fit [] [] say = refl
+each_fit [] (statement ∷ statements) say = absurd say
+each_fit (skipped ∷ cards) statements say = each_fit cards statements say
+each_fit (continued body ∷ cards) statements say = each_fit cards statements say
+each_fit (plain body ∷ cards) [] say = absurd say
+each_fit (plain body ∷ cards) (statement ∷ statements) say =
     and_from (is_fit statement) (list_all is_fit statements)
-    (statement_fit None _ _ statement say.0) (each_fit cards (number + 1) statements say.1)
-each_fit (labelled columns body ∷ cards) number [] say = absurd say
-each_fit (labelled columns body ∷ cards) number (statement ∷ statements) say =
+    (statement_fit None _ _ statement say.0) (each_fit cards statements say.1)
+each_fit (labelled columns body ∷ cards) [] say = absurd say
+each_fit (labelled columns body ∷ cards) (statement ∷ statements) say =
     and_from (is_fit statement) (list_all is_fit statements)
     (statement_fit (Some say.0.0) _ _ statement say.0.2)
-    (each_fit cards (number + 1) statements say.1)
-each_fit (unknown ∷ cards) number statements say = absurd say
+    (each_fit cards statements say.1)
+each_fit (unknown number ∷ cards) statements say = absurd say

@@ -7,3 +7,5 @@ pub mod Takings
 pub mod Fitness
 pub mod Settling
 pub mod Courses
+pub mod Stretches
+pub mod Spans

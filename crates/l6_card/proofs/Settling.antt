@@ -14,17 +14,17 @@ use Rattle.l6_card.proofs.Fitness.{each_fit}
 pub reads_when_taken : (deck : List ℕ) (final : Known) → course_of deck ≡ Ok final →
     Reads deck final.statements
 reads_when_taken deck final taken =
-    let said = cards_said (cards_of deck) 1 final taken in
+    let said = cards_said (cards_of deck) final taken in
     record {
       begins = said.begins;
-      cards = subst (λ (s : List WrittenParts). CardsSay 1 (cards_of deck) s)
+      cards = subst (λ (s : List WrittenParts). CardsSay (cards_of deck) s)
           (sym said.all) said.say;
       fits = omega (arith, said.fits, ap length said.all);
     }
 
 pub reads_only_without_fault : ReadsOnlyWithoutFault
 reads_only_without_fault deck statements reads =
-    let taken = cards_go (cards_of deck) 1 statements reads.begins reads.cards reads.fits in
+    let taken = cards_go (cards_of deck) statements reads.begins reads.cards reads.fits in
     ap fault_in taken.1
 
 reads_by_course : (deck : List ℕ) (course : Result Known DeckFault) →
@@ -38,7 +38,7 @@ reads_without_fault deck none = reads_by_course deck (course_of deck) refl none
 
 pub reads_in_one_way : ReadsInOneWay
 reads_in_one_way deck one other reads reads' =
-    same_statements (cards_of deck) 1 one other reads.cards reads'.cards
+    same_statements (cards_of deck) one other reads.cards reads'.cards
 
 -- a reader that took each piece knows the only reading of the deck
 pub only_reading_taken : (deck : List ℕ) (final : Known) →
@@ -56,7 +56,7 @@ pub within_limits : (deck : List ℕ) (statements : List WrittenParts) →
     Reads deck statements → AreWithinLimits statements
 within_limits deck statements reads = record {
   count = reads.fits;
-  each = each_fit (cards_of deck) 1 statements reads.cards;
+  each = each_fit (cards_of deck) statements reads.cards;
 }
 
 -- a reader that met an objection knows the fault of the deck

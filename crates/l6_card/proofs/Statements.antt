@@ -4,52 +4,53 @@ use Rattle.std.proofs.lemmas.Bool.{ltb-true}
 use Rattle.l6_card.specs.declared.cards.PlacedLabel.{PlacedLabel}
 use Rattle.l6_card.specs.Numerals.{most_written, most_continuations}
 use Rattle.l6_card.specs.Items.{items_of}
-use Rattle.l6_card.specs.Card.{Card, skipped, plain, labelled, continued, unknown}
+use Rattle.l6_card.specs.Card.{Body, Card, skipped, plain, labelled, continued, unknown}
 use Rattle.l6_card.specs.Statement.{WrittenParts}
 use Rattle.l6_card.specs.DeckFault.{DeckFault, form, limit}
 use Rattle.l6_card.specs.Draft.{Draft, new_draft, is_whole, statement_from}
-use Rattle.l6_card.specs.Pieces.{begins, label, items_on, pieces_from}
+use Rattle.l6_card.specs.Pieces.{begins, label, items_on, pieces_of_cards}
 use Rattle.l6_card.specs.Fault.{Known, nothing_known, label_on, known_if, and_then, after_pieces}
 use Rattle.l6_card.specs.Reads.{placed_items, continued_items, continuations, draft_of, SaysFrom, CardsSay}
 use Rattle.l6_card.proofs.Steps.{opened, went_if, went_labelled, Taken, items_taken, draft_of-append}
 
 -- what cards say that were taken within a statement: its items, and the statements behind it
-pub record OpenSaid (number : ℕ) (cards : List Card) (known final : Known) : Type 0 where
+pub record OpenSaid (cards : List Card) (known final : Known) : Type 0 where
   pub draft : Draft
-  pub made : draft_of known.draft (continued_items number cards) ≡ Some draft
+  pub made : draft_of known.draft (continued_items cards) ≡ Some draft
   pub whole : is_whole draft ≡ true
   pub few : known.continuations ≤ most_continuations →
       known.continuations + continuations cards ≤ most_continuations
   pub statements : List WrittenParts
-  pub say : CardsSay number cards statements
+  pub say : CardsSay cards statements
   pub all : final.statements ≡ known.statements ++ statement_from known.label draft ∷ statements
   pub fits : length known.statements + 1 ≤ most_written →
       length known.statements + 1 + length statements ≤ most_written
 
 -- what a statement's first card and those behind it say that were taken after these statements
-record Begun (number : ℕ) (given : Option PlacedLabel) (body : List ℕ) (cards : List Card)
+record Begun (given : Option PlacedLabel) (body : Body) (cards : List Card)
     (over : List WrittenParts) (final : Known) : Type 0 where
   pub statement : WrittenParts
-  pub says : SaysFrom number given body cards statement
+  pub says : SaysFrom given body cards statement
   pub statements : List WrittenParts
-  pub say : CardsSay (number + 1) cards statements
+  pub say : CardsSay cards statements
   pub all : final.statements ≡ over ++ statement ∷ statements
   pub fits : length over + 1 + length statements ≤ most_written
 
-begun_said : (number : ℕ) (given : Option PlacedLabel) (body : List ℕ) (cards : List Card)
+begun_said : (given : Option PlacedLabel) (body : Body) (cards : List Card)
     (over : List WrittenParts) (final : Known) →
     length over < most_written →
-    (taken : Taken (items_of body) number (opened over given new_draft number 0) final
-    (pieces_from (number + 1) cards)) →
-    OpenSaid (number + 1) cards (opened over given taken.draft number 0) final →
-    Begun number given body cards over final
-begun_said number given body cards over final room taken said =
+    (taken : Taken (items_of body.offset body.columns) body.card
+    (opened over given new_draft body.card 0) final
+    (pieces_of_cards cards)) →
+    OpenSaid cards (opened over given taken.draft body.card 0) final →
+    Begun given body cards over final
+begun_said given body cards over final room taken said =
     record {
       statement = statement_from given said.draft;
       says = record {
         draft = said.draft;
         items_make =
-            draft_of-append (placed_items number body) (continued_items (number + 1) cards)
+            draft_of-append (placed_items body) (continued_items cards)
             new_draft taken.draft taken.made
             ∙ said.made;
         whole = said.whole;
@@ -63,17 +64,17 @@ begun_said number given body cards over final room taken said =
     }
 
 -- the cards behind one that begins a statement, within the statement before
-open_begun : (number : ℕ) (cards : List Card) (statements : List WrittenParts)
+open_begun : (cards : List Card) (statements : List WrittenParts)
     (given : Option PlacedLabel)
     (draft : Draft) (card further : ℕ) (final : Known) →
     is_whole draft ≡ true →
     (next : List WrittenParts) →
-    CardsSay number cards next →
+    CardsSay cards next →
     final.statements ≡ (statements ++ statement_from given draft ∷ []) ++ next →
     length (statements ++ statement_from given draft ∷ []) + length next ≤ most_written →
-    continued_items number cards ≡ [] → continuations cards ≡ 0 →
-    OpenSaid number cards (opened statements given draft card further) final
-open_begun number cards statements given draft card further final whole next say all fits none_more
+    continued_items cards ≡ [] → continuations cards ≡ 0 →
+    OpenSaid cards (opened statements given draft card further) final
+open_begun cards statements given draft card further final whole next say all fits none_more
     none =
     record {
       draft = draft;
@@ -92,13 +93,13 @@ unknown_stops : (holds : Bool) (objection other : DeckFault) (known final : Know
 unknown_stops true objection other known final taken = cc
 unknown_stops false objection other known final taken = cc
 
-pub open_said : (cards : List Card) (number : ℕ) (statements : List WrittenParts)
+pub open_said : (cards : List Card) (statements : List WrittenParts)
     (given : Option PlacedLabel)
     (draft : Draft) (card further : ℕ) (final : Known) →
-    after_pieces (opened statements given draft card further) (pieces_from number cards)
+    after_pieces (opened statements given draft card further) (pieces_of_cards cards)
     ≡ Ok final →
-    OpenSaid number cards (opened statements given draft card further) final
-open_said [] number statements given draft card further final taken =
+    OpenSaid cards (opened statements given draft card further) final
+open_said [] statements given draft card further final taken =
     let over = statements ++ statement_from given draft ∷ [] in
     let next : Known =
     record {
@@ -122,8 +123,8 @@ open_said [] number statements given draft card further final taken =
       all = sym (ap (λ (k : Known). k.statements) same);
       fits = λ few. omega arith;
     }
-open_said (skipped ∷ cards) number statements given draft card further final taken =
-    let said = open_said cards (number + 1) statements given draft card further final taken in
+open_said (skipped ∷ cards) statements given draft card further final taken =
+    let said = open_said cards statements given draft card further final taken in
     record {
       draft = said.draft;
       made = said.made;
@@ -134,21 +135,22 @@ open_said (skipped ∷ cards) number statements given draft card further final t
       all = said.all;
       fits = said.fits;
     }
-open_said (continued body ∷ cards) number statements given draft card further final taken =
-    let rest = pieces_from (number + 1) cards in
-    let went = went_if (ltb further most_continuations) (limit number)
-    (opened statements given draft number (further + 1))
-    (λ next. after_pieces next (items_on number body ++ rest)) final taken in
+open_said (continued body ∷ cards) statements given draft card further final taken =
+    let rest = pieces_of_cards cards in
+    let went = went_if (ltb further most_continuations) (limit body.card)
+    (opened statements given draft body.card (further + 1))
+    (λ next. after_pieces next (items_on body ++ rest)) final taken in
     let items =
-    items_taken (items_of body) number (opened statements given draft number (further + 1))
+    items_taken (items_of body.offset body.columns) body.card
+    (opened statements given draft body.card (further + 1))
     final rest went.rest in
     let said =
-    open_said cards (number + 1) statements given items.draft number
+    open_said cards statements given items.draft body.card
     (further + 1) final items.rest_goes in
     let room = ltb-true further most_continuations went.sound in
     record {
       draft = said.draft;
-      made = draft_of-append (placed_items number body) (continued_items (number + 1) cards)
+      made = draft_of-append (placed_items body) (continued_items cards)
           draft items.draft items.made
           ∙ said.made;
       whole = said.whole;
@@ -158,7 +160,7 @@ open_said (continued body ∷ cards) number statements given draft card further 
       all = said.all;
       fits = said.fits;
     }
-open_said (plain body ∷ cards) number statements given draft card further final taken =
+open_said (plain body ∷ cards) statements given draft card further final taken =
     let over = statements ++ statement_from given draft ∷ [] in
     let closed : Known =
     record {
@@ -170,23 +172,25 @@ open_said (plain body ∷ cards) number statements given draft card further fina
           card;
       continuations = further;
     } in
-    let rest = pieces_from (number + 1) cards in
+    let rest = pieces_of_cards cards in
     let ended = went_if (is_whole draft) (form card) closed
-    (λ next. after_pieces next (begins number ∷ items_on number body ++ rest)) final taken in
+    (λ next. after_pieces next (begins body.card ∷ items_on body ++ rest)) final taken in
     let began =
-    went_if (ltb (length over) most_written) (limit number) (opened over None new_draft number 0)
-    (λ next. after_pieces next (items_on number body ++ rest)) final ended.rest in
+    went_if (ltb (length over) most_written) (limit body.card)
+    (opened over None new_draft body.card 0)
+    (λ next. after_pieces next (items_on body ++ rest)) final ended.rest in
     let items =
-    items_taken (items_of body) number (opened over None new_draft number 0)
+    items_taken (items_of body.offset body.columns) body.card
+    (opened over None new_draft body.card 0)
     final rest began.rest in
-    let said = open_said cards (number + 1) over None items.draft number 0 final items.rest_goes in
+    let said = open_said cards over None items.draft body.card 0 final items.rest_goes in
     let begun =
-    begun_said number None body cards over final (ltb-true (length over) most_written began.sound)
+    begun_said None body cards over final (ltb-true (length over) most_written began.sound)
     items said in
-    open_begun number (plain body ∷ cards) statements given draft card further final ended.sound
+    open_begun (plain body ∷ cards) statements given draft card further final ended.sound
     (begun.statement ∷ begun.statements) (begun.says, begun.say) begun.all
     (omega (arith, begun.fits)) refl refl
-open_said (labelled columns body ∷ cards) number statements given draft card further final taken =
+open_said (labelled columns body ∷ cards) statements given draft card further final taken =
     let over = statements ++ statement_from given draft ∷ [] in
     let closed : Known =
     record {
@@ -198,43 +202,46 @@ open_said (labelled columns body ∷ cards) number statements given draft card f
           card;
       continuations = further;
     } in
-    let rest = pieces_from (number + 1) cards in
+    let rest = pieces_of_cards cards in
     let ended = went_if (is_whole draft) (form card) closed
     (λ next. after_pieces next
-    (begins number ∷ label number columns ∷ items_on number body ++ rest)) final taken in
+    (begins body.card ∷ label body.card columns ∷ items_on body ++ rest)) final taken in
     let began =
-    went_if (ltb (length over) most_written) (limit number) (opened over None new_draft number 0)
-    (λ next. after_pieces next (label number columns ∷ items_on number body ++ rest))
+    went_if (ltb (length over) most_written) (limit body.card)
+    (opened over None new_draft body.card 0)
+    (λ next. after_pieces next (label body.card columns ∷ items_on body ++ rest))
     final ended.rest in
-    let found = went_labelled number (label_on number columns) (opened over None new_draft number 0)
-    (λ next. after_pieces next (items_on number body ++ rest)) final began.rest in
+    let found = went_labelled body.card (label_on body.card columns)
+    (opened over None new_draft body.card 0)
+    (λ next. after_pieces next (items_on body ++ rest)) final began.rest in
     let items =
-    items_taken (items_of body) number (opened over (Some found.given) new_draft number 0)
+    items_taken (items_of body.offset body.columns) body.card
+    (opened over (Some found.given) new_draft body.card 0)
     final rest found.rest in
     let said =
-    open_said cards (number + 1) over
-    (Some found.given) items.draft number 0 final items.rest_goes in
+    open_said cards over
+    (Some found.given) items.draft body.card 0 final items.rest_goes in
     let begun =
-    begun_said number (Some found.given) body cards over final
+    begun_said (Some found.given) body cards over final
     (ltb-true (length over) most_written began.sound) items said in
-    open_begun number (labelled columns body ∷ cards)
+    open_begun (labelled columns body ∷ cards)
     statements given draft card further final ended.sound
     (begun.statement ∷ begun.statements) ((found.given, found.is_found, begun.says), begun.say)
     begun.all (omega (arith, begun.fits)) refl refl
-open_said (unknown ∷ cards) number statements given draft card further final taken =
+open_said (unknown number ∷ cards) statements given draft card further final taken =
     absurd (unknown_stops (is_whole draft) (form card) (form number) _ final taken)
 
 -- what cards say that were taken from the start
-pub record CardsSaid (number : ℕ) (cards : List Card) (final : Known) : Type 0 where
+pub record CardsSaid (cards : List Card) (final : Known) : Type 0 where
   pub statements : List WrittenParts
-  pub say : CardsSay number cards statements
+  pub say : CardsSay cards statements
   pub begins : continuations cards ≡ 0
   pub all : final.statements ≡ statements
   pub fits : length statements ≤ most_written
 
-pub cards_said : (cards : List Card) (number : ℕ) (final : Known) →
-    after_pieces nothing_known (pieces_from number cards) ≡ Ok final → CardsSaid number cards final
-cards_said [] number final taken =
+pub cards_said : (cards : List Card) (final : Known) →
+    after_pieces nothing_known (pieces_of_cards cards) ≡ Ok final → CardsSaid cards final
+cards_said [] final taken =
     let same : nothing_known ≡ final = cc in
     record {
       statements = [];
@@ -244,8 +251,8 @@ cards_said [] number final taken =
           sym (ap (λ (k : Known). k.statements) same);
       fits = omega arith;
     }
-cards_said (skipped ∷ cards) number final taken =
-    let said = cards_said cards (number + 1) final taken in
+cards_said (skipped ∷ cards) final taken =
+    let said = cards_said cards final taken in
     record {
       statements = said.statements;
       say = said.say;
@@ -254,13 +261,14 @@ cards_said (skipped ∷ cards) number final taken =
           said.all;
       fits = said.fits;
     }
-cards_said (continued body ∷ cards) number final taken = absurd (cc)
-cards_said (plain body ∷ cards) number final taken =
-    let rest = pieces_from (number + 1) cards in
+cards_said (continued body ∷ cards) final taken = absurd (cc)
+cards_said (plain body ∷ cards) final taken =
+    let rest = pieces_of_cards cards in
     let items =
-    items_taken (items_of body) number (opened [] None new_draft number 0) final rest taken in
-    let said = open_said cards (number + 1) [] None items.draft number 0 final items.rest_goes in
-    let begun = begun_said number None body cards [] final (omega arith) items said in
+    items_taken (items_of body.offset body.columns) body.card
+    (opened [] None new_draft body.card 0) final rest taken in
+    let said = open_said cards [] None items.draft body.card 0 final items.rest_goes in
+    let begun = begun_said None body cards [] final (omega arith) items said in
     record {
       statements = begun.statement ∷ begun.statements;
       say = (begun.says, begun.say);
@@ -268,16 +276,18 @@ cards_said (plain body ∷ cards) number final taken =
       all = begun.all;
       fits = omega (arith, begun.fits);
     }
-cards_said (labelled columns body ∷ cards) number final taken =
-    let rest = pieces_from (number + 1) cards in
-    let found = went_labelled number (label_on number columns) (opened [] None new_draft number 0)
-    (λ next. after_pieces next (items_on number body ++ rest)) final taken in
+cards_said (labelled columns body ∷ cards) final taken =
+    let rest = pieces_of_cards cards in
+    let found = went_labelled body.card (label_on body.card columns)
+    (opened [] None new_draft body.card 0)
+    (λ next. after_pieces next (items_on body ++ rest)) final taken in
     let items =
-    items_taken (items_of body) number (opened [] (Some found.given) new_draft number 0)
+    items_taken (items_of body.offset body.columns) body.card
+    (opened [] (Some found.given) new_draft body.card 0)
     final rest found.rest in
     let said =
-    open_said cards (number + 1) [] (Some found.given) items.draft number 0 final items.rest_goes in
-    let begun = begun_said number (Some found.given) body cards [] final (omega arith) items said in
+    open_said cards [] (Some found.given) items.draft body.card 0 final items.rest_goes in
+    let begun = begun_said (Some found.given) body cards [] final (omega arith) items said in
     record {
       statements = begun.statement ∷ begun.statements;
       say = ((found.given, found.is_found, begun.says), begun.say);
@@ -285,4 +295,4 @@ cards_said (labelled columns body ∷ cards) number final taken =
       all = begun.all;
       fits = omega (arith, begun.fits);
     }
-cards_said (unknown ∷ cards) number final taken = absurd (cc)
+cards_said (unknown number ∷ cards) final taken = absurd (cc)

@@ -8,7 +8,7 @@ use Rattle.l6_card.specs.Card.{Card, skipped, plain, labelled, continued, unknow
 use Rattle.l6_card.specs.Statement.{WrittenParts}
 use Rattle.l6_card.specs.DeckFault.{DeckFault, form, limit}
 use Rattle.l6_card.specs.Draft.{Draft, new_draft, is_whole, statement_from}
-use Rattle.l6_card.specs.Pieces.{begins, label, items_on, pieces_from}
+use Rattle.l6_card.specs.Pieces.{begins, label, items_on, pieces_of_cards}
 use Rattle.l6_card.specs.Fault.{Known, nothing_known, label_on, known_if, when_labelled, and_then, after_pieces}
 use Rattle.l6_card.specs.Reads.{PlacedItem, continued_items, continuations, draft_of, Says, CardsSay}
 use Rattle.l6_card.proofs.Steps.{opened, items_go}
@@ -35,16 +35,16 @@ go_labelled card found given known step is_found =
 well : (course rest : Result Known DeckFault) → course ≡ rest → EndsWell rest → EndsWell course
 well course rest goes ends' = (ends'.0, goes ∙ ends'.1)
 
-pub open_goes : (cards : List Card) (number : ℕ) (statements : List WrittenParts)
+pub open_goes : (cards : List Card) (statements : List WrittenParts)
     (given : Option PlacedLabel)
     (draft : Draft) (card further : ℕ) (made : Draft) (next : List WrittenParts) →
-    draft_of draft (continued_items number cards) ≡ Some made → is_whole made ≡ true →
-    further + continuations cards ≤ most_continuations → CardsSay number cards next →
+    draft_of draft (continued_items cards) ≡ Some made → is_whole made ≡ true →
+    further + continuations cards ≤ most_continuations → CardsSay cards next →
     length statements + 1 + length next ≤ most_written →
-    EndsWell (after_pieces (opened statements given draft card further) (pieces_from number cards))
-open_goes [] number statements given draft card further made
+    EndsWell (after_pieces (opened statements given draft card further) (pieces_of_cards cards))
+open_goes [] statements given draft card further made
     (statement ∷ next) makes whole few say fits = absurd say
-open_goes [] number statements given draft card further made [] makes whole few say fits =
+open_goes [] statements given draft card further made [] makes whole few say fits =
     let over = statements ++ statement_from given draft ∷ [] in
     let closed : Known =
     record {
@@ -61,26 +61,23 @@ open_goes [] number statements given draft card further made [] makes whole few 
       go_if (is_whole draft) (form card) closed (λ known. Ok known) (ap is_whole same
           ∙ whole),
     )
-open_goes
-    (skipped ∷ cards)
-    number statements given draft card further made next makes whole few say fits =
-    open_goes cards
-    (number + 1) statements given draft card further made next makes whole few say fits
-open_goes (continued body ∷ cards)
-    number statements given draft card further made next makes whole few say fits =
-    let rest = pieces_from (number + 1) cards in
-    let known = opened statements given draft number (further + 1) in
+open_goes (skipped ∷ cards) statements given draft card further made next makes whole few say fits =
+    open_goes cards statements given draft card further made next makes whole few say fits
+open_goes (continued body ∷ cards) statements given draft card further made next makes whole few
+    say fits =
+    let rest = pieces_of_cards cards in
+    let known = opened statements given draft body.card (further + 1) in
     let items =
-    items_go (items_of body) (continued_items (number + 1) cards) number known made rest makes in
+    items_go (items_of body.offset body.columns) (continued_items cards) body.card known made rest
+    makes in
     let room = lt-ltb further most_continuations (omega arith) in
-    well _ _ (go_if (ltb further most_continuations) (limit number) known
-    (λ k. after_pieces k (items_on number body ++ rest)) room ∙ items.goes)
-    (open_goes cards (number + 1) statements given items.middle number
+    well _ _ (go_if (ltb further most_continuations) (limit body.card) known
+    (λ k. after_pieces k (items_on body ++ rest)) room ∙ items.goes)
+    (open_goes cards statements given items.middle body.card
     (further + 1) made next items.makes whole (omega arith) say fits)
-open_goes
-    (plain body ∷ cards)
-    number statements given draft card further made [] makes whole few say fits = absurd say
-open_goes (plain body ∷ cards) number statements given draft card further made
+open_goes (plain body ∷ cards) statements given draft card further made [] makes whole few say
+    fits = absurd say
+open_goes (plain body ∷ cards) statements given draft card further made
     (statement ∷ next) makes whole few say fits =
     let over = statements ++ statement_from given draft ∷ [] in
     let closed : Known =
@@ -95,23 +92,22 @@ open_goes (plain body ∷ cards) number statements given draft card further made
     } in
     let same : draft ≡ made = cc in
     let count = length-append statements (statement_from given draft ∷ []) in
-    let rest = pieces_from (number + 1) cards in
-    let known = opened over None new_draft number 0 in
+    let rest = pieces_of_cards cards in
+    let known = opened over None new_draft body.card 0 in
     let items =
-    items_go (items_of body) (continued_items (number + 1) cards)
-    number known say.0.draft rest say.0.items_make in
+    items_go (items_of body.offset body.columns) (continued_items cards) body.card known
+    say.0.draft rest say.0.items_make in
     let room = lt-ltb (length over) most_written (omega (arith, count)) in
     well _ _ (go_if (is_whole draft) (form card) closed
-    (λ k. after_pieces k (begins number ∷ items_on number body ++ rest)) (ap is_whole same ∙ whole)
-    ∙ go_if (ltb (length over) most_written) (limit number) known
-    (λ k. after_pieces k (items_on number body ++ rest)) room
+    (λ k. after_pieces k (begins body.card ∷ items_on body ++ rest)) (ap is_whole same ∙ whole)
+    ∙ go_if (ltb (length over) most_written) (limit body.card) known
+    (λ k. after_pieces k (items_on body ++ rest)) room
     ∙ items.goes)
-    (open_goes cards
-    (number + 1) over None items.middle number 0 say.0.draft next items.makes say.0.whole
+    (open_goes cards over None items.middle body.card 0 say.0.draft next items.makes say.0.whole
     (omega (arith, say.0.few)) say.1 (omega (arith, count)))
-open_goes (labelled columns body ∷ cards)
-    number statements given draft card further made [] makes whole few say fits = absurd say
-open_goes (labelled columns body ∷ cards) number statements given draft card further made
+open_goes (labelled columns body ∷ cards) statements given draft card further made [] makes whole
+    few say fits = absurd say
+open_goes (labelled columns body ∷ cards) statements given draft card further made
     (statement ∷ next) makes whole few say fits =
     let over = statements ++ statement_from given draft ∷ [] in
     let closed : Known =
@@ -126,65 +122,63 @@ open_goes (labelled columns body ∷ cards) number statements given draft card f
     } in
     let same : draft ≡ made = cc in
     let count = length-append statements (statement_from given draft ∷ []) in
-    let rest = pieces_from (number + 1) cards in
+    let rest = pieces_of_cards cards in
     let own = say.0.0 in
     let says = say.0.2 in
-    let begun = opened over None new_draft number 0 in
-    let known = opened over (Some own) new_draft number 0 in
+    let begun = opened over None new_draft body.card 0 in
+    let known = opened over (Some own) new_draft body.card 0 in
     let items =
-    items_go (items_of body) (continued_items (number + 1) cards)
-    number known says.draft rest says.items_make in
+    items_go (items_of body.offset body.columns) (continued_items cards) body.card known
+    says.draft rest says.items_make in
     let room = lt-ltb (length over) most_written (omega (arith, count)) in
     well _ _ (go_if (is_whole draft) (form card) closed
-    (λ k. after_pieces k (begins number ∷ label number columns ∷ items_on number body ++ rest))
+    (λ k. after_pieces k (begins body.card ∷ label body.card columns ∷ items_on body ++ rest))
     (ap is_whole same ∙ whole)
-    ∙ go_if (ltb (length over) most_written) (limit number) begun
-    (λ k. after_pieces k (label number columns ∷ items_on number body ++ rest)) room
-    ∙ go_labelled number (label_on number columns) own begun
-    (λ k. after_pieces k (items_on number body ++ rest)) say.0.1
+    ∙ go_if (ltb (length over) most_written) (limit body.card) begun
+    (λ k. after_pieces k (label body.card columns ∷ items_on body ++ rest)) room
+    ∙ go_labelled body.card (label_on body.card columns) own begun
+    (λ k. after_pieces k (items_on body ++ rest)) say.0.1
     ∙ items.goes)
-    (open_goes cards (number + 1) over
-    (Some own) items.middle number 0 says.draft next items.makes says.whole
+    (open_goes cards over
+    (Some own) items.middle body.card 0 says.draft next items.makes says.whole
     (omega (arith, says.few)) say.1 (omega (arith, count)))
-open_goes
-    (unknown ∷ cards)
-    number statements given draft card further made next makes whole few say fits = absurd say
+open_goes (unknown number ∷ cards) statements given draft card further made next makes whole few
+    say fits = absurd say
 
-pub cards_go : (cards : List Card) (number : ℕ) (statements : List WrittenParts) →
-    continuations cards ≡ 0 → CardsSay number cards statements → length statements ≤ most_written →
-    EndsWell (after_pieces nothing_known (pieces_from number cards))
-cards_go [] number [] none say fits = (nothing_known, refl)
-cards_go [] number (statement ∷ statements) none say fits = absurd say
-cards_go (skipped ∷ cards) number statements none say fits =
-    cards_go cards (number + 1) statements none say fits
-cards_go (continued body ∷ cards) number statements none say fits = absurd (omega arith)
-cards_go (plain body ∷ cards) number [] none say fits = absurd say
-cards_go (plain body ∷ cards) number (statement ∷ statements) none say fits =
-    let rest = pieces_from (number + 1) cards in
-    let known = opened [] None new_draft number 0 in
+pub cards_go : (cards : List Card) (statements : List WrittenParts) →
+    continuations cards ≡ 0 → CardsSay cards statements → length statements ≤ most_written →
+    EndsWell (after_pieces nothing_known (pieces_of_cards cards))
+cards_go [] [] none say fits = (nothing_known, refl)
+cards_go [] (statement ∷ statements) none say fits = absurd say
+cards_go (skipped ∷ cards) statements none say fits =
+    cards_go cards statements none say fits
+cards_go (continued body ∷ cards) statements none say fits = absurd (omega arith)
+cards_go (plain body ∷ cards) [] none say fits = absurd say
+cards_go (plain body ∷ cards) (statement ∷ statements) none say fits =
+    let rest = pieces_of_cards cards in
+    let known = opened [] None new_draft body.card 0 in
     let items =
-    items_go (items_of body) (continued_items (number + 1) cards)
-    number known say.0.draft rest say.0.items_make in
+    items_go (items_of body.offset body.columns) (continued_items cards) body.card known
+    say.0.draft rest say.0.items_make in
     well _ _ items.goes
-    (open_goes cards
-    (number + 1) [] None items.middle number 0 say.0.draft statements items.makes say.0.whole
+    (open_goes cards [] None items.middle body.card 0 say.0.draft statements items.makes say.0.whole
     (omega (arith, say.0.few)) say.1 (omega arith))
-cards_go (labelled columns body ∷ cards) number [] none say fits = absurd say
-cards_go (labelled columns body ∷ cards) number (statement ∷ statements) none say fits =
-    let rest = pieces_from (number + 1) cards in
+cards_go (labelled columns body ∷ cards) [] none say fits = absurd say
+cards_go (labelled columns body ∷ cards) (statement ∷ statements) none say fits =
+    let rest = pieces_of_cards cards in
     let own = say.0.0 in
     let says = say.0.2 in
-    let begun = opened [] None new_draft number 0 in
-    let known = opened [] (Some own) new_draft number 0 in
+    let begun = opened [] None new_draft body.card 0 in
+    let known = opened [] (Some own) new_draft body.card 0 in
     let items =
-    items_go (items_of body) (continued_items (number + 1) cards)
-    number known says.draft rest says.items_make in
-    well _ _ (go_labelled number (label_on number columns) own begun
-    (λ k. after_pieces k (items_on number body ++ rest)) say.0.1 ∙ items.goes)
-    (open_goes cards (number + 1) []
-    (Some own) items.middle number 0 says.draft statements items.makes says.whole
+    items_go (items_of body.offset body.columns) (continued_items cards) body.card known
+    says.draft rest says.items_make in
+    well _ _ (go_labelled body.card (label_on body.card columns) own begun
+    (λ k. after_pieces k (items_on body ++ rest)) say.0.1 ∙ items.goes)
+    (open_goes cards []
+    (Some own) items.middle body.card 0 says.draft statements items.makes says.whole
     (omega (arith, says.few)) say.1 (omega arith))
-cards_go (unknown ∷ cards) number statements none say fits = absurd say
+cards_go (unknown number ∷ cards) statements none say fits = absurd say
 
 -- a statement is the only one with its label and items
 same_statement : (given : Option PlacedLabel) (items : List PlacedItem) (further : ℕ)
@@ -195,30 +189,30 @@ same_statement given items further one other says says' =
     says.statement_is ∙ ap (statement_from given) same ∙ sym says'.statement_is
 
 -- cards say one list of statements
-pub same_statements : (cards : List Card) (number : ℕ) (one other : List WrittenParts) →
-    CardsSay number cards one → CardsSay number cards other → one ≡ other
-same_statements [] number [] [] say say' = refl
-same_statements [] number [] (y ∷ ys) say say' = absurd say'
-same_statements [] number (x ∷ xs) other say say' = absurd say
-same_statements (skipped ∷ cards) number one other say say' =
-    same_statements cards (number + 1) one other say say'
-same_statements (continued body ∷ cards) number one other say say' =
-    same_statements cards (number + 1) one other say say'
-same_statements (plain body ∷ cards) number [] other say say' = absurd say
-same_statements (plain body ∷ cards) number (x ∷ xs) [] say say' = absurd say'
-same_statements (plain body ∷ cards) number (x ∷ xs) (y ∷ ys) say say' =
+pub same_statements : (cards : List Card) (one other : List WrittenParts) →
+    CardsSay cards one → CardsSay cards other → one ≡ other
+same_statements [] [] [] say say' = refl
+same_statements [] [] (y ∷ ys) say say' = absurd say'
+same_statements [] (x ∷ xs) other say say' = absurd say
+same_statements (skipped ∷ cards) one other say say' =
+    same_statements cards one other say say'
+same_statements (continued body ∷ cards) one other say say' =
+    same_statements cards one other say say'
+same_statements (plain body ∷ cards) [] other say say' = absurd say
+same_statements (plain body ∷ cards) (x ∷ xs) [] say say' = absurd say'
+same_statements (plain body ∷ cards) (x ∷ xs) (y ∷ ys) say say' =
     let head : x ≡ y = same_statement None _ _ x y say.0 say'.0 in
-    let tail = same_statements cards (number + 1) xs ys say.1 say'.1 in
+    let tail = same_statements cards xs ys say.1 say'.1 in
     cc
-same_statements (labelled columns body ∷ cards) number [] other say say' = absurd say
-same_statements (labelled columns body ∷ cards) number (x ∷ xs) [] say say' = absurd say'
-same_statements (labelled columns body ∷ cards) number (x ∷ xs) (y ∷ ys) say say' =
+same_statements (labelled columns body ∷ cards) [] other say say' = absurd say
+same_statements (labelled columns body ∷ cards) (x ∷ xs) [] say say' = absurd say'
+same_statements (labelled columns body ∷ cards) (x ∷ xs) (y ∷ ys) say say' =
     let own : say.0.0 ≡ say'.0.0 = cc (say.0.1, say'.0.1) in
     let drafts : say.0.2.draft ≡ say'.0.2.draft = cc (say.0.2.items_make, say'.0.2.items_make) in
     let head : x ≡ y = say.0.2.statement_is
     ∙ ap (statement_from (Some say.0.0)) drafts
     ∙ ap (λ (l : PlacedLabel). statement_from (Some l) say'.0.2.draft) own
     ∙ sym say'.0.2.statement_is in
-    let tail = same_statements cards (number + 1) xs ys say.1 say'.1 in
+    let tail = same_statements cards xs ys say.1 say'.1 in
     cc
-same_statements (unknown ∷ cards) number one other say say' = absurd say
+same_statements (unknown number ∷ cards) one other say say' = absurd say

@@ -1,5 +1,5 @@
 -- Cards.
-use Rattle.std.specs.Prelude.{ℕ, ◌==◌, ◌||◌, List, [], ◌∷◌, map, take, if◌then◌else◌}
+use Rattle.std.specs.Prelude.{ℕ, ◌+◌, ◌==◌, ◌||◌, List, [], ◌∷◌, length, take, if◌then◌else◌}
 use Rattle.std.specs.List.{list_all}
 use Rattle.std.specs.Str.{byte}
 use Rattle.l6_word.specs.Lines.{lines_of, without_return}
@@ -21,27 +21,50 @@ behind_run [] = []
 behind_run (column ∷ columns) =
     if is_letter_or_digit column then behind_run columns else column ∷ columns
 
+-- the columns of a card behind its column 1 or its label; with the card's number, and the offset of
+-- the first of them in the deck
+pub record Body : Type 0 where
+  pub card : ℕ
+  pub offset : ℕ
+  pub columns : List ℕ
+
 -- what a card is: skipped; a statement without a label, with this body; a statement with these
 -- columns as its label, and this body; a card that continues the latest statement with this body;
--- or one with a column 1 that is not allowed
+-- or a card, by its number, with a column 1 that is not allowed
 pub data Card : Type 0 where
   skipped : Card
-  plain : List ℕ → Card
-  labelled : List ℕ → List ℕ → Card
-  continued : List ℕ → Card
-  unknown : Card
+  plain : Body → Card
+  labelled : List ℕ → Body → Card
+  continued : Body → Card
+  unknown : ℕ → Card
 
--- the card of these columns: a comment has `*` in column 1, a blank card says nothing, a statement
--- has a blank or a letter in column 1, and a card that continues one has `+`
-abbrev pub card_of : List ℕ → Card
-card_of [] = skipped
-card_of (mark ∷ body) =
-    if mark == byte "*" || list_all is_blank (mark ∷ body) then skipped
-    else if is_blank mark then plain body
-    else if mark == byte "+" then continued body
-    else if is_letter mark then labelled (run_of (mark ∷ body)) (behind_run (mark ∷ body))
-    else unknown
+-- the card with this number, column 1 at this offset, and these columns: a comment has `*` in
+-- column 1, a blank card says nothing, a statement has a blank or a letter in column 1, and a card
+-- that continues one has `+`
+abbrev pub card_of : ℕ → ℕ → List ℕ → Card
+card_of number offset [] = skipped
+card_of number offset (mark ∷ columns) =
+    if mark == byte "*" || list_all is_blank (mark ∷ columns) then skipped
+    else if is_blank mark then
+    plain (record { card = number; offset = offset + 1; columns = columns })
+    else if mark == byte "+" then
+    continued (record { card = number; offset = offset + 1; columns = columns })
+    else if is_letter mark then
+    labelled (run_of (mark ∷ columns)) (record {
+      card = number;
+      offset = offset + length (run_of (mark ∷ columns));
+      columns = behind_run (mark ∷ columns);
+    })
+    else unknown number
 
--- the cards of a deck, one for each line
+-- the cards of lines, of which the first has this number and this offset, and each ends with a line
+-- feed
+abbrev pub cards_from : ℕ → ℕ → List (List ℕ) → List Card
+cards_from number offset [] = []
+cards_from number offset (line ∷ lines) =
+    card_of number offset (columns_of line)
+    ∷ cards_from (number + 1) (offset + length line + 1) lines
+
+-- the cards of a deck, one for each line, numbered from 1
 abbrev pub cards_of : List ℕ → List Card
-cards_of deck = map (λ line. card_of (columns_of line)) (lines_of deck)
+cards_of deck = cards_from 1 0 (lines_of deck)

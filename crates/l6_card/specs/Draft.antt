@@ -14,9 +14,11 @@ use Rattle.l6_group.specs.Test.{test_of}
 use Rattle.l6_group.specs.Word.{exit_from, condition_from, after_then}
 use Rattle.l6_card.specs.declared.cards.Placed.{Placed}
 use Rattle.l6_card.specs.declared.cards.PlacedLabel.{PlacedLabel}
+use Rattle.l6_card.specs.declared.span.Span.{Span}
 use Rattle.l6_card.specs.declared.draft.Phase.{Phase}
 use Rattle.l6_card.specs.declared.draft.Phase.TheVariants.{New, Worded, Tested, Open, Closed}
 use Rattle.l6_card.specs.DeckFault.{DeckFault, form, limit}
+use Rattle.l6_card.specs.Spans.{group_span}
 use Rattle.l6_card.specs.Items.{Item, group, word}
 use Rattle.l6_card.specs.Statement.{WrittenParts}
 
@@ -58,35 +60,37 @@ placed_exit card (ToLabel label) = ToLabel (record { label = label; card = card 
 placed_exit card Done = Done
 placed_exit card Fail = Fail
 
--- the draft with an operation on this card, if there is one and room for it
-abbrev pub with_operation : ℕ → Draft → Option (Op Label) → Result Draft DeckFault
-with_operation card draft None = Err (form card)
-with_operation card draft (Some operation) =
+-- the draft with an operation on this card, at this span, if there is one and room for it
+abbrev pub with_operation : ℕ → Span → Draft → Option (Op Label) → Result Draft DeckFault
+with_operation card span draft None = Err (form card)
+with_operation card span draft (Some operation) =
     if nat_lt (length draft.operations) most_operations then
     Ok (record draft {
       phase = Open;
-      operations = draft.operations ++ record { reading = operation; card = card } ∷ [];
+      operations =
+          draft.operations ++ record { reading = operation; card = card; span = span } ∷ [];
     })
     else Err (limit card)
 
--- the draft with a test on this card under a condition, if there is one and room for it
-abbrev pub with_test : ℕ → Draft → Cond → Option Test → Result Draft DeckFault
-with_test card draft condition None = Err (form card)
-with_test card draft condition (Some test) =
+-- the draft with a test on this card, at this span, under a condition, if there is one and room for
+-- it
+abbrev pub with_test : ℕ → Span → Draft → Cond → Option Test → Result Draft DeckFault
+with_test card span draft condition None = Err (form card)
+with_test card span draft condition (Some test) =
     if nat_lt (length draft.tests) most_tests then
     Ok (record draft {
       phase = Tested;
       condition = condition;
-      tests = draft.tests ++ record { reading = test; card = card } ∷ [];
+      tests = draft.tests ++ record { reading = test; card = card; span = span } ∷ [];
       exit = Next;
     })
     else Err (limit card)
 
 -- the draft with a further test: IF and NOT have one alone
-abbrev pub with_further_test : ℕ → Draft → Cond → Option Test → Result Draft DeckFault
-with_further_test card draft If test = Err (form card)
-with_further_test card draft Not test = Err (form card)
-with_further_test card draft condition test = with_test card draft condition test
+abbrev pub with_further_test : ℕ → Span → Draft → Cond → Option Test → Result Draft DeckFault
+with_further_test card span draft If test = Err (form card)
+with_further_test card span draft Not test = Err (form card)
+with_further_test card span draft condition test = with_test card span draft condition test
 
 -- the draft with an exit on this card, in a phase
 abbrev pub with_placed : ℕ → Draft → Phase → Option (Exit Label) → Result Draft DeckFault
@@ -125,15 +129,15 @@ with_word_in Open card draft characters = with_exit card draft Closed characters
 with_word_in Tested card draft characters = with_then card draft characters
 with_word_in _ card draft characters = Err (form card)
 
--- the draft with a group, by its phase
-abbrev pub with_group_in : Phase → ℕ → Draft → List ℕ → Result Draft DeckFault
-with_group_in New card draft columns = with_operation card draft (operation_of columns)
-with_group_in (Worded condition) card draft columns =
-    with_test card draft condition (test_of columns)
-with_group_in Tested card draft columns =
-    with_further_test card draft draft.condition (test_of columns)
-with_group_in Open card draft columns = with_operation card draft (operation_of columns)
-with_group_in Closed card draft columns = Err (form card)
+-- the draft with a group at this span, by its phase
+abbrev pub with_group_in : Phase → ℕ → Span → Draft → List ℕ → Result Draft DeckFault
+with_group_in New card span draft columns = with_operation card span draft (operation_of columns)
+with_group_in (Worded condition) card span draft columns =
+    with_test card span draft condition (test_of columns)
+with_group_in Tested card span draft columns =
+    with_further_test card span draft draft.condition (test_of columns)
+with_group_in Open card span draft columns = with_operation card span draft (operation_of columns)
+with_group_in Closed card span draft columns = Err (form card)
 
 -- the draft with a word of these characters
 abbrev pub with_characters : ℕ → Draft → List ℕ → Result Draft DeckFault
@@ -141,6 +145,7 @@ with_characters card draft characters = with_word_in draft.phase card draft char
 
 -- the draft with an item on this card, or what the item objects
 abbrev pub with_item : ℕ → Draft → Item → Result Draft DeckFault
-with_item card draft (group columns) = with_group_in draft.phase card draft columns
+with_item card draft (group offset columns) =
+    with_group_in draft.phase card (group_span offset columns) draft columns
 with_item card draft (word columns) = with_characters card draft (spelled columns)
 with_item card draft _ = Err (form card)

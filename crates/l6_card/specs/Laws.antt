@@ -1,10 +1,14 @@
 -- The laws of reading.
-use Rattle.std.specs.Prelude.{◌≡◌, ℕ, ◌==◌, not, true, false, Bool, List, ◌∷◌, ◌++◌, ◌&&◌, Some, None}
-use Rattle.std.specs.List.{list_all}
+use Rattle.std.specs.Prelude.{◌≡◌, ℕ, ◌+◌, ◌==◌, not, true, false, Bool, List, [], ◌∷◌, ◌++◌, length, ◌&&◌, Option, Some, None}
+use Rattle.std.specs.List.{All, list_all}
 use Rattle.std.specs.Str.{byte}
 use Rattle.l6_group.specs.Character.{is_blank}
+use Rattle.l6_group.specs.Operation.{operation_of}
+use Rattle.l6_group.specs.Test.{test_of}
+use Rattle.l6_card.specs.declared.cards.Placed.{Placed}
 use Rattle.l6_card.specs.Items.{Item, group, word, items_of}
 use Rattle.l6_card.specs.Statement.{WrittenParts}
+use Rattle.l6_card.specs.Spans.{bytes_at, all_spans, Rise}
 use Rattle.l6_card.specs.DeckFault.{DeckFault}
 use Rattle.l6_card.specs.Fault.{fault_of}
 use Rattle.l6_card.specs.Reads.{Reads}
@@ -40,22 +44,50 @@ pub record IsFirstFault (deck : List ℕ) (fault : DeckFault) : Type 0 where
 abbrev pub is_inner : ℕ → Bool
 is_inner column = not (column == byte "(") && not (column == byte ")")
 
+-- at its span the deck has a `(`, columns without parentheses and a `)`, and those columns read as
+-- the test or the operation
+pub record IsSpelled {A : Type 0} (read : List ℕ → Option A) (deck : List ℕ)
+    (group : Placed A) : Type 0 where
+  pub columns : List ℕ
+  pub inner : list_all is_inner columns ≡ true
+  pub bytes : bytes_at deck group.span ≡ byte "(" ∷ columns ++ byte ")" ∷ []
+  pub reads : read columns ≡ Some group.reading
+
+-- each test and each operation of a statement is spelled at its span
+pub record AreSpelled (deck : List ℕ) (statement : WrittenParts) : Type 0 where
+  pub tests : All (IsSpelled test_of deck) statement.tests
+  pub operations : All (IsSpelled operation_of deck) statement.operations
+
+-- what a deck says is spelled at its spans
+abbrev pub GroupsStandAtSpans : Type 0
+GroupsStandAtSpans =
+    (deck : List ℕ) (statements : List WrittenParts) → Reads deck statements →
+    All (AreSpelled deck) statements
+
+-- the spans of what a deck says rise, within the deck
+abbrev pub SpansRise : Type 0
+SpansRise =
+    (deck : List ℕ) (statements : List WrittenParts) → Reads deck statements →
+    Rise 0 (all_spans statements) (length deck)
+
 -- a `(`, columns without parentheses and a `)` are a group, whatever follows
 abbrev pub GroupsAreInParentheses : Type 0
 GroupsAreInParentheses =
-    (columns behind : List ℕ) → list_all is_inner columns ≡ true →
-    items_of (byte "(" ∷ columns ++ byte ")" ∷ behind) ≡ group columns ∷ items_of behind
+    (offset : ℕ) (columns behind : List ℕ) → list_all is_inner columns ≡ true →
+    items_of offset (byte "(" ∷ columns ++ byte ")" ∷ behind)
+    ≡ group offset columns ∷ items_of (offset + length columns + 2) behind
 
 -- blanks vanish in front of a word and inside it
 abbrev pub BlanksVanishInWords : Type 0
 BlanksVanishInWords =
-    (blank : ℕ) (columns letters : List ℕ) (items : List Item) → is_blank blank ≡ true →
-    items_of columns ≡ word letters ∷ items → items_of (blank ∷ columns) ≡ word letters ∷ items
+    (offset blank : ℕ) (columns letters : List ℕ) (items : List Item) → is_blank blank ≡ true →
+    items_of (offset + 1) columns ≡ word letters ∷ items →
+    items_of offset (blank ∷ columns) ≡ word letters ∷ items
 
 -- a letter or the like in front of a word belongs to it
 abbrev pub LettersMakeWords : Type 0
 LettersMakeWords =
-    (letter : ℕ) (columns letters : List ℕ) (items : List Item) →
+    (offset letter : ℕ) (columns letters : List ℕ) (items : List Item) →
     is_blank letter ≡ false → is_inner letter ≡ true →
-    items_of columns ≡ word letters ∷ items →
-    items_of (letter ∷ columns) ≡ word (letter ∷ letters) ∷ items
+    items_of (offset + 1) columns ≡ word letters ∷ items →
+    items_of offset (letter ∷ columns) ≡ word (letter ∷ letters) ∷ items

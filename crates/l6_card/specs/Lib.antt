@@ -2,6 +2,7 @@ pub mod Numerals
 pub mod Card
 pub mod Items
 pub mod Statement
+pub mod Spans
 pub mod DeckFault
 pub mod Draft
 pub mod Pieces

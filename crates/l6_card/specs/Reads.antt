@@ -6,7 +6,7 @@ use Rattle.l6_prog.specs.Program.{may_have}
 use Rattle.l6_card.specs.declared.cards.PlacedLabel.{PlacedLabel}
 use Rattle.l6_card.specs.Numerals.{most_written, most_continuations}
 use Rattle.l6_card.specs.Items.{Item, items_of}
-use Rattle.l6_card.specs.Card.{Card, skipped, plain, labelled, continued, unknown, cards_of}
+use Rattle.l6_card.specs.Card.{Body, Card, skipped, plain, labelled, continued, unknown, cards_of}
 use Rattle.l6_card.specs.Statement.{WrittenParts}
 use Rattle.l6_card.specs.DeckFault.{DeckFault}
 use Rattle.l6_card.specs.Draft.{Draft, new_draft, is_whole, statement_from, with_item}
@@ -17,17 +17,16 @@ pub record PlacedItem : Type 0 where
   pub card : ℕ
   pub what : Item
 
--- the items of a body on the card of this number
-abbrev pub placed_items : ℕ → List ℕ → List PlacedItem
-placed_items number body = map (λ i. record { card = number; what = i }) (items_of body)
+-- the items of a body, on its card
+abbrev pub placed_items : Body → List PlacedItem
+placed_items body =
+    map (λ i. record { card = body.card; what = i }) (items_of body.offset body.columns)
 
--- the items of the cards that continue the statement before these cards, which are numbered from
--- this number on
-abbrev pub continued_items : ℕ → List Card → List PlacedItem
-continued_items number (skipped ∷ cards) = continued_items (number + 1) cards
-continued_items number (continued body ∷ cards) =
-    placed_items number body ++ continued_items (number + 1) cards
-continued_items number _ = []
+-- the items of the cards that continue the statement before these cards
+abbrev pub continued_items : List Card → List PlacedItem
+continued_items (skipped ∷ cards) = continued_items cards
+continued_items (continued body ∷ cards) = placed_items body ++ continued_items cards
+continued_items _ = []
 
 -- how many cards continue the statement before these cards
 abbrev pub continuations : List Card → ℕ
@@ -55,34 +54,32 @@ pub record Says (label : Option PlacedLabel) (items : List PlacedItem) (further 
   pub statement_is : statement ≡ statement_from label draft
   pub few : further ≤ most_continuations
 
--- the statement whose first card has this number, this label and this body, and these cards behind
--- it
-abbrev pub SaysFrom : ℕ → Option PlacedLabel → List ℕ → List Card → WrittenParts → Type 0
-SaysFrom number label body cards statement =
-    Says label (placed_items number body ++ continued_items (number + 1) cards)
-    (continuations cards) statement
+-- the statement whose first card has this label and this body, with these cards behind it
+abbrev pub SaysFrom : Option PlacedLabel → Body → List Card → WrittenParts → Type 0
+SaysFrom label body cards statement =
+    Says label (placed_items body ++ continued_items cards) (continuations cards) statement
 
--- the cards, numbered from this number on, say these statements; a skipped card says nothing, a
--- continued one belongs to the statement before, and an unknown one is not read
-abbrev pub CardsSay : ℕ → List Card → List WrittenParts → Type 0
-CardsSay number [] [] = Unit {0}
-CardsSay number [] (statement ∷ statements) = ⊥
-CardsSay number (skipped ∷ cards) statements = CardsSay (number + 1) cards statements
-CardsSay number (plain body ∷ cards) [] = ⊥
-CardsSay number (plain body ∷ cards) (statement ∷ statements) =
-    SaysFrom number None body cards statement × CardsSay (number + 1) cards statements
-CardsSay number (labelled columns body ∷ cards) [] = ⊥
-CardsSay number (labelled columns body ∷ cards) (statement ∷ statements) =
-    ((label : PlacedLabel) × (label_on number columns ≡ Some label)
-    × SaysFrom number (Some label) body cards statement)
-    × CardsSay (number + 1) cards statements
-CardsSay number (continued body ∷ cards) statements = CardsSay (number + 1) cards statements
-CardsSay number (unknown ∷ cards) statements = ⊥
+-- the cards say these statements; a skipped card says nothing, a continued one belongs to the
+-- statement before, and an unknown one is not read
+abbrev pub CardsSay : List Card → List WrittenParts → Type 0
+CardsSay [] [] = Unit {0}
+CardsSay [] (statement ∷ statements) = ⊥
+CardsSay (skipped ∷ cards) statements = CardsSay cards statements
+CardsSay (plain body ∷ cards) [] = ⊥
+CardsSay (plain body ∷ cards) (statement ∷ statements) =
+    SaysFrom None body cards statement × CardsSay cards statements
+CardsSay (labelled columns body ∷ cards) [] = ⊥
+CardsSay (labelled columns body ∷ cards) (statement ∷ statements) =
+    ((label : PlacedLabel) × (label_on body.card columns ≡ Some label)
+    × SaysFrom (Some label) body cards statement)
+    × CardsSay cards statements
+CardsSay (continued body ∷ cards) statements = CardsSay cards statements
+CardsSay (unknown number ∷ cards) statements = ⊥
 
 -- the deck says these statements: no card continues one before the first, and they are not too many
 pub record Reads (deck : List ℕ) (statements : List WrittenParts) : Type 0 where
   pub begins : continuations (cards_of deck) ≡ 0
-  pub cards : CardsSay 1 (cards_of deck) statements
+  pub cards : CardsSay (cards_of deck) statements
   pub fits : length statements ≤ most_written
 
 -- the statement has no more tests and operations than it may have, and as many tests as its

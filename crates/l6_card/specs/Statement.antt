@@ -8,7 +8,7 @@ use Rattle.l6_group.specs.declared.label.Label.{Label}
 use Rattle.l6_card.specs.declared.cards.Placed.{Placed}
 use Rattle.l6_card.specs.declared.cards.PlacedLabel.{PlacedLabel}
 
--- what a written statement has: labels and groups with the numbers of their cards
+-- what a written statement has: labels with the numbers of their cards, groups with their spans too
 pub record WrittenParts : Type 0 where
   pub label : Option PlacedLabel
   pub condition : Cond

@@ -1,25 +1,37 @@
 //! Cards.
 
-ghost use Rattle.std.specs.Prelude.{◌≡◌, take};
+ghost use Rattle.std.specs.Prelude.{◌≡◌, ◌+◌, ◌≤◌, ◌++◌, length, take};
 ghost use Rattle.std.specs.List.{list_all};
 ghost use Rattle.l6_group.specs.Character as spec;
 ghost use Rattle.l6_card.specs.Card.{card_of, columns_of, run_of, behind_run};
-ghost use Rattle.l6_card.specs.inner.Kinds.{card_seen};
+ghost use Rattle.l6_card.specs.Numerals.{most_deck_bytes};
+ghost use Rattle.l6_card.specs.inner.Kinds.{card_seen, KindEndsBy};
 
 use crate::limits::CARD_WIDTH;
 use l6_group::{is_blank, is_letter};
 use l6_word::without_return;
+
+/// What stands on a card behind its column 1 or its label.
+#[derive(Clone, Copy)]
+pub(crate) struct Body<'a> {
+    /// The card's number, from 1 on.
+    pub(crate) card: u32,
+    /// How many bytes of the deck stand before the first column.
+    pub(crate) offset: usize,
+    /// The columns.
+    pub(crate) columns: &'a [u8],
+}
 
 /// What a card is.
 pub(crate) enum Kind<'a> {
     /// A comment, or blank: it says nothing.
     Skipped,
     /// A statement without a label, with this body.
-    Plain(&'a [u8]),
+    Plain(Body<'a>),
     /// A statement with these columns as its label, and with this body.
-    Labelled(&'a [u8], &'a [u8]),
+    Labelled(&'a [u8], Body<'a>),
     /// It continues the latest statement with this body.
-    Continued(&'a [u8]),
+    Continued(Body<'a>),
     /// A card with a column 1 that is not allowed.
     Unknown,
 }
@@ -43,13 +55,21 @@ fn first_bytes(line: &[u8], count: usize) -> &[u8]
     }
 }
 
-/// What the card of these columns is.
-pub(crate) fn kind_of(columns: &[u8]) -> Kind<'_>
-    ensures { card_seen result ≡ card_of columns.now }
+/// What the card with this number is, whose column 1 has this offset in the deck, and which has
+/// these columns.
+pub(crate) fn kind_of(card: u32, offset: usize, columns: &[u8]) -> Kind<'_>
+    requires { offset + length columns.now ≤ most_deck_bytes }
+    ensures kind { card_seen card result ≡ card_of card offset columns.now }
+    ensures ends { KindEndsBy (offset + length columns.now) result }
 {
     match columns.split_first() {
         None => Kind::Skipped,
-        Some((mark, body)) => {
+        Some((mark, behind)) => {
+            let body = Body {
+                card,
+                offset: offset + 1,
+                columns: behind,
+            };
             if *mark == b'*' || are_blank(columns) {
                 Kind::Skipped
             } else if is_blank(*mark) {
@@ -57,7 +77,12 @@ pub(crate) fn kind_of(columns: &[u8]) -> Kind<'_>
             } else if *mark == b'+' {
                 Kind::Continued(body)
             } else if is_letter(*mark) {
-                let (label, body) = split_label(columns);
+                let (label, behind) = split_label(columns);
+                let body = Body {
+                    card,
+                    offset: offset + label.len(),
+                    columns: behind,
+                };
                 Kind::Labelled(label, body)
             } else {
                 Kind::Unknown
@@ -70,6 +95,7 @@ pub(crate) fn kind_of(columns: &[u8]) -> Kind<'_>
 fn split_label(columns: &[u8]) -> (&[u8], &[u8])
     ensures label { result.0.now ≡ run_of columns.now }
     ensures body { result.1.now ≡ behind_run columns.now }
+    ensures whole { columns.now ≡ result.0.now ++ result.1.now }
 {
     for (place, column) in columns.iter().enumerate() {
         if !is_alphanumeric(*column) {

@@ -2,6 +2,7 @@
 
 ghost use Rattle.std.specs.Prelude.{◌≡◌};
 
+use crate::span::Span;
 use l6_group::Label;
 use l6_prog::{Cond, Exit, Op, Test};
 use std::marker::Model;
@@ -15,13 +16,15 @@ pub struct PlacedLabel {
     pub card: u32,
 }
 
-/// A test or an operation, and the card that its group stands on, numbered from 1.
+/// A test or an operation, and where its group stands.
 #[derive(Debug, Drop)]
 pub struct Placed<T> {
     /// The test or the operation.
     pub reading: T,
-    /// The card's number.
+    /// The number of the group's card, from 1 on.
     pub card: u32,
+    /// The group's bytes in the deck.
+    pub span: Span,
 }
 
 /// The parts of a statement as its cards give them.

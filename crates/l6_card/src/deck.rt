@@ -30,9 +30,12 @@ pub fn read_deck(alloc: Global, deck: &[u8]) -> Result<Cards, CardFault>
     let mut reader = Reader::new(alloc);
     let mut rest = deck;
     let mut card: u32 = 0;
+    let mut offset = 0;
     while let Some((line, behind)) = first_line(rest) {
         card += 1;
-        reader.take_card(card, columns_of(line))?;
+        reader.take_card(card, offset, columns_of(line))?;
+        // A line feed ends each line, but perhaps the last.
+        offset += line.len() + 1;
         rest = behind;
     }
     reader.end()?;

@@ -9,6 +9,7 @@ ghost use Rattle.l6_card.specs.inner.Drafted.{drafted, drafted_parts, Takes};
 
 use crate::cards::{Parts, Placed, PlacedLabel};
 use crate::fault::CardFault;
+use crate::span::Span;
 use l6_group::{Label, Spelling, after_then, condition_from, exit_from, operation_of, spelled, test_of};
 use l6_prog::{Cond, Exit, MAX_OPERATIONS, MAX_TESTS, Op, Test};
 use std::alloc::Global;
@@ -85,25 +86,40 @@ impl Draft {
         }
     }
 
-    /// A group on this card, with these columns between its parentheses.
-    pub(crate) fn take_group(&mut self, card: u32, columns: &[u8]) -> Result<(), CardFault>
-        ensures { let made = spec.with_item card (drafted self.old) (group columns.now) in
+    /// A group on this card, whose `(` has this offset in the deck, with these columns between its
+    /// parentheses.
+    pub(crate) fn take_group(
+        &mut self,
+        card: u32,
+        offset: usize,
+        columns: &[u8],
+    ) -> Result<(), CardFault>
+        ensures { let made = spec.with_item card (drafted self.old) (group offset columns.now) in
             Takes result (drafted self.new) made }
     {
+        let span = Span {
+            offset,
+            length: columns.len() + 2,
+        };
         match self.phase {
-            Phase::New | Phase::Open => self.take_operation(card, operation_of(columns)),
-            Phase::Worded(condition) => self.take_test(card, condition, test_of(columns)),
+            Phase::New | Phase::Open => self.take_operation(card, span, operation_of(columns)),
+            Phase::Worded(condition) => self.take_test(card, span, condition, test_of(columns)),
             Phase::Tested => match self.condition {
                 Cond::If | Cond::Not => Err(CardFault::Form(card)),
-                condition => self.take_test(card, condition, test_of(columns)),
+                condition => self.take_test(card, span, condition, test_of(columns)),
             },
             Phase::Closed => Err(CardFault::Form(card)),
         }
     }
 
     /// An operation, if the group is one.
-    fn take_operation(&mut self, card: u32, operation: Option<Op<Label>>) -> Result<(), CardFault>
-        ensures { let made = spec.with_operation card (drafted self.old) operation in
+    fn take_operation(
+        &mut self,
+        card: u32,
+        span: Span,
+        operation: Option<Op<Label>>,
+    ) -> Result<(), CardFault>
+        ensures { let made = spec.with_operation card span (drafted self.old) operation in
             Takes result (drafted self.new) made }
     {
         let reading = operation.ok_or(CardFault::Form(card))?;
@@ -111,15 +127,25 @@ impl Draft {
             return Err(CardFault::Limit(card));
         }
         self.operations
-            .push(Placed { reading, card })
+            .push(Placed {
+                reading,
+                card,
+                span,
+            })
             .map_err(|_| CardFault::NoMemory)?;
         self.phase = Phase::Open;
         Ok(())
     }
 
     /// A test of this condition, if the group is one.
-    fn take_test(&mut self, card: u32, condition: Cond, test: Option<Test>) -> Result<(), CardFault>
-        ensures { let made = spec.with_test card (drafted self.old) condition test in
+    fn take_test(
+        &mut self,
+        card: u32,
+        span: Span,
+        condition: Cond,
+        test: Option<Test>,
+    ) -> Result<(), CardFault>
+        ensures { let made = spec.with_test card span (drafted self.old) condition test in
             Takes result (drafted self.new) made }
     {
         let reading = test.ok_or(CardFault::Form(card))?;
@@ -127,7 +153,11 @@ impl Draft {
             return Err(CardFault::Limit(card));
         }
         self.tests
-            .push(Placed { reading, card })
+            .push(Placed {
+                reading,
+                card,
+                span,
+            })
             .map_err(|_| CardFault::NoMemory)?;
         self.phase = Phase::Tested;
         self.condition = condition;

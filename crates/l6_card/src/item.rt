@@ -1,10 +1,9 @@
 //! The items of a card's body.
 
-ghost use Rattle.std.specs.Prelude.{◌≡◌, ◌≤◌, ◌<◌, ◌++◌, ◌∷◌, List, ℕ, true, false, length, MatchOption, IfSome};
+ghost use Rattle.std.specs.Prelude.{◌≡◌, ◌≤◌, ◌<◌, ◌++◌, List, ℕ, true, false, length, MatchOption, IfSome};
 ghost use Rattle.std.specs.List.{list_all};
 ghost use Rattle.l6_group.specs.Character as spec;
-ghost use Rattle.l6_card.specs.Items.{items_of, after_opening, unopened};
-ghost use Rattle.l6_card.specs.inner.First.{BeginsWith, begins_with_other, IsShorter, begins_with_blank, begins_a_word, begins_with_closing, AreWordAndRest};
+ghost use Rattle.l6_card.specs.inner.First.{BeginsWith, IsUnclosed, ClosesFirst, IsShorter, begins_with_blank, begins_a_word, begins_with_closing, AreWordAndRest};
 
 use l6_group::is_blank;
 use l6_word::split_at_mark;
@@ -53,9 +52,8 @@ fn first_of(body: &[u8]) -> First<'_>
 /// The columns of the group whose `(` stands before, and what follows its `)`; `None` where another
 /// `(` or the body's end comes first.
 fn first_group(inside: &[u8]) -> Option<(&[u8], &[u8])>
-    ensures group { let items = items_of inside.now in
-        MatchOption result (begins_with_other (after_opening items) ≡ true)
-        (λ parts. items ≡ unopened parts.0.now ∷ items_of parts.1.now) }
+    ensures group { MatchOption result (IsUnclosed inside.now)
+        (λ parts. ClosesFirst inside.now parts.0.now parts.1.now) }
     ensures behind { IfSome result (λ parts. length parts.1.now < length inside.now) }
 {
     let (columns, behind) = split_at_mark(inside, b')')?;

@@ -2,7 +2,7 @@
 
 ghost use Rattle.std.specs.Prelude.{◌≡◌};
 ghost use Rattle.l6_card.specs.Numerals.{card_width, most_deck_bytes, most_written, most_continuations};
-ghost use Rattle.l6_card.specs.Laws.{ReadsOnlyWithoutFault, ReadsWithoutFault, ReadsInOneWay, GroupsAreInParentheses, BlanksVanishInWords, LettersMakeWords};
+ghost use Rattle.l6_card.specs.Laws.{ReadsOnlyWithoutFault, ReadsWithoutFault, ReadsInOneWay, GroupsStandAtSpans, SpansRise, GroupsAreInParentheses, BlanksVanishInWords, LettersMakeWords};
 
 use crate::limits::{CARD_WIDTH, MAX_CONTINUATIONS, MAX_DECK_BYTES, MAX_WRITTEN};
 
@@ -11,6 +11,13 @@ pub fn reading_is_settled()
     ensures reads_only_if { ReadsOnlyWithoutFault }
     ensures reads_if { ReadsWithoutFault }
     ensures one_way { ReadsInOneWay }
+{}
+
+/// Whatever a deck says: each test and each operation is spelled by the bytes at its span, and the
+/// spans rise, within the deck.
+pub fn groups_have_their_spans()
+    ensures stand { GroupsStandAtSpans }
+    ensures rise { SpansRise }
 {}
 
 /// A group is what stands between parentheses. Words are of letters and the like, and blanks

@@ -10,9 +10,16 @@ mod item;
 mod laws;
 mod limits;
 mod reader;
+mod span;
+#[cfg(test)]
+mod tests;
 
 pub use cards::{Cards, Parts, Placed, PlacedLabel, Written};
 pub use deck::read_deck;
 pub use fault::CardFault;
-pub use laws::{decks_have_their_limits, items_are_groups_and_words, reading_is_settled};
+pub use laws::{
+    decks_have_their_limits, groups_have_their_spans, items_are_groups_and_words,
+    reading_is_settled,
+};
 pub use limits::MAX_DECK_BYTES;
+pub use span::Span;

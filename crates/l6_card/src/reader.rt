@@ -1,14 +1,16 @@
 //! The reader of a deck's cards.
 
-ghost use Rattle.std.specs.Prelude.{◌≡◌, [], ◌∷◌};
+ghost use Rattle.std.specs.Prelude.{◌≡◌, ◌+◌, ◌≤◌, [], ◌∷◌, length};
+ghost use Rattle.l6_card.specs.Numerals.{most_deck_bytes};
 ghost use Rattle.l6_card.specs.Items.{group, word};
 ghost use Rattle.l6_card.specs.Card.{card_of};
 ghost use Rattle.l6_card.specs.Pieces.{ends, begins, continues, label, item, items_on, pieces_of_card};
 ghost use Rattle.l6_card.specs.Fault.{nothing_known, after_piece, after_pieces};
 ghost use Rattle.l6_card.specs.inner.First.{letters_of};
+ghost use Rattle.l6_card.specs.inner.Kinds.{body_seen, EndsBy};
 ghost use Rattle.l6_card.specs.inner.Reader.{known_by, Follows};
 
-use crate::card::{Kind, kind_of};
+use crate::card::{Body, Kind, kind_of};
 use crate::cards::{PlacedLabel, Written};
 use crate::draft::Draft;
 use crate::fault::CardFault;
@@ -113,12 +115,13 @@ impl Reader {
         Ok(())
     }
 
-    /// The card has a group with these columns between its parentheses.
-    fn take_group(&mut self, card: u32, columns: &[u8]) -> Result<(), CardFault>
-        ensures { let piece = item card (group columns.now) in
+    /// The card has a group, whose `(` has this offset in the deck, with these columns between its
+    /// parentheses.
+    fn take_group(&mut self, card: u32, offset: usize, columns: &[u8]) -> Result<(), CardFault>
+        ensures { let piece = item card (group offset columns.now) in
             Follows result (known_by self.new) (after_piece (known_by self.old) piece) }
     {
-        self.draft.take_group(card, columns)
+        self.draft.take_group(card, offset, columns)
     }
 
     /// The card has a word of the letters of these columns.
@@ -130,17 +133,22 @@ impl Reader {
     }
 
     /// The card has the items of this body.
-    fn take_items(&mut self, card: u32, body: &[u8]) -> Result<(), CardFault>
-        ensures { let pieces = items_on card body.now in
+    fn take_items(&mut self, body: Body<'_>) -> Result<(), CardFault>
+        requires { EndsBy most_deck_bytes body }
+        ensures { let pieces = items_on (body_seen body.entry) in
             Follows result (known_by self.new) (after_pieces (known_by self.old) pieces) }
     {
-        let mut rest = body;
+        let card = body.card;
+        let end = body.offset + body.columns.len();
+        let mut rest = body.columns;
         loop {
             match first_item(rest) {
                 First::End => return Ok(()),
                 First::Other => return Err(CardFault::Form(card)),
                 First::Group(columns, behind) => {
-                    self.take_group(card, columns)?;
+                    // A `)` stands between the columns and what is left.
+                    let opening = end - behind.len() - columns.len() - 2;
+                    self.take_group(card, opening, columns)?;
                     rest = behind;
                 }
                 First::Word(columns, behind) => {
@@ -152,32 +160,40 @@ impl Reader {
     }
 
     /// The card has the label of these columns, and the items of this body.
-    fn take_labelled(&mut self, card: u32, columns: &[u8], body: &[u8]) -> Result<(), CardFault>
-        ensures { let pieces = label card columns.now ∷ items_on card body.now in
+    fn take_labelled(&mut self, columns: &[u8], body: Body<'_>) -> Result<(), CardFault>
+        requires { EndsBy most_deck_bytes body }
+        ensures { let body = body_seen body.entry in
+            let pieces = label body.card columns.now ∷ items_on body in
             Follows result (known_by self.new) (after_pieces (known_by self.old) pieces) }
     {
-        self.take_label(card, columns)?;
-        self.take_items(card, body)
+        self.take_label(body.card, columns)?;
+        self.take_items(body)
     }
 
-    /// The card of this number has these columns.
-    pub(crate) fn take_card(&mut self, card: u32, columns: &[u8]) -> Result<(), CardFault>
-        ensures { let pieces = pieces_of_card card (card_of columns.now) in
+    /// The card of this number, whose column 1 has this offset in the deck, has these columns.
+    pub(crate) fn take_card(
+        &mut self,
+        card: u32,
+        offset: usize,
+        columns: &[u8],
+    ) -> Result<(), CardFault>
+        requires { offset + length columns.now ≤ most_deck_bytes }
+        ensures { let pieces = pieces_of_card (card_of card offset columns.now) in
             Follows result (known_by self.new) (after_pieces (known_by self.old) pieces) }
     {
-        match kind_of(columns) {
+        match kind_of(card, offset, columns) {
             Kind::Skipped => Ok(()),
             Kind::Plain(body) => {
-                self.begin(card)?;
-                self.take_items(card, body)
+                self.begin(body.card)?;
+                self.take_items(body)
             }
             Kind::Labelled(columns, body) => {
-                self.begin(card)?;
-                self.take_labelled(card, columns, body)
+                self.begin(body.card)?;
+                self.take_labelled(columns, body)
             }
             Kind::Continued(body) => {
-                self.go_on(card)?;
-                self.take_items(card, body)
+                self.go_on(body.card)?;
+                self.take_items(body)
             }
             Kind::Unknown => {
                 self.end()?;

@@ -1,16 +1,16 @@
 -- What a body begins with, as far as a reader has to know.
-use Rattle.std.specs.Prelude.{◌≡◌, ℕ, ◌<◌, ◌==◌, not, ◌&&◌, ◌||◌, Bool, true, false, List, [], ◌∷◌, ◌++◌, length, filter}
+use Rattle.std.specs.Prelude.{◌≡◌, ℕ, ◌+◌, ◌<◌, ◌==◌, not, ◌&&◌, ◌||◌, Bool, true, false, List, [], ◌∷◌, ◌++◌, length, filter}
 use Rattle.std.specs.Str.{byte}
 use Rattle.l6_word.specs.inner.Split.{lacks}
 use Rattle.l6_group.specs.Character.{is_blank}
 use Rattle.l6_card.specs.declared.item.First.{First}
 use Rattle.l6_card.specs.declared.item.First.TheVariants.{End, Group, Word, Other}
-use Rattle.l6_card.specs.Items.{Item, group, word, items_of}
+use Rattle.l6_card.specs.Items.{Item, group, word, unopened, after_opening, items_of}
 
 -- there is a first item, and it is neither a group nor a word
 abbrev pub begins_with_other : List Item → Bool
 begins_with_other [] = false
-begins_with_other (group columns ∷ items) = false
+begins_with_other (group offset columns ∷ items) = false
 begins_with_other (word columns ∷ items) = false
 begins_with_other (other ∷ items) = true
 
@@ -18,14 +18,41 @@ begins_with_other (other ∷ items) = true
 abbrev pub letters_of : List ℕ → List ℕ
 letters_of columns = filter (λ given. not (is_blank given)) columns
 
--- the body begins so: it has no item, or a group or a word with the items of the rest behind it, or
--- another item
+-- at this offset the body begins with a group of these columns, whose `(` has an offset of its own,
+-- and then come the items of the rest, which ends where the body ends
+pub record GroupFirst (offset : ℕ) (body columns rest : List ℕ) : Type 0 where
+  pub opening : ℕ
+  pub items : items_of offset body
+      ≡ group opening columns ∷ items_of (opening + length columns + 2) rest
+  pub ends : opening + length columns + 2 + length rest ≡ offset + length body
+
+-- at this offset the body begins with a word of these columns, and then come the items of the rest,
+-- which has an offset of its own and ends where the body ends
+pub record WordFirst (offset : ℕ) (body columns rest : List ℕ) : Type 0 where
+  pub next : ℕ
+  pub items : items_of offset body ≡ word (letters_of columns) ∷ items_of next rest
+  pub ends : next + length rest ≡ offset + length body
+
+-- the body begins so, at each offset: it has no item, or a group or a word with the items of the
+-- rest behind it, or another item
 abbrev pub BeginsWith : First → List ℕ → Type 0
-BeginsWith End body = items_of body ≡ []
-BeginsWith (Group columns rest) body = items_of body ≡ group columns.now ∷ items_of rest.now
+BeginsWith End body = (offset : ℕ) → items_of offset body ≡ []
+BeginsWith (Group columns rest) body =
+    (offset : ℕ) → GroupFirst offset body columns.now rest.now
 BeginsWith (Word columns rest) body =
-    items_of body ≡ word (letters_of columns.now) ∷ items_of rest.now
-BeginsWith Other body = begins_with_other (items_of body) ≡ true
+    (offset : ℕ) → WordFirst offset body columns.now rest.now
+BeginsWith Other body = (offset : ℕ) → begins_with_other (items_of offset body) ≡ true
+
+-- no group begins with a `(` in front of these columns, at each offset
+abbrev pub IsUnclosed : List ℕ → Type 0
+IsUnclosed inside =
+    (offset : ℕ) → begins_with_other (after_opening offset (items_of (offset + 1) inside)) ≡ true
+
+-- the columns up to the first `)` are these, at each offset, and what follows it is the rest
+pub record ClosesFirst (inside columns rest : List ℕ) : Type 0 where
+  pub items : (offset : ℕ) →
+      items_of offset inside ≡ unopened columns ∷ items_of (offset + length columns + 1) rest
+  pub whole : length columns + 1 + length rest ≡ length inside
 
 -- what follows a group or a word in a body is shorter than the body
 abbrev pub IsShorter : First → List ℕ → Type 0

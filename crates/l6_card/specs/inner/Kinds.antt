@@ -1,12 +1,29 @@
 -- The kinds of cards, as a reader sees them.
+use Rattle.std.specs.Prelude.{ℕ, ◌+◌, ◌≤◌, length}
+use Rattle.l6_card.specs.declared.card.Body.{Body as Kept}
 use Rattle.l6_card.specs.declared.card.Kind.{Kind}
 use Rattle.l6_card.specs.declared.card.Kind.TheVariants.{Skipped, Plain, Labelled, Continued, Unknown}
-use Rattle.l6_card.specs.Card.{Card, skipped, plain, labelled, continued, unknown}
+use Rattle.l6_card.specs.Card.{Body, Card, skipped, plain, labelled, continued, unknown}
 
--- the card of this kind
-abbrev pub card_seen : Kind → Card
-card_seen Skipped = skipped
-card_seen (Plain body) = plain body.now
-card_seen (Labelled label body) = labelled label.now body.now
-card_seen (Continued body) = continued body.now
-card_seen Unknown = unknown
+-- the body that a reader has
+abbrev pub body_seen : Kept → Body
+body_seen body = record { card = body.card; offset = body.offset; columns = body.columns.now }
+
+-- the card of this kind, with this number
+abbrev pub card_seen : ℕ → Kind → Card
+card_seen number Skipped = skipped
+card_seen number (Plain body) = plain (body_seen body)
+card_seen number (Labelled label body) = labelled label.now (body_seen body)
+card_seen number (Continued body) = continued (body_seen body)
+card_seen number Unknown = unknown number
+
+-- the body ends at this offset or before
+abbrev pub EndsBy : ℕ → Kept → Type 0
+EndsBy end body = body.offset + length body.columns.now ≤ end
+
+-- the body of the card, if it has one, ends at this offset or before
+abbrev pub KindEndsBy : ℕ → Kind → Type 0
+KindEndsBy end (Plain body) = EndsBy end body
+KindEndsBy end (Labelled label body) = EndsBy end body
+KindEndsBy end (Continued body) = EndsBy end body
+KindEndsBy end _ = Unit {0}

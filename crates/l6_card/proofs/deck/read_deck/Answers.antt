@@ -1,13 +1,13 @@
-use Rattle.std.proofs.Common.{arith, ◌+◌, ◌∙◌, ◌≡◌, Ok, sym, subst, List}
+use Rattle.std.proofs.Common.{arith, ◌+◌, ◌∙◌, ◌≡◌, Ok, sym, ap, subst, List}
 use Rattle.std.proofs.lemmas.Result.{err_from_is_err_and}
 use Rattle.l6_card.specs.Statement.{WrittenParts}
 use Rattle.l6_card.specs.DeckFault.{deck_fault}
-use Rattle.l6_card.specs.Fault.{course_of}
+use Rattle.l6_card.specs.Fault.{after_pieces, course_of}
 use Rattle.l6_card.specs.Reads.{Reads, AreWithinLimits}
 use Rattle.l6_card.specs.Laws.{IsOnlyReading}
 use Rattle.l6_card.specs.inner.Reader.{known_by}
 use Rattle.l6_card.proofs.Settling.{reads_when_taken, only_reading_taken, within_limits, no_fault_taken}
-use Rattle.l6_card.proofs.Courses.{FirstCard, refused, refused_at_end, course_goes, course_over}
+use Rattle.l6_card.proofs.Courses.{FirstCard, text_pieces, bytes_in, bytes_in-lines, refused, refused_at_end, course_goes, course_over}
 use Rattle.l6_card.proofs.deck.read_deck.Goals as goal
 use Rattle.l6_card.proofs.deck.read_deck.Goals.{After-new}
 
@@ -22,7 +22,8 @@ returns-in_err-take_card-clause-fault c =
     } in
     rw (p.1, p.2)
     (refused c.args.deck.now c.loop-line.rest.now c.columns_of.result.now c.in-Some.behind.now
-    (c.loop-line.card + 1) (known_by c.loop-line.reader) (deck_fault c.in_err-take_card.field-0.0)
+    (c.loop-line.card + 1) c.loop-line.offset (known_by c.loop-line.reader)
+    (deck_fault c.in_err-take_card.field-0.0)
     first c.loop-line.invariant.course c.in_err-take_card.ensures)
 
 pub returns-in_err-end-clause-fault : goal.returns-in_err-end-clause-fault
@@ -30,26 +31,40 @@ returns-in_err-end-clause-fault c =
     let p = err_from_is_err_and c.from_residual-in_err-end.result
     c.from_residual-in_err-end.ensures.1 in
     rw (p.1, p.2) (refused_at_end c.args.deck.now c.loop-line.rest.now (c.loop-line.card + 1)
-    (known_by c.loop-line.reader) (deck_fault c.in_err-end.field-0.0)
+    c.loop-line.offset (known_by c.loop-line.reader) (deck_fault c.in_err-end.field-0.0)
     c.in_default.ensures.lines c.loop-line.invariant.course c.in_err-end.ensures)
 
-pub loop-line-preserved : goal.loop-line-preserved
-loop-line-preserved c = record {
-  course = course_goes c.loop-line.rest.now c.columns_of.result.now c.in-Some.behind.now
-      (c.loop-line.card + 1)
-      (known_by c.loop-line.reader) (known_by c.take_card.new.self) (course_of c.args.deck.now)
-      (record {
-        line = c.in-Some.line.now;
-        lines = c.in-Some.ensures.lines;
-        same = c.columns_of.ensures;
-      })
-      c.loop-line.invariant.course c.in_ok-take_card.ensures;
-  numbers = let shorter = c.in-Some.ensures.shorter in omega arith;
+pub loop-line-init : goal.loop-line-init
+loop-line-init c = record {
+  course = ap (λ known. after_pieces known (text_pieces 1 0 c.args.deck.now)) c.new-reader.ensures;
+  numbers = omega (arith, c.requires);
+  offsets = omega (arith, c.requires, bytes_in-lines c.args.deck.now);
 }
+
+pub loop-line-preserved : goal.loop-line-preserved
+loop-line-preserved c =
+    let first : FirstCard c.loop-line.rest.now c.columns_of.result.now c.in-Some.behind.now =
+    record {
+      line = c.in-Some.line.now;
+      lines = c.in-Some.ensures.lines;
+      same = c.columns_of.ensures;
+    } in
+    let fewer = ap bytes_in c.in-Some.ensures.lines in
+    record {
+      course = ap (λ o. after_pieces (known_by c.take_card.new.self)
+          (text_pieces (c.loop-line.card + 1 + 1) o c.in-Some.behind.now)) (omega arith)
+          ∙ course_goes c.loop-line.rest.now c.columns_of.result.now c.in-Some.behind.now
+          (c.loop-line.card + 1) c.loop-line.offset
+          (known_by c.loop-line.reader) (known_by c.take_card.new.self) (course_of c.args.deck.now)
+          first c.loop-line.invariant.course c.in_ok-take_card.ensures;
+      numbers = let shorter = c.in-Some.ensures.shorter in omega arith;
+      offsets = omega (arith, fewer, c.loop-line.invariant.offsets);
+    }
 
 -- the course of the deck ended so
 ended : (c : After-new) → course_of c.args.deck.now ≡ Ok (known_by c.end.new.self)
-ended c = course_over c.loop-line.rest.now (c.loop-line.card + 1) (known_by c.loop-line.reader)
+ended c = course_over c.loop-line.rest.now (c.loop-line.card + 1) c.loop-line.offset
+    (known_by c.loop-line.reader)
     (known_by c.end.new.self) (course_of c.args.deck.now)
     c.in_default.ensures.lines c.loop-line.invariant.course c.in_ok-end.ensures
 

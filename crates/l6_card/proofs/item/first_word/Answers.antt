@@ -15,4 +15,4 @@ returns-else-begins_with_closing c =
     word_first c.args.body.now c.split_word.result.0.now c.split_word.result.1.now
     c.split_word.ensures
     c.requires (sym c.begins_with_closing.ensures ∙ c.if-begins_with_closing.false) in
-    record { first = found.items; shorter = found.shorter }
+    record { first = found.each; shorter = found.shorter }

@@ -1,0 +1,401 @@
+-- Where the bytes of a deck stand: its lines, its cards and their items.
+use Rattle.std.proofs.Common.{◌≡◌, ℕ, ◌+◌, ◌-◌, ◌≤◌, List, [], ◌∷◌, ◌++◌, length, take, drop, Bool, true, false, cond, eqb, refl, sym, ap, ◌∙◌, subst, arith, append_assoc, length-append, length-drop}
+use Rattle.std.specs.Prelude.{◌||◌}
+use Rattle.std.specs.List.{list_all, onto_first}
+use Rattle.std.specs.Str.{byte}
+use Rattle.std.proofs.lemmas.Bool.{and_from, eqb-true}
+use Rattle.std.proofs.lemmas.List.{drop-drop, drop_at, take_at, take-append-drop, append-nil}
+use Rattle.l6_word.specs.Lines.{lines_of, without_return}
+use Rattle.l6_group.specs.Character.{is_blank, is_letter, is_letter_or_digit}
+use Rattle.l6_card.specs.Numerals.{card_width}
+use Rattle.l6_card.specs.Items.{Item, group, word, unclosed, unopened, after_opening, after_blank, after_letter, items_of}
+use Rattle.l6_card.specs.Card.{Body, Card, skipped, plain, labelled, continued, unknown, columns_of, run_of, behind_run, card_of, cards_from, cards_of}
+use Rattle.l6_card.specs.Spans.{group_span, bytes_at}
+use Rattle.l6_card.specs.Laws.{is_inner}
+
+-- at this offset the deck has these bytes, and then the others
+pub record HasBytes (deck : List ℕ) (offset : ℕ) (bytes : List ℕ) : Type 0 where
+  pub others : List ℕ
+  pub same : drop offset deck ≡ bytes ++ others
+
+-- behind its first bytes the deck has the others
+pub behind_bytes : (deck : List ℕ) (offset : ℕ) (bytes others : List ℕ) →
+    drop offset deck ≡ bytes ++ others → drop (offset + length bytes) deck ≡ others
+behind_bytes deck offset bytes others same =
+    sym (drop-drop (length bytes) offset deck)
+    ∙ ap (drop (length bytes)) same
+    ∙ drop_at bytes others (length bytes) refl
+
+-- the first of some bytes, and the others behind them
+pub first_bytes : (deck : List ℕ) (offset : ℕ) (front behind : List ℕ) →
+    HasBytes deck offset (front ++ behind) → HasBytes deck offset front
+first_bytes deck offset front behind has = record {
+  others = behind ++ has.others;
+  same = has.same ∙ append_assoc front behind has.others;
+}
+
+pub last_bytes : (deck : List ℕ) (offset : ℕ) (front behind : List ℕ) →
+    HasBytes deck offset (front ++ behind) → HasBytes deck (offset + length front) behind
+last_bytes deck offset front behind has = record {
+  others = has.others;
+  same = behind_bytes deck offset front (behind ++ has.others)
+      (has.same ∙ append_assoc front behind has.others);
+}
+
+-- one byte in front of some
+pub more_bytes : (deck : List ℕ) (offset first : ℕ) (rest bytes : List ℕ) →
+    drop offset deck ≡ first ∷ rest → HasBytes deck (offset + 1) bytes →
+    HasBytes deck offset (first ∷ bytes)
+more_bytes deck offset first rest bytes text has = record {
+  others = has.others;
+  same = text
+      ∙ ap (λ r. first ∷ r) (sym (behind_bytes deck offset (first ∷ []) rest text) ∙ has.same);
+}
+
+-- where a text begins that has a byte, it ends at the end of the deck
+pub text_ends : (deck : List ℕ) (offset first : ℕ) (rest : List ℕ) →
+    drop offset deck ≡ first ∷ rest → offset + length rest + 1 ≡ length deck
+text_ends deck offset first rest text = omega (arith, length-drop offset deck, ap length text)
+
+-- lines stand in a deck from this offset on, with a line feed or the end behind each
+abbrev pub LinesStand : List ℕ → ℕ → List (List ℕ) → Type 0
+LinesStand deck offset [] = Unit {0}
+LinesStand deck offset (line ∷ lines) =
+    HasBytes deck offset line × (offset + length line ≤ length deck)
+    × LinesStand deck (offset + length line + 1) lines
+
+-- a byte in front of the first line
+lines_onto : (deck : List ℕ) (offset first : ℕ) (rest : List ℕ) (lines : List (List ℕ)) →
+    drop offset deck ≡ first ∷ rest → LinesStand deck (offset + 1) lines →
+    LinesStand deck offset (onto_first first lines)
+lines_onto deck offset first rest [] text stand = (
+  record { others = rest; same = text },
+  omega (arith, text_ends deck offset first rest text),
+  tt,
+)
+lines_onto deck offset first rest (line ∷ lines) text stand =
+    let same : offset + 1 + length line + 1 ≡ offset + length (first ∷ line) + 1 = omega arith in (
+      more_bytes deck offset first rest line text stand.0,
+      omega (arith, stand.1),
+      subst (λ (o : ℕ). LinesStand deck o lines) same stand.2,
+    )
+
+lines_first : (deck : List ℕ) (offset first : ℕ) (rest : List ℕ) (feeds : Bool)
+    (lines : List (List ℕ)) →
+    drop offset deck ≡ first ∷ rest → LinesStand deck (offset + 1) lines →
+    LinesStand deck offset (cond feeds ([] ∷ lines) (onto_first first lines))
+lines_first deck offset first rest true lines text stand =
+    let same : offset + 1 ≡ offset + length {A = ℕ} [] + 1 = omega arith in (
+      record { others = first ∷ rest; same = text },
+      omega (arith, text_ends deck offset first rest text),
+      subst (λ (o : ℕ). LinesStand deck o lines) same stand,
+    )
+lines_first deck offset first rest false lines text stand =
+    lines_onto deck offset first rest lines text stand
+
+-- the lines of a text stand where the text does
+pub lines_stand : (text deck : List ℕ) (offset : ℕ) → drop offset deck ≡ text →
+    LinesStand deck offset (lines_of text)
+lines_stand [] deck offset text = tt
+lines_stand (first ∷ rest) deck offset text =
+    lines_first deck offset first rest (eqb first (byte "\n")) (lines_of rest) text
+    (lines_stand rest deck (offset + 1) (behind_bytes deck offset (first ∷ []) rest text))
+
+-- a body stands at its offset, which is this one or a later one
+pub record BodyStands (deck : List ℕ) (from : ℕ) (body : Body) : Type 0 where
+  pub after : from ≤ body.offset
+  pub bytes : HasBytes deck body.offset body.columns
+
+-- where a body ends
+abbrev pub end_of : Body → ℕ
+end_of body = body.offset + length body.columns
+
+-- the bodies of cards stand in the deck, the first at this offset or later, and each other one
+-- where
+-- the one before ends or later
+abbrev pub CardsStand : List ℕ → ℕ → List Card → Type 0
+CardsStand deck from [] = from ≤ length deck
+CardsStand deck from (skipped ∷ cards) = CardsStand deck from cards
+CardsStand deck from (plain body ∷ cards) =
+    BodyStands deck from body × CardsStand deck (end_of body) cards
+CardsStand deck from (labelled columns body ∷ cards) =
+    BodyStands deck from body × CardsStand deck (end_of body) cards
+CardsStand deck from (continued body ∷ cards) =
+    BodyStands deck from body × CardsStand deck (end_of body) cards
+CardsStand deck from (unknown number ∷ cards) = CardsStand deck from cards
+
+-- what holds of each card that tests may lead to
+by_kind : (P : Card → Type 0) (one two three four : Bool) (a b c d e : Card) →
+    P a → P b → P c → P d → P e → P (cond one a (cond two b (cond three c (cond four d e))))
+by_kind P true two three four a b c d e pa pb pc pd pe = pa
+by_kind P false true three four a b c d e pa pb pc pd pe = pb
+by_kind P false false true four a b c d e pa pb pc pd pe = pc
+by_kind P false false false true a b c d e pa pb pc pd pe = pd
+by_kind P false false false false a b c d e pa pb pc pd pe = pe
+
+run_cond : (is_one : Bool) (column : ℕ) (columns run behind : List ℕ) → columns ≡ run ++ behind →
+    column ∷ columns
+    ≡ cond is_one (column ∷ run) [] ++ cond is_one behind (column ∷ columns)
+run_cond true column columns run behind parts = ap (λ c. column ∷ c) parts
+run_cond false column columns run behind parts = refl
+
+-- the run that columns begin with, and what follows it
+run_parts : (columns : List ℕ) → columns ≡ run_of columns ++ behind_run columns
+run_parts [] = refl
+run_parts (column ∷ columns) =
+    run_cond (is_letter_or_digit column) column columns (run_of columns) (behind_run columns)
+    (run_parts columns)
+
+-- a card stands where its columns do, if the cards behind it do
+card_stands : (deck : List ℕ) (from number offset : ℕ) (columns : List ℕ) (cards : List Card) →
+    from ≤ offset → HasBytes deck offset columns →
+    ((later : ℕ) → later ≤ offset + length columns → CardsStand deck later cards) →
+    CardsStand deck from (card_of number offset columns ∷ cards)
+card_stands deck from number offset [] cards after has stand = stand from (omega arith)
+card_stands deck from number offset (mark ∷ columns) cards after has stand =
+    let run = run_of (mark ∷ columns) in
+    let behind = behind_run (mark ∷ columns) in
+    let parts : mark ∷ columns ≡ run ++ behind = run_parts (mark ∷ columns) in
+    let body : Body = record { card = number; offset = offset + 1; columns = columns } in
+    let other : Body =
+    record { card = number; offset = offset + length run; columns = behind } in
+    let none = stand from (omega arith) in
+    let inside : BodyStands deck from body × CardsStand deck (end_of body) cards = (
+      record { after = omega arith; bytes = last_bytes deck offset (mark ∷ []) columns has },
+      stand (end_of body) (omega arith),
+    ) in
+    let split : HasBytes deck offset (run ++ behind) =
+    subst (λ (c : List ℕ). HasBytes deck offset c) parts has in
+    let count = ap length parts ∙ length-append run behind in
+    let rest : BodyStands deck from other × CardsStand deck (end_of other) cards = (
+      record { after = omega arith; bytes = last_bytes deck offset run behind split },
+      stand (end_of other) (omega (arith, count)),
+    ) in
+    by_kind (λ card. CardsStand deck from (card ∷ cards))
+    (eqb mark (byte "*") || list_all is_blank (mark ∷ columns)) (is_blank mark)
+    (eqb mark (byte "+")) (is_letter mark)
+    skipped (plain body) (continued body) (labelled run other) (unknown number)
+    none inside inside rest none
+
+-- a card has columns that its line begins with
+pub record Begins (line columns : List ℕ) : Type 0 where
+  pub others : List ℕ
+  pub whole : line ≡ columns ++ others
+
+begins_take : (count : ℕ) (line : List ℕ) → Begins line (take count line)
+begins_take count line =
+    record { others = drop count line; whole = sym (take-append-drop count line) }
+
+begins_return : (returns : Bool) (line : List ℕ) →
+    Begins line (cond returns (take (length line - 1) line) line)
+begins_return true line = begins_take (length line - 1) line
+begins_return false line = record { others = []; whole = sym (append-nil line) }
+
+begins_columns : (line : List ℕ) → Begins line (columns_of line)
+begins_columns line =
+    let shorter : Begins line (without_return line) = begins_return _ line in
+    let first = begins_take card_width (without_return line) in
+    record {
+      others = first.others ++ shorter.others;
+      whole = shorter.whole ∙ ap (λ l. l ++ shorter.others) first.whole
+          ∙ append_assoc (columns_of line) first.others shorter.others;
+    }
+
+-- cards stand where their lines do
+pub cards_stand : (lines : List (List ℕ)) (deck : List ℕ) (from number offset : ℕ) →
+    from ≤ offset → from ≤ length deck → LinesStand deck offset lines →
+    CardsStand deck from (cards_from number offset lines)
+cards_stand [] deck from number offset after within stand = within
+cards_stand (line ∷ lines) deck from number offset after within stand =
+    let columns = begins_columns line in
+    let count = ap length columns.whole ∙ length-append (columns_of line) columns.others in
+    let has : HasBytes deck offset (columns_of line ++ columns.others) =
+    subst (λ (l : List ℕ). HasBytes deck offset l) columns.whole stand.0 in
+    card_stands deck from number offset (columns_of line)
+    (cards_from (number + 1) (offset + length line + 1) lines) after
+    (first_bytes deck offset (columns_of line) columns.others has)
+    (λ later soon. cards_stand lines deck later (number + 1) (offset + length line + 1)
+    (omega (arith, count)) (omega (arith, count, stand.1)) stand.2)
+
+-- the deck's cards stand in it
+pub deck_stands : (deck : List ℕ) → CardsStand deck 0 (cards_of deck)
+deck_stands deck =
+    cards_stand (lines_of deck) deck 0 1 0 (omega arith) (omega arith)
+    (lines_stand deck deck 0 refl)
+
+-- at this offset the deck has a group of these columns
+pub record GroupStands (deck : List ℕ) (offset : ℕ) (columns : List ℕ) : Type 0 where
+  pub inner : list_all is_inner columns ≡ true
+  pub bytes : bytes_at deck (group_span offset columns) ≡ byte "(" ∷ columns ++ byte ")" ∷ []
+
+-- the groups among items stand in the deck, the first at the first of these offsets or later, each
+-- other one where the one before ends or later, and the last ends at the second offset or before
+abbrev pub ItemsStand : List ℕ → ℕ → List Item → ℕ → Type 0
+ItemsStand deck from [] end = from ≤ end
+ItemsStand deck from (group offset columns ∷ items) end =
+    (from ≤ offset) × GroupStands deck offset columns
+    × ItemsStand deck (offset + length columns + 2) items end
+ItemsStand deck from (word columns ∷ items) end = ItemsStand deck from items end
+ItemsStand deck from (unclosed ∷ items) end = ItemsStand deck from items end
+ItemsStand deck from (unopened columns ∷ items) end = ItemsStand deck from items end
+
+-- they stand from any sooner offset on
+pub sooner : (deck : List ℕ) (from later : ℕ) (items : List Item) (end : ℕ) →
+    from ≤ later → ItemsStand deck later items end → ItemsStand deck from items end
+sooner deck from later [] end soon stand = omega (arith, stand)
+sooner deck from later (group offset columns ∷ items) end soon stand =
+    (omega (arith, stand.0), stand.1, stand.2)
+sooner deck from later (word columns ∷ items) end soon stand =
+    sooner deck from later items end soon stand
+sooner deck from later (unclosed ∷ items) end soon stand =
+    sooner deck from later items end soon stand
+sooner deck from later (unopened columns ∷ items) end soon stand =
+    sooner deck from later items end soon stand
+
+-- items in a row
+pub items_stand-append : (deck : List ℕ) (from middle end : ℕ) (front behind : List Item) →
+    ItemsStand deck from front middle → ItemsStand deck middle behind end →
+    ItemsStand deck from (front ++ behind) end
+items_stand-append deck from middle end [] behind stand stand' =
+    sooner deck from middle behind end stand stand'
+items_stand-append deck from middle end (group offset columns ∷ front) behind stand stand' =
+    let next = offset + length columns + 2 in
+    (stand.0, stand.1, items_stand-append deck next middle end front behind stand.2 stand')
+items_stand-append deck from middle end (word columns ∷ front) behind stand stand' =
+    items_stand-append deck from middle end front behind stand stand'
+items_stand-append deck from middle end (unclosed ∷ front) behind stand stand' =
+    items_stand-append deck from middle end front behind stand stand'
+items_stand-append deck from middle end (unopened columns ∷ front) behind stand stand' =
+    items_stand-append deck from middle end front behind stand stand'
+
+-- so do items whose first may be a `)` with what stands before it, right at this offset
+abbrev pub ItemsBegin : List ℕ → ℕ → List Item → ℕ → Type 0
+ItemsBegin deck from (unopened columns ∷ items) end =
+    (list_all is_inner columns ≡ true) × HasBytes deck from (columns ++ byte ")" ∷ [])
+    × ItemsStand deck (from + length columns + 1) items end
+ItemsBegin deck from [] end = ItemsStand deck from [] end
+ItemsBegin deck from (group offset columns ∷ items) end =
+    ItemsStand deck from (group offset columns ∷ items) end
+ItemsBegin deck from (word columns ∷ items) end = ItemsStand deck from (word columns ∷ items) end
+ItemsBegin deck from (unclosed ∷ items) end = ItemsStand deck from (unclosed ∷ items) end
+
+begun_stand : (deck : List ℕ) (from : ℕ) (items : List Item) (end : ℕ) →
+    ItemsBegin deck from items end → ItemsStand deck from items end
+begun_stand deck from [] end begin = begin
+begun_stand deck from (group offset columns ∷ items) end begin = begin
+begun_stand deck from (word columns ∷ items) end begin = begin
+begun_stand deck from (unclosed ∷ items) end begin = begin
+begun_stand deck from (unopened columns ∷ items) end begin =
+    sooner deck from (from + length columns + 1) items end (omega arith) begin.2
+
+-- the bytes of a group
+group_stands : (deck : List ℕ) (offset : ℕ) (columns : List ℕ) →
+    list_all is_inner columns ≡ true →
+    HasBytes deck offset (byte "(" ∷ columns ++ byte ")" ∷ []) → GroupStands deck offset columns
+group_stands deck offset columns inner has = record {
+  inner = inner;
+  bytes = ap (take (length columns + 2)) has.same
+      ∙ take_at (byte "(" ∷ columns ++ byte ")" ∷ []) has.others (length columns + 2)
+      (omega (arith, length-append columns (byte ")" ∷ [])));
+}
+
+-- what stands behind a column, as far as it is known
+opening_begins : (deck : List ℕ) (offset : ℕ) (rest : List ℕ) (items : List Item) (end : ℕ) →
+    drop offset deck ≡ byte "(" ∷ rest → ItemsBegin deck (offset + 1) items end →
+    ItemsBegin deck offset (after_opening offset items) end
+opening_begins deck offset rest [] end text begin = omega (arith, begin)
+opening_begins deck offset rest (group at columns ∷ items) end text begin =
+    sooner deck offset (offset + 1) (group at columns ∷ items) end (omega arith) begin
+opening_begins deck offset rest (word columns ∷ items) end text begin =
+    sooner deck offset (offset + 1) (word columns ∷ items) end (omega arith) begin
+opening_begins deck offset rest (unclosed ∷ items) end text begin =
+    sooner deck offset (offset + 1) (unclosed ∷ items) end (omega arith) begin
+opening_begins deck offset rest (unopened columns ∷ items) end text begin = (
+  omega arith,
+  group_stands deck offset columns begin.0
+      (more_bytes deck offset (byte "(") rest (columns ++ byte ")" ∷ []) text begin.1),
+  subst (λ (o : ℕ). ItemsStand deck o items end) (omega arith) begin.2,
+)
+
+joined_begins : (deck : List ℕ) (offset column : ℕ) (rest columns : List ℕ) (items : List Item)
+    (end : ℕ) →
+    drop offset deck ≡ column ∷ rest → is_inner column ≡ true →
+    ItemsBegin deck (offset + 1) (unopened columns ∷ items) end →
+    ItemsBegin deck offset (unopened (column ∷ columns) ∷ items) end
+joined_begins deck offset column rest columns items end text inner begin = (
+  and_from (is_inner column) (list_all is_inner columns) inner begin.0,
+  more_bytes deck offset column rest (columns ++ byte ")" ∷ []) text begin.1,
+  subst (λ (o : ℕ). ItemsStand deck o items end) (omega arith) begin.2,
+)
+
+blank_begins : (deck : List ℕ) (offset column : ℕ) (rest : List ℕ) (items : List Item) (end : ℕ) →
+    drop offset deck ≡ column ∷ rest → is_inner column ≡ true →
+    ItemsBegin deck (offset + 1) items end →
+    ItemsBegin deck offset (after_blank column items) end
+blank_begins deck offset column rest [] end text inner begin = omega (arith, begin)
+blank_begins deck offset column rest (group at columns ∷ items) end text inner begin =
+    sooner deck offset (offset + 1) (group at columns ∷ items) end (omega arith) begin
+blank_begins deck offset column rest (word columns ∷ items) end text inner begin =
+    sooner deck offset (offset + 1) (word columns ∷ items) end (omega arith) begin
+blank_begins deck offset column rest (unclosed ∷ items) end text inner begin =
+    sooner deck offset (offset + 1) (unclosed ∷ items) end (omega arith) begin
+blank_begins deck offset column rest (unopened columns ∷ items) end text inner begin =
+    joined_begins deck offset column rest columns items end text inner begin
+
+letter_begins : (deck : List ℕ) (offset column : ℕ) (rest : List ℕ) (items : List Item) (end : ℕ) →
+    drop offset deck ≡ column ∷ rest → is_inner column ≡ true →
+    ItemsBegin deck (offset + 1) items end →
+    ItemsBegin deck offset (after_letter column items) end
+letter_begins deck offset column rest [] end text inner begin = omega (arith, begin)
+letter_begins deck offset column rest (group at columns ∷ items) end text inner begin =
+    sooner deck offset (offset + 1) (group at columns ∷ items) end (omega arith) begin
+letter_begins deck offset column rest (word columns ∷ items) end text inner begin =
+    sooner deck offset (offset + 1) items end (omega arith) begin
+letter_begins deck offset column rest (unclosed ∷ items) end text inner begin =
+    sooner deck offset (offset + 1) items end (omega arith) begin
+letter_begins deck offset column rest (unopened columns ∷ items) end text inner begin =
+    joined_begins deck offset column rest columns items end text inner begin
+
+column_begins : (deck : List ℕ) (offset column : ℕ) (rest : List ℕ) (items : List Item) (end : ℕ)
+    (closes opens blank : Bool) →
+    drop offset deck ≡ column ∷ rest → ItemsBegin deck (offset + 1) items end →
+    eqb column (byte ")") ≡ closes → eqb column (byte "(") ≡ opens →
+    ItemsBegin deck offset
+    (cond closes (unopened [] ∷ items)
+    (cond opens (after_opening offset items)
+    (cond blank (after_blank column items) (after_letter column items))))
+    end
+column_begins deck offset column rest items end true opens blank text begin closes opens' = (
+  refl,
+  record {
+    others = rest;
+    same = text ∙ ap (λ c. c ∷ rest) (eqb-true column (byte ")") closes);
+  },
+  subst (λ (o : ℕ). ItemsStand deck o items end) (omega arith)
+      (begun_stand deck (offset + 1) items end begin),
+)
+column_begins deck offset column rest items end false true blank text begin closes opens =
+    opening_begins deck offset rest items end
+    (text ∙ ap (λ c. c ∷ rest) (eqb-true column (byte "(") opens)) begin
+column_begins deck offset column rest items end false false true text begin closes opens =
+    blank_begins deck offset column rest items end text (rw (closes, opens) refl) begin
+column_begins deck offset column rest items end false false false text begin closes opens =
+    letter_begins deck offset column rest items end text (rw (closes, opens) refl) begin
+
+items_begin : (columns deck : List ℕ) (offset end : ℕ) → HasBytes deck offset columns →
+    offset + length columns ≤ end → ItemsBegin deck offset (items_of offset columns) end
+items_begin [] deck offset end has within = omega (arith, within)
+items_begin (column ∷ columns) deck offset end has within =
+    column_begins deck offset column (columns ++ has.others) (items_of (offset + 1) columns) end
+    (eqb column (byte ")")) (eqb column (byte "(")) (is_blank column) has.same
+    (items_begin columns deck (offset + 1) end (last_bytes deck offset (column ∷ []) columns has)
+    (omega (arith, within)))
+    refl refl
+
+-- the items of a body stand in it
+pub body_items : (deck : List ℕ) (from : ℕ) (body : Body) → BodyStands deck from body →
+    ItemsStand deck from (items_of body.offset body.columns) (end_of body)
+body_items deck from body stands =
+    sooner deck from body.offset (items_of body.offset body.columns) (end_of body) stands.after
+    (begun_stand deck body.offset (items_of body.offset body.columns) (end_of body)
+    (items_begin body.columns deck body.offset (end_of body) stands.bytes (omega arith)))

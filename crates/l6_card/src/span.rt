@@ -1,0 +1,10 @@
+//! Where groups stand in a deck.
+
+/// The bytes of a group in its deck: from its `(` to its `)`, both included.
+#[derive(Clone, Copy, Debug, PartialEq, Eq)]
+pub struct Span {
+    /// How many bytes of the deck stand before the `(`.
+    pub offset: usize,
+    /// How many bytes the group has, its parentheses included.
+    pub length: usize,
+}

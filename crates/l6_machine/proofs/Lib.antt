@@ -1,3 +1,7 @@
 pub mod Run
 pub mod Numbered
+pub mod Taking
+pub mod Acting
+pub mod Holding
 pub mod Advancing
+pub mod Stepping

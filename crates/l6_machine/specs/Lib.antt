@@ -8,6 +8,8 @@ pub mod Locus
 pub mod Row
 pub mod Step
 pub mod Run
+pub mod Moment
+pub mod Taking
 pub mod Laws
 pub mod Standing
 pub mod inner

@@ -8,3 +8,7 @@ most_steps = 1000000000
 -- how many bytes of output a run may be allowed
 abbrev pub most_output : ℕ
 most_output = 16777216
+
+-- how many bytes of input a run may be given
+abbrev pub most_input : ℕ
+most_input = 1048576

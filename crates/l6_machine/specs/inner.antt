@@ -1,3 +1,2 @@
 pub mod Registers
 pub mod Progress
-pub mod Machine

@@ -2,23 +2,25 @@
 
 ghost use Rattle.std.specs.Prelude.{◌≡◌};
 ghost use Rattle.l6_prog.specs.Numerals.{letter_count};
-ghost use Rattle.l6_machine.specs.Laws.{EndsInOneState, NumberedAreReached, ReachedAreNumbered};
-ghost use Rattle.l6_machine.specs.Numerals.{most_output, most_steps};
+ghost use Rattle.l6_machine.specs.Laws.{EndsInOneState, EndsUnderEachRule, RulesRunBySteps};
+ghost use Rattle.l6_machine.specs.Numerals.{most_input, most_output, most_steps};
 
-use crate::limits::{MAX_OUTPUT, MAX_STEPS};
+use crate::limits::{MAX_INPUT, MAX_OUTPUT, MAX_STEPS};
 use crate::registers::BUGS;
 
-/// The states of a run are those after 0, 1, 2 and so on steps, and all whole runs of a world end in
-/// one state.
+/// All whole runs of a world under one rule of choice end in one state. A rule whose picks are open
+/// places makes a run by steps. Where no operation of a program takes a block, a whole run ends
+/// alike under each rule.
 pub fn runs_are_determined()
-    ensures numbered { ReachedAreNumbered }
-    ensures reached { NumberedAreReached }
     ensures one_end { EndsInOneState }
+    ensures by_steps { RulesRunBySteps }
+    ensures each_rule { EndsUnderEachRule }
 {}
 
 /// Runs may be as long, and print as much, as the language says, and there is a bug for each letter.
 pub fn runs_have_their_limits()
     ensures steps { MAX_STEPS ≡ most_steps }
     ensures output { MAX_OUTPUT ≡ most_output }
+    ensures input { MAX_INPUT ≡ most_input }
     ensures bugs { BUGS ≡ letter_count }
 {}

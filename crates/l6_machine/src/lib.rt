@@ -18,7 +18,7 @@ mod trap;
 pub use halt::{Halt, StepResult};
 pub use jump::Jump;
 pub use laws::{runs_are_determined, runs_have_their_limits};
-pub use limits::{Limits, MAX_OUTPUT, MAX_STEPS};
+pub use limits::{Limits, MAX_INPUT, MAX_OUTPUT, MAX_STEPS};
 pub use locus::Locus;
 pub use machine::{Machine, MachineFault};
 pub use position::Position;

@@ -6,6 +6,8 @@ ghost use Rattle.std.specs.Prelude.{◌≡◌};
 pub const MAX_STEPS: u64 = 1_000_000_000;
 /// The most bytes of output that a run may be allowed.
 pub const MAX_OUTPUT: usize = 16_777_216;
+/// The most bytes of input that a run may be given.
+pub const MAX_INPUT: usize = 1_048_576;
 
 /// How far a run may go.
 #[derive(Clone, Copy, Debug, PartialEq, Eq, Hash)]

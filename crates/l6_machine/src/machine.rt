@@ -3,12 +3,14 @@
 ghost use Rattle.std.specs.Prelude.{◌≡◌, ◌≤◌, ◌<◌, ◌^◌, ◌+◌, ◌↔◌, true, false, IfOk, IfErr, OnOk, IsErrOf, slice_index, length, All, None, Some};
 ghost use Rattle.l6_word.specs.Numerals.{word_bits};
 ghost use Rattle.l6_prog.specs.Numerals.{first_letter};
+ghost use Rattle.l6_store.specs.Store.{fresh};
 ghost use Rattle.l6_machine.specs.Limits.{are_allowed};
-ghost use Rattle.l6_machine.specs.Numerals.{most_output, most_steps};
+ghost use Rattle.l6_machine.specs.Moment.{first_moment, moment_after, EndsBy, IsNumbered};
+ghost use Rattle.l6_machine.specs.Numerals.{most_input, most_output, most_steps};
 ghost use Rattle.l6_machine.specs.Ready.{is_ready};
-ghost use Rattle.l6_machine.specs.State.{start, is_at_limit, is_last};
+ghost use Rattle.l6_machine.specs.State.{is_at_limit, is_last};
 ghost use Rattle.l6_machine.specs.Locus.{index_of};
-ghost use Rattle.l6_machine.specs.Step.{Step, state_after, answer};
+ghost use Rattle.l6_machine.specs.Step.{Step, answer};
 ghost use Rattle.l6_machine.specs.Run.{EndsIn, IsReached};
 
 use crate::halt::{Halt, StepResult};
@@ -18,6 +20,7 @@ use crate::progress::Progress;
 use crate::registers::Registers;
 use crate::trap::Trap;
 use l6_prog::{Name, Program};
+use l6_store::Places;
 use l6_word::Word;
 use std::alloc::{AllocError, Global};
 use std::marker::Model;
@@ -57,46 +60,61 @@ fn check(limits: Limits) -> Result<(), MachineFault>
     }
 }
 
-/// A machine with a program to run, at some state of its run.
+/// A machine with a program to run and a store of blocks, at some moment of its run.
 #[derive(Drop)]
-pub struct Machine {
+pub struct Machine<S: Places> {
     program: Program,
+    registers: Registers<S>,
     progress: Progress,
 }
 
-impl Model for Machine {
+impl<S: Places> Model for Machine<S> {
+    ghost use Rattle.std.specs.Coded.{codes};
+    ghost use Rattle.l6_store.specs.Blocks.{blocks_code};
     ghost use Rattle.l6_machine.specs.Standing.{Standing};
 
     ghost Value = { Standing };
 
-    ghost use Rattle.l6_machine.specs.inner.Progress.{state_of, world_of};
-    ghost use Rattle.l6_machine.specs.inner.Machine.{IsSound};
+    ghost coded = { Prim.hlevel (codes, blocks_code) };
 
-    ghost view = { λ m. record { world = world_of m.program m.progress; state = state_of m.progress } };
+    ghost use Rattle.l6_machine.specs.inner.Progress.{moment_of, world_of, IsSound};
 
-    ghost invariant = { λ m. IsSound m.program m.progress };
+    ghost view = { λ m. record {
+        world = world_of m.program m.registers;
+        moment = moment_of m.registers m.progress;
+    } };
+
+    ghost invariant = { λ m. IsSound S.rule m.program m.registers m.progress };
 }
 
-impl Machine {
+impl<S: Places> Machine<S> {
     /// A machine before the first step of the program. All that a run needs is taken from memory
     /// here: a copy of the program, and room for the output. The input is not looked at: no
-    /// operation reads it yet. The caller owes a program that is `ready`.
+    /// operation reads it yet. Where no machine is made, the store is given up. The caller owes a
+    /// program that is `ready`, a store that is new or reset, and no more than `MAX_INPUT` bytes.
     pub fn new(
         alloc: Global,
         program: &Program,
         input: &[u8],
+        store: S,
         limits: Limits,
     ) -> Result<Self, MachineFault>
-        requires { is_ready program.now ≡ true }
-        ensures start { IfOk result (λ m. m.state ≡ start) }
-        ensures world { IfOk result
-            (λ m. m.world ≡ record { program = program.now; setting = record { limits = limits } }) }
-        ensures reached { IfOk result (λ m. IsReached m.world m.state) }
+    where
+        S: Drop,
+        requires ready { is_ready program.now ≡ true }
+        requires input { length input.now ≤ most_input }
+        requires fresh { S.store store ≡ fresh S.rule (S.store store).units }
+        ensures start { IfOk result (λ m. m.moment ≡ first_moment S.rule m.world) }
+        ensures world { IfOk result (λ m. m.world ≡ record {
+            program = program.now;
+            setting = record { units = (S.store store).units; limits = limits };
+        }) }
+        ensures reached { IfOk result (λ m. IsReached m.world m.moment.state) }
         ensures bad_limits { IsErrOf result MachineFault.BadLimits ↔ (are_allowed limits ≡ false) }
         ensures allowed { OnOk result (are_allowed limits ≡ true) }
     {
         check(limits)?;
-        Self::with_program(alloc, program.duplicate(alloc)?, input, limits)
+        Self::with_program(alloc, program.duplicate(alloc)?, input, store, limits)
     }
 
     /// A machine before the first step of the program, which is given up to it; else as `new`.
@@ -104,20 +122,26 @@ impl Machine {
         alloc: Global,
         program: Program,
         _input: &[u8],
+        store: S,
         limits: Limits,
     ) -> Result<Self, MachineFault>
-        requires { is_ready program ≡ true }
-        ensures start { IfOk result (λ m. m.state ≡ start) }
-        ensures world { IfOk result
-            (λ m. m.world ≡ record { program = program; setting = record { limits = limits } }) }
-        ensures reached { IfOk result (λ m. IsReached m.world m.state) }
+    where
+        S: Drop,
+        requires ready { is_ready program ≡ true }
+        requires input { length _input.now ≤ most_input }
+        requires fresh { S.store store ≡ fresh S.rule (S.store store).units }
+        ensures start { IfOk result (λ m. m.moment ≡ first_moment S.rule m.world) }
+        ensures world { IfOk result (λ m. m.world ≡ record {
+            program = program;
+            setting = record { units = (S.store store).units; limits = limits };
+        }) }
+        ensures reached { IfOk result (λ m. IsReached m.world m.moment.state) }
         ensures bad_limits { IsErrOf result MachineFault.BadLimits ↔ (are_allowed limits ≡ false) }
         ensures allowed { OnOk result (are_allowed limits ≡ true) }
     {
         check(limits)?;
-        let registers = Registers::new(alloc, limits)?;
+        let registers = Registers::new(alloc, store, limits)?;
         let progress = Progress {
-            registers,
             at: Position {
                 statement: 0,
                 action: 0,
@@ -125,55 +149,73 @@ impl Machine {
             count: 0,
             ending: None,
         };
-        Ok(Machine { program, progress })
+        Ok(Machine {
+            program,
+            registers,
+            progress,
+        })
     }
 
     /// Makes one step: the condition, an operation or the exit of a statement. A step that traps
     /// changes the ending alone, and is not counted. Nothing changes where the run has ended or is
     /// at its limit.
     pub fn step(&mut self) -> StepResult
-        ensures state { self.new.state ≡ state_after self.old.world self.old.state }
+        ensures moment { self.new.moment ≡ moment_after S.rule self.old.world self.old.moment }
         ensures world { self.new.world ≡ self.old.world }
-        ensures step { is_last self.old.world self.old.state ≡ false
-            → Step self.old.world self.old.state self.new.state }
-        ensures trapped { (trap : Trap) → self.old.state.ending ≡ None → result ≡ StepResult.Trapped trap
-            → self.new.state ≡ record self.old.state { ending = Some (Halt.Trap trap) } }
-        ensures last { is_last self.old.world self.old.state ≡ true → self.new.state ≡ self.old.state }
-        ensures reached { IsReached self.new.world self.new.state }
-        ensures answer { result ≡ answer self.old.world self.old.state }
-        ensures counted { result ≡ StepResult.Went → self.new.state.count ≡ self.old.state.count + 1 }
-        ensures within { self.new.state.count ≤ self.new.world.setting.limits.steps }
-        ensures words { All (λ word. word < 2 ^ word_bits) self.new.state.memory.bugs }
+        ensures step { is_last self.old.world self.old.moment.state ≡ false
+            → Step self.old.world self.old.moment.state self.new.moment.state }
+        ensures trapped { (trap : Trap) → self.old.moment.state.ending ≡ None → result ≡ StepResult.Trapped trap
+            → self.new.moment ≡ record {
+                state = record self.old.moment.state { ending = Some (Halt.Trap trap) };
+                order = self.old.moment.order;
+            } }
+        ensures last { is_last self.old.world self.old.moment.state ≡ true → self.new.moment ≡ self.old.moment }
+        ensures reached { IsReached self.new.world self.new.moment.state }
+        ensures numbered { IsNumbered S.rule self.new.world self.new.moment }
+        ensures answer { result ≡ answer self.old.world self.old.moment.state self.new.moment.state }
+        ensures counted { result ≡ StepResult.Went → self.new.moment.state.count ≡ self.old.moment.state.count + 1 }
+        ensures within { self.new.moment.state.count ≤ self.new.world.setting.limits.steps }
+        ensures words { All (λ word. word < 2 ^ word_bits) self.new.moment.state.memory.bugs }
     {
-        self.progress.step(&self.program)
+        self.progress.step(&self.program, &mut self.registers)
     }
 
     /// Makes steps until the run has ended or is at its limit.
     pub fn run(&mut self)
-        ensures ends { EndsIn self.new.world self.new.state }
+        ensures ends { EndsIn self.new.world self.new.moment.state }
+        ensures by_rule { EndsBy S.rule self.new.world self.new.moment.state }
         ensures world { self.new.world ≡ self.old.world }
     {
-        self.progress.run(&self.program);
+        self.progress.run(&self.program, &mut self.registers);
     }
 
     /// What the bug of a letter holds. The caller owes a letter (`Name::is_letter`).
     pub fn bug(&self, name: Name) -> Word
         requires { first_letter ≤ name }
-        ensures { result ≡ slice_index self.now.state.memory.bugs (index_of name) }
+        ensures { result ≡ slice_index self.now.moment.state.memory.bugs (index_of name) }
     {
-        self.progress.registers.bug(name)
+        self.registers.bug(name)
+    }
+
+    /// The store, as the run has left it.
+    pub fn store(&self) -> &S
+        ensures units { (S.store result.now).units ≡ self.now.world.setting.units }
+        ensures blocks { (S.store result.now).blocks ≡ self.now.moment.state.memory.blocks }
+        ensures order { (S.store result.now).order ≡ self.now.moment.order }
+    {
+        self.registers.places()
     }
 
     /// Where the run stands.
     pub fn at(&self) -> Position
-        ensures { result ≡ self.now.state.at }
+        ensures { result ≡ self.now.moment.state.at }
     {
         self.progress.at
     }
 
     /// How many steps have been counted, at most as many as the run may count.
     pub fn count(&self) -> u64
-        ensures value { result ≡ self.now.state.count }
+        ensures value { result ≡ self.now.moment.state.count }
         ensures within { result ≤ self.now.world.setting.limits.steps }
         ensures bound { result ≤ most_steps }
     {
@@ -182,24 +224,24 @@ impl Machine {
 
     /// What has been printed, at most as much as the run may print.
     pub fn output(&self) -> &[u8]
-        ensures value { result.now ≡ self.now.state.memory.output }
+        ensures value { result.now ≡ self.now.moment.state.memory.output }
         ensures within { length result.now ≤ self.now.world.setting.limits.output }
         ensures bound { length result.now ≤ most_output }
     {
-        self.progress.registers.output()
+        self.registers.output()
     }
 
     /// How the run has ended, if it has.
     pub fn ending(&self) -> Option<Halt>
-        ensures { result ≡ self.now.state.ending }
+        ensures { result ≡ self.now.moment.state.ending }
     {
         self.progress.ending
     }
 
     /// Whether the run has not ended, and has counted as many steps as it may.
     pub fn at_limit(&self) -> bool
-        ensures { result ≡ is_at_limit self.now.world self.now.state }
+        ensures { result ≡ is_at_limit self.now.world self.now.moment.state }
     {
-        self.ending().is_none() && self.count() == self.progress.registers.limits.steps
+        self.ending().is_none() && self.count() == self.registers.limits().steps
     }
 }

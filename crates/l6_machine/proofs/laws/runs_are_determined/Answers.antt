@@ -1,5 +1,8 @@
-use Rattle.l6_machine.proofs.Numbered.{reached-numbered, numbered-reached, ends-in_one_state}
+use Rattle.l6_machine.proofs.Numbered.{ends-in_one_state}
+use Rattle.l6_machine.proofs.Run.{rules-run_by_steps}
+use Rattle.l6_machine.proofs.Taking.{ends-under_each_rule}
 use Rattle.l6_machine.proofs.laws.runs_are_determined.Goals as goal
 
 pub returns : goal.returns
-returns c = record { numbered = reached-numbered; reached = numbered-reached; one_end = ends-in_one_state }
+returns c =
+    record { one_end = ends-in_one_state; by_steps = rules-run_by_steps; each_rule = ends-under_each_rule }

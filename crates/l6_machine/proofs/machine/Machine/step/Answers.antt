@@ -1,17 +1,29 @@
-use Rattle.std.proofs.Common.{ap, ◌∙◌}
-use Rattle.l6_machine.specs.Limits.{are_allowed}
-use Rattle.l6_machine.specs.State.{World}
-use Rattle.l6_machine.proofs.Run.{reached_on}
+use Rattle.std.proofs.Common.{◌≡◌, ◌∙◌, ap, subst, false, Some, None}
+use Rattle.l6_machine.specs.declared.halt.StepResult.TheVariants.{Trapped}
+use Rattle.l6_machine.specs.declared.trap.Trap.{Trap}
+use Rattle.l6_machine.specs.Moment.{moment_after}
+use Rattle.l6_machine.specs.Standing.{Standing}
+use Rattle.l6_machine.specs.State.{is_last}
+use Rattle.l6_machine.specs.Step.{Step}
+use Rattle.l6_machine.specs.inner.Progress.{moment_of}
+use Rattle.l6_machine.proofs.Stepping.{steps_on, trapped_at, traps_alone}
 use Rattle.l6_machine.proofs.machine.Machine.step.Goals as goal
 
--- the run goes on by the step, in the same world
-pub invariant_of-self : goal.invariant_of-self
-invariant_of-self c = record {
-  allowed = ap (λ (w : World). are_allowed w.setting.limits) c.step.ensures.world ∙ c.self.invariant.allowed;
-  within = c.step.ensures.within;
-  reached = reached_on _ _ _ _ c.self.invariant.within.ready c.step.ensures.world c.step.ensures.state c.self.invariant.reached;
-}
+-- the machine stands at the next moment
+pub returns-clause-moment : goal.returns-clause-moment
+returns-clause-moment g c =
+    c.step.ensures.moment ∙ ap (λ (s : Standing). moment_after g.S.Places.rule s.world s.moment) c.self.view_is
 
-pub returns-clause-reached : goal.returns-clause-reached
-returns-clause-reached c =
-    reached_on _ _ _ _ c.self.invariant.within.ready c.step.ensures.world c.step.ensures.state c.self.invariant.reached
+-- that is a step further
+pub returns-clause-step : goal.returns-clause-step
+returns-clause-step g c =
+    let new = moment_of c.step.new.registers c.step.new.self in
+    subst (λ (s : Standing). is_last s.world s.moment.state ≡ false → Step s.world s.moment.state new.state) c.self.view_is
+    (steps_on g.S.Places.rule _ _ new c.self.invariant.ready c.self.invariant.are_held.chooses c.step.ensures.moment)
+
+-- a trap changes the ending alone
+pub returns-clause-trapped : goal.returns-clause-trapped
+returns-clause-trapped g c =
+    let new = moment_of c.step.new.registers c.step.new.self in
+    subst (λ (s : Standing). (trap : Trap) → s.moment.state.ending ≡ None → c.step.result ≡ Trapped trap → new ≡ trapped_at s.moment trap) c.self.view_is
+    (traps_alone g.S.Places.rule _ _ new c.step.result c.step.ensures.moment c.step.ensures.answer)

@@ -1,7 +1,11 @@
 -- The worked examples compute.
-use Rattle.std.proofs.Common.{◌≡◌, ℕ, ◌-◌, List, [], ◌∷◌, refl, false, Option, None, Some, codes, lit≤}
+use Rattle.std.proofs.Common.{◌≡◌, ℕ, ◌-◌, List, [], ◌∷◌, refl, sym, subst, false, Option, None, Some, codes, lit≤}
 use Rattle.std.proofs.Math.ListN.{replicate}
+use Rattle.std.specs.FinMap as map
 use Rattle.std.specs.Fmt.{digits}
+use Rattle.l6_store.specs.Blocks.{Blocks}
+use Rattle.l6_store.specs.Laws.{ScanChooses}
+use Rattle.l6_store.specs.Open.{Choice, FitsStore}
 use Rattle.l6_prog.specs.Numerals.{letter_count}
 use Rattle.l6_prog.specs.declared.operand.Operand.TheVariants.{Number}
 use Rattle.l6_prog.specs.declared.operation.Op.TheVariants.{Set, PrintDecimal}
@@ -11,13 +15,14 @@ use Rattle.l6_prog.specs.declared.exit.Exit.TheVariants.{Next}
 use Rattle.l6_group.specs.declared.label.Label.{Label}
 use Rattle.l6_card.specs.declared.cards.Placed.{Placed}
 use Rattle.l6_card.specs.Numerals.{card_width}
+use Rattle.l6_machine.specs.Moment.{EndsBy}
 use Rattle.l6_machine.specs.Run.{IsRun}
 use Rattle.l6_machine.specs.declared.halt.Halt.{Halt}
 use Rattle.l6_machine.specs.declared.halt.Halt.TheVariants.{Done}
 use Rattle.l6_machine.specs.State.{World, State, is_last}
 use Rattle.l6_machine.specs.Step.{Step, next}
 use Rattle.l6_run.specs.Options.{default_options}
-use Rattle.l6_run.specs.Prints.{world_under}
+use Rattle.l6_run.specs.Prints.{store_rule, world_under}
 use Rattle.l6.specs.Worked.{FiveIsSpelled, FiveIsPrinted, five_program, five_assembly, name_a}
 
 -- the operations of the second card
@@ -61,9 +66,9 @@ abbrev world : World
 world = world_under default_options five_program
 
 -- what bug A holds, the output, the statement, the action, the count and the ending make a state
-abbrev moment : ℕ → List ℕ → ℕ → ℕ → ℕ → Option Halt → State
-moment a output statement action count ending = record {
-  memory = record { bugs = a ∷ replicate (letter_count - 1) 0; output = output };
+abbrev state_of : ℕ → List ℕ → ℕ → ℕ → ℕ → Option Halt → State
+state_of a output statement action count ending = record {
+  memory = record { bugs = a ∷ replicate (letter_count - 1) 0; output = output; blocks = map.empty };
   at = record { statement = statement; action = action };
   count = count;
   ending = ending;
@@ -72,46 +77,64 @@ moment a output statement action count ending = record {
 -- the states before the last, the latest first
 abbrev earlier : List State
 earlier =
-    moment 5 (codes "5") 1 1 5 None
-    ∷ moment 5 (codes "5") 1 0 4 None
-    ∷ moment 5 (codes "5") 0 3 3 None
-    ∷ moment 5 [] 0 2 2 None
-    ∷ moment 0 [] 0 1 1 None
-    ∷ moment 0 [] 0 0 0 None
+    state_of 5 (codes "5") 1 1 5 None
+    ∷ state_of 5 (codes "5") 1 0 4 None
+    ∷ state_of 5 (codes "5") 0 3 3 None
+    ∷ state_of 5 [] 0 2 2 None
+    ∷ state_of 0 [] 0 1 1 None
+    ∷ state_of 0 [] 0 0 0 None
     ∷ []
 
 -- the last state
 abbrev final : State
-final = moment 5 (codes "5") 1 1 6 (Some Done)
+final = state_of 5 (codes "5") 1 1 6 (Some Done)
+
+-- for each level the lowest open place, of a store without blocks
+abbrev choice : Choice
+choice = store_rule.pick world.setting.units map.empty []
 
 -- each state is a step from the one before, since both compute to the same
-stepped : (old : State) → is_last world old ≡ false → Step world old (next world old)
-stepped old goes_on = record { ready = refl; goes_on = goes_on; leads = refl }
+stepped : ScanChooses → (old : State) → old.memory.blocks ≡ map.empty → is_last world old ≡ false →
+    Step world old (next world choice old)
+stepped chooses old none goes_on = record {
+  ready = refl;
+  goes_on = goes_on;
+  choice = choice;
+  fits = subst (λ (blocks : Blocks). FitsStore world.setting.units blocks choice) (sym none)
+      (chooses world.setting.units map.empty []);
+  leads = refl;
+}
 
-run : IsRun world (final ∷ earlier)
+run : ScanChooses → IsRun world (final ∷ earlier)
 unfolding digits
-run = (
-  stepped (moment 5 (codes "5") 1 1 5 None) refl,
+run chooses = (
+  stepped chooses (state_of 5 (codes "5") 1 1 5 None) refl refl,
   (
-    stepped (moment 5 (codes "5") 1 0 4 None) refl,
+    stepped chooses (state_of 5 (codes "5") 1 0 4 None) refl refl,
     (
-      stepped (moment 5 (codes "5") 0 3 3 None) refl,
+      stepped chooses (state_of 5 (codes "5") 0 3 3 None) refl refl,
       (
-        stepped (moment 5 [] 0 2 2 None) refl,
-        (stepped (moment 0 [] 0 1 1 None) refl, (stepped (moment 0 [] 0 0 0 None) refl, refl)),
+        stepped chooses (state_of 5 [] 0 2 2 None) refl refl,
+        (stepped chooses (state_of 0 [] 0 1 1 None) refl refl, (stepped chooses (state_of 0 [] 0 0 0 None) refl refl, refl)),
       ),
     ),
   ),
 )
 
-pub five-printed : FiveIsPrinted
+-- the run under the rule comes to it after 6 steps
+by_rule : EndsBy store_rule world final
 unfolding digits
-five-printed = record {
+by_rule = record { number = 6; is = refl; last = refl }
+
+pub five-printed : ScanChooses → FiveIsPrinted
+unfolding digits
+five-printed chooses = record {
   fits = lit≤ tt;
   assembly = five_assembly;
   spelled = five-spelled;
   final = final;
-  ends = record { reached = record { older = earlier; run = run }; last = refl };
+  ends = record { reached = record { older = earlier; run = run chooses }; last = refl };
+  by_rule = by_rule;
   ended = refl;
   printed = refl;
 }

@@ -1,5 +1,6 @@
 -- Worked examples of the definitions, each by hand.
 use Rattle.std.specs.Prelude.{◌≡◌, ℕ, ◌+◌, List, [], ◌∷◌, codes, Some}
+use Rattle.l6_store.specs.Open.{Choice}
 use Rattle.l6_prog.specs.declared.condition.Cond.TheVariants.{Always}
 use Rattle.l6_prog.specs.declared.exit.Exit.TheVariants.{Next}
 use Rattle.l6_prog.specs.declared.operand.Operand.TheVariants.{Number}
@@ -12,7 +13,7 @@ use Rattle.l6_asm.specs.Assembled.{Assembled}
 use Rattle.l6_machine.specs.declared.halt.Halt.TheVariants as halts
 use Rattle.l6_machine.specs.declared.trap.Trap.TheVariants.{UndefinedField}
 use Rattle.l6_machine.specs.State.{World, State, start}
-use Rattle.l6_machine.specs.Step.{state_after}
+use Rattle.l6_machine.specs.Step.{next}
 use Rattle.l6_run.specs.declared.ending.Ending.TheVariants.{Done}
 use Rattle.l6_run.specs.Options.{default_options}
 use Rattle.l6_run.specs.Prints.{Prints, world_under}
@@ -68,9 +69,9 @@ field_world = world_under default_options (record {
 abbrev pub at_field : State
 at_field = record start { at = record { statement = 0; action = 1 }; count = 1 }
 
--- its second step traps, and changes the ending alone: the count stays 1
+-- whatever the places that a store would give, its second step traps, and changes the ending alone: the count stays 1
 abbrev pub FieldTraps : Type 0
 FieldTraps =
-    (state_after field_world start ≡ at_field)
-    × (state_after field_world at_field
-    ≡ record at_field { ending = Some (halts.Trap UndefinedField) })
+    (choice : Choice) →
+    (next field_world choice start ≡ at_field)
+    × (next field_world choice at_field ≡ record at_field { ending = Some (halts.Trap UndefinedField) })

@@ -2,6 +2,8 @@
 
 ghost use Rattle.l6.specs.Worked.{FieldTraps, FiveIsPrinted, FiveIsSpelled, UnknownIsRefused};
 
+use l6_store::scan_chooses;
+
 /// A deck of a comment and two operations spells its program.
 pub fn five_is_spelled()
     ensures { FiveIsSpelled }
@@ -10,7 +12,9 @@ pub fn five_is_spelled()
 /// A whole run of that program ends by DONE, and its printout is `5` and the line of its ending.
 pub fn five_is_printed()
     ensures { FiveIsPrinted }
-{}
+{
+    scan_chooses();
+}
 
 /// The fault of a deck is its first one.
 pub fn unknown_is_refused()

@@ -3,21 +3,19 @@ use Rattle.std.proofs.Common.{◌≡◌, ap, sym, subst, ◌∙◌}
 use Rattle.l6_asm.specs.Assembled.{Assembled}
 use Rattle.l6_asm.specs.Spells.{SpellsInOneWay}
 use Rattle.l6_machine.specs.Laws.{EndsInOneState}
-use Rattle.l6_machine.specs.Run.{EndsIn}
+use Rattle.l6_machine.specs.Moment.{EndsBy}
 use Rattle.l6_machine.specs.State.{State}
 use Rattle.l6_run.specs.Laws.{PrintsInOneWay}
 use Rattle.l6_run.specs.Printout.{ending_of, printout}
-use Rattle.l6_run.specs.Prints.{world_under}
+use Rattle.l6_run.specs.Prints.{store_rule, world_under}
 
 pub prints-one : SpellsInOneWay → EndsInOneState → PrintsInOneWay
 prints-one one_way one_end options deck ending ending' text text' prints prints' =
     let same : prints'.assembly ≡ prints.assembly =
     one_way deck prints.assembly prints'.assembly prints.spelled prints'.spelled in
-    let ends' : EndsIn (world_under options prints.assembly.program) prints'.final =
-    subst (λ (assembly : Assembled). EndsIn (world_under options assembly.program) prints'.final)
-    same prints'.ends in
-    let finals : prints.final ≡ prints'.final
-    = one_end _ prints.final prints'.final prints.ends ends' in (
+    let ends' : EndsBy store_rule (world_under options prints.assembly.program) prints'.final =
+    subst (λ (assembly : Assembled). EndsBy store_rule (world_under options assembly.program) prints'.final) same prints'.by_rule in
+    let finals : prints.final ≡ prints'.final = one_end store_rule _ prints.final prints'.final prints.by_rule ends' in (
       prints.ended ∙ ap (λ (s : State). ending_of s.ending) finals ∙ sym prints'.ended,
       prints.printed ∙ ap printout finals ∙ sym prints'.printed,
     )

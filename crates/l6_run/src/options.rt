@@ -1,6 +1,7 @@
 //! What a user may choose for a run.
 
-ghost use Rattle.std.specs.Prelude.{◌≡◌, ◌↔◌, true, IsSome, IfSome};
+ghost use Rattle.std.specs.Prelude.{◌≡◌, ◌↔◌, ◌≤◌, true, IsSome, IfSome};
+ghost use Rattle.l6_store.specs.Numerals.{most_units};
 ghost use Rattle.l6_machine.specs.Limits.{are_allowed};
 
 use l6_machine::Limits;
@@ -45,9 +46,11 @@ impl Options {
         }
     }
 
-    /// How many units of 128 words the store has.
+    /// How many units of 128 words the store has, 1 to 2,047.
     pub fn units(self) -> u32
-        ensures { result ≡ self.units }
+        ensures value { result ≡ self.units }
+        ensures some { 1 ≤ result }
+        ensures most { result ≤ most_units }
     {
         self.units
     }

@@ -7,12 +7,13 @@ ghost use Rattle.l6_run.specs.Printout.{ending_of, ending_text, ending_line, pri
 use crate::ending::Ending;
 use itoa::{Buffer, Integer};
 use l6_machine::{Halt, Machine, Position, Trap};
+use l6_store::Places;
 use std::alloc::{AllocError, Global};
 
 /// How the machine's run has ended. The caller owes a last state.
-pub fn ending_of(machine: &Machine) -> Ending
-    requires { is_last machine.now.world machine.now.state ≡ true }
-    ensures { result ≡ ending_of machine.now.state.ending }
+pub fn ending_of<S: Places>(machine: &Machine<S>) -> Ending
+    requires { is_last machine.now.world machine.now.moment.state ≡ true }
+    ensures { result ≡ ending_of machine.now.moment.state.ending }
 {
     match machine.ending() {
         None => Ending::Limit,
@@ -22,11 +23,10 @@ pub fn ending_of(machine: &Machine) -> Ending
     }
 }
 
-/// The line that tells how the machine's run has ended, without a line feed. The caller owes a last
-/// state.
-pub fn ending_line(alloc: Global, machine: &Machine) -> Result<Vec<u8>, AllocError>
-    requires { is_last machine.now.world machine.now.state ≡ true }
-    ensures { IfOk result (λ line. line.items ≡ ending_line machine.now.state) }
+/// The line that tells how the machine's run has ended, without a line feed. The caller owes a last state.
+pub fn ending_line<S: Places>(alloc: Global, machine: &Machine<S>) -> Result<Vec<u8>, AllocError>
+    requires { is_last machine.now.world machine.now.moment.state ≡ true }
+    ensures { IfOk result (λ line. line.items ≡ ending_line machine.now.moment.state) }
 {
     let mut line = Vec::from_slice(alloc, b"== ")?;
     push_ending(&mut line, ending_of(machine), machine.at())?;
@@ -37,9 +37,9 @@ pub fn ending_line(alloc: Global, machine: &Machine) -> Result<Vec<u8>, AllocErr
 }
 
 /// All that the machine's run prints. The caller owes a last state.
-pub fn printout(alloc: Global, machine: &Machine) -> Result<Vec<u8>, AllocError>
-    requires { is_last machine.now.world machine.now.state ≡ true }
-    ensures { IfOk result (λ text. text.items ≡ printout machine.now.state) }
+pub fn printout<S: Places>(alloc: Global, machine: &Machine<S>) -> Result<Vec<u8>, AllocError>
+    requires { is_last machine.now.world machine.now.moment.state ≡ true }
+    ensures { IfOk result (λ text. text.items ≡ printout machine.now.moment.state) }
 {
     let output = machine.output();
     let line = ending_line(alloc, machine)?;

@@ -15,6 +15,7 @@ use crate::transfer::write_text;
 use l6_asm::assemble;
 use l6_card::MAX_DECK_BYTES;
 use l6_machine::{Machine, MachineFault, ready};
+use l6_store::{ScanStore, StoreFault};
 use std::alloc::Global;
 
 /// Runs a deck, and writes the printout. Answers how the run has ended.
@@ -52,7 +53,12 @@ fn printout_of(alloc: Global, options: Options, deck: &[u8]) -> Result<(Ending, 
     if !ready(&program) {
         return Err(RunFault::NotYet);
     }
-    let mut machine = match Machine::with_program(alloc, program, &[], options.limits()) {
+    let store = match ScanStore::new(alloc, options.units()) {
+        Ok(store) => store,
+        Err(StoreFault::NoMemory) => return Err(RunFault::NoMemory),
+        Err(StoreFault::BadUnits) => unreachable!(),
+    };
+    let mut machine = match Machine::with_program(alloc, program, &[], store, options.limits()) {
         Ok(machine) => machine,
         Err(MachineFault::NoMemory) => return Err(RunFault::NoMemory),
         Err(MachineFault::BadLimits) => unreachable!(),

@@ -8,8 +8,9 @@ returns-clause-prints c =
       fits = c.requires;
       assembly = c.in_ok-assembly.assembly;
       spelled = c.in_ok-assembly.ensures.spells.spells;
-      final = c.run.new.self.state;
+      final = c.run.new.self.moment.state;
       ends = search rules;
+      by_rule = search rules;
       ended = search rules;
       printed = search rules;
     }

@@ -1,5 +1,5 @@
 -- Where no operation takes a block, no rule of choice matters.
-use Rattle.std.proofs.Common.{◌≡◌, ℕ, zero, suc, ◌<◌, Bool, true, false, List, [], ◌∷◌, length, Option, None, Some, not, cond, get_or, refl, ap, sym, ◌∙◌, inl, inr}
+use Rattle.std.proofs.Common.{◌≡◌, ℕ, zero, suc, Bool, true, false, List, [], ◌∷◌, length, Option, None, Some, not, cond, get_or, refl, ap, sym, ◌∙◌, inl, inr}
 use Rattle.std.specs.Prelude.{◌-◌, ◌==◌, slice_get}
 use Rattle.std.specs.List.{list_all}
 use Rattle.std.proofs.lemmas.Bool.{both_ways, cases_lt, not-true}
@@ -14,9 +14,9 @@ use Rattle.l6_prog.proofs.Targets.{passes_at}
 use Rattle.l6_store.specs.Open.{Choice}
 use Rattle.l6_store.specs.Rule.{Rule}
 use Rattle.l6_machine.specs.Laws.{EndsUnderEachRule}
-use Rattle.l6_machine.specs.Moment.{Moment, EndsBy, moment_at, pick_at, state_at}
+use Rattle.l6_machine.specs.Moment.{Moment, moment_at, pick_at, state_at}
 use Rattle.l6_machine.specs.Row.{condition, deed_of, row}
-use Rattle.l6_machine.specs.Run.{EndsIn, IsRun}
+use Rattle.l6_machine.specs.Run.{IsRun}
 use Rattle.l6_machine.specs.State.{World, Setting, Memory, State, is_last}
 use Rattle.l6_machine.specs.Step.{action_behind, deed_at, next, outcome, statement_at}
 use Rattle.l6_machine.specs.Taking.{takes_block, takes_no_block}
@@ -61,7 +61,7 @@ takes_not operations number op none found =
     let is = get_or_from_slice_get operations number op op found in
     not-true (takes_block op)
     (ap (λ o. not (takes_block o)) (sym is)
-     ∙ passes_at (λ operation. not (takes_block operation)) operations number op none within)
+    ∙ passes_at (λ operation. not (takes_block operation)) operations number op none within)
 
 -- what the action at a state's position does
 deed_same : (world : World) (choice choice' : Choice) (old : State) → takes_no_block world.program ≡ true →
@@ -82,9 +82,9 @@ run-numbered rule world state (old ∷ older) none run =
     let goes_on : is_last world moment.state ≡ false = ap (is_last world) (sym before.1) ∙ run.0.goes_on in (
       suc before.0,
       run.0.leads
-      ∙ ap (next world run.0.choice) before.1
-      ∙ ap (outcome moment.state) (deed_same world run.0.choice (pick_at rule world moment) moment.state none)
-      ∙ sym (ap (λ (m : Moment). m.state) (moment_after-goes_on rule world moment goes_on)),
+          ∙ ap (next world run.0.choice) before.1
+          ∙ ap (outcome moment.state) (deed_same world run.0.choice (pick_at rule world moment) moment.state none)
+          ∙ sym (ap (λ (m : Moment). m.state) (moment_after-goes_on rule world moment goes_on)),
     )
 
 pub ends-under_each_rule : EndsUnderEachRule

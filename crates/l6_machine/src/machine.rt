@@ -80,8 +80,8 @@ impl<S: Places> Model for Machine<S> {
     ghost use Rattle.l6_machine.specs.inner.Progress.{moment_of, world_of, IsSound};
 
     ghost view = { λ m. record {
-        world = world_of m.program m.registers;
-        moment = moment_of m.registers m.progress;
+      world = world_of m.program m.registers;
+      moment = moment_of m.registers m.progress;
     } };
 
     ghost invariant = { λ m. IsSound S.rule m.program m.registers m.progress };
@@ -106,8 +106,8 @@ impl<S: Places> Machine<S> {
         requires fresh { S.store store ≡ fresh S.rule (S.store store).units }
         ensures start { IfOk result (λ m. m.moment ≡ first_moment S.rule m.world) }
         ensures world { IfOk result (λ m. m.world ≡ record {
-            program = program.now;
-            setting = record { units = (S.store store).units; limits = limits };
+          program = program.now;
+          setting = record { units = (S.store store).units; limits = limits };
         }) }
         ensures reached { IfOk result (λ m. IsReached m.world m.moment.state) }
         ensures bad_limits { IsErrOf result MachineFault.BadLimits ↔ (are_allowed limits ≡ false) }
@@ -166,8 +166,8 @@ impl<S: Places> Machine<S> {
             → Step self.old.world self.old.moment.state self.new.moment.state }
         ensures trapped { (trap : Trap) → self.old.moment.state.ending ≡ None → result ≡ StepResult.Trapped trap
             → self.new.moment ≡ record {
-                state = record self.old.moment.state { ending = Some (Halt.Trap trap) };
-                order = self.old.moment.order;
+              state = record self.old.moment.state { ending = Some (Halt.Trap trap) };
+              order = self.old.moment.order;
             } }
         ensures last { is_last self.old.world self.old.moment.state ≡ true → self.new.moment ≡ self.old.moment }
         ensures reached { IsReached self.new.world self.new.moment.state }

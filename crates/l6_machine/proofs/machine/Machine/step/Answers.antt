@@ -1,4 +1,4 @@
-use Rattle.std.proofs.Common.{◌≡◌, ◌∙◌, ap, subst, false, Some, None}
+use Rattle.std.proofs.Common.{◌≡◌, ◌∙◌, ap, subst, false, None}
 use Rattle.l6_machine.specs.declared.halt.StepResult.TheVariants.{Trapped}
 use Rattle.l6_machine.specs.declared.trap.Trap.{Trap}
 use Rattle.l6_machine.specs.Moment.{moment_after}

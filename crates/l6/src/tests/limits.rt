@@ -3,6 +3,7 @@
 use l6_machine::{Limits, Machine, MachineFault, ready};
 use l6_prog::{Program, Statement};
 use l6_run::Options;
+use l6_store::{Places, ScanStore};
 use std::test::Fail;
 
 #[test]
@@ -18,7 +19,11 @@ fn limits_have_their_ranges(rt: HostRuntime) -> Result<(), Fail> {
         (1_000_000_000, 16_777_217, Some(MachineFault::BadLimits)),
         (u64::MAX, usize::MAX, Some(MachineFault::BadLimits)),
     ] {
-        let machine = Machine::new(rt.alloc(), &program, &[], Limits { steps, output });
+        let store = ScanStore::new(rt.alloc(), 1)?;
+        let machine = Machine::new(rt.alloc(), &program, &[], store, Limits { steps, output });
+        if let Ok(machine) = &machine {
+            assert_eq!(rt; machine.store().units(), 1);
+        }
         assert_eq!(rt; machine.err(), fault);
         for (units, is_allowed) in [(0, false), (1, true), (2_047, true), (2_048, false)] {
             let options = Options::new(units, steps, output);

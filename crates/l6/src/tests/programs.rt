@@ -6,6 +6,7 @@ use l6_prog::{
     Test,
 };
 use l6_run::printout;
+use l6_store::ScanStore;
 use l6_word::Word;
 use std::alloc::{AllocError, Global};
 use std::test::Fail;
@@ -49,7 +50,8 @@ fn printed(alloc: Global, mut statements: Vec<Statement>) -> Result<Vec<u8>, Fai
         steps: 100,
         output: 99,
     };
-    let mut machine = Machine::new(alloc, &program, &[], limits)?;
+    let store = ScanStore::new(alloc, 1)?;
+    let mut machine = Machine::new(alloc, &program, &[], store, limits)?;
     machine.run();
     Ok(printout(alloc, &machine)?)
 }

@@ -68,7 +68,8 @@ world = world_under default_options five_program
 -- what bug A holds, the output, the statement, the action, the count and the ending make a state
 abbrev state_of : ℕ → List ℕ → ℕ → ℕ → ℕ → Option Halt → State
 state_of a output statement action count ending = record {
-  memory = record { bugs = a ∷ replicate (letter_count - 1) 0; output = output; blocks = map.empty };
+  memory
+      = record { bugs = a ∷ replicate (letter_count - 1) 0; output = output; blocks = map.empty };
   at = record { statement = statement; action = action };
   count = count;
   ending = ending;
@@ -115,7 +116,10 @@ run chooses = (
       stepped chooses (state_of 5 (codes "5") 0 3 3 None) refl refl,
       (
         stepped chooses (state_of 5 [] 0 2 2 None) refl refl,
-        (stepped chooses (state_of 0 [] 0 1 1 None) refl refl, (stepped chooses (state_of 0 [] 0 0 0 None) refl refl, refl)),
+        (
+          stepped chooses (state_of 0 [] 0 1 1 None) refl refl,
+          (stepped chooses (state_of 0 [] 0 0 0 None) refl refl, refl),
+        ),
       ),
     ),
   ),

@@ -69,9 +69,11 @@ field_world = world_under default_options (record {
 abbrev pub at_field : State
 at_field = record start { at = record { statement = 0; action = 1 }; count = 1 }
 
--- whatever the places that a store would give, its second step traps, and changes the ending alone: the count stays 1
+-- whatever the places that a store would give, its second step traps, and changes the ending alone:
+-- the count stays 1
 abbrev pub FieldTraps : Type 0
 FieldTraps =
     (choice : Choice) →
     (next field_world choice start ≡ at_field)
-    × (next field_world choice at_field ≡ record at_field { ending = Some (halts.Trap UndefinedField) })
+    × (next field_world choice at_field
+    ≡ record at_field { ending = Some (halts.Trap UndefinedField) })

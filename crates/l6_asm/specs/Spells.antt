@@ -63,4 +63,5 @@ NeverBoth =
 -- a deck spells at most one program
 abbrev pub SpellsInOneWay : Type 0
 SpellsInOneWay =
-    (deck : List ℕ) (assembly other : Assembled) → Spells deck assembly → Spells deck other → other ≡ assembly
+    (deck : List ℕ) (assembly other : Assembled) → Spells deck assembly → Spells deck other →
+        other ≡ assembly

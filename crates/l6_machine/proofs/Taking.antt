@@ -23,15 +23,20 @@ use Rattle.l6_machine.specs.Taking.{takes_block, takes_no_block}
 use Rattle.l6_machine.proofs.Numbered.{moment_after-goes_on}
 
 -- what an operation does that takes no block
-row_same : (op : Op ℕ) (setting : Setting) (choice choice' : Choice) (memory : Memory) → takes_block op ≡ false →
+row_same : (op : Op ℕ) (setting : Setting) (choice choice' : Choice) (memory : Memory) →
+    takes_block op ≡ false →
     row setting choice op memory ≡ row setting choice' op memory
-row_same (Get chain size old label) setting choice choice' memory takes = absurd (both_ways true takes refl)
-row_same (Duplicate chain block label) setting choice choice' memory takes = absurd (both_ways true takes refl)
+row_same (Get chain size old label) setting choice choice' memory takes =
+    absurd (both_ways true takes refl)
+row_same (Duplicate chain block label) setting choice choice' memory takes =
+    absurd (both_ways true takes refl)
 row_same other setting choice choice' memory takes = refl
 
 -- what a condition, an operation that takes no block, or an exit does
-chosen_same : (setting : Setting) (choice choice' : Choice) (memory : Memory) (test : Cond) (last : Exit ℕ)
-    (found : Option (Op ℕ)) (first : Bool) → ((op : Op ℕ) → found ≡ Some op → takes_block op ≡ false) →
+chosen_same : (setting : Setting) (choice choice' : Choice) (memory : Memory) (test : Cond)
+    (last : Exit ℕ)
+    (found : Option (Op ℕ)) (first : Bool) →
+    ((op : Op ℕ) → found ≡ Some op → takes_block op ≡ false) →
     deed_of setting choice (cond first (condition test) (action_behind last found)) memory
     ≡ deed_of setting choice' (cond first (condition test) (action_behind last found)) memory
 chosen_same setting choice choice' memory test last found true none = refl
@@ -47,7 +52,8 @@ takes_none statement = list_all (λ operation. not (takes_block operation)) stat
 none_at : (program : List Parts) (number : ℕ) → takes_no_block program ≡ true →
     takes_none (get_or program number plain_done) ≡ true
 none_at program number none =
-    elim (cases_lt number (length program)) as (λ _. takes_none (get_or program number plain_done) ≡ true) [
+    elim (cases_lt number (length program))
+    as (λ _. takes_none (get_or program number plain_done) ≡ true) [
       | inl within ↦ passes_at takes_none program number plain_done none within
       | inr past ↦ ap takes_none (get_or-eq_default program plain_done past)
     ]
@@ -64,26 +70,31 @@ takes_not operations number op none found =
     ∙ passes_at (λ operation. not (takes_block operation)) operations number op none within)
 
 -- what the action at a state's position does
-deed_same : (world : World) (choice choice' : Choice) (old : State) → takes_no_block world.program ≡ true →
+deed_same : (world : World) (choice choice' : Choice) (old : State) →
+    takes_no_block world.program ≡ true →
     deed_at world choice old ≡ deed_at world choice' old
 deed_same world choice choice' old none =
     let statement = statement_at world.program old.at in
     chosen_same world.setting choice choice' old.memory statement.condition statement.exit
     (slice_get statement.operations (old.at.action - 1)) (old.at.action == 0)
-    (λ op found. takes_not statement.operations (old.at.action - 1) op (none_at world.program old.at.statement none) found)
+    (λ op found. takes_not statement.operations (old.at.action - 1) op
+    (none_at world.program old.at.statement none) found)
 
 -- the states of a run are those of the run under a rule
 run-numbered : (rule : Rule) (world : World) (state : State) (older : List State) →
-    takes_no_block world.program ≡ true → IsRun world (state ∷ older) → (n : ℕ) × (state ≡ state_at rule world n)
+    takes_no_block world.program ≡ true → IsRun world (state ∷ older) →
+    (n : ℕ) × (state ≡ state_at rule world n)
 run-numbered rule world state [] none run = (zero, run)
 run-numbered rule world state (old ∷ older) none run =
     let before = run-numbered rule world old older none run.1 in
     let moment = moment_at rule world before.0 in
-    let goes_on : is_last world moment.state ≡ false = ap (is_last world) (sym before.1) ∙ run.0.goes_on in (
+    let goes_on : is_last world moment.state ≡ false = ap (is_last world) (sym before.1)
+    ∙ run.0.goes_on in (
       suc before.0,
       run.0.leads
           ∙ ap (next world run.0.choice) before.1
-          ∙ ap (outcome moment.state) (deed_same world run.0.choice (pick_at rule world moment) moment.state none)
+          ∙ ap (outcome moment.state)
+          (deed_same world run.0.choice (pick_at rule world moment) moment.state none)
           ∙ sym (ap (λ (m : Moment). m.state) (moment_after-goes_on rule world moment goes_on)),
     )
 

@@ -14,4 +14,5 @@ takes_block operation = false
 -- no operation of the program does
 abbrev pub takes_no_block : List Parts → Bool
 takes_no_block program =
-    list_all (λ statement. list_all (λ operation. not (takes_block operation)) statement.operations) program
+    list_all (λ statement. list_all (λ operation. not (takes_block operation)) statement.operations)
+    program

@@ -21,7 +21,8 @@ impl<S: Places> Registers<S> {
     pub(crate) fn act(&mut self, program: &Program, at: Position) -> Result<Jump, Trap>
         requires place { IsPlace program.now at }
         requires ready { is_ready program.now ≡ true }
-        ensures done { Does S.rule (λ setting choice. deed_of setting choice (action_at program.now at))
+        ensures done { Does S.rule
+            (λ setting choice. deed_of setting choice (action_at program.now at))
             self.old self.new result }
         ensures held { AreHeld S.rule self.new }
         ensures place { IfOk result (λ jump. IsPlace program.now (position_after jump at)) }

@@ -17,7 +17,7 @@ pub fn runs_are_determined()
     ensures each_rule { EndsUnderEachRule }
 {}
 
-/// Runs may be as long, and print as much, as the language says, and there is a bug for each letter.
+/// Runs are as long, and print as much, as the language allows, and there is a bug for each letter.
 pub fn runs_have_their_limits()
     ensures steps { MAX_STEPS ≡ most_steps }
     ensures output { MAX_OUTPUT ≡ most_output }

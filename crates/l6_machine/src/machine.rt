@@ -121,19 +121,19 @@ impl<S: Places> Machine<S> {
     pub fn with_program(
         alloc: Global,
         program: Program,
-        _input: &[u8],
+        input: &[u8],
         store: S,
         limits: Limits,
     ) -> Result<Self, MachineFault>
     where
         S: Drop,
         requires ready { is_ready program ≡ true }
-        requires input { length _input.now ≤ most_input }
+        requires input { length input.now ≤ most_input }
         requires fresh { S.store store ≡ fresh S.rule (S.store store).units }
         ensures start { IfOk result (λ m. m.moment ≡ first_moment S.rule m.world) }
         ensures world { IfOk result (λ m. m.world ≡ record {
-            program = program;
-            setting = record { units = (S.store store).units; limits = limits };
+          program = program;
+          setting = record { units = (S.store store).units; limits = limits };
         }) }
         ensures reached { IfOk result (λ m. IsReached m.world m.moment.state) }
         ensures bad_limits { IsErrOf result MachineFault.BadLimits ↔ (are_allowed limits ≡ false) }
@@ -164,16 +164,20 @@ impl<S: Places> Machine<S> {
         ensures world { self.new.world ≡ self.old.world }
         ensures step { is_last self.old.world self.old.moment.state ≡ false
             → Step self.old.world self.old.moment.state self.new.moment.state }
-        ensures trapped { (trap : Trap) → self.old.moment.state.ending ≡ None → result ≡ StepResult.Trapped trap
+        ensures trapped { (trap : Trap) → self.old.moment.state.ending ≡ None →
+            result ≡ StepResult.Trapped trap
             → self.new.moment ≡ record {
               state = record self.old.moment.state { ending = Some (Halt.Trap trap) };
               order = self.old.moment.order;
             } }
-        ensures last { is_last self.old.world self.old.moment.state ≡ true → self.new.moment ≡ self.old.moment }
+        ensures last { is_last self.old.world self.old.moment.state ≡ true →
+            self.new.moment ≡ self.old.moment }
         ensures reached { IsReached self.new.world self.new.moment.state }
         ensures numbered { IsNumbered S.rule self.new.world self.new.moment }
-        ensures answer { result ≡ answer self.old.world self.old.moment.state self.new.moment.state }
-        ensures counted { result ≡ StepResult.Went → self.new.moment.state.count ≡ self.old.moment.state.count + 1 }
+        ensures answer { result
+            ≡ answer self.old.world self.old.moment.state self.new.moment.state }
+        ensures counted { result ≡ StepResult.Went →
+            self.new.moment.state.count ≡ self.old.moment.state.count + 1 }
         ensures within { self.new.moment.state.count ≤ self.new.world.setting.limits.steps }
         ensures words { All (λ word. word < 2 ^ word_bits) self.new.moment.state.memory.bugs }
     {

@@ -14,8 +14,10 @@ prints-one one_way one_end options deck ending ending' text text' prints prints'
     let same : prints'.assembly ≡ prints.assembly =
     one_way deck prints.assembly prints'.assembly prints.spelled prints'.spelled in
     let ends' : EndsBy store_rule (world_under options prints.assembly.program) prints'.final =
-    subst (λ (assembly : Assembled). EndsBy store_rule (world_under options assembly.program) prints'.final) same prints'.by_rule in
-    let finals : prints.final ≡ prints'.final = one_end store_rule _ prints.final prints'.final prints.by_rule ends' in (
+    subst (λ (assembly : Assembled). EndsBy store_rule (world_under options assembly.program)
+    prints'.final) same prints'.by_rule in
+    let finals : prints.final ≡ prints'.final
+    = one_end store_rule _ prints.final prints'.final prints.by_rule ends' in (
       prints.ended ∙ ap (λ (s : State). ending_of s.ending) finals ∙ sym prints'.ended,
       prints.printed ∙ ap printout finals ∙ sym prints'.printed,
     )

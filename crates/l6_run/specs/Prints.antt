@@ -21,16 +21,20 @@ use Rattle.l6_run.specs.Printout.{ending_of, printout}
 -- the world in which a program runs under these options
 abbrev pub world_under : OptionValues → List Parts → World
 world_under options program =
-    record { program = program; setting = record { units = options.units; limits = options.limits } }
+    record {
+      program = program;
+      setting = record { units = options.units; limits = options.limits };
+    }
 
 -- the rule by which the store of a run picks its places: the lowest open one
 abbrev pub store_rule : Rule
 store_rule = scan_rule
 
--- the deck is run under these options, the run ends so, and this is its printout: the deck is no longer than it may
--- be and spells a program, and a whole run of the program, which is the one under the store's rule, ends in a state
--- with that ending and that printout
-pub record Prints (options : OptionValues) (deck : List ℕ) (ending : Ending) (text : List ℕ) : Type 0 where
+-- the deck is run under these options, the run ends so, and this is its printout: the deck is no
+-- longer than it may be and spells a program, and a whole run of the program, which is the one
+-- under the store's rule, ends in a state with that ending and that printout
+pub record Prints (options : OptionValues) (deck : List ℕ) (ending : Ending)
+    (text : List ℕ) : Type 0 where
   pub fits : length deck ≤ most_deck_bytes
   pub assembly : Assembled
   pub spelled : Spells deck assembly

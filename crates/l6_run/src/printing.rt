@@ -23,7 +23,8 @@ pub fn ending_of<S: Places>(machine: &Machine<S>) -> Ending
     }
 }
 
-/// The line that tells how the machine's run has ended, without a line feed. The caller owes a last state.
+/// The line that tells how the machine's run has ended, without a line feed. The caller owes a last
+/// state.
 pub fn ending_line<S: Places>(alloc: Global, machine: &Machine<S>) -> Result<Vec<u8>, AllocError>
     requires { is_last machine.now.world machine.now.moment.state ≡ true }
     ensures { IfOk result (λ line. line.items ≡ ending_line machine.now.moment.state) }

@@ -5,4 +5,8 @@ use Rattle.l6_machine.proofs.laws.runs_are_determined.Goals as goal
 
 pub returns : goal.returns
 returns c =
-    record { one_end = ends-in_one_state; by_steps = rules-run_by_steps; each_rule = ends-under_each_rule }
+    record {
+      one_end = ends-in_one_state;
+      by_steps = rules-run_by_steps;
+      each_rule = ends-under_each_rule;
+    }

@@ -6,4 +6,5 @@ use Rattle.l6_machine.proofs.readiness.has_operations.Given as goal
 -- each operation so far has its row
 abbrev pub invariant-loop-operation : goal.invariant-loop-operation
 invariant-loop-operation l =
-    list_all (λ operation. not (waits_operation operation)) (take l.operation-index l.operations) ≡ true
+    list_all (λ operation. not (waits_operation operation)) (take l.operation-index l.operations)
+    ≡ true

@@ -2,3 +2,4 @@ pub mod Makings
 pub mod Labels
 pub mod Programs
 pub mod Settling
+pub mod Examples

@@ -3,4 +3,5 @@ pub mod Assembled
 pub mod Labels
 pub mod Resolution
 pub mod Spells
+pub mod Worked
 pub mod inner

@@ -9,8 +9,10 @@ mod laws;
 mod resolution;
 #[cfg(test)]
 mod tests;
+mod worked;
 
 pub use assembler::assemble;
 pub use assembly::{Assembly, Labels};
 pub use fault::AsmFault;
 pub use laws::spelling_is_settled;
+pub use worked::{missing_is_refused, twice_is_refused};

@@ -9,3 +9,4 @@ pub mod Settling
 pub mod Courses
 pub mod Stretches
 pub mod Spans
+pub mod Examples

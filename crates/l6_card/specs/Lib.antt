@@ -9,4 +9,5 @@ pub mod Pieces
 pub mod Fault
 pub mod Reads
 pub mod Laws
+pub mod Worked
 pub mod inner

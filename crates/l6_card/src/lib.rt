@@ -13,6 +13,7 @@ mod reader;
 mod span;
 #[cfg(test)]
 mod tests;
+mod worked;
 
 pub use cards::{Cards, Parts, Placed, PlacedLabel, Written};
 pub use deck::read_deck;
@@ -23,3 +24,4 @@ pub use laws::{
 };
 pub use limits::MAX_DECK_BYTES;
 pub use span::Span;
+pub use worked::{half_is_refused, loop_is_read};

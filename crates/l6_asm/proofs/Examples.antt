@@ -1,0 +1,107 @@
+-- The worked examples compute.
+use Rattle.std.proofs.Common.{List, [], ◌∷◌, Some, None, codes, refl, lit≤}
+use Rattle.l6_prog.specs.declared.condition.Cond.TheVariants.{Always}
+use Rattle.l6_prog.specs.declared.operation.Op.TheVariants.{Call, PrintLine}
+use Rattle.l6_prog.specs.declared.exit.Exit.TheVariants.{Next, Label as ToLabel}
+use Rattle.l6_card.specs.Numerals.{card_width}
+use Rattle.l6_card.specs.Statement.{WrittenParts}
+use Rattle.l6_asm.specs.Worked.{TwiceIsRefused, MissingIsRefused}
+
+-- what the first deck says
+abbrev twice : List WrittenParts
+twice =
+    record {
+      label = Some (record { label = codes "NEXT"; card = 1 });
+      condition = Always;
+      tests = [];
+      operations =
+          record { reading = PrintLine; card = 1; span = record { offset = 5; length = 4 } } ∷ [];
+      exit = Next;
+    }
+    ∷ record {
+      label = None;
+      condition = Always;
+      tests = [];
+      operations = [];
+      exit = ToLabel (record { label = codes "NO"; card = 2 });
+    }
+    ∷ record {
+      label = Some (record { label = codes "NEXT"; card = 3 });
+      condition = Always;
+      tests = [];
+      operations = [];
+      exit = Next;
+    }
+    ∷ []
+
+pub twice_refused : TwiceIsRefused
+unfolding card_width
+twice_refused = record {
+  written = twice;
+  reads = record {
+    begins = refl;
+    cards = (
+      (
+        _,
+        refl,
+        record { draft = _; items_make = refl; whole = refl; statement_is = refl; few = lit≤ tt },
+      ),
+      (
+        record { draft = _; items_make = refl; whole = refl; statement_is = refl; few = lit≤ tt },
+        (
+          (
+            _,
+            refl,
+            record {
+              draft = _;
+              items_make = refl;
+              whole = refl;
+              statement_is = refl;
+              few = lit≤ tt;
+            },
+          ),
+          tt,
+        ),
+      ),
+    );
+    fits = lit≤ tt;
+  };
+  stops = refl;
+}
+
+-- what the second deck says
+abbrev missing : List WrittenParts
+missing =
+    record {
+      label = Some (record { label = codes "LOOP"; card = 1 });
+      condition = Always;
+      tests = [];
+      operations =
+          record { reading = PrintLine; card = 1; span = record { offset = 5; length = 4 } }
+          ∷ record {
+            reading = Call (codes "NO") None;
+            card = 3;
+            span = record { offset = 13; length = 7 };
+          } ∷ [];
+      exit = ToLabel (record { label = codes "LOOP"; card = 3 });
+    }
+    ∷ []
+
+pub missing_refused : MissingIsRefused
+unfolding card_width
+missing_refused = record {
+  written = missing;
+  reads = record {
+    begins = refl;
+    cards = (
+      (
+        _,
+        refl,
+        record { draft = _; items_make = refl; whole = refl; statement_is = refl; few = lit≤ tt },
+      ),
+      tt,
+    );
+    fits = lit≤ tt;
+  };
+  stops = refl;
+}

@@ -1,0 +1,70 @@
+-- Worked examples of the definitions, each by hand.
+use Rattle.std.specs.Prelude.{◌≡◌, ℕ, List, [], ◌∷◌, ◌++◌, codes, Some, None}
+use Rattle.l6_prog.specs.Numerals.{first_letter}
+use Rattle.l6_prog.specs.declared.condition.Cond.TheVariants.{Always, If}
+use Rattle.l6_prog.specs.declared.condition.Test.TheVariants.{Greater}
+use Rattle.l6_prog.specs.declared.operand.Operand.TheVariants.{Number}
+use Rattle.l6_prog.specs.declared.operation.Op.TheVariants.{Set, Subtract, PrintDecimal}
+use Rattle.l6_prog.specs.declared.exit.Exit.TheVariants.{Next, Label as ToLabel}
+use Rattle.l6_card.specs.Statement.{WrittenParts}
+use Rattle.l6_card.specs.DeckFault.{form}
+use Rattle.l6_card.specs.Fault.{fault_of}
+use Rattle.l6_card.specs.Reads.{Reads}
+
+-- a deck that counts A down from 3; its last two cards are one statement, with a label, a condition
+-- and an exit
+abbrev pub loop_deck : List ℕ
+loop_deck = codes " (A,E,3)\nNEXT IF (A,G,0)\n" ++ codes "+ THEN (A,PD)(A,S,1) NEXT\n"
+
+-- the name A
+abbrev pub name_a : ℕ
+name_a = first_letter
+
+-- its first statement
+abbrev pub set_statement : WrittenParts
+set_statement = record {
+  label = None;
+  condition = Always;
+  tests = [];
+  operations =
+      record {
+        reading = Set (name_a ∷ []) (Number 3);
+        card = 1;
+        span = record { offset = 1; length = 7 };
+      } ∷ [];
+  exit = Next;
+}
+
+-- its second statement
+abbrev pub count_statement : WrittenParts
+count_statement = record {
+  label = Some (record { label = codes "NEXT"; card = 2 });
+  condition = If;
+  tests =
+      record {
+        reading = Greater (name_a ∷ []) (Number 0);
+        card = 2;
+        span = record { offset = 17; length = 7 };
+      } ∷ [];
+  operations =
+      record {
+        reading = PrintDecimal (name_a ∷ []);
+        card = 3;
+        span = record { offset = 32; length = 6 };
+      }
+      ∷ record {
+        reading = Subtract (name_a ∷ []) (Number 1);
+        card = 3;
+        span = record { offset = 38; length = 7 };
+      } ∷ [];
+  exit = ToLabel (record { label = codes "NEXT"; card = 3 });
+}
+
+-- the deck says these two statements
+abbrev pub LoopIsRead : Type 0
+LoopIsRead = Reads loop_deck (set_statement ∷ count_statement ∷ [])
+
+-- a condition and its test that no THEN follows are the fault of the statement's last card: the
+-- comment and the blank card are not its cards, and the next statement begins on card 5
+abbrev pub HalfIsRefused : Type 0
+HalfIsRefused = fault_of (codes " IF (A,G,0)\n* THEN\n+\n \nNEXT\n") ≡ Some (form 3)

@@ -7,6 +7,6 @@ pub mod Takings
 pub mod Fitness
 pub mod Settling
 pub mod Courses
-pub mod Stretches
+pub mod Offsets
 pub mod Spans
 pub mod Examples

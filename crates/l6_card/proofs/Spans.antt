@@ -30,7 +30,7 @@ use Rattle.l6_card.specs.Reads.{PlacedItem, placed_items, continued_items, draft
 use Rattle.l6_card.specs.Laws.{IsSpelled, AreSpelled, GroupsStandAtSpans, SpansRise}
 use Rattle.l6_card.proofs.Steps.{stands}
 use Rattle.l6_card.proofs.Fitness.{decided}
-use Rattle.l6_card.proofs.Stretches.{GroupStands, ItemsStand, BodyStands, CardsStand, end_of, items_stand-append, body_items, deck_stands}
+use Rattle.l6_card.proofs.Offsets.{GroupStands, ItemsStand, BodyStands, CardsStand, end_of, items_stand-append, body_items, deck_stands}
 
 -- spans that rise may begin sooner
 rise_sooner : (from later : ℕ) (spans : List Span) (end : ℕ) → from ≤ later →

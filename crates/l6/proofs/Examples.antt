@@ -1,5 +1,5 @@
 -- The worked examples compute.
-use Rattle.std.proofs.Common.{◌≡◌, ℕ, ◌-◌, List, [], ◌∷◌, refl, sym, subst, false, Option, None, Some, codes, lit≤}
+use Rattle.std.proofs.Common.{◌≡◌, inl, ℕ, ◌-◌, List, [], ◌∷◌, refl, sym, subst, false, Option, None, Some, codes, lit≤}
 use Rattle.std.proofs.Math.ListN.{replicate}
 use Rattle.std.specs.FinMap as map
 use Rattle.std.specs.Fmt.{digits}
@@ -14,6 +14,7 @@ use Rattle.l6_prog.specs.declared.condition.Cond.TheVariants.{Always}
 use Rattle.l6_prog.specs.declared.exit.Exit.TheVariants.{Next}
 use Rattle.l6_group.specs.declared.label.Label.{Label}
 use Rattle.l6_card.specs.declared.cards.Placed.{Placed}
+use Rattle.l6_card.specs.Items.{PlacedItem, group, item_on}
 use Rattle.l6_card.specs.Numerals.{card_width}
 use Rattle.l6_machine.specs.Moment.{EndsBy}
 use Rattle.l6_machine.specs.Run.{IsRun}
@@ -24,6 +25,10 @@ use Rattle.l6_machine.specs.Step.{Step, next}
 use Rattle.l6_run.specs.Options.{default_options}
 use Rattle.l6_run.specs.Prints.{store_rule, world_under}
 use Rattle.l6.specs.Worked.{FiveIsSpelled, FiveIsPrinted, five_program, five_assembly, name_a}
+
+-- the items of the second card
+abbrev five_items : List PlacedItem
+five_items = item_on 2 (group 8 (codes "A,E,5")) ∷ item_on 2 (group 15 (codes "A,PD")) ∷ []
 
 -- the operations of the second card
 abbrev five_operations : List (Placed (Op Label))
@@ -53,7 +58,22 @@ five-spelled = record {
   reads = record {
     begins = refl;
     cards = (
-      record { draft = _; items_make = refl; whole = refl; statement_is = refl; few = lit≤ tt },
+      record {
+        labelled = refl;
+        say = inl (record {
+          condition = refl;
+          tests = refl;
+          say = record {
+            groups = five_items;
+            last = [];
+            in_order = refl;
+            operations = refl;
+            exit = refl;
+          };
+        });
+        fit = refl;
+        few = lit≤ tt;
+      },
       tt,
     );
     fits = lit≤ tt;

@@ -1,9 +1,10 @@
 -- The worked examples compute.
-use Rattle.std.proofs.Common.{List, [], ◌∷◌, Some, None, codes, refl, lit≤}
+use Rattle.std.proofs.Common.{inl, List, [], ◌∷◌, Some, None, codes, refl, lit≤}
 use Rattle.l6_prog.specs.declared.condition.Cond.TheVariants.{Always}
 use Rattle.l6_prog.specs.declared.operation.Op.TheVariants.{Call, PrintLine}
 use Rattle.l6_prog.specs.declared.exit.Exit.TheVariants.{Next, Label as ToLabel}
 use Rattle.l6_card.specs.Numerals.{card_width}
+use Rattle.l6_card.specs.Items.{group, word, item_on}
 use Rattle.l6_card.specs.Statement.{WrittenParts}
 use Rattle.l6_asm.specs.Worked.{TwiceIsRefused, MissingIsRefused}
 
@@ -44,19 +45,58 @@ twice_refused = record {
       (
         _,
         refl,
-        record { draft = _; items_make = refl; whole = refl; statement_is = refl; few = lit≤ tt },
+        record {
+          labelled = refl;
+          say = inl (record {
+            condition = refl;
+            tests = refl;
+            say = record {
+              groups = item_on 1 (group 5 (codes "PL")) ∷ [];
+              last = [];
+              in_order = refl;
+              operations = refl;
+              exit = refl;
+            };
+          });
+          fit = refl;
+          few = lit≤ tt;
+        },
       ),
       (
-        record { draft = _; items_make = refl; whole = refl; statement_is = refl; few = lit≤ tt },
+        record {
+          labelled = refl;
+          say = inl (record {
+            condition = refl;
+            tests = refl;
+            say = record {
+              groups = [];
+              last = item_on 2 (word (codes "NO")) ∷ [];
+              in_order = refl;
+              operations = refl;
+              exit = refl;
+            };
+          });
+          fit = refl;
+          few = lit≤ tt;
+        },
         (
           (
             _,
             refl,
             record {
-              draft = _;
-              items_make = refl;
-              whole = refl;
-              statement_is = refl;
+              labelled = refl;
+              say = inl (record {
+                condition = refl;
+                tests = refl;
+                say = record {
+                  groups = [];
+                  last = [];
+                  in_order = refl;
+                  operations = refl;
+                  exit = refl;
+                };
+              });
+              fit = refl;
               few = lit≤ tt;
             },
           ),
@@ -97,7 +137,22 @@ missing_refused = record {
       (
         _,
         refl,
-        record { draft = _; items_make = refl; whole = refl; statement_is = refl; few = lit≤ tt },
+        record {
+          labelled = refl;
+          say = inl (record {
+            condition = refl;
+            tests = refl;
+            say = record {
+              groups = item_on 1 (group 5 (codes "PL")) ∷ item_on 3 (group 13 (codes "NO,DO")) ∷ [];
+              last = item_on 3 (word (codes "LOOP")) ∷ [];
+              in_order = refl;
+              operations = refl;
+              exit = refl;
+            };
+          });
+          fit = refl;
+          few = lit≤ tt;
+        },
       ),
       tt,
     );

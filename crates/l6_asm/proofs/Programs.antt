@@ -21,8 +21,8 @@ use Rattle.l6_prog.specs.declared.exit.Exit.TheVariants.{Next, Label as ToLabel,
 use Rattle.l6_group.specs.declared.label.Label.{Label}
 use Rattle.l6_card.specs.declared.cards.Placed.{Placed}
 use Rattle.l6_card.specs.declared.cards.PlacedLabel.{PlacedLabel}
-use Rattle.l6_card.specs.Statement.{WrittenParts}
-use Rattle.l6_card.specs.Reads.{AreWithinLimits, is_fit}
+use Rattle.l6_card.specs.Statement.{WrittenParts, is_fit}
+use Rattle.l6_card.specs.Laws.{AreWithinLimits}
 use Rattle.l6_asm.specs.Labels.{number_of, labels_of, and_then}
 use Rattle.l6_asm.specs.Resolution.{number_if_given, resolved, found_on, operation_of, exit_of, each_made, statement_of, statements_of}
 use Rattle.l6_asm.proofs.Makings.{each_made-length, all_made}

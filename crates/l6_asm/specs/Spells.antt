@@ -64,4 +64,4 @@ NeverBoth =
 abbrev pub SpellsInOneWay : Type 0
 SpellsInOneWay =
     (deck : List ℕ) (assembly other : Assembled) → Spells deck assembly → Spells deck other →
-        other ≡ assembly
+    other ≡ assembly

@@ -2,7 +2,7 @@
 
 ghost use Rattle.std.specs.Prelude.{◌≤◌, length, IfOk, IfErr, IfSome};
 ghost use Rattle.l6_card.specs.Numerals.{most_deck_bytes};
-ghost use Rattle.l6_card.specs.Reads.{AreWithinLimits};
+ghost use Rattle.l6_card.specs.Laws.{AreWithinLimits};
 ghost use Rattle.l6_asm.specs.AssemblyFault.{assembly_fault};
 ghost use Rattle.l6_asm.specs.Spells.{SpellsJust, IsUnspelled, assembled};
 ghost use Rattle.l6_asm.specs.inner.Gives.{Gives};

@@ -8,10 +8,8 @@ use Rattle.l6_group.specs.Character.{is_blank, spelled}
 use Rattle.l6_group.specs.Numerals.{most_label_characters}
 use Rattle.l6_group.specs.Spelling.{find_spelled}
 use Rattle.l6_group.specs.Word.{exit_from, label_exit, plain_exits, condition_from}
-use Rattle.l6_card.specs.declared.draft.Phase.{Phase}
-use Rattle.l6_card.specs.declared.draft.Phase.TheVariants.{New, Worded, Tested, Open, Closed}
 use Rattle.l6_card.specs.DeckFault.{form}
-use Rattle.l6_card.specs.Draft.{Draft, with_rest, with_word_in, with_placed, phase_of}
+use Rattle.l6_card.specs.inner.Draft.{Draft, Phase, New, Worded, Tested, Open, Closed, with_rest, with_word_in, with_placed, phase_of}
 use Rattle.l6_card.specs.inner.First.{letters_of}
 
 -- what passes a test once passes it again

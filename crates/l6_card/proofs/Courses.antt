@@ -9,12 +9,13 @@ use Rattle.l6_card.specs.Items.{Item, group, word, items_of}
 use Rattle.l6_card.specs.inner.First.{GroupFirst, WordFirst, letters_of}
 use Rattle.l6_card.specs.Pieces.{Piece, ends, item, pieces_of_card, pieces_of_cards}
 use Rattle.l6_card.specs.DeckFault.{DeckFault}
-use Rattle.l6_card.specs.Fault.{Known, after_piece, after_pieces, and_then, course_of}
+use Rattle.l6_card.specs.inner.Course.{Stage, after_piece, after_pieces, course_of}
 use Rattle.l6_card.specs.Laws.{IsFirstFault}
+use Rattle.l6_card.specs.Fault.{and_then}
 use Rattle.l6_card.proofs.Settling.{first_fault_met}
 
-and_then-append : (course : Result Known DeckFault) (front behind : List Piece) →
-    ((known : Known) →
+and_then-append : (course : Result Stage DeckFault) (front behind : List Piece) →
+    ((known : Stage) →
     after_pieces known (front ++ behind) ≡ and_then (after_pieces known front)
     (λ next. after_pieces next behind)) →
     and_then course (λ known. after_pieces known (front ++ behind))
@@ -24,7 +25,7 @@ and_then-append (Ok known) front behind each = each known
 and_then-append (Err fault) front behind each = refl
 
 -- pieces in a row are taken in a row
-pub after_pieces-append : (front behind : List Piece) (known : Known) →
+pub after_pieces-append : (front behind : List Piece) (known : Stage) →
     after_pieces known (front ++ behind) ≡ and_then (after_pieces known front)
     (λ next. after_pieces next behind)
 after_pieces-append [] behind known = refl
@@ -38,8 +39,8 @@ pub record FirstCard (text columns behind : List ℕ) : Type 0 where
   pub same : columns ≡ columns_of line
 
 -- a first item that was taken leaves the others to take
-pub item_goes : {all others : List Item} {i : Item} (number : ℕ) (known next : Known)
-    (course : Result Known DeckFault) →
+pub item_goes : {all others : List Item} {i : Item} (number : ℕ) (known next : Stage)
+    (course : Result Stage DeckFault) →
     all ≡ i ∷ others → after_pieces known (map (item number) all) ≡ course →
     after_piece known (item number i) ≡ Ok next →
     after_pieces next (map (item number) others) ≡ course
@@ -49,8 +50,8 @@ item_goes {all} {others} {i} number known next course split before taken =
     ∙ before
 
 -- a first item that met an objection is where the course stops
-pub item_stops : {all others : List Item} {i : Item} (number : ℕ) (known : Known)
-    (course : Result Known DeckFault) (found : Option DeckFault) →
+pub item_stops : {all others : List Item} {i : Item} (number : ℕ) (known : Stage)
+    (course : Result Stage DeckFault) (found : Option DeckFault) →
     all ≡ i ∷ others → after_pieces known (map (item number) all) ≡ course →
     IfSome found (λ fault. after_piece known (item number i) ≡ Err fault) →
     IfSome found (λ fault. course ≡ Err fault)
@@ -87,7 +88,7 @@ abbrev pub text_pieces : ℕ → ℕ → List ℕ → List Piece
 text_pieces number offset text = pieces_of_cards (cards_from number offset (lines_of text))
 
 -- the first card of a text is taken, and then the others
-pub first_card : (text columns behind : List ℕ) (number offset : ℕ) (known : Known) →
+pub first_card : (text columns behind : List ℕ) (number offset : ℕ) (known : Stage) →
     (first : FirstCard text columns behind) →
     after_pieces known (text_pieces number offset text)
     ≡ and_then (after_pieces known (pieces_of_card (card_of number offset columns)))
@@ -103,8 +104,8 @@ first_card text columns behind number offset known first =
     (sym first.same)
 
 -- a card that was taken leaves the others to take
-pub course_goes : (text columns behind : List ℕ) (number offset : ℕ) (known next : Known)
-    (course : Result Known DeckFault) →
+pub course_goes : (text columns behind : List ℕ) (number offset : ℕ) (known next : Stage)
+    (course : Result Stage DeckFault) →
     (first : FirstCard text columns behind) →
     after_pieces known (text_pieces number offset text) ≡ course →
     after_pieces known (pieces_of_card (card_of number offset columns)) ≡ Ok next →
@@ -116,8 +117,8 @@ course_goes text columns behind number offset known next course first before tak
     ∙ before
 
 -- a card that met an objection is where the course stops
-pub course_stops : (text columns behind : List ℕ) (number offset : ℕ) (known : Known)
-    (fault : DeckFault) (course : Result Known DeckFault) →
+pub course_stops : (text columns behind : List ℕ) (number offset : ℕ) (known : Stage)
+    (fault : DeckFault) (course : Result Stage DeckFault) →
     FirstCard text columns behind →
     after_pieces known (text_pieces number offset text) ≡ course →
     after_pieces known (pieces_of_card (card_of number offset columns)) ≡ Err fault →
@@ -129,8 +130,8 @@ course_stops text columns behind number offset known fault course first before s
     ∙ ap (λ r. and_then r (λ k. after_pieces k others)) stopped
 
 -- where no card is left the last statement is over
-pub course_over : (text : List ℕ) (number offset : ℕ) (known final : Known)
-    (course : Result Known DeckFault) →
+pub course_over : (text : List ℕ) (number offset : ℕ) (known final : Stage)
+    (course : Result Stage DeckFault) →
     lines_of text ≡ [] →
     after_pieces known (text_pieces number offset text) ≡ course →
     after_piece known ends ≡ Ok final →
@@ -141,7 +142,7 @@ course_over text number offset known final course none before taken =
     ∙ ap (λ r. and_then r (λ k. Ok k)) taken
 
 -- a fault that a card met, if it tells of the deck, is the first of the deck
-pub refused : (deck text columns behind : List ℕ) (number offset : ℕ) (known : Known)
+pub refused : (deck text columns behind : List ℕ) (number offset : ℕ) (known : Stage)
     (found : Option DeckFault) →
     FirstCard text columns behind →
     after_pieces known (text_pieces number offset text) ≡ course_of deck →
@@ -154,7 +155,7 @@ refused deck text columns behind number offset known (Some fault) first before s
     (course_stops text columns behind number offset known fault (course_of deck) first before stops)
 
 -- the objection of the last statement's end, if it tells of the deck, is the first of the deck
-pub refused_at_end : (deck text : List ℕ) (number offset : ℕ) (known : Known)
+pub refused_at_end : (deck text : List ℕ) (number offset : ℕ) (known : Stage)
     (found : Option DeckFault) →
     lines_of text ≡ [] →
     after_pieces known (text_pieces number offset text) ≡ course_of deck →

@@ -1,13 +1,10 @@
 -- The worked examples compute.
-use Rattle.std.proofs.Common.{◌≡◌, List, [], ◌∷◌, ◌++◌, Some, None, codes, refl, ap, subst, sym, lit≤}
-use Rattle.l6_prog.specs.declared.condition.Cond.TheVariants.{Always, If}
+use Rattle.std.proofs.Common.{◌≡◌, inl, inr, List, [], ◌∷◌, ◌++◌, Some, None, codes, refl, ap, subst, sym, lit≤}
 use Rattle.l6_card.specs.declared.cards.PlacedLabel.{PlacedLabel}
-use Rattle.l6_card.specs.declared.draft.Phase.TheVariants.{Open, Closed}
 use Rattle.l6_card.specs.Numerals.{card_width}
-use Rattle.l6_card.specs.Items.{group, word}
+use Rattle.l6_card.specs.Items.{PlacedItem, group, word, item_on}
 use Rattle.l6_card.specs.Card.{Body, Card, plain, labelled, continued, cards_of}
-use Rattle.l6_card.specs.Draft.{Draft}
-use Rattle.l6_card.specs.Reads.{PlacedItem, placed_items, continued_items, continuations, Says, SaysFrom, CardsSay}
+use Rattle.l6_card.specs.Reads.{placed_items, continued_items, continuations, Says, SaysFrom, CardsSay}
 use Rattle.l6_card.specs.Worked.{LoopIsRead, HalfIsRefused, loop_deck, set_statement, count_statement}
 
 -- the bodies of the cards
@@ -28,35 +25,25 @@ cards_computed : cards_of loop_deck ≡ loop_cards
 unfolding card_width
 cards_computed = refl
 
--- the items of the second statement
+-- the items of the second statement: its condition word, the group of its test, and what stands
+-- from THEN on
+abbrev first_item : PlacedItem
+first_item = item_on 2 (word (codes "IF"))
+
+abbrev test_items : List PlacedItem
+test_items = item_on 2 (group 17 (codes "A,G,0")) ∷ []
+
+abbrev operation_items : List PlacedItem
+operation_items = item_on 3 (group 32 (codes "A,PD")) ∷ item_on 3 (group 38 (codes "A,S,1")) ∷ []
+
+abbrev last_items : List PlacedItem
+last_items = item_on 3 (word (codes "NEXT")) ∷ []
+
+abbrev then_items : List PlacedItem
+then_items = item_on 3 (word (codes "THEN")) ∷ operation_items ++ last_items
+
 abbrev count_items : List PlacedItem
-count_items =
-    record { card = 2; what = word (codes "IF") }
-    ∷ record { card = 2; what = group 17 (codes "A,G,0") }
-    ∷ record { card = 3; what = word (codes "THEN") }
-    ∷ record { card = 3; what = group 32 (codes "A,PD") }
-    ∷ record { card = 3; what = group 38 (codes "A,S,1") }
-    ∷ record { card = 3; what = word (codes "NEXT") }
-    ∷ []
-
--- the drafts that the items make
-abbrev set_draft : Draft
-set_draft = record {
-  phase = Open;
-  condition = Always;
-  tests = [];
-  operations = set_statement.operations;
-  exit = set_statement.exit;
-}
-
-abbrev count_draft : Draft
-count_draft = record {
-  phase = Closed;
-  condition = If;
-  tests = count_statement.tests;
-  operations = count_statement.operations;
-  exit = count_statement.exit;
-}
+count_items = first_item ∷ test_items ++ then_items
 
 -- the label of the second
 abbrev next_label : PlacedLabel
@@ -65,19 +52,43 @@ next_label = record { label = codes "NEXT"; card = 2 }
 set_says : SaysFrom None set_body (labelled (codes "NEXT") if_body ∷ continued then_body ∷ [])
     set_statement
 set_says = record {
-  draft = set_draft;
-  items_make = refl;
-  whole = refl;
-  statement_is = refl;
+  labelled = refl;
+  say = inl (record {
+    condition = refl;
+    tests = refl;
+    say = record {
+      groups = item_on 1 (group 1 (codes "A,E,3")) ∷ [];
+      last = [];
+      in_order = refl;
+      operations = refl;
+      exit = refl;
+    };
+  });
+  fit = refl;
   few = lit≤ tt;
 }
 
 count_says : Says (Some next_label) count_items 1 count_statement
 count_says = record {
-  draft = count_draft;
-  items_make = refl;
-  whole = refl;
-  statement_is = refl;
+  labelled = refl;
+  say = inr (record {
+    first = first_item;
+    groups = test_items;
+    others = then_items;
+    behind = operation_items ++ last_items;
+    in_order = refl;
+    condition = refl;
+    tests = refl;
+    leads = refl;
+    say = record {
+      groups = operation_items;
+      last = last_items;
+      in_order = refl;
+      operations = refl;
+      exit = refl;
+    };
+  });
+  fit = refl;
   few = lit≤ tt;
 }
 

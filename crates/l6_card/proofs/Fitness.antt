@@ -1,4 +1,4 @@
--- Each statement that cards say is fit for a program.
+-- What every draft has, and that a statement whose draft is whole is fit for a program.
 use Rattle.std.proofs.Common.{◌≡◌, ℕ, ◌+◌, ◌≤◌, List, [], ◌∷◌, ◌++◌, length, Bool, true, false, cond, ltb, leb, eqb, Option, Some, None, Result, Ok, Err, refl, sym, ap, ◌∙◌, subst, arith, length-append}
 use Rattle.std.specs.Prelude.{◌&&◌}
 use Rattle.std.specs.List.{list_all}
@@ -22,16 +22,12 @@ use Rattle.l6_group.specs.Word.{conditions, condition_from, exit_from, after_the
 use Rattle.l6_card.specs.declared.cards.Placed.{Placed}
 use Rattle.l6_card.specs.declared.cards.PlacedLabel.{PlacedLabel}
 use Rattle.l6_card.specs.declared.span.Span.{Span}
-use Rattle.l6_card.specs.declared.draft.Phase.{Phase}
-use Rattle.l6_card.specs.declared.draft.Phase.TheVariants.{New, Worded, Tested, Open, Closed}
-use Rattle.l6_card.specs.DeckFault.{DeckFault}
 use Rattle.l6_card.specs.Spans.{group_span}
-use Rattle.l6_card.specs.Items.{Item, group, word, unclosed, unopened}
-use Rattle.l6_card.specs.Card.{Card, skipped, plain, labelled, continued, unknown}
-use Rattle.l6_card.specs.Statement.{WrittenParts}
-use Rattle.l6_card.specs.Draft.{Draft, new_draft, is_whole_in, phase_of, placed_exit, with_operation, with_test, with_further_test, with_placed, with_rest, with_word_in, with_group_in, with_item}
+use Rattle.l6_card.specs.DeckFault.{DeckFault}
+use Rattle.l6_card.specs.Items.{Item, group, word, unclosed, unopened, PlacedItem}
+use Rattle.l6_card.specs.Statement.{placed_exit, is_fit}
+use Rattle.l6_card.specs.inner.Draft.{Draft, Phase, New, Worded, Tested, Open, Closed, new_draft, is_whole_in, is_whole, statement_from, phase_of, with_operation, with_test, with_further_test, with_placed, with_rest, with_word_in, with_group_in, with_item, draft_of}
 use Rattle.l6_card.proofs.Steps.{stands}
-use Rattle.l6_card.specs.Reads.{PlacedItem, draft_of, Says, CardsSay, is_fit}
 
 -- a draft in this phase may have this condition with so many tests
 abbrev pub is_sound_in : Phase → Cond → ℕ → Bool
@@ -43,11 +39,20 @@ is_sound_in Tested condition tests = ltb 0 tests && may_have condition tests
 is_sound_in Open condition tests = may_have condition tests
 is_sound_in Closed condition tests = may_have condition tests
 
+-- a draft in this phase may have so many operations: none before they may begin
+abbrev pub IsFreshIn : Phase → ℕ → Type 0
+IsFreshIn New operations = operations ≡ 0
+IsFreshIn (Worded condition) operations = operations ≡ 0
+IsFreshIn Tested operations = operations ≡ 0
+IsFreshIn Open operations = Unit {0}
+IsFreshIn Closed operations = Unit {0}
+
 -- what every draft has
 pub record IsSound (draft : Draft) : Type 0 where
   pub tests : length draft.tests ≤ most_tests
   pub operations : length draft.operations ≤ most_operations
   pub condition : is_sound_in draft.phase draft.condition (length draft.tests) ≡ true
+  pub fresh : IsFreshIn draft.phase (length draft.operations)
 
 -- a test that decided for what is known
 pub record Decided {A : Type 0} (holds : Bool) (one other : A) : Type 0 where
@@ -106,15 +111,17 @@ operation_sound card span draft next (Some operation) sound fit made =
             } ∷ []),
           );
       condition = fit;
+      fresh = tt;
     })
 
 -- a test leaves a sound draft, where the condition may have one more
-test_sound : (card : ℕ) (span : Span) (draft next : Draft) (condition : Cond)
-    (found : Option Test) →
-    IsSound draft → may_have condition (length draft.tests + 1) ≡ true →
+test_sound : (card : ℕ) (span : Span) (draft next : Draft) (condition : Cond) (found : Option Test)
+    →
+    IsSound draft → length draft.operations ≡ 0 →
+    may_have condition (length draft.tests + 1) ≡ true →
     with_test card span draft condition found ≡ Ok next → IsSound next
-test_sound card span draft next condition None sound fit made = absurd (cc)
-test_sound card span draft next condition (Some test) sound fit made =
+test_sound card span draft next condition None sound fresh fit made = absurd (cc)
+test_sound card span draft next condition (Some test) sound fresh fit made =
     let one : Placed Test = record { reading = test; card = card; span = span } in
     let more = draft.tests ++ one ∷ [] in
     let so = decided {E = DeckFault} (ltb (length draft.tests) most_tests)
@@ -134,20 +141,23 @@ test_sound card span draft next condition (Some test) sound fit made =
       condition = and_from (ltb 0 (length more)) (may_have condition (length more))
           (lt-ltb 0 (length more) (omega (arith, count)))
           (ap (may_have condition) count ∙ fit);
+      fresh = fresh;
     })
 
 -- an exit leaves a sound draft, in a phase that the condition and its tests fit
 exit_sound : (card : ℕ) (draft next : Draft) (phase : Phase) (found : Option (Exit Label)) →
     IsSound draft → is_sound_in phase draft.condition (length draft.tests) ≡ true →
+    IsFreshIn phase (length draft.operations) →
     with_placed card draft phase found ≡ Ok next → IsSound next
-exit_sound card draft next phase None sound fit made = absurd (cc)
-exit_sound card draft next phase (Some given) sound fit made =
+exit_sound card draft next phase None sound fit fresh made = absurd (cc)
+exit_sound card draft next phase (Some given) sound fit fresh made =
     let same : record draft { phase = phase; exit = placed_exit card given } ≡ next = cc in
     subst IsSound same (record {
       tests = sound.tests;
       operations = sound.operations;
       condition =
           fit;
+      fresh = fresh;
     })
 
 -- each condition of the table wants a test
@@ -159,7 +169,7 @@ wants_test true condition found others wants later is_found =
     ap (λ w. may_have w 1) (sym same) ∙ wants
 wants_test false condition found others wants later is_found = later is_found
 
-found_wants_test : (lines : List (Line Cond)) (characters : List ℕ) (found : Cond) →
+pub found_wants_test : (lines : List (Line Cond)) (characters : List ℕ) (found : Cond) →
     list_all (λ (line : Line Cond). may_have line.meaning 1) lines ≡ true →
     find_spelled lines characters ≡ Some found → may_have found 1 ≡ true
 found_wants_test [] characters found each is_found = absurd (cc)
@@ -185,8 +195,13 @@ first_fits found IfAny tests wants sound = absurd (cc)
 first_fits found IfNone tests wants sound = absurd (cc)
 first_fits found IfNotAll tests wants sound = absurd (cc)
 
+first_fresh : (found : Option Cond) (operations : ℕ) → operations ≡ 0 →
+    IsFreshIn (phase_of found) operations
+first_fresh None operations none = tt
+first_fresh (Some w) operations none = none
+
 -- a word that is a condition may have its first test
-worded_fits : (w condition : Cond) (tests : ℕ) →
+pub worded_fits : (w condition : Cond) (tests : ℕ) →
     is_sound_in (Worded w) condition tests ≡ true → may_have w (tests + 1) ≡ true
 worded_fits w Always tests sound =
     let parts = and_parts (eqb tests 0) (may_have w 1) sound in
@@ -199,7 +214,7 @@ worded_fits w IfAny tests sound = absurd (cc)
 worded_fits w IfNone tests sound = absurd (cc)
 worded_fits w IfNotAll tests sound = absurd (cc)
 
-tested_always : (tests : ℕ) → is_sound_in Tested Always tests ≡ true → ⊥
+pub tested_always : (tests : ℕ) → is_sound_in Tested Always tests ≡ true → ⊥
 tested_always tests fit =
     let parts = and_parts (ltb 0 tests) (eqb tests 0) fit in
     let some = ltb-true 0 tests parts.0 in
@@ -209,26 +224,24 @@ tested_always tests fit =
 -- a further test
 further_sound : (card : ℕ) (span : Span) (draft next : Draft) (condition : Cond)
     (found : Option Test) →
-    IsSound draft → is_sound_in Tested condition (length draft.tests) ≡ true →
+    IsSound draft → length draft.operations ≡ 0 →
+    is_sound_in Tested condition (length draft.tests) ≡ true →
     with_further_test card span draft condition found ≡ Ok next → IsSound next
-further_sound card span draft next Always found sound fit made =
+further_sound card span draft next Always found sound fresh fit made =
     absurd (tested_always (length draft.tests) fit)
-further_sound card span draft next If found sound fit made = absurd (cc)
-further_sound card span draft next Not found sound fit made = absurd (cc)
-further_sound card span draft next IfAll found sound fit made =
-    test_sound card span draft next IfAll found sound (lt-ltb 0 (length draft.tests + 1)
-    (omega arith))
-    made
-further_sound card span draft next IfAny found sound fit made =
-    test_sound card span draft next IfAny found sound (lt-ltb 0 (length draft.tests + 1)
-    (omega arith))
-    made
-further_sound card span draft next IfNone found sound fit made =
-    test_sound card span draft next IfNone found sound (lt-ltb 0 (length draft.tests + 1)
-    (omega arith))
-    made
-further_sound card span draft next IfNotAll found sound fit made =
-    test_sound card span draft next IfNotAll found sound
+further_sound card span draft next If found sound fresh fit made = absurd (cc)
+further_sound card span draft next Not found sound fresh fit made = absurd (cc)
+further_sound card span draft next IfAll found sound fresh fit made =
+    test_sound card span draft next IfAll found sound fresh
+    (lt-ltb 0 (length draft.tests + 1) (omega arith)) made
+further_sound card span draft next IfAny found sound fresh fit made =
+    test_sound card span draft next IfAny found sound fresh
+    (lt-ltb 0 (length draft.tests + 1) (omega arith)) made
+further_sound card span draft next IfNone found sound fresh fit made =
+    test_sound card span draft next IfNone found sound fresh
+    (lt-ltb 0 (length draft.tests + 1) (omega arith)) made
+further_sound card span draft next IfNotAll found sound fresh fit made =
+    test_sound card span draft next IfNotAll found sound fresh
     (lt-ltb 0 (length draft.tests + 1) (omega arith)) made
 
 -- what stands behind THEN
@@ -243,52 +256,56 @@ rest_sound card draft next (Some []) sound fit made =
       operations = sound.operations;
       condition =
           fit;
+      fresh = tt;
     })
 rest_sound card draft next (Some (first ∷ rest)) sound fit made =
-    exit_sound card draft next Closed (exit_from (first ∷ rest)) sound fit made
+    exit_sound card draft next Closed (exit_from (first ∷ rest)) sound fit tt made
 
 group_sound : (phase : Phase) (card : ℕ) (span : Span) (draft next : Draft) (columns : List ℕ) →
     IsSound draft → is_sound_in phase draft.condition (length draft.tests) ≡ true →
+    IsFreshIn phase (length draft.operations) →
     with_group_in phase card span draft columns ≡ Ok next → IsSound next
-group_sound New card span draft next columns sound fit made =
+group_sound New card span draft next columns sound fit fresh made =
     operation_sound card span draft next (operation_of columns) sound
     (sound_open New draft.condition (length draft.tests) fit refl) made
-group_sound Open card span draft next columns sound fit made =
+group_sound Open card span draft next columns sound fit fresh made =
     operation_sound card span draft next (operation_of columns) sound fit made
-group_sound (Worded w) card span draft next columns sound fit made =
-    test_sound card span draft next w (test_of columns) sound
+group_sound (Worded w) card span draft next columns sound fit fresh made =
+    test_sound card span draft next w (test_of columns) sound fresh
     (worded_fits w draft.condition (length draft.tests) fit) made
-group_sound Tested card span draft next columns sound fit made =
-    further_sound card span draft next draft.condition (test_of columns) sound fit made
-group_sound Closed card span draft next columns sound fit made = absurd (cc)
+group_sound Tested card span draft next columns sound fit fresh made =
+    further_sound card span draft next draft.condition (test_of columns) sound fresh fit made
+group_sound Closed card span draft next columns sound fit fresh made = absurd (cc)
 
 word_sound : (phase : Phase) (card : ℕ) (draft next : Draft) (characters : List ℕ) →
     IsSound draft → is_sound_in phase draft.condition (length draft.tests) ≡ true →
+    IsFreshIn phase (length draft.operations) →
     with_word_in phase card draft characters ≡ Ok next → IsSound next
-word_sound New card draft next characters sound fit made =
+word_sound New card draft next characters sound fit fresh made =
     exit_sound card draft next (phase_of (condition_from characters)) (exit_from characters) sound
     (first_fits (condition_from characters) draft.condition (length draft.tests)
-    (λ w is_found. found_wants_test conditions characters w refl is_found) fit) made
-word_sound Open card draft next characters sound fit made =
-    exit_sound card draft next Closed (exit_from characters) sound fit made
-word_sound Tested card draft next characters sound fit made =
+    (λ w is_found. found_wants_test conditions characters w refl is_found) fit)
+    (first_fresh (condition_from characters) (length draft.operations) fresh) made
+word_sound Open card draft next characters sound fit fresh made =
+    exit_sound card draft next Closed (exit_from characters) sound fit tt made
+word_sound Tested card draft next characters sound fit fresh made =
     let parts =
     and_parts (ltb 0 (length draft.tests)) (may_have draft.condition (length draft.tests)) fit in
     rest_sound card draft next (after_then characters) sound parts.1 made
-word_sound (Worded w) card draft next characters sound fit made = absurd (cc)
-word_sound Closed card draft next characters sound fit made = absurd (cc)
+word_sound (Worded w) card draft next characters sound fit fresh made = absurd (cc)
+word_sound Closed card draft next characters sound fit fresh made = absurd (cc)
 
-item_sound : (card : ℕ) (draft next : Draft) (i : Item) →
+pub item_sound : (card : ℕ) (draft next : Draft) (i : Item) →
     IsSound draft → with_item card draft i ≡ Ok next → IsSound next
 item_sound card draft next (group offset columns) sound made =
     group_sound draft.phase card (group_span offset columns) draft next columns sound
-    sound.condition made
+    sound.condition sound.fresh made
 item_sound card draft next (word columns) sound made =
-    word_sound draft.phase card draft next (spelled columns) sound sound.condition made
+    word_sound draft.phase card draft next (spelled columns) sound sound.condition sound.fresh made
 item_sound card draft next unclosed sound made = absurd (cc)
 item_sound card draft next (unopened columns) sound made = absurd (cc)
 
-items_sound : (items : List PlacedItem) (draft final : Draft) →
+pub items_sound : (items : List PlacedItem) (draft final : Draft) →
     IsSound draft → draft_of draft items ≡ Some final → IsSound final
 items_sound [] draft final sound made =
     let same : draft ≡ final = cc in
@@ -298,44 +315,22 @@ items_sound (i ∷ items) draft final sound made =
     items_sound items first.next final
     (item_sound i.card draft first.next i.what sound first.is_made) first.rest
 
-statement_fit : (given : Option PlacedLabel) (items : List PlacedItem) (further : ℕ)
-    (statement : WrittenParts) →
-    Says given items further statement → is_fit statement ≡ true
-statement_fit given items further statement says =
-    let draft = says.draft in
-    let sound =
-    items_sound items new_draft draft (record {
-      tests = omega arith;
-      operations =
-          omega arith;
-      condition = refl;
-    }) says.items_make in
+-- the draft of a statement without items is sound
+pub new_sound : IsSound new_draft
+new_sound =
+    record { tests = omega arith; operations = omega arith; condition = refl; fresh = refl }
+
+-- a statement whose draft is whole is fit
+pub statement_fit : (given : Option PlacedLabel) (draft : Draft) →
+    IsSound draft → is_whole draft ≡ true → is_fit (statement_from given draft) ≡ true
+statement_fit given draft sound whole =
     let tests = le-leb (length draft.tests) most_tests sound.tests in
     let operations = le-leb (length draft.operations) most_operations sound.operations in
     let condition =
-    sound_open draft.phase draft.condition (length draft.tests) sound.condition says.whole in
-    ap is_fit says.statement_is
-    ∙ and_from
+    sound_open draft.phase draft.condition (length draft.tests) sound.condition whole in
+    and_from
     (leb (length draft.tests) most_tests && leb (length draft.operations) most_operations)
     (may_have draft.condition (length draft.tests))
     (and_from (leb (length draft.tests) most_tests) (leb (length draft.operations) most_operations)
     tests operations)
     condition
-
--- each statement that cards say is fit
-pub each_fit : (cards : List Card) (statements : List WrittenParts) →
-    CardsSay cards statements → list_all is_fit statements ≡ true
-each_fit [] [] say = refl
-each_fit [] (statement ∷ statements) say = absurd say
-each_fit (skipped ∷ cards) statements say = each_fit cards statements say
-each_fit (continued body ∷ cards) statements say = each_fit cards statements say
-each_fit (plain body ∷ cards) [] say = absurd say
-each_fit (plain body ∷ cards) (statement ∷ statements) say =
-    and_from (is_fit statement) (list_all is_fit statements)
-    (statement_fit None _ _ statement say.0) (each_fit cards statements say.1)
-each_fit (labelled columns body ∷ cards) [] say = absurd say
-each_fit (labelled columns body ∷ cards) (statement ∷ statements) say =
-    and_from (is_fit statement) (list_all is_fit statements)
-    (statement_fit (Some say.0.0) _ _ statement say.0.2)
-    (each_fit cards statements say.1)
-each_fit (unknown number ∷ cards) statements say = absurd say

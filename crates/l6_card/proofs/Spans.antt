@@ -18,16 +18,15 @@ use Rattle.l6_group.specs.Word.{condition_from, exit_from, after_then}
 use Rattle.l6_card.specs.declared.cards.Placed.{Placed}
 use Rattle.l6_card.specs.declared.cards.PlacedLabel.{PlacedLabel}
 use Rattle.l6_card.specs.declared.span.Span.{Span}
-use Rattle.l6_card.specs.declared.draft.Phase.{Phase}
-use Rattle.l6_card.specs.declared.draft.Phase.TheVariants.{New, Worded, Tested, Open, Closed}
 use Rattle.l6_card.specs.DeckFault.{DeckFault}
-use Rattle.l6_card.specs.Items.{Item, group, word, unclosed, unopened, items_of}
+use Rattle.l6_card.specs.Items.{Item, group, word, unclosed, unopened, items_of, PlacedItem}
 use Rattle.l6_card.specs.Card.{Body, Card, skipped, plain, labelled, continued, unknown, cards_of}
-use Rattle.l6_card.specs.Statement.{WrittenParts}
+use Rattle.l6_card.specs.Statement.{WrittenParts, placed_exit}
 use Rattle.l6_card.specs.Spans.{group_span, spans_of, all_spans, Rise}
-use Rattle.l6_card.specs.Draft.{Draft, new_draft, phase_of, with_operation, with_test, with_further_test, with_placed, with_rest, with_word_in, with_group_in, with_item, placed_exit}
-use Rattle.l6_card.specs.Reads.{PlacedItem, placed_items, continued_items, draft_of, Says, CardsSay}
+use Rattle.l6_card.specs.inner.Draft.{Draft, Phase, New, Worded, Tested, Open, Closed, new_draft, phase_of, with_operation, with_test, with_further_test, with_placed, with_rest, with_word_in, with_group_in, with_item, draft_of}
+use Rattle.l6_card.specs.Reads.{placed_items, continued_items, Says, CardsSay}
 use Rattle.l6_card.specs.Laws.{IsSpelled, AreSpelled, GroupsStandAtSpans, SpansRise}
+use Rattle.l6_card.proofs.Drafting.{drafts_of}
 use Rattle.l6_card.proofs.Steps.{stands}
 use Rattle.l6_card.proofs.Fitness.{decided}
 use Rattle.l6_card.proofs.Offsets.{GroupStands, ItemsStand, BodyStands, CardsStand, end_of, items_stand-append, body_items, deck_stands}
@@ -329,10 +328,11 @@ statement_stands deck from end given items further statement says stand =
       operations = All-nil (IsSpelled operation_of deck);
       may_have = refl;
     } in
+    let drafts = drafts_of given items further statement says in
     let drafted =
-    items_left items deck from end new_draft says.draft
-    (record { middle = from; draft_stands = empty; items_stand = stand }) says.items_make in
-    subst (StatementStands deck from end) (sym says.statement_is) (record {
+    items_left items deck from end new_draft drafts.draft
+    (record { middle = from; draft_stands = empty; items_stand = stand }) drafts.items_make in
+    subst (StatementStands deck from end) (sym drafts.statement_is) (record {
       rise = drafted.rise;
       spelled = record { tests = drafted.tests; operations = drafted.operations };
     })

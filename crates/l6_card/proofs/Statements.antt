@@ -5,16 +5,18 @@ use Rattle.l6_card.specs.declared.cards.PlacedLabel.{PlacedLabel}
 use Rattle.l6_card.specs.Numerals.{most_written, most_continuations}
 use Rattle.l6_card.specs.Items.{items_of}
 use Rattle.l6_card.specs.Card.{Body, Card, skipped, plain, labelled, continued, unknown}
-use Rattle.l6_card.specs.Statement.{WrittenParts}
+use Rattle.l6_card.specs.Statement.{WrittenParts, label_on}
 use Rattle.l6_card.specs.DeckFault.{DeckFault, form, limit}
-use Rattle.l6_card.specs.Draft.{Draft, new_draft, is_whole, statement_from}
+use Rattle.l6_card.specs.inner.Draft.{Draft, new_draft, is_whole, statement_from, draft_of}
 use Rattle.l6_card.specs.Pieces.{begins, label, items_on, pieces_of_cards}
-use Rattle.l6_card.specs.Fault.{Known, nothing_known, label_on, known_if, and_then, after_pieces}
-use Rattle.l6_card.specs.Reads.{placed_items, continued_items, continuations, draft_of, SaysFrom, CardsSay}
+use Rattle.l6_card.specs.inner.Course.{Stage, first_stage, stage_if, after_pieces}
+use Rattle.l6_card.specs.Reads.{placed_items, continued_items, continuations, SaysFrom, CardsSay}
+use Rattle.l6_card.specs.Fault.{and_then}
+use Rattle.l6_card.proofs.Drafting.{says_of}
 use Rattle.l6_card.proofs.Steps.{opened, went_if, went_labelled, Taken, items_taken, draft_of-append}
 
 -- what cards say that were taken within a statement: its items, and the statements behind it
-pub record OpenSaid (cards : List Card) (known final : Known) : Type 0 where
+pub record OpenSaid (cards : List Card) (known final : Stage) : Type 0 where
   pub draft : Draft
   pub made : draft_of known.draft (continued_items cards) ≡ Some draft
   pub whole : is_whole draft ≡ true
@@ -28,7 +30,7 @@ pub record OpenSaid (cards : List Card) (known final : Known) : Type 0 where
 
 -- what a statement's first card and those behind it say that were taken after these statements
 record Begun (given : Option PlacedLabel) (body : Body) (cards : List Card)
-    (over : List WrittenParts) (final : Known) : Type 0 where
+    (over : List WrittenParts) (final : Stage) : Type 0 where
   pub statement : WrittenParts
   pub says : SaysFrom given body cards statement
   pub statements : List WrittenParts
@@ -37,7 +39,7 @@ record Begun (given : Option PlacedLabel) (body : Body) (cards : List Card)
   pub fits : length over + 1 + length statements ≤ most_written
 
 begun_said : (given : Option PlacedLabel) (body : Body) (cards : List Card)
-    (over : List WrittenParts) (final : Known) →
+    (over : List WrittenParts) (final : Stage) →
     length over < most_written →
     (taken : Taken (items_of body.offset body.columns) body.card
     (opened over given new_draft body.card 0) final
@@ -47,16 +49,19 @@ begun_said : (given : Option PlacedLabel) (body : Body) (cards : List Card)
 begun_said given body cards over final room taken said =
     record {
       statement = statement_from given said.draft;
-      says = record {
-        draft = said.draft;
-        items_make =
-            draft_of-append (placed_items body) (continued_items cards)
-            new_draft taken.draft taken.made
-            ∙ said.made;
-        whole = said.whole;
-        statement_is = refl;
-        few = omega (arith, said.few (omega arith));
-      };
+      says =
+          says_of given (placed_items body ++ continued_items cards) (continuations cards)
+          (statement_from given said.draft)
+          (record {
+            draft = said.draft;
+            items_make =
+                draft_of-append (placed_items body) (continued_items cards)
+                new_draft taken.draft taken.made
+                ∙ said.made;
+            whole = said.whole;
+            statement_is = refl;
+            few = omega (arith, said.few (omega arith));
+          });
       statements = said.statements;
       say = said.say;
       all = said.all;
@@ -66,7 +71,7 @@ begun_said given body cards over final room taken said =
 -- the cards behind one that begins a statement, within the statement before
 open_begun : (cards : List Card) (statements : List WrittenParts)
     (given : Option PlacedLabel)
-    (draft : Draft) (card further : ℕ) (final : Known) →
+    (draft : Draft) (card further : ℕ) (final : Stage) →
     is_whole draft ≡ true →
     (next : List WrittenParts) →
     CardsSay cards next →
@@ -88,20 +93,20 @@ open_begun cards statements given draft card further final whole next say all fi
     }
 
 -- an unknown card is never taken
-unknown_stops : (holds : Bool) (objection other : DeckFault) (known final : Known) →
-    and_then (known_if holds objection known) (λ next. Err other) ≡ Ok final → ⊥
+unknown_stops : (holds : Bool) (objection other : DeckFault) (known final : Stage) →
+    and_then (stage_if holds objection known) (λ next. Err other) ≡ Ok final → ⊥
 unknown_stops true objection other known final taken = cc
 unknown_stops false objection other known final taken = cc
 
 pub open_said : (cards : List Card) (statements : List WrittenParts)
     (given : Option PlacedLabel)
-    (draft : Draft) (card further : ℕ) (final : Known) →
+    (draft : Draft) (card further : ℕ) (final : Stage) →
     after_pieces (opened statements given draft card further) (pieces_of_cards cards)
     ≡ Ok final →
     OpenSaid cards (opened statements given draft card further) final
 open_said [] statements given draft card further final taken =
     let over = statements ++ statement_from given draft ∷ [] in
-    let next : Known =
+    let next : Stage =
     record {
       statements = over;
       is_open = false;
@@ -120,7 +125,7 @@ open_said [] statements given draft card further final taken =
       few = λ few. omega arith;
       statements = [];
       say = tt;
-      all = sym (ap (λ (k : Known). k.statements) same);
+      all = sym (ap (λ (k : Stage). k.statements) same);
       fits = λ few. omega arith;
     }
 open_said (skipped ∷ cards) statements given draft card further final taken =
@@ -162,7 +167,7 @@ open_said (continued body ∷ cards) statements given draft card further final t
     }
 open_said (plain body ∷ cards) statements given draft card further final taken =
     let over = statements ++ statement_from given draft ∷ [] in
-    let closed : Known =
+    let closed : Stage =
     record {
       statements = over;
       is_open = false;
@@ -192,7 +197,7 @@ open_said (plain body ∷ cards) statements given draft card further final taken
     (omega (arith, begun.fits)) refl refl
 open_said (labelled columns body ∷ cards) statements given draft card further final taken =
     let over = statements ++ statement_from given draft ∷ [] in
-    let closed : Known =
+    let closed : Stage =
     record {
       statements = over;
       is_open = false;
@@ -232,23 +237,23 @@ open_said (unknown number ∷ cards) statements given draft card further final t
     absurd (unknown_stops (is_whole draft) (form card) (form number) _ final taken)
 
 -- what cards say that were taken from the start
-pub record CardsSaid (cards : List Card) (final : Known) : Type 0 where
+pub record CardsSaid (cards : List Card) (final : Stage) : Type 0 where
   pub statements : List WrittenParts
   pub say : CardsSay cards statements
   pub begins : continuations cards ≡ 0
   pub all : final.statements ≡ statements
   pub fits : length statements ≤ most_written
 
-pub cards_said : (cards : List Card) (final : Known) →
-    after_pieces nothing_known (pieces_of_cards cards) ≡ Ok final → CardsSaid cards final
+pub cards_said : (cards : List Card) (final : Stage) →
+    after_pieces first_stage (pieces_of_cards cards) ≡ Ok final → CardsSaid cards final
 cards_said [] final taken =
-    let same : nothing_known ≡ final = cc in
+    let same : first_stage ≡ final = cc in
     record {
       statements = [];
       say = tt;
       begins = refl;
       all =
-          sym (ap (λ (k : Known). k.statements) same);
+          sym (ap (λ (k : Stage). k.statements) same);
       fits = omega arith;
     }
 cards_said (skipped ∷ cards) final taken =

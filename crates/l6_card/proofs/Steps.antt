@@ -3,14 +3,14 @@ use Rattle.std.proofs.Common.{◌≡◌, ℕ, List, [], ◌∷◌, ◌++◌, map
 use Rattle.l6_card.specs.declared.cards.PlacedLabel.{PlacedLabel}
 use Rattle.l6_card.specs.Statement.{WrittenParts}
 use Rattle.l6_card.specs.DeckFault.{DeckFault}
-use Rattle.l6_card.specs.Items.{Item}
-use Rattle.l6_card.specs.Draft.{Draft, with_item}
+use Rattle.l6_card.specs.Items.{Item, PlacedItem}
+use Rattle.l6_card.specs.inner.Draft.{Draft, with_item, draft_then, draft_of}
 use Rattle.l6_card.specs.Pieces.{Piece, item}
-use Rattle.l6_card.specs.Fault.{Known, known_if, when_drafted, when_labelled, and_then, after_pieces}
-use Rattle.l6_card.specs.Reads.{PlacedItem, draft_then, draft_of}
+use Rattle.l6_card.specs.inner.Course.{Stage, stage_if, when_drafted, when_labelled, after_pieces}
+use Rattle.l6_card.specs.Fault.{and_then}
 
 -- what is known within a statement
-abbrev pub opened : List WrittenParts → Option PlacedLabel → Draft → ℕ → ℕ → Known
+abbrev pub opened : List WrittenParts → Option PlacedLabel → Draft → ℕ → ℕ → Stage
 opened statements label draft card continuations =
     record {
       statements = statements;
@@ -22,43 +22,43 @@ opened statements label draft card continuations =
     }
 
 -- a test that held, and a course that went on
-pub record Went (holds : Bool) (course : Result Known DeckFault) (final : Known) : Type 0 where
+pub record Went (holds : Bool) (course : Result Stage DeckFault) (final : Stage) : Type 0 where
   pub sound : holds ≡ true
   pub rest : course ≡ Ok final
 
-pub went_if : (holds : Bool) (objection : DeckFault) (known : Known) (step : Known →
-    Result Known DeckFault)
-    (final : Known) →
-    and_then (known_if holds objection known) step ≡ Ok final → Went holds (step known) final
+pub went_if : (holds : Bool) (objection : DeckFault) (known : Stage) (step : Stage →
+    Result Stage DeckFault)
+    (final : Stage) →
+    and_then (stage_if holds objection known) step ≡ Ok final → Went holds (step known) final
 went_if true objection known step final went = record { sound = refl; rest = went }
 went_if false objection known step final went = absurd (cc)
 
 -- a draft that was made, and a course that went on with it
-pub record WentDrafted (made : Result Draft DeckFault) (known : Known) (step : Known →
-    Result Known DeckFault)
-    (final : Known) : Type 0 where
+pub record WentDrafted (made : Result Draft DeckFault) (known : Stage) (step : Stage →
+    Result Stage DeckFault)
+    (final : Stage) : Type 0 where
   pub draft : Draft
   pub is_made : made ≡ Ok draft
   pub rest : step (record known { draft = draft }) ≡ Ok final
 
-went_drafted : (made : Result Draft DeckFault) (known : Known) (step : Known →
-    Result Known DeckFault)
-    (final : Known) →
+went_drafted : (made : Result Draft DeckFault) (known : Stage) (step : Stage →
+    Result Stage DeckFault)
+    (final : Stage) →
     and_then (when_drafted made known) step ≡ Ok final → WentDrafted made known step final
 went_drafted (Ok draft) known step final went =
     record { draft = draft; is_made = refl; rest = went }
 went_drafted (Err objection) known step final went = absurd (cc)
 
 -- a label that was found, and a course that went on with it
-pub record WentLabelled (found : Option PlacedLabel) (known : Known) (step : Known →
-    Result Known DeckFault)
-    (final : Known) : Type 0 where
+pub record WentLabelled (found : Option PlacedLabel) (known : Stage) (step : Stage →
+    Result Stage DeckFault)
+    (final : Stage) : Type 0 where
   pub given : PlacedLabel
   pub is_found : found ≡ Some given
   pub rest : step (record known { label = Some given }) ≡ Ok final
 
-pub went_labelled : (card : ℕ) (found : Option PlacedLabel) (known : Known)
-    (step : Known → Result Known DeckFault) (final : Known) →
+pub went_labelled : (card : ℕ) (found : Option PlacedLabel) (known : Stage)
+    (step : Stage → Result Stage DeckFault) (final : Stage) →
     and_then (when_labelled card found known) step ≡ Ok final → WentLabelled found known step final
 went_labelled card None known step final went = absurd (cc)
 went_labelled card (Some given) known step final went =
@@ -69,13 +69,13 @@ abbrev pub placed : ℕ → List Item → List PlacedItem
 placed number items = map (λ i. record { card = number; what = i }) items
 
 -- items that were taken make a draft
-pub record Taken (items : List Item) (number : ℕ) (known final : Known)
+pub record Taken (items : List Item) (number : ℕ) (known final : Stage)
     (rest : List Piece) : Type 0 where
   pub draft : Draft
   pub made : draft_of known.draft (placed number items) ≡ Some draft
   pub rest_goes : after_pieces (record known { draft = draft }) rest ≡ Ok final
 
-pub items_taken : (items : List Item) (number : ℕ) (known final : Known) (rest : List Piece) →
+pub items_taken : (items : List Item) (number : ℕ) (known final : Stage) (rest : List Piece) →
     after_pieces known (map (item number) items ++ rest) ≡ Ok final →
     Taken items number known final rest
 items_taken [] number known final rest taken =
@@ -122,7 +122,7 @@ stands (Ok next) step draft makes = record { next = next; is_made = refl; rest =
 stands (Err objection) step draft makes = absurd (cc)
 
 -- items that make a draft are taken
-pub record Gone (items : List Item) (more : List PlacedItem) (number : ℕ) (known : Known)
+pub record Gone (items : List Item) (more : List PlacedItem) (number : ℕ) (known : Stage)
     (draft : Draft)
     (rest : List Piece) : Type 0 where
   pub middle : Draft
@@ -130,7 +130,7 @@ pub record Gone (items : List Item) (more : List PlacedItem) (number : ℕ) (kno
   pub goes : after_pieces known (map (item number) items ++ rest) ≡ after_pieces
       (record known { draft = middle }) rest
 
-pub items_go : (items : List Item) (more : List PlacedItem) (number : ℕ) (known : Known)
+pub items_go : (items : List Item) (more : List PlacedItem) (number : ℕ) (known : Stage)
     (draft : Draft)
     (rest : List Piece) →
     draft_of known.draft (placed number items ++ more) ≡ Some draft →

@@ -1,100 +1,90 @@
 -- The fault of a deck: the first objection among its pieces.
-use Rattle.std.specs.Prelude.{ℕ, ◌+◌, ◌||◌, not, Bool, true, false, List, [], ◌∷◌, ◌++◌, length, nat_lt, Option, Some, None, Result, Ok, Err, if◌then◌else◌}
-use Rattle.std.specs.Option.{option_map}
-use Rattle.l6_group.specs.Label.{label_of}
-use Rattle.l6_card.specs.declared.cards.PlacedLabel.{PlacedLabel}
+use Rattle.std.specs.Prelude.{ℕ, ◌+◌, not, List, [], ◌∷◌, ◌++◌, nat_lt, Option, Some, None, Result, Ok, Err, if◌then◌else◌}
+use Rattle.std.specs.Option.{is_some}
 use Rattle.l6_card.specs.Numerals.{most_written, most_continuations}
-use Rattle.l6_card.specs.Statement.{WrittenParts}
+use Rattle.l6_card.specs.Items.{Item, PlacedItem, item_on}
+use Rattle.l6_card.specs.Statement.{label_on}
 use Rattle.l6_card.specs.DeckFault.{DeckFault, form, limit}
-use Rattle.l6_card.specs.Draft.{Draft, new_draft, is_whole, statement_from, with_item}
+use Rattle.l6_card.specs.Form.{are_whole, stand, are_within_limits}
 use Rattle.l6_card.specs.Pieces.{Piece, ends, begins, continues, unknown_card, label, item, pieces_of}
 
--- what the pieces so far come to: the statements that are over; whether one has begun since, and of
--- that one the label, the draft, its last card, and how many cards continue it
-pub record Known : Type 0 where
-  pub statements : List WrittenParts
-  pub is_open : Bool
-  pub label : Option PlacedLabel
-  pub draft : Draft
+-- what is known of a statement that has begun: its items so far, its last card, and how many cards
+-- continue it
+pub record Begun : Type 0 where
+  pub items : List PlacedItem
   pub card : ℕ
   pub continuations : ℕ
 
+-- what the pieces so far come to: how many statements are over, and the one that has begun since
+pub record Known : Type 0 where
+  pub over : ℕ
+  pub begun : Option Begun
+
 -- nothing is known before the first piece
 abbrev pub nothing_known : Known
-nothing_known =
-    record {
-      statements = [];
-      is_open = false;
-      label = None;
-      draft = new_draft;
-      card =
-          0;
-      continuations = 0;
-    }
-
--- the statements once the one that has begun is over
-abbrev pub statements_when_over : Known → List WrittenParts
-statements_when_over known =
-    if known.is_open then known.statements ++ statement_from known.label known.draft ∷ []
-    else known.statements
-
--- what is known, if the test holds; else the objection
-abbrev pub known_if : Bool → DeckFault → Known → Result Known DeckFault
-known_if holds objection known = if holds then Ok known else Err objection
+nothing_known = record { over = 0; begun = None }
 
 -- the statement that has begun is over: its items must be whole
-abbrev pub when_over : Known → Result Known DeckFault
-when_over known =
-    known_if (not known.is_open || is_whole known.draft) (form known.card)
-    (record known {
-      statements = statements_when_over known;
-      is_open = false;
-      label = None;
-      draft =
-          new_draft;
-    })
+abbrev pub when_over : ℕ → Option Begun → Result Known DeckFault
+when_over over None = Ok (record { over = over; begun = None })
+when_over over (Some statement) =
+    if are_whole statement.items then Ok (record { over = over + 1; begun = None })
+    else Err (form statement.card)
 
 -- a card begins a statement, where there is room for one
-abbrev pub when_begun : ℕ → Known → Result Known DeckFault
-when_begun card known =
-    known_if (nat_lt (length known.statements) most_written) (limit card)
-    (record known { is_open = true; card = card; continuations = 0 })
+abbrev pub when_begun : ℕ → ℕ → Result Known DeckFault
+when_begun card over =
+    if nat_lt over most_written then
+    Ok (record {
+      over = over;
+      begun = Some (record { items = []; card = card; continuations = 0 });
+    })
+    else Err (limit card)
 
 -- a card continues the statement, if one has begun and not too many cards continue it
-abbrev pub when_continued : ℕ → Known → Result Known DeckFault
-when_continued card known =
-    if known.is_open then
-    known_if (nat_lt known.continuations most_continuations) (limit card)
-    (record known { card = card; continuations = known.continuations + 1 })
-    else Err (form card)
+abbrev pub when_continued : ℕ → ℕ → Option Begun → Result Known DeckFault
+when_continued card over None = Err (form card)
+when_continued card over (Some statement) =
+    if nat_lt statement.continuations most_continuations then
+    Ok (record {
+      over = over;
+      begun = Some (record statement {
+        card = card;
+        continuations = statement.continuations + 1;
+      });
+    })
+    else Err (limit card)
 
--- the label that columns of this card spell
-abbrev pub label_on : ℕ → List ℕ → Option PlacedLabel
-label_on card columns =
-    option_map (λ given. record { label = given; card = card }) (label_of columns)
+-- a card gives its statement a label, which the columns must spell
+abbrev pub when_labelled : ℕ → List ℕ → Known → Result Known DeckFault
+when_labelled card columns known =
+    if is_some (label_on card columns) then Ok known else Err (form card)
 
--- the statement has a label, if this is one
-abbrev pub when_labelled : ℕ → Option PlacedLabel → Known → Result Known DeckFault
-when_labelled card None known = Err (form card)
-when_labelled card (Some given) known = Ok (record known { label = Some given })
+-- the statement has these items now, the last on this card: they must stand, within the limits
+abbrev pub when_items : ℕ → ℕ → Begun → List PlacedItem → Result Known DeckFault
+when_items card over statement items =
+    if not (stand items) then Err (form card)
+    else if not (are_within_limits items) then Err (limit card)
+    else Ok (record { over = over; begun = Some (record statement { items = items }) })
 
--- the statement's draft is this one, or there is an objection
-abbrev pub when_drafted : Result Draft DeckFault → Known → Result Known DeckFault
-when_drafted (Ok draft) known = Ok (record known { draft = draft })
-when_drafted (Err objection) known = Err objection
+-- a card has one more item of the statement; no piece of a deck has one where none has begun
+abbrev pub when_item : ℕ → Item → ℕ → Option Begun → Result Known DeckFault
+when_item card i over None = Err (form card)
+when_item card i over (Some statement) =
+    when_items card over statement (statement.items ++ item_on card i ∷ [])
 
 -- what is known after a piece, or its objection
 abbrev pub after_piece : Known → Piece → Result Known DeckFault
-after_piece known ends = when_over known
-after_piece known (begins card) = when_begun card known
-after_piece known (continues card) = when_continued card known
+after_piece known ends = when_over known.over known.begun
+after_piece known (begins card) = when_begun card known.over
+after_piece known (continues card) = when_continued card known.over known.begun
 after_piece known (unknown_card card) = Err (form card)
-after_piece known (label card columns) = when_labelled card (label_on card columns) known
-after_piece known (item card i) = when_drafted (with_item card known.draft i) known
+after_piece known (label card columns) = when_labelled card columns known
+after_piece known (item card i) = when_item card i known.over known.begun
 
 -- what one step makes of what another left, unless that met an objection
-abbrev pub and_then : Result Known DeckFault → (Known → Result Known DeckFault) →
-    Result Known DeckFault
+abbrev pub and_then : {A : Type 0} → Result A DeckFault → (A → Result A DeckFault) →
+    Result A DeckFault
 and_then (Ok known) step = step known
 and_then (Err fault) step = Err fault
 
@@ -104,15 +94,11 @@ after_pieces known [] = Ok known
 after_pieces known (piece ∷ pieces) =
     and_then (after_piece known piece) (λ next. after_pieces next pieces)
 
--- what the pieces of a deck come to
-abbrev pub course_of : List ℕ → Result Known DeckFault
-course_of deck = after_pieces nothing_known (pieces_of deck)
-
 -- the objection at which a course stopped
-abbrev pub fault_in : Result Known DeckFault → Option DeckFault
+abbrev pub fault_in : {A : Type 0} → Result A DeckFault → Option DeckFault
 fault_in (Ok known) = None
 fault_in (Err fault) = Some fault
 
--- the fault of a deck, if it has one
+-- the fault of a deck, if it has one: what its pieces come to
 abbrev pub fault_of : List ℕ → Option DeckFault
-fault_of deck = fault_in (course_of deck)
+fault_of deck = fault_in (after_pieces nothing_known (pieces_of deck))

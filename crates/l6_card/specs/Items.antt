@@ -39,3 +39,12 @@ after_column offset column items =
 abbrev pub items_of : ℕ → List ℕ → List Item
 items_of offset [] = []
 items_of offset (column ∷ columns) = after_column offset column (items_of (offset + 1) columns)
+
+-- an item, and the number of the card that it stands on
+pub record PlacedItem : Type 0 where
+  pub what : Item
+  pub card : ℕ
+
+-- an item on the card of this number
+abbrev pub item_on : ℕ → Item → PlacedItem
+item_on number i = record { what = i; card = number }

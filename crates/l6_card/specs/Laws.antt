@@ -1,16 +1,19 @@
 -- The laws of reading.
-use Rattle.std.specs.Prelude.{◌≡◌, ℕ, ◌+◌, ◌==◌, not, true, false, Bool, List, [], ◌∷◌, ◌++◌, length, ◌&&◌, Option, Some, None}
+use Rattle.std.specs.Prelude.{◌≡◌, ℕ, ◌+◌, ◌≤◌, ◌==◌, not, true, false, Bool, List, [], ◌∷◌, ◌++◌, length, ◌&&◌, Option, Some, None}
 use Rattle.std.specs.List.{All, list_all}
 use Rattle.std.specs.Str.{byte}
 use Rattle.l6_group.specs.Character.{is_blank}
 use Rattle.l6_group.specs.Operation.{operation_of}
 use Rattle.l6_group.specs.Test.{test_of}
 use Rattle.l6_card.specs.declared.cards.Placed.{Placed}
-use Rattle.l6_card.specs.Items.{Item, group, word, items_of}
-use Rattle.l6_card.specs.Statement.{WrittenParts}
+use Rattle.l6_card.specs.Numerals.{most_written}
+use Rattle.l6_card.specs.Items.{Item, group, word, items_of, PlacedItem}
+use Rattle.l6_card.specs.Statement.{WrittenParts, is_fit}
 use Rattle.l6_card.specs.Spans.{bytes_at, all_spans, Rise}
 use Rattle.l6_card.specs.DeckFault.{DeckFault}
 use Rattle.l6_card.specs.Fault.{fault_of}
+use Rattle.l6_card.specs.Form.{are_whole, stand, are_within_limits}
+use Rattle.l6_card.specs.Says.{ItemsSay}
 use Rattle.l6_card.specs.Reads.{Reads}
 
 -- a deck that reads has no fault
@@ -91,3 +94,36 @@ LettersMakeWords =
     is_blank letter ≡ false → is_inner letter ≡ true →
     items_of (offset + 1) columns ≡ word letters ∷ items →
     items_of offset (letter ∷ columns) ≡ word (letter ∷ letters) ∷ items
+
+-- the statements are no more than a deck may write, and each is fit for a program
+pub record AreWithinLimits (statements : List WrittenParts) : Type 0 where
+  pub count : length statements ≤ most_written
+  pub each : list_all is_fit statements ≡ true
+
+-- items stand exactly if they are a whole statement, or the beginning of one
+abbrev pub StandingItemsBecomeWhole : Type 0
+StandingItemsBecomeWhole =
+    (items : List PlacedItem) → stand items ≡ true →
+    (more : List PlacedItem) × (are_whole (items ++ more) ≡ true)
+
+abbrev pub BeginningsStand : Type 0
+BeginningsStand =
+    (items more : List PlacedItem) → are_whole (items ++ more) ≡ true → stand items ≡ true
+
+-- items are whole and within the limits exactly if they say a statement that is fit
+abbrev pub WholeItemsSay : Type 0
+WholeItemsSay =
+    (items : List PlacedItem) → are_whole items ≡ true → are_within_limits items ≡ true →
+    (statement : WrittenParts) × ItemsSay items statement × (is_fit statement ≡ true)
+
+abbrev pub ItemsThatSayAreWhole : Type 0
+ItemsThatSayAreWhole =
+    (items : List PlacedItem) (statement : WrittenParts) → ItemsSay items statement →
+    is_fit statement ≡ true → (are_whole items ≡ true) × (are_within_limits items ≡ true)
+
+-- items say one statement, its label apart
+abbrev pub ItemsSayOneStatement : Type 0
+ItemsSayOneStatement =
+    (items : List PlacedItem) (one other : WrittenParts) →
+    ItemsSay items one → ItemsSay items other →
+    is_fit one ≡ true → is_fit other ≡ true → one.label ≡ other.label → one ≡ other

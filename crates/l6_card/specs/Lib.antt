@@ -4,9 +4,10 @@ pub mod Items
 pub mod Statement
 pub mod Spans
 pub mod DeckFault
-pub mod Draft
+pub mod Form
 pub mod Pieces
 pub mod Fault
+pub mod Says
 pub mod Reads
 pub mod Laws
 pub mod Worked

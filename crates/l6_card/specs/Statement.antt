@@ -1,10 +1,15 @@
 -- Statements as cards give them.
-use Rattle.std.specs.Prelude.{List, Option}
+use Rattle.std.specs.Prelude.{ℕ, nat_le, Bool, ◌&&◌, List, length, Option}
+use Rattle.std.specs.Option.{option_map}
+use Rattle.l6_prog.specs.Numerals.{most_tests, most_operations}
+use Rattle.l6_prog.specs.Program.{may_have}
 use Rattle.l6_prog.specs.declared.condition.Cond.{Cond}
 use Rattle.l6_prog.specs.declared.condition.Test.{Test}
 use Rattle.l6_prog.specs.declared.operation.Op.{Op}
 use Rattle.l6_prog.specs.declared.exit.Exit.{Exit}
+use Rattle.l6_prog.specs.declared.exit.Exit.TheVariants.{Next, Label as ToLabel, Done, Fail}
 use Rattle.l6_group.specs.declared.label.Label.{Label}
+use Rattle.l6_group.specs.Label.{label_of}
 use Rattle.l6_card.specs.declared.cards.Placed.{Placed}
 use Rattle.l6_card.specs.declared.cards.PlacedLabel.{PlacedLabel}
 
@@ -15,3 +20,23 @@ pub record WrittenParts : Type 0 where
   pub tests : List (Placed Test)
   pub operations : List (Placed (Op Label))
   pub exit : Exit PlacedLabel
+
+-- the label that columns of this card spell
+abbrev pub label_on : ℕ → List ℕ → Option PlacedLabel
+label_on card columns =
+    option_map (λ given. record { label = given; card = card }) (label_of columns)
+
+-- an exit that stands on this card
+abbrev pub placed_exit : ℕ → Exit Label → Exit PlacedLabel
+placed_exit card Next = Next
+placed_exit card (ToLabel label) = ToLabel (record { label = label; card = card })
+placed_exit card Done = Done
+placed_exit card Fail = Fail
+
+-- the statement has no more tests and operations than it may have, and as many tests as its
+-- condition wants
+abbrev pub is_fit : WrittenParts → Bool
+is_fit statement =
+    nat_le (length statement.tests) most_tests
+    && nat_le (length statement.operations) most_operations
+    && may_have statement.condition (length statement.tests)

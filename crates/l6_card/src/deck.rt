@@ -4,8 +4,8 @@ ghost use Rattle.std.specs.Prelude.{◌≡◌, ◌≤◌, length, IfOk, IfErr, I
 ghost use Rattle.l6_card.specs.Numerals.{most_deck_bytes};
 ghost use Rattle.l6_card.specs.DeckFault.{deck_fault};
 ghost use Rattle.l6_card.specs.Fault.{fault_of};
-ghost use Rattle.l6_card.specs.Reads.{Reads, AreWithinLimits};
-ghost use Rattle.l6_card.specs.Laws.{IsFirstFault, IsOnlyReading};
+ghost use Rattle.l6_card.specs.Reads.{Reads};
+ghost use Rattle.l6_card.specs.Laws.{IsFirstFault, IsOnlyReading, AreWithinLimits};
 
 use crate::card::columns_of;
 use crate::cards::Cards;

@@ -2,15 +2,18 @@
 
 ghost use Rattle.std.specs.Prelude.{◌≡◌};
 ghost use Rattle.l6_group.specs.Word.{condition_from};
-ghost use Rattle.l6_card.specs.Draft as spec;
+ghost use Rattle.l6_card.specs.inner.Draft as spec;
 ghost use Rattle.l6_card.specs.Items.{group, word};
+ghost use Rattle.l6_card.specs.Statement.{placed_exit};
 ghost use Rattle.l6_card.specs.inner.First.{letters_of};
-ghost use Rattle.l6_card.specs.inner.Drafted.{drafted, drafted_parts, Takes};
+ghost use Rattle.l6_card.specs.inner.Drafted.{phased, drafted, drafted_parts, Takes};
 
 use crate::cards::{Parts, Placed, PlacedLabel};
 use crate::fault::CardFault;
 use crate::span::Span;
-use l6_group::{Label, Spelling, after_then, condition_from, exit_from, operation_of, spelled, test_of};
+use l6_group::{
+    Label, Spelling, after_then, condition_from, exit_from, operation_of, spelled, test_of,
+};
 use l6_prog::{Cond, Exit, MAX_OPERATIONS, MAX_TESTS, Op, Test};
 use std::alloc::Global;
 
@@ -218,7 +221,7 @@ impl Draft {
 
     /// The exit that characters spell, and the phase that it leads to.
     fn take_exit(&mut self, card: u32, phase: Phase, characters: &[u8]) -> Result<(), CardFault>
-        ensures { let made = spec.with_exit card (drafted self.old) phase characters.now in
+        ensures { let made = spec.with_exit card (drafted self.old) (phased phase) characters.now in
             Takes result (drafted self.new) made }
     {
         let exit = exit_from(characters).ok_or(CardFault::Form(card))?;
@@ -230,7 +233,7 @@ impl Draft {
 
 /// The phase after a first word of these characters, which may be a condition.
 fn first_phase(characters: &[u8]) -> Phase
-    ensures { result ≡ spec.phase_of (condition_from characters.now) }
+    ensures { phased result ≡ spec.phase_of (condition_from characters.now) }
 {
     match condition_from(characters) {
         Some(condition) => Phase::Worded(condition),
@@ -240,7 +243,7 @@ fn first_phase(characters: &[u8]) -> Phase
 
 /// An exit that stands on this card.
 fn placed_exit(card: u32, exit: Exit<Label>) -> Exit<PlacedLabel>
-    ensures { result ≡ spec.placed_exit card exit }
+    ensures { result ≡ placed_exit card exit }
 {
     match exit {
         Exit::Next => Exit::Next,

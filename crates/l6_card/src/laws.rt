@@ -2,7 +2,7 @@
 
 ghost use Rattle.std.specs.Prelude.{◌≡◌};
 ghost use Rattle.l6_card.specs.Numerals.{card_width, most_deck_bytes, most_written, most_continuations};
-ghost use Rattle.l6_card.specs.Laws.{ReadsOnlyWithoutFault, ReadsWithoutFault, ReadsInOneWay, GroupsStandAtSpans, SpansRise, GroupsAreInParentheses, BlanksVanishInWords, LettersMakeWords};
+ghost use Rattle.l6_card.specs.Laws.{ReadsOnlyWithoutFault, ReadsWithoutFault, ReadsInOneWay, GroupsStandAtSpans, SpansRise, StandingItemsBecomeWhole, BeginningsStand, WholeItemsSay, ItemsThatSayAreWhole, ItemsSayOneStatement, GroupsAreInParentheses, BlanksVanishInWords, LettersMakeWords};
 
 use crate::limits::{CARD_WIDTH, MAX_CONTINUATIONS, MAX_DECK_BYTES, MAX_WRITTEN};
 
@@ -18,6 +18,20 @@ pub fn reading_is_settled()
 pub fn groups_have_their_spans()
     ensures stand { GroupsStandAtSpans }
     ensures rise { SpansRise }
+{}
+
+/// Items stand exactly if more items behind them can make them a whole statement.
+pub fn standing_items_begin_statements()
+    ensures stand_only_if { StandingItemsBecomeWhole }
+    ensures stand_if { BeginningsStand }
+{}
+
+/// Items are a whole statement within its limits exactly if they say a statement that is fit, and
+/// they say one.
+pub fn whole_items_say_statements()
+    ensures say { WholeItemsSay }
+    ensures whole { ItemsThatSayAreWhole }
+    ensures one { ItemsSayOneStatement }
 {}
 
 /// A group is what stands between parentheses. Words are of letters and the like, and blanks

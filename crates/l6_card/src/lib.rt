@@ -20,7 +20,7 @@ pub use deck::read_deck;
 pub use fault::CardFault;
 pub use laws::{
     decks_have_their_limits, groups_have_their_spans, items_are_groups_and_words,
-    reading_is_settled,
+    reading_is_settled, standing_items_begin_statements, whole_items_say_statements,
 };
 pub use limits::MAX_DECK_BYTES;
 pub use span::Span;

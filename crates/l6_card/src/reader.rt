@@ -5,10 +5,10 @@ ghost use Rattle.l6_card.specs.Numerals.{most_deck_bytes};
 ghost use Rattle.l6_card.specs.Items.{group, word};
 ghost use Rattle.l6_card.specs.Card.{card_of};
 ghost use Rattle.l6_card.specs.Pieces.{ends, begins, continues, label, item, items_on, pieces_of_card};
-ghost use Rattle.l6_card.specs.Fault.{nothing_known, after_piece, after_pieces};
+ghost use Rattle.l6_card.specs.inner.Course.{first_stage, after_piece, after_pieces};
 ghost use Rattle.l6_card.specs.inner.First.{letters_of};
 ghost use Rattle.l6_card.specs.inner.Kinds.{body_seen, EndsBy};
-ghost use Rattle.l6_card.specs.inner.Reader.{known_by, Follows};
+ghost use Rattle.l6_card.specs.inner.Reader.{stage_of, Follows};
 
 use crate::card::{Body, Kind, kind_of};
 use crate::cards::{PlacedLabel, Written};
@@ -36,7 +36,7 @@ pub(crate) struct Reader {
 impl Reader {
     /// A reader before the first card.
     pub(crate) fn new(alloc: Global) -> Self
-        ensures { known_by result ≡ nothing_known }
+        ensures { stage_of result ≡ first_stage }
     {
         Reader {
             alloc,
@@ -51,14 +51,14 @@ impl Reader {
 
     /// The statements that are over, in order.
     pub(crate) fn into_statements(self) -> Vec<Written>
-        ensures { result.items ≡ (known_by self).statements }
+        ensures { result.items ≡ (stage_of self).statements }
     {
         self.statements
     }
 
     /// The statement that has begun, if one has, is over.
     pub(crate) fn end(&mut self) -> Result<(), CardFault>
-        ensures { Follows result (known_by self.new) (after_piece (known_by self.old) ends) }
+        ensures { Follows result (stage_of self.new) (after_piece (stage_of self.old) ends) }
     {
         let draft = mem::replace(&mut self.draft, Draft::new(self.alloc));
         let label = mem::replace(&mut self.label, None);
@@ -77,7 +77,7 @@ impl Reader {
     /// The card begins a statement.
     fn begin(&mut self, card: u32) -> Result<(), CardFault>
         ensures { let pieces = ends ∷ begins card ∷ [] in
-            Follows result (known_by self.new) (after_pieces (known_by self.old) pieces) }
+            Follows result (stage_of self.new) (after_pieces (stage_of self.old) pieces) }
     {
         self.end()?;
         if self.statements.len() >= MAX_WRITTEN {
@@ -92,7 +92,7 @@ impl Reader {
     /// The card continues the statement that has begun.
     fn go_on(&mut self, card: u32) -> Result<(), CardFault>
         ensures { let piece = continues card in
-            Follows result (known_by self.new) (after_piece (known_by self.old) piece) }
+            Follows result (stage_of self.new) (after_piece (stage_of self.old) piece) }
     {
         if !self.is_open {
             return Err(CardFault::Form(card));
@@ -108,7 +108,7 @@ impl Reader {
     /// The card gives its statement the label of these columns.
     fn take_label(&mut self, card: u32, columns: &[u8]) -> Result<(), CardFault>
         ensures { let piece = label card columns.now in
-            Follows result (known_by self.new) (after_piece (known_by self.old) piece) }
+            Follows result (stage_of self.new) (after_piece (stage_of self.old) piece) }
     {
         let label = label_of(columns).ok_or(CardFault::Form(card))?;
         self.label = Some(PlacedLabel { label, card });
@@ -119,7 +119,7 @@ impl Reader {
     /// parentheses.
     fn take_group(&mut self, card: u32, offset: usize, columns: &[u8]) -> Result<(), CardFault>
         ensures { let piece = item card (group offset columns.now) in
-            Follows result (known_by self.new) (after_piece (known_by self.old) piece) }
+            Follows result (stage_of self.new) (after_piece (stage_of self.old) piece) }
     {
         self.draft.take_group(card, offset, columns)
     }
@@ -127,7 +127,7 @@ impl Reader {
     /// The card has a word of the letters of these columns.
     fn take_word(&mut self, card: u32, columns: &[u8]) -> Result<(), CardFault>
         ensures { let piece = item card (word (letters_of columns.now)) in
-            Follows result (known_by self.new) (after_piece (known_by self.old) piece) }
+            Follows result (stage_of self.new) (after_piece (stage_of self.old) piece) }
     {
         self.draft.take_word(card, columns)
     }
@@ -136,7 +136,7 @@ impl Reader {
     fn take_items(&mut self, body: Body<'_>) -> Result<(), CardFault>
         requires { EndsBy most_deck_bytes body }
         ensures { let pieces = items_on (body_seen body.entry) in
-            Follows result (known_by self.new) (after_pieces (known_by self.old) pieces) }
+            Follows result (stage_of self.new) (after_pieces (stage_of self.old) pieces) }
     {
         let card = body.card;
         let end = body.offset + body.columns.len();
@@ -164,7 +164,7 @@ impl Reader {
         requires { EndsBy most_deck_bytes body }
         ensures { let body = body_seen body.entry in
             let pieces = label body.card columns.now ∷ items_on body in
-            Follows result (known_by self.new) (after_pieces (known_by self.old) pieces) }
+            Follows result (stage_of self.new) (after_pieces (stage_of self.old) pieces) }
     {
         self.take_label(body.card, columns)?;
         self.take_items(body)
@@ -179,7 +179,7 @@ impl Reader {
     ) -> Result<(), CardFault>
         requires { offset + length columns.now ≤ most_deck_bytes }
         ensures { let pieces = pieces_of_card (card_of card offset columns.now) in
-            Follows result (known_by self.new) (after_pieces (known_by self.old) pieces) }
+            Follows result (stage_of self.new) (after_pieces (stage_of self.old) pieces) }
     {
         match kind_of(card, offset, columns) {
             Kind::Skipped => Ok(()),

@@ -2,16 +2,26 @@
 use Rattle.std.specs.Prelude.{◌≡◌, IfSome, Result, Ok, Err, MatchResult}
 use Rattle.l6_card.specs.declared.fault.CardFault.{CardFault}
 use Rattle.l6_card.specs.declared.draft.Draft.{Draft as Kept}
+use Rattle.l6_card.specs.declared.draft.Phase.{Phase as KeptPhase}
+use Rattle.l6_card.specs.declared.draft.Phase.TheVariants as kept_phase
 use Rattle.l6_card.specs.declared.cards.Parts.{Parts}
 use Rattle.l6_card.specs.Statement.{WrittenParts}
-use Rattle.l6_card.specs.Draft.{Draft}
+use Rattle.l6_card.specs.inner.Draft.{Draft, Phase, New, Worded, Tested, Open, Closed}
 use Rattle.l6_card.specs.DeckFault.{DeckFault, deck_fault}
+
+-- the phase that a reader keeps
+abbrev pub phased : KeptPhase → Phase
+phased kept_phase.New = New
+phased (kept_phase.Worded condition) = Worded condition
+phased kept_phase.Tested = Tested
+phased kept_phase.Open = Open
+phased kept_phase.Closed = Closed
 
 -- the draft that a reader keeps
 abbrev pub drafted : Kept → Draft
 drafted kept =
     record {
-      phase = kept.phase;
+      phase = phased kept.phase;
       condition = kept.condition;
       tests = kept.tests.items;
       operations = kept.operations.items;

@@ -1,6 +1,5 @@
 use Rattle.std.proofs.Common.{subst}
-use Rattle.l6_card.specs.declared.draft.Phase.{Phase}
-use Rattle.l6_card.specs.Draft.{with_exit}
+use Rattle.l6_card.specs.inner.Draft.{Phase, with_exit}
 use Rattle.l6_card.specs.inner.Drafted.{Takes, drafted}
 use Rattle.l6_card.proofs.draft.Draft.take_first.Goals as goal
 

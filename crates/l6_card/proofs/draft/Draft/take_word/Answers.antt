@@ -1,6 +1,6 @@
 use Rattle.std.proofs.Common.{List, ℕ, ◌∙◌, ap, sym, subst}
 use Rattle.l6_group.specs.Character.{spelled}
-use Rattle.l6_card.specs.Draft.{with_characters}
+use Rattle.l6_card.specs.inner.Draft.{with_characters}
 use Rattle.l6_card.specs.inner.Drafted.{Takes, drafted}
 use Rattle.l6_card.proofs.Characters.{long_word, spelled-letters}
 use Rattle.l6_card.proofs.draft.Draft.take_word.Goals as goal

@@ -1,7 +1,7 @@
 use Rattle.std.proofs.Common.{arith, ◌+◌, ◌-◌, length}
 use Rattle.std.proofs.lemmas.Result.{err_from_is_err_and}
 use Rattle.l6_card.specs.DeckFault.{deck_fault}
-use Rattle.l6_card.specs.inner.Reader.{known_by}
+use Rattle.l6_card.specs.inner.Reader.{stage_of}
 use Rattle.l6_card.proofs.Courses.{group_split, word_split, item_goes, item_stops}
 use Rattle.l6_card.proofs.reader.Reader.take_items.Goals as goal
 
@@ -27,7 +27,7 @@ returns-in_err-take_group-in-Group c =
     one in
     let p = err_from_is_err_and c.from_residual.result c.from_residual.ensures.1 in
     rw (p.1, p.2)
-    (item_stops c.args.body.card (known_by c.loop-columns.self) _
+    (item_stops c.args.body.card (stage_of c.loop-columns.self) _
     (deck_fault c.in_err-take_group-in-Group.field-0.0)
     split c.loop-columns.invariant.course c.in_err-take_group-in-Group.ensures)
 
@@ -40,8 +40,8 @@ loop-columns-preserved-in-Group c =
     group_split end rest c.in-Group.columns.now c.in-Group.behind.now c.loop-columns.invariant.left
     one in
     record {
-      course = item_goes c.args.body.card (known_by c.loop-columns.self)
-          (known_by c.take_group.new.self) _ split c.loop-columns.invariant.course
+      course = item_goes c.args.body.card (stage_of c.loop-columns.self)
+          (stage_of c.take_group.new.self) _ split c.loop-columns.invariant.course
           c.in_ok-take_group-in-Group.ensures;
       left = omega (arith, c.in-Group.ensures.shorter, c.loop-columns.invariant.left);
     }
@@ -57,7 +57,7 @@ returns-in_err-take_word-in-Word c =
     let p = err_from_is_err_and c.from_residual-in_err-take_word-in-Word.result
     c.from_residual-in_err-take_word-in-Word.ensures.1 in
     rw (p.1, p.2)
-    (item_stops c.args.body.card (known_by c.loop-columns.self) _
+    (item_stops c.args.body.card (stage_of c.loop-columns.self) _
     (deck_fault c.in_err-take_word-in-Word.field-0.0)
     split c.loop-columns.invariant.course c.in_err-take_word-in-Word.ensures)
 
@@ -70,8 +70,8 @@ loop-columns-preserved c =
     word_split end rest c.in-Word.columns.now c.in-Word.behind.now c.loop-columns.invariant.left
     one in
     record {
-      course = item_goes c.args.body.card (known_by c.loop-columns.self)
-          (known_by c.take_word.new.self) _ split c.loop-columns.invariant.course
+      course = item_goes c.args.body.card (stage_of c.loop-columns.self)
+          (stage_of c.take_word.new.self) _ split c.loop-columns.invariant.course
           c.in_ok-take_word-in-Word.ensures;
       left = omega (arith, c.in-Word.ensures.shorter, c.loop-columns.invariant.left);
     }

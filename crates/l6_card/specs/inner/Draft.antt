@@ -1,4 +1,4 @@
--- Drafts: a draft is what the items of a statement so far make of it.
+-- Drafts: a draft is what the items of a statement so far make of it, as a reader takes them.
 use Rattle.std.specs.Prelude.{ℕ, Bool, true, false, List, [], ◌∷◌, ◌++◌, length, nat_lt, Option, Some, None, Result, Ok, Err, if◌then◌else◌}
 use Rattle.l6_prog.specs.Numerals.{most_tests, most_operations}
 use Rattle.l6_prog.specs.declared.condition.Cond.{Cond}
@@ -6,7 +6,7 @@ use Rattle.l6_prog.specs.declared.condition.Cond.TheVariants.{Always, If, Not}
 use Rattle.l6_prog.specs.declared.condition.Test.{Test}
 use Rattle.l6_prog.specs.declared.operation.Op.{Op}
 use Rattle.l6_prog.specs.declared.exit.Exit.{Exit}
-use Rattle.l6_prog.specs.declared.exit.Exit.TheVariants.{Next, Label as ToLabel, Done, Fail}
+use Rattle.l6_prog.specs.declared.exit.Exit.TheVariants.{Next}
 use Rattle.l6_group.specs.declared.label.Label.{Label}
 use Rattle.l6_group.specs.Character.{spelled}
 use Rattle.l6_group.specs.Operation.{operation_of}
@@ -15,12 +15,20 @@ use Rattle.l6_group.specs.Word.{exit_from, condition_from, after_then}
 use Rattle.l6_card.specs.declared.cards.Placed.{Placed}
 use Rattle.l6_card.specs.declared.cards.PlacedLabel.{PlacedLabel}
 use Rattle.l6_card.specs.declared.span.Span.{Span}
-use Rattle.l6_card.specs.declared.draft.Phase.{Phase}
-use Rattle.l6_card.specs.declared.draft.Phase.TheVariants.{New, Worded, Tested, Open, Closed}
 use Rattle.l6_card.specs.DeckFault.{DeckFault, form, limit}
 use Rattle.l6_card.specs.Spans.{group_span}
-use Rattle.l6_card.specs.Items.{Item, group, word}
-use Rattle.l6_card.specs.Statement.{WrittenParts}
+use Rattle.l6_card.specs.Items.{Item, group, word, PlacedItem}
+use Rattle.l6_card.specs.Statement.{WrittenParts, placed_exit}
+
+-- how far the items of a statement have come: there is none; a word, which is this condition where
+-- a group follows, and else an exit; a condition and its tests, and THEN must follow; operations
+-- may follow, and an exit; the exit stands, and nothing may follow
+pub data Phase : Type 0 where
+  New : Phase
+  Worded : Cond → Phase
+  Tested : Phase
+  Open : Phase
+  Closed : Phase
 
 -- how far the items of a statement have come, and what they make of it
 pub record Draft : Type 0 where
@@ -52,13 +60,6 @@ statement_from label draft =
       operations = draft.operations;
       exit = draft.exit;
     }
-
--- an exit that stands on this card
-abbrev pub placed_exit : ℕ → Exit Label → Exit PlacedLabel
-placed_exit card Next = Next
-placed_exit card (ToLabel label) = ToLabel (record { label = label; card = card })
-placed_exit card Done = Done
-placed_exit card Fail = Fail
 
 -- the draft with an operation on this card, at this span, if there is one and room for it
 abbrev pub with_operation : ℕ → Span → Draft → Option (Op Label) → Result Draft DeckFault
@@ -149,3 +150,14 @@ with_item card draft (group offset columns) =
     with_group_in draft.phase card (group_span offset columns) draft columns
 with_item card draft (word columns) = with_characters card draft (spelled columns)
 with_item card draft _ = Err (form card)
+
+-- the draft after an item, if it stands
+abbrev pub draft_then : Result Draft DeckFault → (Draft → Option Draft) → Option Draft
+draft_then (Ok draft) step = step draft
+draft_then (Err objection) step = None
+
+-- the draft that items make of one, if each stands
+abbrev pub draft_of : Draft → List PlacedItem → Option Draft
+draft_of draft [] = Some draft
+draft_of draft (i ∷ items) =
+    draft_then (with_item i.card draft i.what) (λ next. draft_of next items)

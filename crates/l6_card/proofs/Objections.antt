@@ -1,0 +1,333 @@
+-- What an item objects shows in the view of the draft and the item.
+use Rattle.std.proofs.Common.{◌≡◌, ℕ, ◌+◌, ◌≤◌, List, [], ◌∷◌, length, Bool, true, false, cond, ltb, leb, eqb, Option, Some, None, Ok, Err, refl, sym, ap, ◌∙◌, arith}
+use Rattle.std.specs.Prelude.{◌&&◌, not, if◌then◌else◌}
+use Rattle.std.specs.Option.{is_some}
+use Rattle.std.proofs.lemmas.Bool.{ltb-true, eqb-true, le-leb, lt-ltb, ltb-false, lt-leb, and_parts}
+use Rattle.l6_prog.specs.Numerals.{most_tests, most_operations}
+use Rattle.l6_prog.specs.Program.{may_have}
+use Rattle.l6_prog.specs.declared.condition.Cond.{Cond}
+use Rattle.l6_prog.specs.declared.condition.Cond.TheVariants.{Always, If, Not, IfAll, IfAny, IfNone, IfNotAll}
+use Rattle.l6_prog.specs.declared.condition.Test.{Test}
+use Rattle.l6_prog.specs.declared.operation.Op.{Op}
+use Rattle.l6_prog.specs.declared.exit.Exit.{Exit}
+use Rattle.l6_group.specs.declared.label.Label.{Label}
+use Rattle.l6_group.specs.Character.{spelled}
+use Rattle.l6_group.specs.Operation.{operation_of}
+use Rattle.l6_group.specs.Test.{test_of}
+use Rattle.l6_group.specs.Word.{condition_from, exit_from, after_then}
+use Rattle.l6_card.specs.declared.span.Span.{Span}
+use Rattle.l6_card.specs.Spans.{group_span}
+use Rattle.l6_card.specs.DeckFault.{DeckFault, form, limit}
+use Rattle.l6_card.specs.Items.{Item, group, word, unclosed, unopened, PlacedItem, item_on}
+use Rattle.l6_card.specs.Fault.{fault_in}
+use Rattle.l6_card.specs.Form.{condition_in, then_in, is_operation, is_test, is_exit, behind_then}
+use Rattle.l6_card.specs.inner.Draft.{Draft, Phase, New, Worded, Tested, Open, Closed, phase_of, is_whole, is_whole_in, with_operation, with_test, with_further_test, with_placed, with_rest, with_word_in, with_group_in, with_item}
+use Rattle.l6_card.proofs.Fitness.{IsSound, IsFreshIn, is_sound_in, worded_fits, tested_always}
+use Rattle.l6_card.proofs.Spellings.{behind_then_spelled, condition_is_exit}
+use Rattle.l6_card.proofs.Forms.{View, view_of, plain_view, joined_view, tested_view, view_from, unconditional, open_operation, open_exit, one_more_test, no_more_tests, then_leads}
+use Rattle.l6_card.proofs.Viewing.{view, none_so_far, first_seen}
+
+-- what an item on this card objects whose items have this view
+abbrev pub objection_of : ℕ → View → Option DeckFault
+objection_of card seen =
+    if not seen.standing then Some (form card)
+    else if not (leb seen.tests most_tests && leb seen.operations most_operations) then Some
+    (limit card)
+    else None
+
+-- a view of items that stand, within the limits
+fine : (card n m : ℕ) (whole : Bool) → n ≤ most_tests → m ≤ most_operations →
+    objection_of card (record { whole = whole; standing = true; tests = n; operations = m }) ≡ None
+fine card n m whole tests operations =
+    rw (le-leb n most_tests tests, le-leb m most_operations operations) refl
+
+-- one more, where there is room for it or not
+room_for_operation : (room : Bool) (card n m : ℕ) (whole : Bool) (draft : Draft) →
+    ltb m most_operations ≡ room → n ≤ most_tests →
+    fault_in (cond room (Ok draft) (Err (limit card)))
+    ≡ objection_of card
+    (record { whole = whole; standing = true; tests = n; operations = m + 1 + 0 })
+room_for_operation true card n m whole draft is_room tests =
+    let more = ltb-true m most_operations is_room in
+    sym (fine card n (m + 1 + 0) whole tests (omega arith))
+room_for_operation false card n m whole draft is_room tests =
+    let most = ltb-false m most_operations is_room in
+    rw (le-leb n most_tests tests, lt-leb (m + 1 + 0) most_operations (omega arith)) refl
+
+room_for_test : (room : Bool) (card n : ℕ) (whole : Bool) (draft : Draft) →
+    ltb n most_tests ≡ room →
+    fault_in (cond room (Ok draft) (Err (limit card)))
+    ≡ objection_of card
+    (record { whole = whole; standing = true; tests = n + 1 + 0; operations = 0 })
+room_for_test true card n whole draft is_room =
+    let more = ltb-true n most_tests is_room in
+    sym (fine card (n + 1 + 0) 0 whole (omega arith) (omega arith))
+room_for_test false card n whole draft is_room =
+    let most = ltb-false n most_tests is_room in
+    rw (lt-leb (n + 1 + 0) most_tests (omega arith)) refl
+
+-- an item that must be an operation, behind operations
+operation_objects : (i : PlacedItem) (card : ℕ) (span : Span) (draft : Draft)
+    (found : Option (Op Label)) →
+    is_operation i ≡ is_some found → is_exit i ≡ false → length draft.tests ≤ most_tests →
+    fault_in (with_operation card span draft found)
+    ≡ objection_of card (plain_view (length draft.tests) (length draft.operations) (i ∷ []))
+operation_objects i card span draft None is_no is_none tests = rw (is_no, is_none) refl
+operation_objects i card span draft (Some operation) is_one is_none tests =
+    room_for_operation (ltb (length draft.operations) most_operations) card (length draft.tests)
+    (length draft.operations) true _ refl tests
+    ∙ ap (objection_of card)
+    (sym (open_operation i (length draft.tests) (length draft.operations) [] is_one))
+
+-- an item that must be an exit, behind operations
+exit_objects : (i : PlacedItem) (card n m : ℕ) (draft : Draft) (phase : Phase)
+    (found : Option (Exit Label)) →
+    is_operation i ≡ false → is_exit i ≡ is_some found → n ≤ most_tests → m ≤ most_operations →
+    fault_in (with_placed card draft phase found) ≡ objection_of card (plain_view n m (i ∷ []))
+exit_objects i card n m draft phase None is_no is_none tests operations =
+    rw (is_no, is_none) refl
+exit_objects i card n m draft phase (Some given) is_no is_one tests operations =
+    sym (fine card n m true tests operations)
+    ∙ ap (objection_of card) (sym (open_exit i n m [] is_no is_one))
+
+-- an item that is no test, and no THEN
+no_test_objects : (i : PlacedItem) (card n : ℕ) (c : Cond) →
+    is_test i ≡ false → then_in i.what ≡ None →
+    Some (form card) ≡ objection_of card (tested_view c n (i ∷ []))
+no_test_objects i card n c is_no no_then =
+    sym (ap (objection_of card) (no_more_tests i c n [] is_no)
+    ∙ rw no_then refl)
+
+test_objects : (i : PlacedItem) (card : ℕ) (span : Span) (draft : Draft) (c : Cond)
+    (found : Option Test) →
+    is_test i ≡ is_some found → then_in i.what ≡ None →
+    may_have c (length draft.tests + 1) ≡ true →
+    fault_in (with_test card span draft c found)
+    ≡ objection_of card (tested_view c (length draft.tests) (i ∷ []))
+test_objects i card span draft c None is_no no_then fits =
+    no_test_objects i card (length draft.tests) c is_no no_then
+test_objects i card span draft c (Some test) is_one no_then fits =
+    let n = length draft.tests in
+    let count : n + 1 + 0 ≡ n + 1 = omega arith in
+    let all : may_have c (n + 1 + 0) ≡ true = ap (may_have c) count ∙ fits in
+    room_for_test (ltb n most_tests) card n false _ refl
+    ∙ ap (λ b. objection_of card
+    (record { whole = false; standing = b; tests = n + 1 + 0; operations = 0 })) (sym all)
+    ∙ ap (objection_of card) (sym (one_more_test i c n [] is_one))
+
+-- a test that the condition does not have any more
+spare_test_objects : (i : PlacedItem) (card n : ℕ) (c : Cond) (found : Option Test) →
+    is_test i ≡ is_some found → then_in i.what ≡ None → may_have c (n + 1) ≡ false →
+    Some (form card) ≡ objection_of card (tested_view c n (i ∷ []))
+spare_test_objects i card n c None is_no no_then many = no_test_objects i card n c is_no no_then
+spare_test_objects i card n c (Some test) is_one no_then many =
+    let count : n + 1 + 0 ≡ n + 1 = omega arith in
+    let none : may_have c (n + 1 + 0) ≡ false = ap (may_have c) count ∙ many in
+    ap (λ b. objection_of card
+    (record { whole = false; standing = b; tests = n + 1 + 0; operations = 0 })) (sym none)
+    ∙ ap (objection_of card) (sym (one_more_test i c n [] is_one))
+
+one_test : (n : ℕ) → (ltb 0 n && eqb n 1) ≡ true → eqb (n + 1) 1 ≡ false
+one_test n sound =
+    let one = eqb-true n 1 (and_parts (ltb 0 n) (eqb n 1) sound).1 in
+    rw one refl
+
+further_objects : (i : PlacedItem) (card : ℕ) (span : Span) (draft : Draft) (c : Cond)
+    (found : Option Test) →
+    is_test i ≡ is_some found → then_in i.what ≡ None →
+    is_sound_in Tested c (length draft.tests) ≡ true →
+    fault_in (with_further_test card span draft c found)
+    ≡ objection_of card (tested_view c (length draft.tests) (i ∷ []))
+further_objects i card span draft Always found same no_then sound =
+    absurd (tested_always (length draft.tests) sound)
+further_objects i card span draft If found same no_then sound =
+    spare_test_objects i card (length draft.tests) If found same no_then
+    (one_test (length draft.tests) sound)
+further_objects i card span draft Not found same no_then sound =
+    spare_test_objects i card (length draft.tests) Not found same no_then
+    (one_test (length draft.tests) sound)
+further_objects i card span draft IfAll found same no_then sound =
+    test_objects i card span draft IfAll found same no_then
+    (lt-ltb 0 (length draft.tests + 1) (omega arith))
+further_objects i card span draft IfAny found same no_then sound =
+    test_objects i card span draft IfAny found same no_then
+    (lt-ltb 0 (length draft.tests + 1) (omega arith))
+further_objects i card span draft IfNone found same no_then sound =
+    test_objects i card span draft IfNone found same no_then
+    (lt-ltb 0 (length draft.tests + 1) (omega arith))
+further_objects i card span draft IfNotAll found same no_then sound =
+    test_objects i card span draft IfNotAll found same no_then
+    (lt-ltb 0 (length draft.tests + 1) (omega arith))
+
+group_objects : (phase : Phase) (card offset : ℕ) (draft : Draft) (columns : List ℕ) →
+    IsSound draft →
+    is_sound_in phase draft.condition (length draft.tests) ≡ true →
+    IsFreshIn phase (length draft.operations) →
+    fault_in (with_group_in phase card (group_span offset columns) draft columns)
+    ≡ objection_of card
+    (view_from phase draft.condition (length draft.tests) (length draft.operations)
+    (item_on card (group offset columns) ∷ []))
+group_objects New card offset draft columns whole sound fresh =
+    let i = item_on card (group offset columns) in
+    let none = none_so_far draft.condition (length draft.tests) sound in
+    operation_objects i card (group_span offset columns) draft (operation_of columns) refl refl
+    whole.tests
+    ∙ ap (λ n. objection_of card (plain_view n (length draft.operations) (i ∷ []))) none
+    ∙ ap (λ m. objection_of card (plain_view 0 m (i ∷ []))) fresh
+    ∙ ap (objection_of card) (sym (unconditional i [] refl))
+group_objects Open card offset draft columns whole sound fresh =
+    operation_objects (item_on card (group offset columns)) card (group_span offset columns) draft
+    (operation_of columns) refl refl
+    whole.tests
+group_objects (Worded w) card offset draft columns whole sound fresh =
+    test_objects (item_on card (group offset columns)) card (group_span offset columns) draft w
+    (test_of columns) refl refl
+    (worded_fits w draft.condition (length draft.tests) sound)
+group_objects Tested card offset draft columns whole sound fresh =
+    further_objects (item_on card (group offset columns)) card (group_span offset columns) draft
+    draft.condition (test_of columns)
+    refl refl sound
+group_objects Closed card offset draft columns whole sound fresh = refl
+
+-- a first word
+open_after_word : (found : Option Cond) (card : ℕ) (c : Cond) →
+    None ≡ objection_of card (view_from (phase_of found) c 0 0 [])
+open_after_word None card c = refl
+open_after_word (Some w) card c = refl
+
+first_objects : (i : PlacedItem) (card : ℕ) (draft : Draft) (found : Option Cond)
+    (given : Option (Exit Label)) →
+    condition_in i.what ≡ found → is_operation i ≡ false → is_exit i ≡ is_some given →
+    ((c : Cond) → found ≡ Some c → is_some given ≡ true) →
+    fault_in (with_placed card draft (phase_of found) given)
+    ≡ objection_of card (view_of (i ∷ []))
+first_objects i card draft None None is_found is_no is_one exits =
+    exit_objects i card 0 0 draft Closed None is_no is_one (omega arith) (omega arith)
+    ∙ ap (objection_of card) (sym (unconditional i [] is_found))
+first_objects i card draft (Some c) None is_found is_no is_one exits =
+    let so = exits c refl in
+    absurd (cc)
+first_objects i card draft found (Some given) is_found is_no is_one exits =
+    open_after_word found card draft.condition
+    ∙ ap (objection_of card) (sym (first_seen i found draft.condition [] is_found is_no is_one))
+
+-- what stands behind THEN in the same word
+rest_objects : (card : ℕ) (draft : Draft) (columns : List ℕ) (found : Option (List ℕ)) →
+    after_then (spelled columns) ≡ found → length draft.tests ≤ most_tests →
+    may_have draft.condition (length draft.tests) ≡ true →
+    fault_in (with_rest card draft found)
+    ≡ objection_of card
+    (tested_view draft.condition (length draft.tests) (item_on card (word columns) ∷ []))
+rest_objects card draft columns None is_found tests fits =
+    no_test_objects (item_on card (word columns)) card (length draft.tests) draft.condition refl
+    is_found
+rest_objects card draft columns (Some []) is_found tests fits =
+    sym (fine card (length draft.tests) (0 + 0) true tests (omega arith))
+    ∙ ap (objection_of card)
+    (sym (then_leads (item_on card (word columns)) draft.condition (length draft.tests) [] [] refl
+    is_found fits))
+rest_objects card draft columns (Some (x ∷ xs)) is_found tests fits =
+    let again = behind_then_spelled columns (x ∷ xs) is_found in
+    exit_objects (item_on card (word (x ∷ xs))) card (length draft.tests) 0 draft Closed
+    (exit_from (x ∷ xs)) refl (ap (λ cs. is_some (exit_from cs)) again) tests (omega arith)
+    ∙ ap (objection_of card)
+    (sym (then_leads (item_on card (word columns)) draft.condition (length draft.tests) (x ∷ xs) []
+    refl is_found fits))
+
+-- a condition word without a test does not stand with THEN
+pub wants_some : (w : Cond) → may_have w 1 ≡ true → may_have w 0 ≡ false
+wants_some Always wants = absurd (cc)
+wants_some If wants = refl
+wants_some Not wants = refl
+wants_some IfAll wants = refl
+wants_some IfAny wants = refl
+wants_some IfNone wants = refl
+wants_some IfNotAll wants = refl
+
+worded_none : (w c : Cond) (n : ℕ) → is_sound_in (Worded w) c n ≡ true → may_have w n ≡ false
+worded_none w Always n sound =
+    let parts = and_parts (eqb n 0) (may_have w 1) sound in
+    ap (may_have w) (eqb-true n 0 parts.0) ∙ wants_some w parts.1
+worded_none w If n sound = absurd (cc)
+worded_none w Not n sound = absurd (cc)
+worded_none w IfAll n sound = absurd (cc)
+worded_none w IfAny n sound = absurd (cc)
+worded_none w IfNone n sound = absurd (cc)
+worded_none w IfNotAll n sound = absurd (cc)
+
+joined_objects : (card n : ℕ) (behind : Option (List PlacedItem)) →
+    Some (form card) ≡ objection_of card (joined_view false n behind)
+joined_objects card n None = refl
+joined_objects card n (Some behind) = refl
+
+word_objects : (phase : Phase) (card : ℕ) (draft : Draft) (columns : List ℕ) →
+    IsSound draft →
+    is_sound_in phase draft.condition (length draft.tests) ≡ true →
+    fault_in (with_word_in phase card draft (spelled columns))
+    ≡ objection_of card
+    (view_from phase draft.condition (length draft.tests) (length draft.operations)
+    (item_on card (word columns) ∷ []))
+word_objects New card draft columns whole sound =
+    first_objects (item_on card (word columns)) card draft (condition_from (spelled columns))
+    (exit_from (spelled columns)) refl refl refl
+    (λ c found. condition_is_exit (spelled columns) c found)
+word_objects Open card draft columns whole sound =
+    exit_objects (item_on card (word columns)) card (length draft.tests) (length draft.operations)
+    draft Closed (exit_from (spelled columns)) refl refl whole.tests whole.operations
+word_objects Tested card draft columns whole sound =
+    let parts =
+    and_parts (ltb 0 (length draft.tests)) (may_have draft.condition (length draft.tests)) sound in
+    rest_objects card draft columns (after_then (spelled columns)) refl whole.tests parts.1
+word_objects (Worded w) card draft columns whole sound =
+    let i = item_on card (word columns) in
+    let n = length draft.tests in
+    joined_objects card n (behind_then (i ∷ []))
+    ∙ ap (λ b. objection_of card (joined_view b n (behind_then (i ∷ []))))
+    (sym (worded_none w draft.condition n sound))
+    ∙ ap (objection_of card) (sym (no_more_tests i w n [] refl))
+word_objects Closed card draft columns whole sound = refl
+
+-- a parenthesis without its partner has no place anywhere
+unclosed_objects : (phase : Phase) (card n m : ℕ) (c : Cond) →
+    Some (form card) ≡ objection_of card (view_from phase c n m (item_on card unclosed ∷ []))
+unclosed_objects New card n m c = refl
+unclosed_objects (Worded w) card n m c = refl
+unclosed_objects Tested card n m c = refl
+unclosed_objects Open card n m c = refl
+unclosed_objects Closed card n m c = refl
+
+unopened_objects : (phase : Phase) (card n m : ℕ) (c : Cond) (columns : List ℕ) →
+    Some (form card)
+    ≡ objection_of card (view_from phase c n m (item_on card (unopened columns) ∷ []))
+unopened_objects New card n m c columns = refl
+unopened_objects (Worded w) card n m c columns = refl
+unopened_objects Tested card n m c columns = refl
+unopened_objects Open card n m c columns = refl
+unopened_objects Closed card n m c columns = refl
+
+-- an item objects what the view of the draft and the item says
+pub item_objects : (card : ℕ) (draft : Draft) (i : Item) → IsSound draft →
+    fault_in (with_item card draft i) ≡ objection_of card (view draft (item_on card i ∷ []))
+item_objects card draft (group offset columns) sound =
+    group_objects draft.phase card offset draft columns sound sound.condition sound.fresh
+item_objects card draft (word columns) sound =
+    word_objects draft.phase card draft columns sound sound.condition
+item_objects card draft unclosed sound =
+    unclosed_objects draft.phase card (length draft.tests) (length draft.operations)
+    draft.condition
+item_objects card draft (unopened columns) sound =
+    unopened_objects draft.phase card (length draft.tests) (length draft.operations)
+    draft.condition columns
+
+-- items are whole exactly if their draft is
+whole_in : (phase : Phase) (c : Cond) (n m : ℕ) →
+    (view_from phase c n m []).whole ≡ is_whole_in phase
+whole_in New c n m = refl
+whole_in (Worded w) c n m = refl
+whole_in Tested c n m = refl
+whole_in Open c n m = refl
+whole_in Closed c n m = refl
+
+pub whole_seen : (draft : Draft) → (view draft []).whole ≡ is_whole draft
+whole_seen draft =
+    whole_in draft.phase draft.condition (length draft.tests) (length draft.operations)

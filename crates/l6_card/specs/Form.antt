@@ -1,0 +1,120 @@
+-- The forms in which the items of a statement stand:
+-- `[condition test.. THEN] operation.. [exit]`.
+use Rattle.std.specs.Prelude.{ℕ, ◌+◌, Bool, true, false, ◌&&◌, ◌||◌, List, [], ◌∷◌, ◌++◌, nat_le, Option, Some, None, if◌then◌else◌}
+use Rattle.std.specs.List.{list_all}
+use Rattle.std.specs.Option.{is_some, option_map, unwrap_or}
+use Rattle.l6_prog.specs.Numerals.{most_tests, most_operations}
+use Rattle.l6_prog.specs.Program.{may_have}
+use Rattle.l6_prog.specs.declared.condition.Cond.{Cond}
+use Rattle.l6_prog.specs.declared.condition.Test.{Test}
+use Rattle.l6_prog.specs.declared.operation.Op.{Op}
+use Rattle.l6_prog.specs.declared.exit.Exit.{Exit}
+use Rattle.l6_group.specs.declared.label.Label.{Label}
+use Rattle.l6_group.specs.Character.{spelled}
+use Rattle.l6_group.specs.Operation.{operation_of}
+use Rattle.l6_group.specs.Test.{test_of}
+use Rattle.l6_group.specs.Word.{exit_from, condition_from, after_then}
+use Rattle.l6_card.specs.Items.{Item, group, word, PlacedItem, item_on}
+
+-- what an item spells: a group may be an operation and a test, a word an exit and a condition
+abbrev pub operation_in : Item → Option (Op Label)
+operation_in (group offset columns) = operation_of columns
+operation_in _ = None
+
+abbrev pub test_in : Item → Option Test
+test_in (group offset columns) = test_of columns
+test_in _ = None
+
+abbrev pub exit_in : Item → Option (Exit Label)
+exit_in (word columns) = exit_from (spelled columns)
+exit_in _ = None
+
+abbrev pub condition_in : Item → Option Cond
+condition_in (word columns) = condition_from (spelled columns)
+condition_in _ = None
+
+-- the characters behind the THEN that a word begins with
+abbrev pub then_in : Item → Option (List ℕ)
+then_in (word columns) = after_then (spelled columns)
+then_in _ = None
+
+abbrev pub is_operation : PlacedItem → Bool
+is_operation i = is_some (operation_in i.what)
+
+abbrev pub is_test : PlacedItem → Bool
+is_test i = is_some (test_in i.what)
+
+abbrev pub is_exit : PlacedItem → Bool
+is_exit i = is_some (exit_in i.what)
+
+-- operations, also none, and then at most one exit
+abbrev pub are_operations_and_exit : List PlacedItem → Bool
+are_operations_and_exit [] = true
+are_operations_and_exit (i ∷ []) = is_operation i || is_exit i
+are_operations_and_exit (i ∷ items) = is_operation i && are_operations_and_exit items
+
+-- the characters that stand behind THEN in the same word are a word of their own, if there are any
+abbrev pub word_on : ℕ → List ℕ → List PlacedItem
+word_on card [] = []
+word_on card characters = item_on card (word characters) ∷ []
+
+-- what stands behind the THEN that items begin with; `THENL` is THEN and the word `L`
+abbrev pub behind_then : List PlacedItem → Option (List PlacedItem)
+behind_then [] = None
+behind_then (i ∷ items) =
+    option_map (λ characters. word_on i.card characters ++ items) (then_in i.what)
+
+-- how many tests items begin with, and what stands behind those
+abbrev pub count_tests : List PlacedItem → ℕ
+count_tests [] = 0
+count_tests (i ∷ items) = if is_test i then count_tests items + 1 else 0
+
+abbrev pub behind_tests : List PlacedItem → List PlacedItem
+behind_tests [] = []
+behind_tests (i ∷ items) = if is_test i then behind_tests items else i ∷ items
+
+-- there is a condition, which may have so many tests
+abbrev pub wants : Option Cond → ℕ → Bool
+wants None tests = false
+wants (Some condition) tests = may_have condition tests
+
+-- the item is a condition word, and it may have as many tests as stand behind it
+abbrev pub has_its_tests : PlacedItem → List PlacedItem → Bool
+has_its_tests i items = wants (condition_in i.what) (count_tests items)
+
+-- what is left of the items without the condition, its tests and the THEN that they may begin with
+abbrev pub without_condition : List PlacedItem → List PlacedItem
+without_condition [] = []
+without_condition (i ∷ items) =
+    if has_its_tests i items then unwrap_or (behind_then (behind_tests items)) (i ∷ items)
+    else i ∷ items
+
+-- the items are a whole statement: without a condition they are operations and an exit. A condition
+-- word alone is an exit, to the label of that name.
+abbrev pub are_whole : List PlacedItem → Bool
+are_whole items = are_operations_and_exit (without_condition items)
+
+-- the items are a condition word and its tests, which THEN has to follow
+abbrev pub are_condition_and_tests : List PlacedItem → Bool
+are_condition_and_tests [] = false
+are_condition_and_tests (i ∷ items) = has_its_tests i items && list_all is_test items
+
+-- the items stand: they are a whole statement, or want a THEN to become one
+abbrev pub stand : List PlacedItem → Bool
+stand items = are_whole items || are_condition_and_tests items
+
+-- how many tests stand among items that stand: those behind a condition word
+abbrev pub tests_among : List PlacedItem → ℕ
+tests_among [] = 0
+tests_among (i ∷ items) = if is_some (condition_in i.what) then count_tests items else 0
+
+-- how many operations items begin with
+abbrev pub count_operations : List PlacedItem → ℕ
+count_operations [] = 0
+count_operations (i ∷ items) = if is_operation i then count_operations items + 1 else 0
+
+-- there are no more tests, and no more operations, than a statement may have
+abbrev pub are_within_limits : List PlacedItem → Bool
+are_within_limits items =
+    nat_le (tests_among items) most_tests
+    && nat_le (count_operations (without_condition items)) most_operations

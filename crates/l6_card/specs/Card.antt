@@ -57,8 +57,8 @@ card_of number offset (mark ∷ columns) =
     })
     else unknown number
 
--- the cards of lines, of which the first has this number and this offset, and each ends with a line
--- feed
+-- the cards of lines, of which the first has this number and this offset; a line and its line feed
+-- lie between one offset and the next
 abbrev pub cards_from : ℕ → ℕ → List (List ℕ) → List Card
 cards_from number offset [] = []
 cards_from number offset (line ∷ lines) =

@@ -53,13 +53,25 @@ impl Model for Written {
 
     ghost Value = { WrittenParts };
 
-    ghost view = { λ w. record { label = w.parts.label; condition = w.parts.condition; tests = w.parts.tests.items; operations = w.parts.operations.items; exit = w.parts.exit } };
+    ghost view = { λ w. record {
+      label = w.parts.label;
+      condition = w.parts.condition;
+      tests = w.parts.tests.items;
+      operations = w.parts.operations.items;
+      exit = w.parts.exit;
+    } };
 }
 
 impl Written {
     /// The statement of these parts.
     pub(crate) fn new(parts: Parts) -> Self
-        ensures { result ≡ record { label = parts.label; condition = parts.condition; tests = parts.tests.items; operations = parts.operations.items; exit = parts.exit } }
+        ensures { result ≡ record {
+          label = parts.label;
+          condition = parts.condition;
+          tests = parts.tests.items;
+          operations = parts.operations.items;
+          exit = parts.exit;
+        } }
     {
         Written { parts }
     }

@@ -16,7 +16,8 @@ A case is a line of JSON:
                     such cases are alike but for how many steps are made and how much is printed
 
 Each character of a text is one byte. A text may be a list, in which [text, n] stands for n times
-that text.
+that text, and [text, m, n] for that text once for each number from m to n, which stands in five
+digits for each # of it.
 """
 import json
 import os
@@ -34,9 +35,14 @@ def text_of(value):
     """The bytes of a text of a case."""
     if isinstance(value, str):
         return value.encode("latin-1")
-    return b"".join(
-        text_of(part) if isinstance(part, str) else text_of(part[0]) * part[1] for part in value
-    )
+    return b"".join(text_of(part) if isinstance(part, str) else repeated(*part) for part in value)
+
+
+def repeated(text, first, last=None):
+    """A text so many times, or once for each number from the first to the last."""
+    if last is None:
+        return text_of(text) * first
+    return b"".join(text_of(text.replace("#", f"{n:05}")) for n in range(first, last + 1))
 
 
 def answer(stdout=b"", stderr=b"", status=0):

@@ -38,6 +38,7 @@ abbrev pub then_in : Item → Option (List ℕ)
 then_in (word columns) = after_then (spelled columns)
 then_in _ = None
 
+-- the item spells an operation, a test, an exit
 abbrev pub is_operation : PlacedItem → Bool
 is_operation i = is_some (operation_in i.what)
 
@@ -103,7 +104,7 @@ are_condition_and_tests (i ∷ items) = has_its_tests i items && list_all is_tes
 abbrev pub stand : List PlacedItem → Bool
 stand items = are_whole items || are_condition_and_tests items
 
--- how many tests stand among items that stand: those behind a condition word
+-- how many tests stand among items: those behind a condition word
 abbrev pub tests_among : List PlacedItem → ℕ
 tests_among [] = 0
 tests_among (i ∷ items) = if is_some (condition_in i.what) then count_tests items else 0

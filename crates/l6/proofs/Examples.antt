@@ -6,7 +6,7 @@ use Rattle.std.specs.Fmt.{digits}
 use Rattle.l6_store.specs.Blocks.{Blocks}
 use Rattle.l6_store.specs.Laws.{ScanChooses}
 use Rattle.l6_store.specs.Open.{Choice, FitsStore}
-use Rattle.l6_prog.specs.Numerals.{letter_count}
+use Rattle.l6_prog.specs.Numerals.{letter_count, name_count}
 use Rattle.l6_prog.specs.declared.operand.Operand.TheVariants.{Number}
 use Rattle.l6_prog.specs.declared.operation.Op.TheVariants.{Set, PrintDecimal}
 use Rattle.l6_prog.specs.declared.operation.Op.{Op}
@@ -88,8 +88,12 @@ world = world_under default_options five_program
 -- what bug A holds, the output, the statement, the action, the count and the ending make a state
 abbrev state_of : ℕ → List ℕ → ℕ → ℕ → ℕ → Option Halt → State
 state_of a output statement action count ending = record {
-  memory
-      = record { bugs = a ∷ replicate (letter_count - 1) 0; output = output; blocks = map.empty };
+  memory = record {
+    bugs = a ∷ replicate (letter_count - 1) 0;
+    definitions = replicate name_count None;
+    output = output;
+    blocks = map.empty;
+  };
   at = record { statement = statement; action = action };
   count = count;
   ending = ending;

@@ -19,7 +19,7 @@ use Rattle.l6_machine.specs.Row.{condition, deed_of, row}
 use Rattle.l6_machine.specs.Run.{IsRun}
 use Rattle.l6_machine.specs.State.{World, Setting, Memory, State, is_last}
 use Rattle.l6_machine.specs.Step.{action_behind, deed_at, next, outcome, statement_at}
-use Rattle.l6_machine.specs.Taking.{takes_block, takes_no_block}
+use Rattle.l6_machine.specs.Taking.{takes_block, takes_no_block, takes_none}
 use Rattle.l6_machine.proofs.Numbered.{moment_after-goes_on}
 
 -- what an operation does that takes no block
@@ -44,11 +44,7 @@ chosen_same setting choice choice' memory test last None false none = refl
 chosen_same setting choice choice' memory test last (Some op) false none =
     row_same op setting choice choice' memory (none op refl)
 
--- no operation of a statement takes a block
-abbrev takes_none : Parts → Bool
-takes_none statement = list_all (λ operation. not (takes_block operation)) statement.operations
-
--- nor does one of the statement at a number, also where there is none
+-- no operation of the statement at a number takes a block, also where there is none
 none_at : (program : List Parts) (number : ℕ) → takes_no_block program ≡ true →
     takes_none (get_or program number plain_done) ≡ true
 none_at program number none =

@@ -11,8 +11,9 @@ takes_block (Get chain size old label) = true
 takes_block (Duplicate chain block label) = true
 takes_block operation = false
 
--- no operation of the program does
+-- no operation of a statement does, and no operation of a program
+abbrev pub takes_none : Parts → Bool
+takes_none statement = list_all (λ operation. not (takes_block operation)) statement.operations
+
 abbrev pub takes_no_block : List Parts → Bool
-takes_no_block program =
-    list_all (λ statement. list_all (λ operation. not (takes_block operation)) statement.operations)
-    program
+takes_no_block program = list_all takes_none program

@@ -27,6 +27,7 @@ impl<S: Places> Registers<S> {
         ensures held { AreHeld S.rule self.new }
         ensures place { IfOk result (λ jump. IsPlace program.now (position_after jump at)) }
     {
+        // a look at a field, which tells the prover what is true of them all
         let _ = &self.limits;
         let statement = program.statement(at.statement);
         if at.action == 0 {

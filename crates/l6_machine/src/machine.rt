@@ -1,8 +1,8 @@
 //! The machine.
 
-ghost use Rattle.std.specs.Prelude.{◌≡◌, ◌≤◌, ◌<◌, ◌^◌, ◌+◌, ◌↔◌, true, false, IfOk, IfErr, OnOk, IsErrOf, slice_index, length, All, None, Some};
+ghost use Rattle.std.specs.Prelude.{◌≡◌, ◌≤◌, ◌<◌, ◌^◌, ◌+◌, ◌↔◌, true, false, IfOk, IfErr, OnOk, IsErrOf, slice_index, slice_index_or, length, All, None, Some};
 ghost use Rattle.l6_word.specs.Numerals.{word_bits};
-ghost use Rattle.l6_prog.specs.Numerals.{first_letter};
+ghost use Rattle.l6_prog.specs.Numerals.{first_letter, name_count};
 ghost use Rattle.l6_store.specs.Store.{fresh};
 ghost use Rattle.l6_machine.specs.Limits.{are_allowed};
 ghost use Rattle.l6_machine.specs.Moment.{first_moment, moment_after, EndsBy, IsNumbered};
@@ -21,7 +21,7 @@ use crate::registers::Registers;
 use crate::trap::Trap;
 use l6_prog::{Name, Program};
 use l6_store::Places;
-use l6_word::Word;
+use l6_word::{Window, Word};
 use std::alloc::{AllocError, Global};
 use std::marker::Model;
 use thiserror::Error;
@@ -188,6 +188,7 @@ impl<S: Places> Machine<S> {
     pub fn run(&mut self)
         ensures ends { EndsIn self.new.world self.new.moment.state }
         ensures by_rule { EndsBy S.rule self.new.world self.new.moment.state }
+        ensures numbered { IsNumbered S.rule self.new.world self.new.moment }
         ensures world { self.new.world ≡ self.old.world }
     {
         self.progress.run(&self.program, &mut self.registers);
@@ -199,6 +200,21 @@ impl<S: Places> Machine<S> {
         ensures { result ≡ slice_index self.now.moment.state.memory.bugs (index_of name) }
     {
         self.registers.bug(name)
+    }
+
+    /// What a field of this name is defined as, if it is.
+    pub fn definition(&self, name: Name) -> Option<Window>
+        ensures { result ≡ slice_index_or self.now.moment.state.memory.definitions name None }
+    {
+        self.definitions()[usize::from(name.number())]
+    }
+
+    /// What each name is defined as, if it is, by its number.
+    pub fn definitions(&self) -> &[Option<Window>]
+        ensures value { result.now ≡ self.now.moment.state.memory.definitions }
+        ensures count { length result.now ≡ name_count }
+    {
+        self.registers.definitions()
     }
 
     /// The store, as the run has left it.

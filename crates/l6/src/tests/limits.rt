@@ -1,7 +1,7 @@
 //! Limits of runs, just within and just past their ranges.
 
 use l6_machine::{Limits, Machine, MachineFault, ready};
-use l6_prog::{Program, Statement};
+use l6_prog::{NAMES, Name, Program, Statement};
 use l6_run::Options;
 use l6_store::{Places, ScanStore};
 use std::test::Fail;
@@ -23,6 +23,8 @@ fn limits_have_their_ranges(rt: HostRuntime) -> Result<(), Fail> {
         let machine = Machine::new(rt.alloc(), &program, &[], store, Limits { steps, output });
         if let Ok(machine) = &machine {
             assert_eq!(rt; machine.store().units(), 1);
+            assert_eq!(rt; machine.definitions().len(), usize::from(NAMES));
+            assert!(rt; machine.definition(Name::default()).is_none());
         }
         assert_eq!(rt; machine.err(), fault);
         for (units, is_allowed) in [(0, false), (1, true), (2_047, true), (2_048, false)] {

@@ -48,8 +48,8 @@ chosen_same setting choice choice' memory test last (Some op) false none =
 none_at : (program : List Parts) (number : ℕ) → takes_no_block program ≡ true →
     takes_none (get_or program number plain_done) ≡ true
 none_at program number none =
-    elim (cases_lt number (length program))
-    as (λ _. takes_none (get_or program number plain_done) ≡ true) [
+    elim (cases_lt number (length program)) as
+    (λ _. takes_none (get_or program number plain_done) ≡ true) [
       | inl within ↦ passes_at takes_none program number plain_done none within
       | inr past ↦ ap takes_none (get_or-eq_default program plain_done past)
     ]
@@ -84,8 +84,8 @@ run-numbered rule world state [] none run = (zero, run)
 run-numbered rule world state (old ∷ older) none run =
     let before = run-numbered rule world old older none run.1 in
     let moment = moment_at rule world before.0 in
-    let goes_on : is_last world moment.state ≡ false = ap (is_last world) (sym before.1)
-    ∙ run.0.goes_on in (
+    let goes_on : is_last world moment.state ≡ false =
+    ap (is_last world) (sym before.1) ∙ run.0.goes_on in (
       suc before.0,
       run.0.leads
           ∙ ap (next world run.0.choice) before.1

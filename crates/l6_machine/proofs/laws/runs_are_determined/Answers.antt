@@ -4,9 +4,8 @@ use Rattle.l6_machine.proofs.Taking.{ends-under_each_rule}
 use Rattle.l6_machine.proofs.laws.runs_are_determined.Goals as goal
 
 pub returns : goal.returns
-returns c =
-    record {
-      one_end = ends-in_one_state;
-      by_steps = rules-run_by_steps;
-      each_rule = ends-under_each_rule;
-    }
+returns c = record {
+  one_end = ends-in_one_state;
+  by_steps = rules-run_by_steps;
+  each_rule = ends-under_each_rule;
+}

@@ -19,15 +19,19 @@ returns-clause-moment g c =
 pub returns-clause-step : goal.returns-clause-step
 returns-clause-step g c =
     let new = moment_of c.step.new.registers c.step.new.self in
-    subst (λ (s : Standing). is_last s.world s.moment.state ≡ false →
-    Step s.world s.moment.state new.state) c.self.view_is
-    (steps_on g.S.Places.rule _ _ new c.self.invariant.ready c.self.invariant.are_held.chooses
-    c.step.ensures.moment)
+    let sound = c.self.invariant in
+    subst
+    (λ (s : Standing). is_last s.world s.moment.state ≡ false → Step s.world s.moment.state new.state)
+    c.self.view_is
+    (steps_on g.S.Places.rule _ _ new sound.ready sound.are_held.chooses c.step.ensures.moment)
 
 -- a trap changes the ending alone
 pub returns-clause-trapped : goal.returns-clause-trapped
 returns-clause-trapped g c =
     let new = moment_of c.step.new.registers c.step.new.self in
-    subst (λ (s : Standing). (trap : Trap) → s.moment.state.ending ≡ None →
-    c.step.result ≡ Trapped trap → new ≡ trapped_at s.moment trap) c.self.view_is
+    subst
+    (λ (s : Standing).
+    (trap : Trap) → s.moment.state.ending ≡ None → c.step.result ≡ Trapped trap →
+    new ≡ trapped_at s.moment trap)
+    c.self.view_is
     (traps_alone g.S.Places.rule _ _ new c.step.result c.step.ensures.moment c.step.ensures.answer)

@@ -1,7 +1,8 @@
 //! Drafts of statements, item by item.
 
-ghost use Rattle.std.specs.Prelude.{◌≡◌};
+ghost use Rattle.std.specs.Prelude.{◌≡◌, ◌+◌, ◌≤◌, length};
 ghost use Rattle.l6_group.specs.Word.{condition_from};
+ghost use Rattle.l6_card.specs.Numerals.{most_deck_bytes};
 ghost use Rattle.l6_card.specs.inner.Draft as spec;
 ghost use Rattle.l6_card.specs.Items.{group, word};
 ghost use Rattle.l6_card.specs.Statement.{placed_exit};
@@ -97,12 +98,14 @@ impl Draft {
         offset: usize,
         columns: &[u8],
     ) -> Result<(), CardFault>
+        requires { offset + length columns.now + 2 ≤ most_deck_bytes }
         ensures { let made = spec.with_item card (drafted self.old) (group offset columns.now) in
             Takes result (drafted self.new) made }
     {
+        // A deck is shorter than a `u32` can say.
         let span = Span {
-            offset,
-            length: columns.len() + 2,
+            offset: offset as u32,
+            length: columns.len() as u32 + 2,
         };
         match self.phase {
             Phase::New | Phase::Open => self.take_operation(card, span, operation_of(columns)),

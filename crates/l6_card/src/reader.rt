@@ -118,6 +118,7 @@ impl Reader {
     /// The card has a group, whose `(` has this offset in the deck, with these columns between its
     /// parentheses.
     fn take_group(&mut self, card: u32, offset: usize, columns: &[u8]) -> Result<(), CardFault>
+        requires { offset + length columns.now + 2 ≤ most_deck_bytes }
         ensures { let piece = item card (group offset columns.now) in
             Follows result (stage_of self.new) (after_piece (stage_of self.old) piece) }
     {

@@ -4,7 +4,7 @@
 #[derive(Clone, Copy, Debug, PartialEq, Eq)]
 pub struct Span {
     /// How many bytes of the deck stand before the `(`.
-    pub offset: usize,
+    pub offset: u32,
     /// How many bytes the group has, its parentheses included.
-    pub length: usize,
+    pub length: u32,
 }

@@ -5,7 +5,7 @@ use std::test::Fail;
 
 #[test]
 fn groups_have_their_spans(rt: HostRuntime) -> Result<(), Fail> {
-    let rows: [(&[u8], &[(usize, usize)]); 10] = [
+    let rows: [(&[u8], &[(u32, u32)]); 10] = [
         (b" (A,E,5)(A,PD)\n", &[(1, 7), (8, 6)]),
         (b" (A,E,1)\n+ (A,PD)\n", &[(1, 7), (11, 6)]),
         (b"* (PL)\n\n \n (PL)\n", &[(11, 4)]),

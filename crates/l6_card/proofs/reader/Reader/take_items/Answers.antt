@@ -17,6 +17,12 @@ overflow_sub-opening-in-Group-2 c =
     let one = c.in-Group.ensures.first (end - length c.loop-columns.rest.now) in
     omega (arith, one.ends, c.loop-columns.invariant.left)
 
+pub take_group-requires : goal.take_group-requires
+take_group-requires c =
+    let end = c.args.body.offset + length c.args.body.columns.now in
+    let one = c.in-Group.ensures.first (end - length c.loop-columns.rest.now) in
+    omega (arith, one.ends, c.loop-columns.invariant.left, c.requires)
+
 pub returns-in_err-take_group-in-Group : goal.returns-in_err-take_group-in-Group
 returns-in_err-take_group-in-Group c =
     let end = c.args.body.offset + length c.args.body.columns.now in

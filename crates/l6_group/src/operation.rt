@@ -7,8 +7,8 @@ use crate::cut::first_element;
 use crate::element::{chain_if_given, chain_of, field_of, name_of, nothing_given, operand_of};
 use crate::label::{Label, label_of};
 use crate::number::print_text_of;
-use crate::value::value_of;
 use crate::spelling::{Spelling, spelled};
+use crate::value::value_of;
 use l6_prog::{Chain, Op, Operand};
 
 /// How many characters the longest spelling has.

@@ -51,10 +51,14 @@ pub fn spelled<const ROOM: usize>(element: &[u8]) -> Option<Spelling<'_, ROOM>>
         MatchOption result (ROOM < length characters) (λ given. given ≡ characters) }
 {
     if stands_spelled(element) {
-        return Some(Spelling { characters: Characters::Standing(element) });
+        return Some(Spelling {
+            characters: Characters::Standing(element),
+        });
     }
     let characters = copied(element)?;
-    Some(Spelling { characters: Characters::Copied(characters) })
+    Some(Spelling {
+        characters: Characters::Copied(characters),
+    })
 }
 
 /// Whether an element has neither blanks nor small letters.

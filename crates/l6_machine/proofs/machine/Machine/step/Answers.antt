@@ -21,7 +21,8 @@ returns-clause-step g c =
     let new = moment_of c.step.new.registers c.step.new.self in
     let sound = c.self.invariant in
     subst
-    (λ (s : Standing). is_last s.world s.moment.state ≡ false → Step s.world s.moment.state new.state)
+    (λ (s : Standing). is_last s.world s.moment.state ≡ false →
+    Step s.world s.moment.state new.state)
     c.self.view_is
     (steps_on g.S.Places.rule _ _ new sound.ready sound.are_held.chooses c.step.ensures.moment)
 

@@ -10,7 +10,7 @@ use Rattle.l6_store.specs.Scan.{scan_rule}
 use Rattle.l6_machine.specs.Moment.{EndsBy}
 use Rattle.l6_machine.specs.Ready.{is_ready}
 use Rattle.l6_machine.specs.Run.{EndsIn}
-use Rattle.l6_machine.specs.State.{Setting, State, World}
+use Rattle.l6_machine.specs.State.{State, World}
 use Rattle.l6_run.specs.declared.ending.Ending.{Ending}
 use Rattle.l6_run.specs.declared.fault.Part.TheVariants.{Deck}
 use Rattle.l6_run.specs.declared.fault.RunFault.{RunFault}

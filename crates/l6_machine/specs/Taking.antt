@@ -11,9 +11,10 @@ takes_block (Get chain size old label) = true
 takes_block (Duplicate chain block label) = true
 takes_block operation = false
 
--- no operation of a statement does, and no operation of a program
+-- no operation of a statement does
 abbrev pub takes_none : Parts → Bool
 takes_none statement = list_all (λ operation. not (takes_block operation)) statement.operations
 
+-- nor does one of any statement of a program
 abbrev pub takes_no_block : List Parts → Bool
 takes_no_block program = list_all takes_none program

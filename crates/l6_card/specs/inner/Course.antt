@@ -26,8 +26,7 @@ first_stage =
       is_open = false;
       label = None;
       draft = new_draft;
-      card =
-          0;
+      card = 0;
       continuations = 0;
     }
 
@@ -49,8 +48,7 @@ when_over known =
       statements = statements_when_over known;
       is_open = false;
       label = None;
-      draft =
-          new_draft;
+      draft = new_draft;
     })
 
 -- a card begins a statement, where there is room for one

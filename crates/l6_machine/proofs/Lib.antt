@@ -5,3 +5,4 @@ pub mod Acting
 pub mod Holding
 pub mod Advancing
 pub mod Stepping
+mod Windows

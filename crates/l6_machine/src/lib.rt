@@ -10,6 +10,7 @@ mod locus;
 mod machine;
 mod position;
 mod progress;
+mod readable;
 mod readiness;
 mod registers;
 mod row;

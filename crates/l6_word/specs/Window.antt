@@ -1,5 +1,5 @@
 -- Windows: bits side by side in a word of a block.
-use Rattle.std.specs.Prelude.{ℕ, ◌+◌, ◌-◌, ◌*◌, ◌/◌, ◌%◌, ◌^◌, ◌<◌, ◌≤◌}
+use Rattle.std.specs.Prelude.{ℕ, ◌+◌, ◌-◌, ◌*◌, ◌/◌, ◌%◌, ◌^◌, Bool, ◌&&◌, nat_le, nat_lt}
 use Rattle.l6_word.specs.Numerals.{word_bits, unit_size}
 
 -- which word of a block, and the first and the last of the window's bits; bit 0 is the leftmost of
@@ -10,10 +10,10 @@ pub record Window : Type 0 where
   pub last : ℕ
 
 -- the largest block has that word, and a word has those bits, in this order
-pub record IsWindow (window : Window) : Type 0 where
-  pub in_block : window.word < unit_size
-  pub in_order : window.first ≤ window.last
-  pub in_word : window.last < word_bits
+abbrev pub is_window : Window → Bool
+is_window window =
+    nat_lt window.word unit_size && nat_le window.first window.last
+    && nat_lt window.last word_bits
 
 -- how many bits the window has
 abbrev pub width : Window → ℕ

@@ -1,8 +1,8 @@
 //! Windows, through which a word of a block is seen.
 
-ghost use Rattle.std.specs.Prelude.{◌≡◌, ◌+◌, ◌-◌, ◌<◌, ◌≤◌, ◌^◌, ◌↔◌, IsSome, IfSome};
+ghost use Rattle.std.specs.Prelude.{◌≡◌, ℕ, ◌+◌, ◌-◌, ◌%◌, ◌<◌, ◌≤◌, ◌^◌, ◌↔◌, IsSome, IfSome, IsTrue};
 ghost use Rattle.l6_word.specs.Numerals.{word_bits, unit_size};
-ghost use Rattle.l6_word.specs.Window.{IsWindow, width, right_of, take, put};
+ghost use Rattle.l6_word.specs.Window.{is_window, width, right_of, take, put};
 
 use crate::unit::UNIT_SIZE;
 use crate::word::Word;
@@ -22,11 +22,13 @@ impl Model for Window {
 
     ghost Value = { Bits };
 
-    ghost use Rattle.l6_word.specs.Window.{IsWindow};
+    ghost use Rattle.std.specs.Prelude.{IsTrue};
+    ghost use Rattle.l6_word.specs.Window.{is_window};
 
     ghost view = { λ w. record { word = w.word; first = w.first; last = w.last } };
 
-    ghost invariant = { λ w. IsWindow (record { word = w.word; first = w.first; last = w.last }) };
+    ghost invariant = { λ w.
+        IsTrue (is_window (record { word = w.word; first = w.first; last = w.last })) };
 
     ghost inverse = { λ b. record { word = b.word; first = b.first; last = b.last } };
 }
@@ -36,7 +38,7 @@ impl Window {
     /// 128 on), a word has no such bit (from 36 on), or the first bit comes after the last.
     pub fn new(word: u16, first: u8, last: u8) -> Option<Self>
         ensures valid { IsSome result
-            ↔ IsWindow (record { word = word; first = first; last = last }) }
+            ↔ IsTrue (is_window (record { word = word; first = first; last = last })) }
         ensures value { IfSome result
             (λ window. window ≡ record { word = word; first = first; last = last }) }
     {
@@ -87,9 +89,12 @@ impl Window {
         Word::from_value(word.get() >> self.shift() & self.mask())
     }
 
-    /// The word with the lowest bits of a value in the window. Its other bits stay.
+    /// The word with the lowest bits of a value in the window. Its other bits stay. As the window
+    /// has no more bits than a word, the value may be a number that was cut to a word.
     pub fn put(self, word: Word, value: Word) -> Word
-        ensures { result ≡ put self word value }
+        ensures value { result ≡ put self word value }
+        ensures cut { (number : ℕ) → value ≡ number % 2 ^ word_bits
+            → result ≡ put self word number }
     {
         let shift = self.shift();
         let mask = self.mask();

@@ -1,0 +1,74 @@
+//! Following chains.
+
+ghost use Rattle.std.specs.Prelude.{◌≡◌, ◌<◌, ◌≤◌, ◌^◌, length, option_map, slice_index_or, IfOk, IfSome, None};
+ghost use Rattle.std.specs.FinMap as map;
+ghost use Rattle.l6_word.specs.Numerals.{largest_level};
+ghost use Rattle.l6_store.specs.Blocks.{end_of};
+ghost use Rattle.l6_store.specs.Numerals.{most_units};
+ghost use Rattle.l6_machine.specs.State.{Memory};
+ghost use Rattle.l6_machine.specs.Locus.{content, field_at, locus, read};
+ghost use Rattle.l6_machine.specs.inner.Registers.{IsIn};
+
+use crate::locus::Locus;
+use crate::trap::Trap;
+use l6_prog::{Chain, Name, Operand};
+use l6_store::{Level, Place};
+use l6_word::{Window, Word};
+
+/// A memory that chains are followed through.
+pub(crate) trait Readable: Sized {
+    // The memory.
+    ghost memory: { Self → Memory };
+
+    /// What a field of this name is defined as, if it is.
+    fn definition(&self, name: Name) -> Option<Window>
+        ensures { result ≡ slice_index_or (memory self.now).definitions name None };
+
+    /// The level of the block that begins at the place of this number, if one does.
+    fn live(&self, pointer: Word) -> Option<Level>
+        ensures size { option_map (λ level. 2 ^ level) result
+            ≡ option_map length (map.get (memory self.now).blocks pointer) }
+        ensures level { IfSome result (λ level. level ≤ largest_level) }
+        ensures place { IfSome result (λ _. pointer < end_of most_units) };
+
+    /// What stands at a locus.
+    fn content(&self, locus: Locus) -> Word
+        requires { IsIn (memory self.now) locus }
+        ensures { result ≡ content (memory self.now) locus };
+
+    /// The field of this name in the block at a pointer.
+    fn field_at(&self, name: Name, pointer: Word) -> Result<Locus, Trap>
+        ensures value { result ≡ field_at (memory self.now) name pointer }
+        ensures locus { IfOk result (IsIn (memory self.now)) }
+    {
+        let window = self.definition(name).ok_or(Trap::UndefinedField)?;
+        let level = self.live(pointer).ok_or(Trap::NotABlock)?;
+        if window.word() < 1 << level {
+            Ok(Locus::Field(pointer.get() as Place, window))
+        } else {
+            Err(Trap::WordOutsideBlock)
+        }
+    }
+
+    /// What a chain leads to.
+    fn locate(&self, chain: &Chain) -> Result<Locus, Trap>
+        ensures value { result ≡ locus (memory self.now) chain.now }
+        ensures locus { IfOk result (IsIn (memory self.now)) }
+    {
+        let mut locus = Locus::Bug(chain.bug());
+        for name in &chain.names()[1..] {
+            locus = self.field_at(*name, self.content(locus))?;
+        }
+        Ok(locus)
+    }
+
+    /// What an operand reads as.
+    fn read(&self, operand: &Operand) -> Result<Word, Trap>
+        ensures { result ≡ read (memory self.now) operand.now }
+    {
+        match operand {
+            Operand::Chain(chain) => Ok(self.content(self.locate(chain)?)),
+            Operand::Number(word) => Ok(*word),
+        }
+    }
+}

@@ -6,3 +6,6 @@ pub mod Holding
 pub mod Advancing
 pub mod Stepping
 mod Windows
+mod Got
+mod Levels
+mod NewBlocks

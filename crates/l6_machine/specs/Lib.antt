@@ -5,6 +5,8 @@ pub mod Trapping
 pub mod State
 pub mod Ready
 pub mod Locus
+pub mod Deed
+pub mod Getting
 pub mod Row
 pub mod Step
 pub mod Run

@@ -2,6 +2,7 @@
 #![tactic(auto)]
 
 mod action;
+mod getting;
 mod halt;
 mod jump;
 mod laws;
@@ -15,6 +16,7 @@ mod readiness;
 mod registers;
 mod row;
 mod trap;
+mod upcoming;
 
 pub use halt::{Halt, StepResult};
 pub use jump::Jump;

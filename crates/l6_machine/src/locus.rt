@@ -12,3 +12,18 @@ pub enum Locus {
     /// A window of a word of the block that begins at this place.
     Field(Place, Window),
 }
+
+impl Locus {
+    ghost use Rattle.std.specs.Prelude.{◌≡◌};
+    ghost use Rattle.l6_machine.specs.Getting.{lies_in};
+
+    /// Whether this is a field of the block that begins at a place.
+    pub(crate) fn lies_in(self, place: Place) -> bool
+        ensures { result ≡ lies_in place self }
+    {
+        match self {
+            Locus::Bug(_) => false,
+            Locus::Field(start, _) => start == place,
+        }
+    }
+}

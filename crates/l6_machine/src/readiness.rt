@@ -52,7 +52,14 @@ fn has_operation(operation: &Op) -> bool
     ensures { result ≡ not (waits_operation operation.now) }
 {
     match operation {
-        Op::Set(..) | Op::Add(..) | Op::Define(..) | Op::PrintDecimal(_) | Op::PrintLine => true,
+        Op::Set(..)
+        | Op::Add(..)
+        | Op::Define(..)
+        | Op::Get(..)
+        | Op::Duplicate(..)
+        | Op::Free(..)
+        | Op::PrintDecimal(_)
+        | Op::PrintLine => true,
         _ => false,
     }
 }

@@ -1,4 +1,5 @@
-use Rattle.std.proofs.Common.{◌∙◌, ap, sym}
+use Rattle.std.proofs.Common.{◌≡◌, ◌∙◌, ap, slice_index, sym}
+use Rattle.l6_store.specs.Blocks.{block_at}
 use Rattle.l6_store.specs.Store.{Store}
 use Rattle.l6_machine.specs.Locus.{assign}
 use Rattle.l6_machine.specs.declared.locus.Locus.TheVariants.{Field}
@@ -15,11 +16,15 @@ invariant_of-self-in-Field g c =
     let below =
     window_in c.args.self.now old.blocks c.args.locus c.in-Field.place c.in-Field.window
     (ap (λ (h : Held). h.memory.blocks) c.self.view_is) c.in-Field.is c.requires in
+    let was : c.word_at.result
+    ≡ slice_index (block_at old.blocks c.in-Field.place) c.in-Field.window.word =
+    c.word_at.ensures
+    ∙ ap (λ (h : Held). slice_index (block_at h.memory.blocks c.in-Field.place) c.in-Field.window.word)
+    (sym c.self.view_is) in
     let put =
-    put_with old new c.in-Field.place c.in-Field.window c.place_of-at.result
-    c.read-word.result c.put.result c.args.number c.place_of-at.ensures.value below
-    c.read-word.ensures (c.put.ensures.cut c.args.number c.wrapping-value.ensures)
-    c.write.ensures.after in
+    put_with old new c.in-Field.place c.in-Field.window c.place_of-at.result c.word_at.result
+    c.put-word.result c.args.number c.place_of-at.ensures.value below was
+    (c.put-word.ensures.cut c.args.number c.wrapping-value.ensures) c.write.ensures.after in
     kept_with g.S.Places.rule inside.bugs inside.definitions inside.output.items inside.units
     inside.limits old new _ c.self.invariant (ap (λ (s : Store). s.units) put)
     c.write.ensures.sound
@@ -34,11 +39,15 @@ returns-in-Field g c =
     let below =
     window_in c.args.self.now old.blocks c.args.locus c.in-Field.place c.in-Field.window
     (ap (λ (h : Held). h.memory.blocks) c.self.view_is) c.in-Field.is c.requires in
+    let was : c.word_at.result
+    ≡ slice_index (block_at old.blocks c.in-Field.place) c.in-Field.window.word =
+    c.word_at.ensures
+    ∙ ap (λ (h : Held). slice_index (block_at h.memory.blocks c.in-Field.place) c.in-Field.window.word)
+    (sym c.self.view_is) in
     let put =
-    put_with old new c.in-Field.place c.in-Field.window c.place_of-at.result
-    c.read-word.result c.put.result c.args.number c.place_of-at.ensures.value below
-    c.read-word.ensures (c.put.ensures.cut c.args.number c.wrapping-value.ensures)
-    c.write.ensures.after in
+    put_with old new c.in-Field.place c.in-Field.window c.place_of-at.result c.word_at.result
+    c.put-word.result c.args.number c.place_of-at.ensures.value below was
+    (c.put-word.ensures.cut c.args.number c.wrapping-value.ensures) c.write.ensures.after in
     ap
     (held_of inside.bugs inside.definitions inside.output.items inside.units inside.limits) put
     ∙ ap (λ (h : Held). record h { memory = assign h.memory at c.args.number }) c.self.view_is

@@ -3,6 +3,7 @@
 ghost use Rattle.std.specs.Prelude.{◌≡◌, ◌≤◌, ◌<◌, ◌^◌, ◌+◌, ◌↔◌, true, false, IfOk, IfErr, OnOk, IsErrOf, slice_index, slice_index_or, length, All, None, Some};
 ghost use Rattle.l6_word.specs.Numerals.{word_bits};
 ghost use Rattle.l6_prog.specs.Numerals.{first_letter, name_count};
+ghost use Rattle.l6_store.specs.Blocks.{Fits};
 ghost use Rattle.l6_store.specs.Store.{fresh};
 ghost use Rattle.l6_machine.specs.Limits.{are_allowed};
 ghost use Rattle.l6_machine.specs.Moment.{first_moment, moment_after, EndsBy, IsNumbered};
@@ -158,7 +159,8 @@ impl<S: Places> Machine<S> {
 
     /// Makes one step: the condition, an operation or the exit of a statement. A step that traps
     /// changes the ending alone, and is not counted. Nothing changes where the run has ended or is
-    /// at its limit.
+    /// at its limit. Each bug stays a word, and so does each word of a block; the blocks stay
+    /// within the store, each at a multiple of its size, and no two share a word.
     pub fn step(&mut self) -> StepResult
         ensures moment { self.new.moment ≡ moment_after S.rule self.old.world self.old.moment }
         ensures world { self.new.world ≡ self.old.world }
@@ -180,6 +182,7 @@ impl<S: Places> Machine<S> {
             self.new.moment.state.count ≡ self.old.moment.state.count + 1 }
         ensures within { self.new.moment.state.count ≤ self.new.world.setting.limits.steps }
         ensures words { All (λ word. word < 2 ^ word_bits) self.new.moment.state.memory.bugs }
+        ensures blocks { Fits self.new.world.setting.units self.new.moment.state.memory.blocks }
     {
         self.progress.step(&self.program, &mut self.registers)
     }

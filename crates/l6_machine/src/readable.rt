@@ -6,7 +6,7 @@ ghost use Rattle.l6_word.specs.Numerals.{largest_level};
 ghost use Rattle.l6_store.specs.Blocks.{end_of};
 ghost use Rattle.l6_store.specs.Numerals.{most_units};
 ghost use Rattle.l6_machine.specs.State.{Memory};
-ghost use Rattle.l6_machine.specs.Locus.{content, field_at, locus, read};
+ghost use Rattle.l6_machine.specs.Locus.{content, field_at, follow, locus, read};
 ghost use Rattle.l6_machine.specs.inner.Registers.{IsIn};
 
 use crate::locus::Locus;
@@ -35,40 +35,56 @@ pub(crate) trait Readable: Sized {
     fn content(&self, locus: Locus) -> Word
         requires { IsIn (memory self.now) locus }
         ensures { result ≡ content (memory self.now) locus };
+}
 
-    /// The field of this name in the block at a pointer.
-    fn field_at(&self, name: Name, pointer: Word) -> Result<Locus, Trap>
-        ensures value { result ≡ field_at (memory self.now) name pointer }
-        ensures locus { IfOk result (IsIn (memory self.now)) }
-    {
-        let window = self.definition(name).ok_or(Trap::UndefinedField)?;
-        let level = self.live(pointer).ok_or(Trap::NotABlock)?;
-        if window.word() < 1 << level {
-            Ok(Locus::Field(pointer.get() as Place, window))
-        } else {
-            Err(Trap::WordOutsideBlock)
-        }
+/// The field of this name in the block at a pointer.
+#[inline(always)]
+fn field_at<M: Readable>(memory: &M, name: Name, pointer: Word) -> Result<Locus, Trap>
+    ensures value { result ≡ field_at (M.memory memory.now) name pointer }
+    ensures locus { IfOk result (IsIn (M.memory memory.now)) }
+{
+    let window = memory.definition(name).ok_or(Trap::UndefinedField)?;
+    let level = memory.live(pointer).ok_or(Trap::NotABlock)?;
+    if window.word() < 1 << level {
+        Ok(Locus::Field(pointer.get() as Place, window))
+    } else {
+        Err(Trap::WordOutsideBlock)
     }
+}
 
-    /// What a chain leads to.
-    fn locate(&self, chain: &Chain) -> Result<Locus, Trap>
-        ensures value { result ≡ locus (memory self.now) chain.now }
-        ensures locus { IfOk result (IsIn (memory self.now)) }
-    {
-        let mut locus = Locus::Bug(chain.bug());
-        for name in &chain.names()[1..] {
-            locus = self.field_at(*name, self.content(locus))?;
-        }
-        Ok(locus)
+/// What fields lead to, one after another, from a locus on.
+fn follow<M: Readable>(memory: &M, from: Locus, fields: &[Name]) -> Result<Locus, Trap>
+    requires { IsIn (M.memory memory.now) from }
+    ensures value { result ≡ follow (M.memory memory.now) from fields.now }
+    ensures locus { IfOk result (IsIn (M.memory memory.now)) }
+{
+    let mut locus = from;
+    for name in fields {
+        locus = field_at(memory, *name, memory.content(locus))?;
     }
+    Ok(locus)
+}
 
-    /// What an operand reads as.
-    fn read(&self, operand: &Operand) -> Result<Word, Trap>
-        ensures { result ≡ read (memory self.now) operand.now }
-    {
-        match operand {
-            Operand::Chain(chain) => Ok(self.content(self.locate(chain)?)),
-            Operand::Number(word) => Ok(*word),
-        }
+/// What a chain leads to. Most chains are a bug alone.
+#[inline(always)]
+pub(crate) fn locate<M: Readable>(memory: &M, chain: &Chain) -> Result<Locus, Trap>
+    ensures value { result ≡ locus (M.memory memory.now) chain.now }
+    ensures locus { IfOk result (IsIn (M.memory memory.now)) }
+{
+    let bug = Locus::Bug(chain.bug());
+    match chain.names() {
+        [_] => Ok(bug),
+        names => follow(memory, bug, &names[1..]),
+    }
+}
+
+/// What an operand reads as.
+#[inline(always)]
+pub(crate) fn read<M: Readable>(memory: &M, operand: &Operand) -> Result<Word, Trap>
+    ensures { result ≡ read (M.memory memory.now) operand.now }
+{
+    match operand {
+        Operand::Chain(chain) => Ok(memory.content(locate(memory, chain)?)),
+        Operand::Number(word) => Ok(*word),
     }
 }

@@ -1,6 +1,6 @@
 //! The groups that are operations, by their number of elements.
 
-ghost use Rattle.std.specs.Prelude.{◌≡◌};
+ghost use Rattle.std.specs.Prelude.{◌≡◌, codes};
 ghost use Rattle.l6_group.specs.Operation as spec;
 
 use crate::cut::first_element;
@@ -57,13 +57,48 @@ fn of_two(a: &[u8], verb: &[u8]) -> Option<Op<Label>>
 {
     let verb: Verb<'_> = spelled(verb)?;
     match verb.as_slice() {
-        b"FR" => Some(Op::Free(chain_of(a)?, None)),
-        b"DO" => Some(Op::Call(label_of(a)?, None)),
-        b"PD" => Some(Op::PrintDecimal(chain_of(a)?)),
-        b"PO" => Some(Op::PrintOctal(chain_of(a)?)),
-        b"PH" => Some(Op::PrintText(print_text_of(a)?)),
+        b"FR" => free(a),
+        b"DO" => call(a),
+        b"PD" => print_decimal(a),
+        b"PO" => print_octal(a),
+        b"PH" => print_text(a),
         _ => None,
     }
+}
+
+/// `(c,FR)`.
+fn free(chain: &[u8]) -> Option<Op<Label>>
+    ensures { result ≡ spec.of_two chain.now (codes "FR") }
+{
+    Some(Op::Free(chain_of(chain)?, None))
+}
+
+/// `(L,DO)`.
+fn call(label: &[u8]) -> Option<Op<Label>>
+    ensures { result ≡ spec.of_two label.now (codes "DO") }
+{
+    Some(Op::Call(label_of(label)?, None))
+}
+
+/// `(c,PD)`.
+fn print_decimal(chain: &[u8]) -> Option<Op<Label>>
+    ensures { result ≡ spec.of_two chain.now (codes "PD") }
+{
+    Some(Op::PrintDecimal(chain_of(chain)?))
+}
+
+/// `(c,PO)`.
+fn print_octal(chain: &[u8]) -> Option<Op<Label>>
+    ensures { result ≡ spec.of_two chain.now (codes "PO") }
+{
+    Some(Op::PrintOctal(chain_of(chain)?))
+}
+
+/// `(text,PH)`.
+fn print_text(text: &[u8]) -> Option<Op<Label>>
+    ensures { result ≡ spec.of_two text.now (codes "PH") }
+{
+    Some(Op::PrintText(print_text_of(text)?))
 }
 
 /// The operation of three elements.
@@ -72,17 +107,66 @@ fn of_three(a: &[u8], verb: &[u8], b: &[u8]) -> Option<Op<Label>>
 {
     let verb: Verb<'_> = spelled(verb)?;
     match verb.as_slice() {
-        b"I" => Some(Op::Exchange(chain_of(a)?, chain_of(b)?)),
+        b"I" => exchange(a, b),
         b"FC" => content_operation(a, b),
         b"FD" => definition_operation(a, b),
-        b"GT" => Some(Op::Get(chain_of(a)?, operand_of(b)?, None, None)),
-        b"DP" => Some(Op::Duplicate(chain_of(a)?, operand_of(b)?, None)),
-        b"FR" => Some(Op::Free(chain_of(a)?, Some(operand_of(b)?))),
-        b"DO" => Some(Op::Call(label_of(a)?, Some(label_of(b)?))),
-        b"IN" => Some(Op::Input(chain_of(a)?, operand_of(b)?, None)),
-        b"PR" => Some(Op::PrintCharacters(chain_of(a)?, operand_of(b)?)),
+        b"GT" => get(a, b),
+        b"DP" => duplicate(a, b),
+        b"FR" => free_and_set(a, b),
+        b"DO" => call_or_fail(a, b),
+        b"IN" => input(a, b),
+        b"PR" => print_characters(a, b),
         verb => field_operation(verb, a, b),
     }
+}
+
+/// `(c,I,c2)`.
+fn exchange(one: &[u8], other: &[u8]) -> Option<Op<Label>>
+    ensures { result ≡ spec.of_three one.now (codes "I") other.now }
+{
+    Some(Op::Exchange(chain_of(one)?, chain_of(other)?))
+}
+
+/// `(c,GT,cd)`.
+fn get(chain: &[u8], size: &[u8]) -> Option<Op<Label>>
+    ensures { result ≡ spec.of_three chain.now (codes "GT") size.now }
+{
+    Some(Op::Get(chain_of(chain)?, operand_of(size)?, None, None))
+}
+
+/// `(c,DP,cd)`.
+fn duplicate(chain: &[u8], block: &[u8]) -> Option<Op<Label>>
+    ensures { result ≡ spec.of_three chain.now (codes "DP") block.now }
+{
+    Some(Op::Duplicate(chain_of(chain)?, operand_of(block)?, None))
+}
+
+/// `(c,FR,cd)`.
+fn free_and_set(chain: &[u8], value: &[u8]) -> Option<Op<Label>>
+    ensures { result ≡ spec.of_three chain.now (codes "FR") value.now }
+{
+    Some(Op::Free(chain_of(chain)?, Some(operand_of(value)?)))
+}
+
+/// `(L,DO,L2)`.
+fn call_or_fail(called: &[u8], fail: &[u8]) -> Option<Op<Label>>
+    ensures { result ≡ spec.of_three called.now (codes "DO") fail.now }
+{
+    Some(Op::Call(label_of(called)?, Some(label_of(fail)?)))
+}
+
+/// `(c,IN,cd)`.
+fn input(chain: &[u8], count: &[u8]) -> Option<Op<Label>>
+    ensures { result ≡ spec.of_three chain.now (codes "IN") count.now }
+{
+    Some(Op::Input(chain_of(chain)?, operand_of(count)?, None))
+}
+
+/// `(c,PR,cd)`.
+fn print_characters(chain: &[u8], count: &[u8]) -> Option<Op<Label>>
+    ensures { result ≡ spec.of_three chain.now (codes "PR") count.now }
+{
+    Some(Op::PrintCharacters(chain_of(chain)?, operand_of(count)?))
 }
 
 /// The operation on the pushdown of contents: `S` saves, `R` restores.

@@ -1,16 +1,17 @@
 -- The items of a body, from its front.
-use Rattle.std.proofs.Common.{◌≡◌, ℕ, ◌+◌, ◌<◌, ◌≤◌, List, [], ◌∷◌, ◌++◌, Bool, true, false, cond, eqb, refl, sym, ap, ◌∙◌, subst, inl, inr, append_assoc, length, length-append, arith}
+use Rattle.std.proofs.Common.{◌≡◌, ℕ, ◌+◌, ◌<◌, ◌≤◌, List, [], ◌∷◌, ◌++◌, Bool, true, false, cond, eqb, refl, sym, ap, ◌∙◌, subst, inl, inr, length, length-append, arith}
 use Rattle.std.specs.Prelude.{not, ◌||◌}
 use Rattle.std.specs.List.{list_all}
 use Rattle.std.specs.Str.{byte}
 use Rattle.std.proofs.lemmas.Bool.{and_parts, or_cases, eqb-true, not-true}
-use Rattle.l6_word.specs.inner.Split.{lacks, IsCutAt}
-use Rattle.l6_word.proofs.Cuts.{lacks-cons, lacks-append}
+use Rattle.std.proofs.lemmas.List.{append-nil}
+use Rattle.l6_word.specs.inner.Split.{lacks}
+use Rattle.l6_word.proofs.Cuts.{lacks-cons}
 use Rattle.l6_group.specs.Character.{is_blank}
 use Rattle.l6_card.specs.Items.{Item, group, word, unclosed, unopened, after_opening, after_blank, after_letter, after_column, items_of}
 use Rattle.l6_card.specs.declared.item.First.{First}
 use Rattle.l6_card.specs.declared.item.First.TheVariants.{End, Group, Word, Other}
-use Rattle.l6_card.specs.inner.First.{BeginsWith, GroupFirst, WordFirst, IsUnclosed, ClosesFirst, IsShorter, AreWordAndRest, letters_of, begins_with_other, begins_with_none, begins_with_closing, begins_a_word}
+use Rattle.l6_card.specs.inner.First.{BeginsWith, GroupFirst, WordFirst, IsUnclosed, ClosesFirst, IsShorter, IsCutAtParenthesis, letters_of, begins_with_other, begins_with_none, begins_with_closing, begins_a_word}
 
 -- the first item is a `)` that no `(` opens
 abbrev closes_first : List Item → Bool
@@ -86,25 +87,28 @@ other_opened offset (word columns ∷ items) open' = refl
 other_opened offset (unclosed ∷ items) open' = refl
 other_opened offset (unopened columns ∷ items) open' = absurd (cc)
 
--- a `(` that no `)` follows is no group's
-pub unclosed-lacks : (inside : List ℕ) → lacks (byte ")") inside ≡ true → IsUnclosed inside
-unclosed-lacks inside lacking offset =
+-- a test that holds where the other fails
+or_true_left : (one other : Bool) → (one || other) ≡ true → other ≡ false → one ≡ true
+or_true_left true other either fails = refl
+or_true_left false other either fails = absurd (cc)
+
+-- a `(` is no group's where the first parenthesis behind it is no `)`, or where there is none
+pub unclosed-cut : (inside front rest : List ℕ) → IsCutAtParenthesis inside front rest →
+    begins_with_closing rest ≡ false → IsUnclosed inside
+unclosed-cut inside front [] parts closing offset =
+    let lacking : lacks (byte ")") inside ≡ true =
+    ap (lacks (byte ")")) (parts.whole ∙ append-nil front) ∙ parts.no_closing in
     other_opened offset (items_of (offset + 1) inside)
     (closes_first-lacks (offset + 1) inside lacking)
-
--- a `(` that another follows before the first `)` is no group's
-pub unclosed-open : {inside columns behind front others : List ℕ} →
-    IsCutAt (byte ")") inside columns behind → IsCutAt (byte "(") columns front others →
-    IsUnclosed inside
-unclosed-open {inside} {columns} {behind} {front} {others} close open' offset =
-    let lacking : lacks (byte ")") front ≡ true =
-    lacks-append (byte ")") front (byte "(" ∷ others) (rw open'.whole at close.first) in
-    let whole : inside ≡ front ++ byte "(" ∷ (others ++ byte ")" ∷ behind) =
-    close.whole ∙ ap (λ c. c ++ byte ")" ∷ behind) open'.whole
-    ∙ append_assoc front (byte "(" ∷ others) (byte ")" ∷ behind) in
+unclosed-cut inside front (column ∷ others) parts closing offset =
+    let opening =
+    eqb-true column (byte "(")
+    (or_true_left (eqb column (byte "(")) (eqb column (byte ")")) parts.rest_begins closing) in
+    let whole : inside ≡ front ++ byte "(" ∷ others =
+    parts.whole ∙ ap (λ c. front ++ c ∷ others) opening in
     other_opened offset (items_of (offset + 1) inside)
     (ap (λ i. closes_first (items_of (offset + 1) i)) whole
-    ∙ closes_first-open (offset + 1) front (others ++ byte ")" ∷ behind) lacking)
+    ∙ closes_first-open (offset + 1) front others parts.no_closing)
 
 joined : (blank : Bool) (column : ℕ) (columns : List ℕ) (items : List Item) →
     cond blank (after_blank column (unopened columns ∷ items))
@@ -130,14 +134,13 @@ closed-front offset (column ∷ columns) behind no_close no_open =
     ∙ alone
     ∙ ap (λ o. unopened (column ∷ columns) ∷ items_of o behind) (omega arith)
 
--- the columns up to the first `)`, without a `(`, are those of a group
-pub closed-cut : {inside columns behind : List ℕ} →
-    IsCutAt (byte ")") inside columns behind → lacks (byte "(") columns ≡ true →
-    ClosesFirst inside columns behind
-closed-cut {inside} {columns} {behind} cut no_open = record {
-  items = λ offset. ap (items_of offset) cut.whole
-      ∙ closed-front offset columns behind cut.first no_open;
-  whole = omega (arith, ap length cut.whole, length-append columns (byte ")" ∷ behind));
+-- the columns in front of the first parenthesis are those of a group where it is a `)`
+pub closed-cut : (inside columns behind : List ℕ) →
+    IsCutAtParenthesis inside columns (byte ")" ∷ behind) → ClosesFirst inside columns behind
+closed-cut inside columns behind parts = record {
+  items = λ offset. ap (items_of offset) parts.whole
+      ∙ closed-front offset columns behind parts.no_closing parts.no_opening;
+  whole = omega (arith, ap length parts.whole, length-append columns (byte ")" ∷ behind));
 }
 
 -- a `(` in front of columns up to the first `)` makes a group
@@ -210,11 +213,6 @@ other-blanks offset (blank ∷ blanks) columns all_blank other =
     (ap (λ o. begins_with_other (items_of o columns)) same ∙ other) in
     rw (blank_column offset blank (items_of (offset + 1) (blanks ++ columns)) parts.0)
     (other-blank blank (items_of (offset + 1) (blanks ++ columns)) behind)
-
--- a test that holds where the other fails
-or_true_left : (one other : Bool) → (one || other) ≡ true → other ≡ false → one ≡ true
-or_true_left true other either fails = refl
-or_true_left false other either fails = absurd (cc)
 
 -- the body begins as what follows its blanks does
 pub begins_behind_blanks : (first : First) (blanks body rest : List ℕ) →
@@ -350,7 +348,7 @@ pub record IsWordFirst (body columns rest : List ℕ) : Type 0 where
   pub each : (offset : ℕ) → WordFirst offset body columns rest
   pub shorter : length rest < length body
 
-pub word_first : (body columns rest : List ℕ) → AreWordAndRest body columns rest →
+pub word_first : (body columns rest : List ℕ) → IsCutAtParenthesis body columns rest →
     begins_a_word body ≡ true → begins_with_closing rest ≡ false → IsWordFirst body columns rest
 word_first body [] rest parts begins closing =
     absurd (no_word rest parts.rest_begins closing (ap begins_a_word (sym parts.whole) ∙ begins))
@@ -375,7 +373,7 @@ word_first body (column ∷ columns) rest parts begins closing =
     }
 
 -- columns that a `)` follows are no word
-pub closing_first : (body columns rest : List ℕ) → AreWordAndRest body columns rest →
+pub closing_first : (body columns rest : List ℕ) → IsCutAtParenthesis body columns rest →
     begins_with_closing rest ≡ true →
     (offset : ℕ) → begins_with_other (items_of offset body) ≡ true
 closing_first body columns [] parts closing offset = absurd (cc)

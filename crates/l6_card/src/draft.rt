@@ -1,6 +1,8 @@
 //! Drafts of statements, item by item.
 
 ghost use Rattle.std.specs.Prelude.{◌≡◌, ◌+◌, ◌≤◌, length};
+ghost use Rattle.l6_group.specs.Operation.{operation_of};
+ghost use Rattle.l6_group.specs.Test.{test_of};
 ghost use Rattle.l6_group.specs.Word.{condition_from};
 ghost use Rattle.l6_card.specs.Numerals.{most_deck_bytes};
 ghost use Rattle.l6_card.specs.inner.Draft as spec;
@@ -108,27 +110,23 @@ impl Draft {
             length: columns.len() as u32 + 2,
         };
         match self.phase {
-            Phase::New | Phase::Open => self.take_operation(card, span, operation_of(columns)),
-            Phase::Worded(condition) => self.take_test(card, span, condition, test_of(columns)),
+            Phase::New | Phase::Open => self.take_operation(card, span, columns),
+            Phase::Worded(condition) => self.take_test(card, span, condition, columns),
             Phase::Tested => match self.condition {
                 Cond::If | Cond::Not => Err(CardFault::Form(card)),
-                condition => self.take_test(card, span, condition, test_of(columns)),
+                condition => self.take_test(card, span, condition, columns),
             },
             Phase::Closed => Err(CardFault::Form(card)),
         }
     }
 
-    /// An operation, if the group is one.
-    fn take_operation(
-        &mut self,
-        card: u32,
-        span: Span,
-        operation: Option<Op<Label>>,
-    ) -> Result<(), CardFault>
-        ensures { let made = spec.with_operation card span (drafted self.old) operation in
+    /// The operation that a group with these columns spells, if it is one.
+    fn take_operation(&mut self, card: u32, span: Span, columns: &[u8]) -> Result<(), CardFault>
+        ensures { let operation = operation_of columns.now in
+            let made = spec.with_operation card span (drafted self.old) operation in
             Takes result (drafted self.new) made }
     {
-        let reading = operation.ok_or(CardFault::Form(card))?;
+        let reading = operation_of(columns).ok_or(CardFault::Form(card))?;
         if self.operations.len() >= MAX_OPERATIONS {
             return Err(CardFault::Limit(card));
         }
@@ -143,18 +141,19 @@ impl Draft {
         Ok(())
     }
 
-    /// A test of this condition, if the group is one.
+    /// The test of this condition that a group with these columns spells, if it is one.
     fn take_test(
         &mut self,
         card: u32,
         span: Span,
         condition: Cond,
-        test: Option<Test>,
+        columns: &[u8],
     ) -> Result<(), CardFault>
-        ensures { let made = spec.with_test card span (drafted self.old) condition test in
+        ensures { let test = test_of columns.now in
+            let made = spec.with_test card span (drafted self.old) condition test in
             Takes result (drafted self.new) made }
     {
-        let reading = test.ok_or(CardFault::Form(card))?;
+        let reading = test_of(columns).ok_or(CardFault::Form(card))?;
         if self.tests.len() >= MAX_TESTS {
             return Err(CardFault::Limit(card));
         }

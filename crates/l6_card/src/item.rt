@@ -3,10 +3,9 @@
 ghost use Rattle.std.specs.Prelude.{◌≡◌, ◌≤◌, ◌<◌, ◌++◌, List, ℕ, true, false, length, MatchOption, IfSome};
 ghost use Rattle.std.specs.List.{list_all};
 ghost use Rattle.l6_group.specs.Character as spec;
-ghost use Rattle.l6_card.specs.inner.First.{BeginsWith, IsUnclosed, ClosesFirst, IsShorter, begins_with_blank, begins_a_word, begins_with_closing, AreWordAndRest};
+ghost use Rattle.l6_card.specs.inner.First.{BeginsWith, IsUnclosed, ClosesFirst, IsShorter, begins_with_blank, begins_a_word, begins_with_closing, IsCutAtParenthesis};
 
 use l6_group::is_blank;
-use l6_word::split_at_mark;
 
 /// What a body begins with.
 pub(crate) enum First<'a> {
@@ -56,10 +55,12 @@ fn first_group(inside: &[u8]) -> Option<(&[u8], &[u8])>
         (λ parts. ClosesFirst inside.now parts.0.now parts.1.now) }
     ensures behind { IfSome result (λ parts. length parts.1.now < length inside.now) }
 {
-    let (columns, behind) = split_at_mark(inside, b')')?;
-    match split_at_mark(columns, b'(') {
-        None => Some((columns, behind)),
-        Some(_) => None,
+    let (columns, rest) = split_at_parenthesis(inside);
+    let (mark, behind) = rest.split_first()?;
+    if *mark == b')' {
+        Some((columns, behind))
+    } else {
+        None
     }
 }
 
@@ -69,7 +70,7 @@ fn first_word(body: &[u8]) -> First<'_>
     ensures first { BeginsWith result body.now }
     ensures shorter { IsShorter result body.now }
 {
-    let (word, rest) = split_word(body);
+    let (word, rest) = split_at_parenthesis(body);
     if begins_with_closing(rest) {
         First::Other
     } else {
@@ -88,8 +89,8 @@ fn begins_with_closing(columns: &[u8]) -> bool
 }
 
 /// The columns in front of the first parenthesis, and those from there on.
-fn split_word(body: &[u8]) -> (&[u8], &[u8])
-    ensures { AreWordAndRest body.now result.0.now result.1.now }
+fn split_at_parenthesis(body: &[u8]) -> (&[u8], &[u8])
+    ensures { IsCutAtParenthesis body.now result.0.now result.1.now }
 {
     for (place, column) in body.iter().enumerate() {
         if *column == b'(' || *column == b')' {

@@ -81,8 +81,8 @@ begins_with_none [] = true
 begins_with_none (column ∷ columns) = column == byte "(" || column == byte ")"
 
 -- the body is the columns in front of the first parenthesis, and those from there on
-pub record AreWordAndRest (body word rest : List ℕ) : Type 0 where
-  pub whole : body ≡ word ++ rest
-  pub no_opening : lacks (byte "(") word ≡ true
-  pub no_closing : lacks (byte ")") word ≡ true
+pub record IsCutAtParenthesis (body front rest : List ℕ) : Type 0 where
+  pub whole : body ≡ front ++ rest
+  pub no_opening : lacks (byte "(") front ≡ true
+  pub no_closing : lacks (byte ")") front ≡ true
   pub rest_begins : begins_with_none rest ≡ true

@@ -1,12 +1,31 @@
-use Rattle.l6_card.proofs.Bodies.{unclosed-lacks, unclosed-open, closed-cut}
+use Rattle.std.proofs.Common.{◌≡◌, [], ◌∷◌, false, ap, ◌∙◌, subst, rules}
+use Rattle.std.specs.Str.{byte}
+use Rattle.std.proofs.lemmas.Bool.{ne_eqb}
+use Rattle.l6_card.specs.inner.First.{begins_with_closing, IsCutAtParenthesis}
+use Rattle.l6_card.proofs.Bodies.{unclosed-cut, closed-cut}
 use Rattle.l6_card.proofs.item.first_group.Goals as goal
 
-pub returns-in_err-columns-clause-group : goal.returns-in_err-columns-clause-group
-returns-in_err-columns-clause-group c =
-    rw c.from_residual.ensures (unclosed-lacks c.args.inside.now c.in_err-columns.ensures.none)
+pub returns-in_err-mark-clause-group : goal.returns-in_err-mark-clause-group
+returns-in_err-mark-clause-group c =
+    let cut = c.split_at_parenthesis in
+    let ends : cut.result.1.now ≡ [] = search rules in
+    rw c.from_residual.ensures
+    (unclosed-cut c.args.inside.now cut.result.0.now cut.result.1.now cut.ensures
+    (ap begins_with_closing ends))
 
-pub returns-in-None-clause-group : goal.returns-in-None-clause-group
-returns-in-None-clause-group c = closed-cut c.in_ok-columns.ensures.parts c.in-None.ensures.none
+pub returns-then-mark-eq41-clause-group : goal.returns-then-mark-eq41-clause-group
+returns-then-mark-eq41-clause-group c =
+    let cut = c.split_at_parenthesis in
+    let closes : cut.result.1.now ≡ byte ")" ∷ c.in_ok-mark.behind.now = search rules in
+    closed-cut c.args.inside.now cut.result.0.now c.in_ok-mark.behind.now
+    (subst (IsCutAtParenthesis c.args.inside.now cut.result.0.now) closes cut.ensures)
 
-pub returns-in-Some-clause-group : goal.returns-in-Some-clause-group
-returns-in-Some-clause-group c = unclosed-open c.in_ok-columns.ensures.parts c.in-Some.ensures.parts
+pub returns-else-mark-eq41-clause-group : goal.returns-else-mark-eq41-clause-group
+returns-else-mark-eq41-clause-group c =
+    let cut = c.split_at_parenthesis in
+    let goes_on : cut.result.1.now ≡ c.in_ok-mark.mark.now ∷ c.in_ok-mark.behind.now =
+    search rules in
+    let open' : begins_with_closing (c.in_ok-mark.mark.now ∷ c.in_ok-mark.behind.now) ≡ false =
+    ne_eqb c.in_ok-mark.mark.now (byte ")") c.if-mark-eq41.false in
+    unclosed-cut c.args.inside.now cut.result.0.now cut.result.1.now cut.ensures
+    (ap begins_with_closing goes_on ∙ open')

@@ -5,14 +5,14 @@ use Rattle.l6_card.proofs.item.first_word.Goals as goal
 pub returns-then-begins_with_closing-clause-first :
     goal.returns-then-begins_with_closing-clause-first
 returns-then-begins_with_closing-clause-first c =
-    closing_first c.args.body.now c.split_word.result.0.now c.split_word.result.1.now
-    c.split_word.ensures
+    let cut = c.split_at_parenthesis in
+    closing_first c.args.body.now cut.result.0.now cut.result.1.now cut.ensures
     (sym c.begins_with_closing.ensures ∙ c.if-begins_with_closing.true)
 
 pub returns-else-begins_with_closing : goal.returns-else-begins_with_closing
 returns-else-begins_with_closing c =
+    let cut = c.split_at_parenthesis in
     let found =
-    word_first c.args.body.now c.split_word.result.0.now c.split_word.result.1.now
-    c.split_word.ensures
+    word_first c.args.body.now cut.result.0.now cut.result.1.now cut.ensures
     c.requires (sym c.begins_with_closing.ensures ∙ c.if-begins_with_closing.false) in
     record { first = found.each; shorter = found.shorter }

@@ -1,7 +1,7 @@
 use Rattle.std.proofs.Common.{◌≡◌, true, take}
 use Rattle.std.specs.Str.{byte}
 use Rattle.l6_word.specs.inner.Split.{lacks}
-use Rattle.l6_card.proofs.item.split_word.Given as goal
+use Rattle.l6_card.proofs.item.split_at_parenthesis.Given as goal
 
 -- no parenthesis stands so far
 abbrev pub invariant-loop-place : goal.invariant-loop-place

@@ -2,12 +2,16 @@
 
 ghost use Rattle.std.specs.Prelude.{◌≡◌, ⊤, true};
 ghost use Rattle.std.specs.List.{list_all};
+ghost use Rattle.std.specs.Str.{bytes_eq};
+ghost use Rattle.std.specs.Hash as fed;
+ghost use Rattle.std.specs.Cmp.Rules.{comparing, hashing};
+ghost use Rattle.std.proofs.Common.{rules};
 ghost use Rattle.l6_group.specs.Character as spelling;
 ghost use Rattle.l6_group.specs.Label as spec;
 
 use crate::spelling::{Spelling, spelled};
-use arrayvec::ArrayVec;
 use std::alloc::AllocError;
+use std::hash::{Hash, Hasher};
 use std::marker::Model;
 
 /// How many characters a label may have.
@@ -15,22 +19,27 @@ pub const MAX_LABEL_CHARACTERS: usize = 6;
 
 /// What names a statement in a deck: a capital letter, and up to 5 capital letters or digits behind
 /// it. `DONE` and `FAIL` are no labels.
-#[derive(Debug, Drop, PartialEq, Eq, Hash)]
+// A deck keeps one for each operation that may name a label, so it is as small as can be.
+#[derive(Debug, Drop)]
 pub struct Label {
-    characters: ArrayVec<u8, MAX_LABEL_CHARACTERS>,
+    /// The characters, and places that are not used.
+    characters: [u8; MAX_LABEL_CHARACTERS],
+    /// How many characters there are.
+    count: u8,
 }
 
 impl Model for Label {
-    ghost use Rattle.std.specs.Prelude.{◌≡◌, ℕ, List, true};
+    ghost use Rattle.std.specs.Prelude.{◌≡◌, ◌≤◌, ℕ, List, length, take, true};
     ghost use Rattle.l6_group.specs.Label.{is_label};
+    ghost use Rattle.l6_group.specs.Numerals.{most_label_characters};
 
     ghost Value = { List ℕ };
 
-    ghost view = { λ label. label.characters.items };
+    ghost view = { λ label. take label.count label.characters };
 
-    ghost invariant = { λ label. is_label label.characters.items ≡ true };
-
-    ghost inverse = { λ characters. record { characters = record { items = characters } } };
+    ghost invariant = { λ label. (label.count ≤ most_label_characters)
+        × (length label.characters ≡ most_label_characters)
+        × (is_label (take label.count label.characters) ≡ true) };
 }
 
 impl Label {
@@ -41,8 +50,12 @@ impl Label {
         if !are_label(characters) {
             return None;
         }
-        let characters = ArrayVec::try_from(characters).ok()?;
-        Some(Label { characters })
+        let mut kept = [0; MAX_LABEL_CHARACTERS];
+        kept[..characters.len()].copy_from_slice(characters);
+        Some(Label {
+            characters: kept,
+            count: characters.len() as u8,
+        })
     }
 
     /// The characters, in order.
@@ -50,7 +63,31 @@ impl Label {
         ensures value { result.now ≡ self.now }
         ensures label { spec.is_label result.now ≡ true }
     {
-        self.characters.as_slice()
+        &self.characters[..usize::from(self.count)]
+    }
+}
+
+impl PartialEq for Label {
+    ghost eq = { bytes_eq };
+
+    ghost laws = { Prim.search (comparing, rules) };
+
+    fn eq(&self, other: &Self) -> bool {
+        self.characters() == other.characters()
+    }
+}
+
+impl Eq for Label {
+    ghost laws = { Prim.search (comparing, rules) };
+}
+
+impl Hash for Label {
+    ghost hash_input = { fed.slice fed.u8 };
+
+    ghost respects_eq = { Prim.search (hashing, rules) };
+
+    fn hash<H: Hasher>(&self, state: &mut H) {
+        self.characters().hash(state);
     }
 }
 
@@ -102,10 +139,9 @@ impl Clone for Label {
     ghost is_infallible = { λ _. ⊤ };
 
     fn clone(&self) -> Result<Self, AllocError> {
-        let mut characters = ArrayVec::new();
-        characters
-            .try_extend_from_slice(self.characters.as_slice())
-            .unwrap();
-        Ok(Label { characters })
+        Ok(Label {
+            characters: self.characters,
+            count: self.count,
+        })
     }
 }

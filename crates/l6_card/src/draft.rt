@@ -1,6 +1,6 @@
 //! Drafts of statements, item by item.
 
-ghost use Rattle.std.specs.Prelude.{◌≡◌, ◌+◌, ◌≤◌, length};
+ghost use Rattle.std.specs.Prelude.{◌≡◌, ◌+◌, ◌≤◌, [], length, IfOk, OnOk};
 ghost use Rattle.l6_group.specs.Operation.{operation_of};
 ghost use Rattle.l6_group.specs.Test.{test_of};
 ghost use Rattle.l6_group.specs.Word.{condition_from};
@@ -18,7 +18,8 @@ use l6_group::{
     Label, Spelling, after_then, condition_from, exit_from, operation_of, spelled, test_of,
 };
 use l6_prog::{Cond, Exit, MAX_OPERATIONS, MAX_TESTS, Op, Test};
-use std::alloc::Global;
+use std::alloc::{AllocError, Global};
+use std::mem;
 
 /// How many characters a word may have: those of THEN and of a label.
 const MAX_WORD: usize = 10;
@@ -60,6 +61,24 @@ impl Draft {
             operations: Vec::new(alloc),
             exit: Exit::Next,
         }
+    }
+
+    /// The draft so far, in lists that have just room for it. What is left is the draft of a
+    /// statement without items, and keeps its room for the next one.
+    pub(crate) fn take(&mut self, alloc: Global) -> Result<Self, AllocError>
+        ensures taken { IfOk result (λ draft. drafted draft ≡ drafted self.old) }
+        ensures left { OnOk result (drafted self.new ≡ spec.new_draft) }
+    {
+        let draft = Draft {
+            phase: self.phase,
+            condition: self.condition,
+            tests: take_all(alloc, &mut self.tests)?,
+            operations: take_all(alloc, &mut self.operations)?,
+            exit: mem::replace(&mut self.exit, Exit::Next),
+        };
+        self.phase = Phase::New;
+        self.condition = Cond::Always;
+        Ok(draft)
     }
 
     /// Whether the items are a whole statement.
@@ -231,6 +250,16 @@ impl Draft {
         self.phase = phase;
         Ok(())
     }
+}
+
+/// All that a list has, in one with just room for it. The list is left empty, and keeps its room.
+fn take_all<T: Drop>(alloc: Global, list: &mut Vec<T>) -> Result<Vec<T>, AllocError>
+    ensures taken { IfOk result (λ taken. taken.items ≡ list.old.items) }
+    ensures left { OnOk result (list.new.items ≡ []) }
+{
+    let mut taken = Vec::with_capacity(alloc, list.len())?;
+    taken.append(list)?;
+    Ok(taken)
 }
 
 /// The phase after a first word of these characters, which may be a condition.

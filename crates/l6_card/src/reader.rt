@@ -60,7 +60,10 @@ impl Reader {
     pub(crate) fn end(&mut self) -> Result<(), CardFault>
         ensures { Follows result (stage_of self.new) (after_piece (stage_of self.old) ends) }
     {
-        let draft = mem::replace(&mut self.draft, Draft::new(self.alloc));
+        let draft = self
+            .draft
+            .take(self.alloc)
+            .map_err(|_| CardFault::NoMemory)?;
         let label = mem::replace(&mut self.label, None);
         if !self.is_open {
             return Ok(());

@@ -9,3 +9,4 @@ mod Windows
 mod Got
 mod Levels
 mod NewBlocks
+mod Examples

@@ -14,4 +14,5 @@ pub mod Moment
 pub mod Taking
 pub mod Laws
 pub mod Standing
+pub mod Worked
 pub mod inner

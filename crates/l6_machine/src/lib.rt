@@ -17,6 +17,7 @@ mod registers;
 mod row;
 mod trap;
 mod upcoming;
+mod worked;
 
 pub use halt::{Halt, StepResult};
 pub use jump::Jump;
@@ -27,3 +28,4 @@ pub use machine::{Machine, MachineFault};
 pub use position::Position;
 pub use readiness::ready;
 pub use trap::Trap;
+pub use worked::{chain_leads, get_keeps_the_old, use_after_free_traps};

@@ -1,0 +1,18 @@
+//! Worked examples of the definitions: theorems about them alone, of memories worked by hand.
+
+ghost use Rattle.l6_machine.specs.Worked.{ChainLeads, GetKeepsTheOld, UseAfterFreeTraps};
+
+/// A chain of two fields leads through two blocks.
+pub fn chain_leads()
+    ensures { ChainLeads }
+{}
+
+/// A get whose second chain is a field of the new block keeps the old place there.
+pub fn get_keeps_the_old()
+    ensures { GetKeepsTheOld }
+{}
+
+/// A field of a block that was freed is no field of a block.
+pub fn use_after_free_traps()
+    ensures { UseAfterFreeTraps }
+{}

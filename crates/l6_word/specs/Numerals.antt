@@ -5,6 +5,10 @@ use Rattle.std.specs.Prelude.{ℕ, ◌^◌}
 abbrev pub word_bits : ℕ
 word_bits = 36
 
+-- how many octal digits a word is written with
+abbrev pub word_octals : ℕ
+word_octals = 12
+
 -- the level of the largest block: a block of level k has 2^k words
 abbrev pub largest_level : ℕ
 largest_level = 7

@@ -4,6 +4,7 @@
 mod code;
 mod laws;
 mod line;
+mod octal;
 mod split;
 mod unit;
 mod window;
@@ -12,6 +13,7 @@ mod word;
 pub use code::{character_of, code_of};
 pub use laws::{units_have_their_size, words_have_their_bits};
 pub use line::{first_line, without_return};
+pub use octal::octal12;
 pub use split::split_at_mark;
 pub use unit::{LARGEST_LEVEL, UNIT_SIZE};
 pub use window::Window;

@@ -26,7 +26,8 @@ field_by memory name pointer window words defined there inside =
     ok_or (map.get memory.blocks pointer) NotABlock >>= λ ws.
     if nat_lt w.word (length ws) then Ok (Field pointer w) else Err WordOutsideBlock) defined
     ∙ ap (λ found. ok_or found NotABlock >>= λ ws.
-    if nat_lt window.word (length ws) then Ok (Field pointer window) else Err WordOutsideBlock) there
+    if nat_lt window.word (length ws) then Ok (Field pointer window) else Err WordOutsideBlock)
+    there
     ∙ ap (λ b. if b then Ok (Field pointer window) else Err WordOutsideBlock) inside
 
 abbrev low : Window
@@ -111,7 +112,8 @@ kept =
 pub get-keeps_the_old : GetKeepsTheOld
 get-keeps_the_old setting choice picks =
     let other = Some (name_x ∷ name_n ∷ []) in
-    ap (λ level. level >>= λ k. with_place (choice k) None stacked (get k (Bug name_x) other stacked))
+    ap
+    (λ level. level >>= λ k. with_place (choice k) None stacked (get k (Bug name_x) other stacked))
     level_of_three
     ∙ ap (λ found. with_place found None stacked (get 2 (Bug name_x) other stacked)) picks
     ∙ ap (λ at. (at >>= λ l. Ok (assign got l 128)) >>= λ after.

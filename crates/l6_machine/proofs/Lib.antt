@@ -10,3 +10,4 @@ mod Got
 mod Levels
 mod NewBlocks
 mod Examples
+pub mod Calculations

@@ -5,6 +5,7 @@ pub mod Trapping
 pub mod State
 pub mod Ready
 pub mod Locus
+pub mod Calculation
 pub mod Deed
 pub mod Getting
 pub mod Row

@@ -1,18 +1,42 @@
 -- Worked examples of the definitions, each by hand.
-use Rattle.std.specs.Prelude.{◌≡◌, ℕ, ◌+◌, List, [], ◌∷◌, replicate, slice_set, Option, None, Some, Ok, Err}
+use Rattle.std.specs.Prelude.{◌≡◌, ℕ, ◌+◌, ◌-◌, ◌^◌, List, [], ◌∷◌, replicate, slice_set, Option, None, Some, Ok, Err}
 use Rattle.std.specs.FinMap as map
 use Rattle.l6_word.specs.Window.{Window}
 use Rattle.l6_store.specs.Open.{Choice}
 use Rattle.l6_prog.specs.Numerals.{first_letter, letter_count, name_count}
 use Rattle.l6_prog.specs.declared.operand.Operand.TheVariants.{Number}
-use Rattle.l6_prog.specs.declared.operation.Op.TheVariants.{Set, Get}
+use Rattle.l6_prog.specs.declared.operation.Op.TheVariants.{Set, Subtract, Exchange, Get}
 use Rattle.l6_machine.specs.declared.jump.Jump.TheVariants.{Onward}
 use Rattle.l6_machine.specs.declared.locus.Locus.TheVariants.{Field}
 use Rattle.l6_machine.specs.declared.trap.Trap.TheVariants.{NotABlock}
-use Rattle.l6_machine.specs.Deed.{took}
+use Rattle.l6_machine.specs.Deed.{leave, took}
 use Rattle.l6_machine.specs.Locus.{content, index_of, locus}
 use Rattle.l6_machine.specs.Row.{row}
-use Rattle.l6_machine.specs.State.{Memory, Setting}
+use Rattle.l6_machine.specs.State.{Memory, Setting, start}
+
+-- the chains of the bugs A and B
+abbrev pub chain_a : List ℕ
+chain_a = first_letter ∷ []
+
+abbrev pub chain_b : List ℕ
+chain_b = (first_letter + 1) ∷ []
+
+-- the memory of the start, but with these numbers in A and B
+abbrev pub with_bugs : ℕ → ℕ → Memory
+with_bugs a b = record start.memory { bugs = a ∷ b ∷ replicate (letter_count - 2) 0 }
+
+-- 7 less 9 is 2 below 0, so A becomes 2 ^ 36 - 2
+abbrev pub DifferenceWraps : Type 0
+DifferenceWraps =
+    (setting : Setting) (choice : Choice) →
+    row setting choice (Subtract chain_a (Number 9)) (with_bugs 7 0)
+    ≡ leave (with_bugs (2 ^ 36 - 2) 0)
+
+-- A and B exchange what they hold
+abbrev pub BugsExchange : Type 0
+BugsExchange =
+    (setting : Setting) (choice : Choice) →
+    row setting choice (Exchange chain_a chain_b) (with_bugs 1 2) ≡ leave (with_bugs 2 1)
 
 -- the names N, V and X
 abbrev pub name_n : ℕ

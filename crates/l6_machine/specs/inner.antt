@@ -1,3 +1,4 @@
+pub mod Calculation
 pub mod Registers
 pub mod Progress
 pub mod Upcoming

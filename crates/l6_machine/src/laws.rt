@@ -1,12 +1,28 @@
-//! The laws of runs, and that the numbers of the code are those of the language.
+//! The laws of calculations and of runs, and that the numbers of the code are those of the
+//! language.
 
-ghost use Rattle.std.specs.Prelude.{◌≡◌};
+ghost use Rattle.std.specs.Prelude.{◌≡◌, ◌+◌, ◌%◌, min, max};
 ghost use Rattle.l6_prog.specs.Numerals.{letter_count, name_count};
-ghost use Rattle.l6_machine.specs.Laws.{EndsInOneState, EndsUnderEachRule, RulesRunBySteps};
+ghost use Rattle.l6_machine.specs.Laws.{DifferencesAddUp, EndsInOneState, EndsUnderEachRule, GoesBitByBit, RulesRunBySteps, TurnsEachBit};
 ghost use Rattle.l6_machine.specs.Numerals.{most_input, most_output, most_steps};
 
+use crate::calculation::Calculation;
 use crate::limits::{MAX_INPUT, MAX_OUTPUT, MAX_STEPS};
 use crate::registers::{BUGS, FIELDS};
+
+/// What `And`, `Or` and `ExclusiveOr` calculate has a one where both numbers, either or just one of
+/// them have a one, and `Complement` turns each bit of the width.
+pub fn logic_goes_bit_by_bit()
+    ensures both { GoesBitByBit Calculation.And min }
+    ensures either { GoesBitByBit Calculation.Or max }
+    ensures just_one { GoesBitByBit Calculation.ExclusiveOr (λ one other. (one + other) % 2) }
+    ensures turned { TurnsEachBit }
+{}
+
+/// A number less a word, and that word, add up to the number again, at each width.
+pub fn sums_undo_differences()
+    ensures { DifferencesAddUp }
+{}
 
 /// All whole runs of a world under one rule of choice end in one state. A rule whose picks are open
 /// places makes a run by steps. Where no operation of a program takes a block, a whole run ends

@@ -2,6 +2,7 @@
 #![tactic(auto)]
 
 mod action;
+mod calculation;
 mod getting;
 mod halt;
 mod jump;
@@ -19,13 +20,18 @@ mod trap;
 mod upcoming;
 mod worked;
 
+pub use calculation::Calculation;
 pub use halt::{Halt, StepResult};
 pub use jump::Jump;
-pub use laws::{runs_are_determined, runs_have_their_limits};
+pub use laws::{
+    logic_goes_bit_by_bit, runs_are_determined, runs_have_their_limits, sums_undo_differences,
+};
 pub use limits::{Limits, MAX_INPUT, MAX_OUTPUT, MAX_STEPS};
 pub use locus::Locus;
 pub use machine::{Machine, MachineFault};
 pub use position::Position;
 pub use readiness::ready;
 pub use trap::Trap;
-pub use worked::{chain_leads, get_keeps_the_old, use_after_free_traps};
+pub use worked::{
+    bugs_exchange, chain_leads, difference_wraps, get_keeps_the_old, use_after_free_traps,
+};

@@ -53,6 +53,7 @@ fn field_at<M: Readable>(memory: &M, name: Name, pointer: Word) -> Result<Locus,
 }
 
 /// What fields lead to, one after another, from a locus on.
+#[inline(always)]
 fn follow<M: Readable>(memory: &M, from: Locus, fields: &[Name]) -> Result<Locus, Trap>
     requires { IsIn (M.memory memory.now) from }
     ensures value { result ≡ follow (M.memory memory.now) from fields.now }

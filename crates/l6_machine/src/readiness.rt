@@ -54,11 +54,23 @@ fn has_operation(operation: &Op) -> bool
     match operation {
         Op::Set(..)
         | Op::Add(..)
+        | Op::Subtract(..)
+        | Op::Multiply(..)
+        | Op::Divide(..)
+        | Op::Remainder(..)
+        | Op::And(..)
+        | Op::Or(..)
+        | Op::ExclusiveOr(..)
+        | Op::Complement(..)
+        | Op::ShiftLeft(..)
+        | Op::ShiftRight(..)
+        | Op::Exchange(..)
         | Op::Define(..)
         | Op::Get(..)
         | Op::Duplicate(..)
         | Op::Free(..)
         | Op::PrintDecimal(_)
+        | Op::PrintOctal(_)
         | Op::PrintLine => true,
         _ => false,
     }

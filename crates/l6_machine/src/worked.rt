@@ -1,6 +1,16 @@
-//! Worked examples of the definitions: theorems about them alone, of memories worked by hand.
+//! Worked examples of the definitions: theorems about them alone, of operations worked by hand.
 
-ghost use Rattle.l6_machine.specs.Worked.{ChainLeads, GetKeepsTheOld, UseAfterFreeTraps};
+ghost use Rattle.l6_machine.specs.Worked.{BugsExchange, ChainLeads, DifferenceWraps, GetKeepsTheOld, UseAfterFreeTraps};
+
+/// A difference below 0 wraps.
+pub fn difference_wraps()
+    ensures { DifferenceWraps }
+{}
+
+/// An exchange of two bugs.
+pub fn bugs_exchange()
+    ensures { BugsExchange }
+{}
 
 /// A chain of two fields leads through two blocks.
 pub fn chain_leads()

@@ -19,7 +19,9 @@ invariant_of-self-in-Field g c =
     let was : c.word_at.result
     ≡ slice_index (block_at old.blocks c.in-Field.place) c.in-Field.window.word =
     c.word_at.ensures
-    ∙ ap (λ (h : Held). slice_index (block_at h.memory.blocks c.in-Field.place) c.in-Field.window.word)
+    ∙ ap
+    (λ (h : Held).
+    slice_index (block_at h.memory.blocks c.in-Field.place) c.in-Field.window.word)
     (sym c.self.view_is) in
     let put =
     put_with old new c.in-Field.place c.in-Field.window c.place_of-at.result c.word_at.result
@@ -42,7 +44,9 @@ returns-in-Field g c =
     let was : c.word_at.result
     ≡ slice_index (block_at old.blocks c.in-Field.place) c.in-Field.window.word =
     c.word_at.ensures
-    ∙ ap (λ (h : Held). slice_index (block_at h.memory.blocks c.in-Field.place) c.in-Field.window.word)
+    ∙ ap
+    (λ (h : Held).
+    slice_index (block_at h.memory.blocks c.in-Field.place) c.in-Field.window.word)
     (sym c.self.view_is) in
     let put =
     put_with old new c.in-Field.place c.in-Field.window c.place_of-at.result c.word_at.result

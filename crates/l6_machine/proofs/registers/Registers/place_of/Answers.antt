@@ -11,4 +11,5 @@ overflow_add-result g c =
     let blocks = c.args.self.now.memory.blocks in
     let index = c.args.window.word in
     let live = live_with blocks c.args.place index c.requires in
-    omega (arith, near g.S.Places.rule c.args.self.now c.args.place held live, c.requires, c.from.ensures, c.word.ensures.value)
+    let end = near g.S.Places.rule c.args.self.now c.args.place held live in
+    omega (arith, end, c.requires, c.from.ensures, c.word.ensures.value)

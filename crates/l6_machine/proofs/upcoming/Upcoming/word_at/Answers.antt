@@ -68,7 +68,8 @@ returns-then-word g c =
     ∙ ap (λ w. put window w u.place) c.word_at-word.ensures
     ∙ sym (word_changed memory zeros q window u.place c.args.start index
     c.self.invariant.vacant stands c.if-changed-start.true same below)
-    ∙ ap (λ at. slice_index (block_at (new_block memory zeros at u.place).blocks c.args.start) index)
+    ∙ ap
+    (λ at. slice_index (block_at (new_block memory zeros at u.place).blocks c.args.start) index)
     (sym c.in-Field.is)
     ∙ ap (λ (m : Memory). slice_index (block_at m.blocks c.args.start) index) c.self.view_is
 
@@ -82,21 +83,26 @@ returns-else-changed-start g c =
     let q = c.in-Field.changed in
     let window = c.in-Field.at in
     let stands = subst (IsIn memory) c.in-Field.is c.self.invariant.stands in
-    let kept : slice_index (block_at (new_block memory zeros (Field q window) u.place).blocks c.args.start) index
+    let then = new_block memory zeros (Field q window) u.place in
+    let kept : slice_index (block_at then.blocks c.args.start) index
     ≡ slice_index (block_at memory.blocks c.args.start) index =
     elim c.else-changed-start.branch
-    as (λ _. slice_index (block_at (new_block memory zeros (Field q window) u.place).blocks c.args.start) index
+    as (λ _. slice_index (block_at then.blocks c.args.start) index
     ≡ slice_index (block_at memory.blocks c.args.start) index) [
       | else-changed-start-via-then-changed-start+else-word w ↦
-          word_beside memory zeros q window u.place c.args.start index c.self.invariant.vacant stands
+          word_beside memory zeros q window u.place c.args.start index
+          c.self.invariant.vacant stands
           w.if-changed-start.true
-          (λ same. w.if-word.false (w.word.ensures.value ∙ sym same ∙ sym w.word-then-changed-start.ensures.value))
+          (λ same.
+          w.if-word.false
+          (w.word.ensures.value ∙ sym same ∙ sym w.word-then-changed-start.ensures.value))
       | else-changed-start-via-else-changed-start w ↦
           word_other memory zeros (Field q window) u.place c.args.start index c.if-start-self.false
           (ne_eqb q c.args.start w.if-changed-start.false)
     ] in
     c.word_at-word.ensures
     ∙ sym kept
-    ∙ ap (λ at. slice_index (block_at (new_block memory zeros at u.place).blocks c.args.start) index)
+    ∙ ap
+    (λ at. slice_index (block_at (new_block memory zeros at u.place).blocks c.args.start) index)
     (sym c.in-Field.is)
     ∙ ap (λ (m : Memory). slice_index (block_at m.blocks c.args.start) index) c.self.view_is

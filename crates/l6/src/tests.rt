@@ -6,6 +6,7 @@ mod faults;
 mod hosts;
 mod limits;
 mod programs;
+mod stores;
 mod transfers;
 
 use crate::job::{Outcome, Verb, perform};

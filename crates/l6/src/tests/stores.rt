@@ -1,0 +1,42 @@
+//! Runs in a store of one unit.
+
+use crate::job::{Outcome, Verb, perform};
+use l6_machine::Trap;
+use l6_run::{Ending, Host, Options};
+use std::test::Fail;
+
+#[test]
+fn one_unit_is_soon_full(rt: HostRuntime) -> Result<(), Fail> {
+    let rows: [(&[u8], Ending, &[u8]); 3] = [
+        (
+            b" (A,GT,128)(B,GT,1)\n",
+            Ending::Trap(Trap::StoreFull),
+            b"== TRAP 7 STORE FULL AT 0.2 AFTER 2 STEPS\n",
+        ),
+        (
+            b" (A,GT,128)(B,GT,1,,FULL)\nFULL (B,PD)\n",
+            Ending::Done,
+            b"0\n== DONE AFTER 8 STEPS\n",
+        ),
+        // the first get of 64 is refused: 64 words are free, but from no multiple of 64 on
+        (
+            b" (A,GT,32)(B,GT,32)(C,GT,32)(D,GT,32)\n (B,FR)(C,FR)(E,GT,64,,NO)\nNO (D,FR)(E,GT,64)(E,PD)\n",
+            Ending::Done,
+            b"192\n== DONE AFTER 17 STEPS\n",
+        ),
+    ];
+    for (deck, ending, text) in rows {
+        let options = Options::new(1, 1_000, 1_000).ok_or("out of range")?;
+        let mut writer = Host::new(Vec::new(rt.alloc()));
+        let result = perform(
+            rt.alloc(),
+            Verb::Run,
+            options,
+            &mut Host::new(deck),
+            &mut writer,
+        );
+        assert_eq!(rt; result, Ok(Outcome::Ran(ending)));
+        assert_eq!(rt; writer.into_inner().as_slice(), text);
+    }
+    Ok(())
+}

@@ -6,7 +6,7 @@ use Rattle.std.specs.Fmt.{digits}
 use Rattle.l6_store.specs.Blocks.{Blocks}
 use Rattle.l6_store.specs.Laws.{ScanChooses}
 use Rattle.l6_store.specs.Open.{Choice, FitsStore}
-use Rattle.l6_prog.specs.Numerals.{letter_count, name_count}
+use Rattle.l6_prog.specs.Numerals.{letter_count}
 use Rattle.l6_prog.specs.declared.operand.Operand.TheVariants.{Number}
 use Rattle.l6_prog.specs.declared.operation.Op.TheVariants.{Set, PrintDecimal}
 use Rattle.l6_prog.specs.declared.operation.Op.{Op}
@@ -20,7 +20,7 @@ use Rattle.l6_machine.specs.Moment.{EndsBy}
 use Rattle.l6_machine.specs.Run.{IsRun}
 use Rattle.l6_machine.specs.declared.halt.Halt.{Halt}
 use Rattle.l6_machine.specs.declared.halt.Halt.TheVariants.{Done}
-use Rattle.l6_machine.specs.State.{World, State, is_last}
+use Rattle.l6_machine.specs.State.{World, State, is_last, start}
 use Rattle.l6_machine.specs.Step.{Step, next}
 use Rattle.l6_run.specs.Options.{default_options}
 use Rattle.l6_run.specs.Prints.{store_rule, world_under}
@@ -88,11 +88,9 @@ world = world_under default_options five_program
 -- what bug A holds, the output, the statement, the action, the count and the ending make a state
 abbrev state_of : ℕ → List ℕ → ℕ → ℕ → ℕ → Option Halt → State
 state_of a output statement action count ending = record {
-  memory = record {
+  memory = record start.memory {
     bugs = a ∷ replicate (letter_count - 1) 0;
-    definitions = replicate name_count None;
     output = output;
-    blocks = map.empty;
   };
   at = record { statement = statement; action = action };
   count = count;

@@ -11,3 +11,7 @@ mod Levels
 mod NewBlocks
 mod Examples
 pub mod Calculations
+pub mod Gathering
+pub mod Bits
+pub mod Rows
+pub mod Landing

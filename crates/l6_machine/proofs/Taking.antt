@@ -1,5 +1,5 @@
 -- Where no operation takes a block, no rule of choice matters.
-use Rattle.std.proofs.Common.{◌≡◌, ℕ, zero, suc, Bool, true, false, List, [], ◌∷◌, length, Option, None, Some, not, cond, get_or, refl, ap, sym, ◌∙◌, inl, inr}
+use Rattle.std.proofs.Common.{◌≡◌, ℕ, zero, suc, Bool, true, false, List, [], ◌∷◌, length, Option, None, Some, Result, Ok, not, cond, get_or, refl, ap, sym, ◌∙◌, inl, inr}
 use Rattle.std.specs.Prelude.{◌-◌, ◌==◌, slice_get}
 use Rattle.std.specs.List.{list_all}
 use Rattle.std.proofs.lemmas.Bool.{both_ways, cases_lt, not-true}
@@ -7,18 +7,22 @@ use Rattle.std.proofs.lemmas.Option.{get_or_from_slice_get, slice_get_within}
 use Rattle.std.proofs.Math.ListN.{get_or-eq_default}
 use Rattle.l6_prog.specs.Statement.{Parts, plain_done}
 use Rattle.l6_prog.specs.declared.condition.Cond.{Cond}
+use Rattle.l6_prog.specs.declared.condition.Test.{Test}
 use Rattle.l6_prog.specs.declared.exit.Exit.{Exit}
 use Rattle.l6_prog.specs.declared.operation.Op.{Op}
 use Rattle.l6_prog.specs.declared.operation.Op.TheVariants.{Get, Duplicate}
 use Rattle.l6_prog.proofs.Targets.{passes_at}
 use Rattle.l6_store.specs.Open.{Choice}
 use Rattle.l6_store.specs.Rule.{Rule}
+use Rattle.l6_machine.specs.declared.trap.Trap.{Trap}
 use Rattle.l6_machine.specs.Laws.{EndsUnderEachRule}
+use Rattle.l6_machine.specs.Trapping.{◌>>=◌}
 use Rattle.l6_machine.specs.Moment.{Moment, moment_at, pick_at, state_at}
 use Rattle.l6_machine.specs.Row.{condition, deed_of, row}
+use Rattle.l6_machine.specs.Deed.{Deed}
 use Rattle.l6_machine.specs.Run.{IsRun}
 use Rattle.l6_machine.specs.State.{World, Setting, Memory, State, is_last}
-use Rattle.l6_machine.specs.Step.{action_behind, deed_at, next, outcome, statement_at}
+use Rattle.l6_machine.specs.Step.{action_behind, deed_at, done_at, next, outcome, statement_at}
 use Rattle.l6_machine.specs.Taking.{takes_block, takes_no_block, takes_none}
 use Rattle.l6_machine.proofs.Numbered.{moment_after-goes_on}
 
@@ -34,14 +38,14 @@ row_same other setting choice choice' memory takes = refl
 
 -- what a condition, an operation that takes no block, or an exit does
 chosen_same : (setting : Setting) (choice choice' : Choice) (memory : Memory) (test : Cond)
-    (last : Exit ℕ)
+    (tests : List Test) (last : Exit ℕ)
     (found : Option (Op ℕ)) (first : Bool) →
     ((op : Op ℕ) → found ≡ Some op → takes_block op ≡ false) →
-    deed_of setting choice (cond first (condition test) (action_behind last found)) memory
-    ≡ deed_of setting choice' (cond first (condition test) (action_behind last found)) memory
-chosen_same setting choice choice' memory test last found true none = refl
-chosen_same setting choice choice' memory test last None false none = refl
-chosen_same setting choice choice' memory test last (Some op) false none =
+    deed_of setting choice (cond first (condition test tests) (action_behind last found)) memory
+    ≡ deed_of setting choice' (cond first (condition test tests) (action_behind last found)) memory
+chosen_same setting choice choice' memory test tests last found true none = refl
+chosen_same setting choice choice' memory test tests last None false none = refl
+chosen_same setting choice choice' memory test tests last (Some op) false none =
     row_same op setting choice choice' memory (none op refl)
 
 -- no operation of the statement at a number takes a block, also where there is none
@@ -71,10 +75,12 @@ deed_same : (world : World) (choice choice' : Choice) (old : State) →
     deed_at world choice old ≡ deed_at world choice' old
 deed_same world choice choice' old none =
     let statement = statement_at world.program old.at in
-    chosen_same world.setting choice choice' old.memory statement.condition statement.exit
+    ap (λ (deed : Result Deed Trap). deed >>= λ d. Ok (done_at old.at d))
+    (chosen_same world.setting choice choice' old.memory statement.condition statement.tests
+    statement.exit
     (slice_get statement.operations (old.at.action - 1)) (old.at.action == 0)
     (λ op found. takes_not statement.operations (old.at.action - 1) op
-    (none_at world.program old.at.statement none) found)
+    (none_at world.program old.at.statement none) found))
 
 -- the states of a run are those of the run under a rule
 run-numbered : (rule : Rule) (world : World) (state : State) (older : List State) →

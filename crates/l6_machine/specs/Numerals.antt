@@ -9,6 +9,10 @@ most_steps = 1000000000
 abbrev pub most_output : ℕ
 most_output = 16777216
 
+-- how many contents, how many definitions and how many returns may be saved at a time
+abbrev pub most_entries : ℕ
+most_entries = 1024
+
 -- how many bytes of input a run may be given
 abbrev pub most_input : ℕ
 most_input = 1048576

@@ -5,14 +5,94 @@ use Rattle.l6_word.specs.Window.{Window}
 use Rattle.l6_store.specs.Open.{Choice}
 use Rattle.l6_prog.specs.Numerals.{first_letter, letter_count, name_count}
 use Rattle.l6_prog.specs.declared.operand.Operand.TheVariants.{Number}
-use Rattle.l6_prog.specs.declared.operation.Op.TheVariants.{Set, Subtract, Exchange, Get}
+use Rattle.l6_prog.specs.declared.operation.Op.TheVariants.{Set, Subtract, Exchange, Get, Call}
 use Rattle.l6_machine.specs.declared.jump.Jump.TheVariants.{Onward}
 use Rattle.l6_machine.specs.declared.locus.Locus.TheVariants.{Field}
-use Rattle.l6_machine.specs.declared.trap.Trap.TheVariants.{NotABlock}
+use Rattle.l6_machine.specs.declared.trap.Trap.TheVariants.{NotABlock, NoFailExit}
 use Rattle.l6_machine.specs.Deed.{leave, took}
 use Rattle.l6_machine.specs.Locus.{content, index_of, locus}
 use Rattle.l6_machine.specs.Row.{row}
-use Rattle.l6_machine.specs.State.{Memory, Setting, start}
+use Rattle.l6_machine.specs.State.{World, State, Memory, Setting, start}
+use Rattle.l6_prog.specs.declared.condition.Cond.TheVariants.{Always, IfNotAll}
+use Rattle.l6_prog.specs.declared.condition.Test.TheVariants.{Equal, Greater}
+use Rattle.l6_prog.specs.declared.exit.Exit.TheVariants.{Next, Done, Fail}
+use Rattle.l6_prog.specs.Statement.{Parts, plain_done}
+use Rattle.l6_machine.specs.declared.halt.Halt.TheVariants as halts
+use Rattle.l6_machine.specs.declared.returns.Return.{Return}
+use Rattle.l6_machine.specs.Step.{next}
+
+-- the names A and N
+abbrev pub name_a : ℕ
+name_a = first_letter
+
+abbrev pub name_n : ℕ
+name_n = first_letter + 13
+
+-- a small world with this program
+abbrev pub small_world : List Parts → World
+small_world program = record {
+  program = program;
+  setting = record { units = 1; limits = record { steps = 100; output = 100 } };
+}
+
+-- the state at a statement's action after so many steps, in which nothing is held but these returns
+abbrev pub at_action : ℕ → ℕ → ℕ → List Return → State
+at_action statement action count returns = record start {
+  memory = record start.memory { returns = returns };
+  at = record { statement = statement; action = action };
+  count = count;
+}
+
+-- the program that begins with IFNALL (A,E,0)(A,G,0)(AN,E,0)
+abbrev pub not_all_world : World
+not_all_world =
+    small_world (record {
+      condition = IfNotAll;
+      tests =
+          Equal (name_a ∷ []) (Number 0)
+          ∷ Greater (name_a ∷ []) (Number 0)
+          ∷ Equal (name_a ∷ name_n ∷ []) (Number 0)
+          ∷ [];
+      operations = [];
+      exit = Next;
+    } ∷ plain_done ∷ [])
+
+-- A is 0: the first test holds, the second fails, and so the condition is true; the third test,
+-- which would trap, is not taken
+abbrev pub NotAllStops : Type 0
+NotAllStops = (choice : Choice) → next not_all_world choice start ≡ at_action 0 1 1 []
+
+-- the program whose statement 0 calls statement 1, which fails; the call may have a fail label
+abbrev pub call_world : Option ℕ → World
+call_world fail =
+    small_world (record {
+      condition = Always;
+      tests = [];
+      operations = Call 1 fail ∷ [];
+      exit = Done;
+    } ∷ record { condition = Always; tests = []; operations = []; exit = Fail }
+    ∷ plain_done
+    ∷ [])
+
+-- what the call waits for: the exit of statement 0, with its fail label
+abbrev pub waits : Option ℕ → List Return
+waits fail = record { at = record { statement = 0; action = 2 }; fail = fail } ∷ []
+
+-- with the fail label 2 the exit FAIL goes to statement 2, and the call waits no more
+abbrev pub FailGoesToItsLabel : Type 0
+FailGoesToItsLabel =
+    (choice : Choice) →
+    (next (call_world (Some 2)) choice (at_action 0 1 1 [])
+    ≡ at_action 1 0 2 (waits (Some 2)))
+    × (next (call_world (Some 2)) choice (at_action 1 1 3 (waits (Some 2)))
+    ≡ at_action 2 0 4 [])
+
+-- without a fail label it traps, and the call waits on: a trap changes the ending alone
+abbrev pub FailWithoutLabelTraps : Type 0
+FailWithoutLabelTraps =
+    (choice : Choice) →
+    next (call_world None) choice (at_action 1 1 3 (waits None))
+    ≡ record (at_action 1 1 3 (waits None)) { ending = Some (halts.Trap NoFailExit) }
 
 -- the chains of the bugs A and B
 abbrev pub chain_a : List ℕ
@@ -38,10 +118,7 @@ BugsExchange =
     (setting : Setting) (choice : Choice) →
     row setting choice (Exchange chain_a chain_b) (with_bugs 1 2) ≡ leave (with_bugs 2 1)
 
--- the names N, V and X
-abbrev pub name_n : ℕ
-name_n = first_letter + 13
-
+-- the names V and X
 abbrev pub name_v : ℕ
 name_v = first_letter + 21
 
@@ -62,10 +139,9 @@ defined window =
 -- two blocks of two words, at 128 and at 130; X points to the first, and N, its word 0 from bit 18
 -- on, to the second
 abbrev pub linked : Memory
-linked = record {
+linked = record start.memory {
   bugs = just_x 128;
   definitions = defined (record { word = 0; first = 18; last = 35 });
-  output = [];
   blocks = map.insert (map.insert map.empty 128 (130 ∷ 0 ∷ [])) 130 (0 ∷ 71 ∷ []);
 }
 
@@ -77,10 +153,9 @@ ChainLeads =
 
 -- a block of four zeros at 128, to which X points; N is word 1 from bit 18 on
 abbrev pub stacked : Memory
-stacked = record {
+stacked = record start.memory {
   bugs = just_x 128;
   definitions = defined (record { word = 1; first = 18; last = 35 });
-  output = [];
   blocks = map.insert map.empty 128 (0 ∷ 0 ∷ 0 ∷ 0 ∷ []);
 }
 

@@ -1,16 +1,19 @@
 //! Actions: conditions, operations and exits.
 
-ghost use Rattle.std.specs.Prelude.{◌≡◌, true, IfOk};
+ghost use Rattle.std.specs.Prelude.{◌≡◌, ◌+◌, ◌≤◌, true};
+ghost use Rattle.l6_prog.specs.Numerals.{most_operations};
 ghost use Rattle.l6_machine.specs.Ready.{is_ready_statement};
-ghost use Rattle.l6_machine.specs.Row.{deed_of, exit_jump};
-ghost use Rattle.l6_machine.specs.Step.{action_of};
-ghost use Rattle.l6_machine.specs.inner.Progress.{Leads};
+ghost use Rattle.l6_machine.specs.Row.{condition_jump, deed_of};
+ghost use Rattle.l6_machine.specs.Step.{action_of, returns_after};
+ghost use Rattle.l6_machine.specs.inner.Progress.{FindsRoom};
 ghost use Rattle.l6_machine.specs.inner.Registers.{AreHeld, Does};
 
 use crate::jump::Jump;
+use crate::position::Position;
 use crate::registers::Registers;
+use crate::returns::Return;
 use crate::trap::Trap;
-use l6_prog::{Exit, Statement};
+use l6_prog::Statement;
 use l6_store::Places;
 
 impl<S: Places> Registers<S> {
@@ -23,28 +26,43 @@ impl<S: Places> Registers<S> {
             (λ setting choice. deed_of setting choice (action_of statement.now action))
             self.old self.new result }
         ensures held { AreHeld S.rule self.new }
-        ensures leads { IfOk result (Leads statement.now action) }
     {
         // a look at a field, which tells the prover what is true of them all
         let _ = &self.limits;
         if action == 0 {
-            return Ok(Jump::Onward);
+            let answer = self.is_true(statement.condition(), statement.tests())?;
+            return Ok(condition_jump(answer));
         }
         match statement.operations().get(usize::from(action) - 1) {
             Some(operation) => self.operate(operation),
-            None => Ok(exit_jump(statement.exit())),
+            None => self.leave_by(statement.exit()),
         }
+    }
+
+    /// Has a call wait for its return, which is behind it.
+    pub(crate) fn wait(&mut self, jump: Jump, at: Position)
+        requires room { FindsRoom jump self.old.memory.returns }
+        requires action { at.action ≤ most_operations + 1 }
+        ensures returns { self.new ≡ record self.old {
+          memory = record self.old.memory {
+            returns = returns_after jump at self.old.memory.returns;
+          };
+        } }
+        ensures held { AreHeld S.rule self.new }
+    {
+        if let Jump::Call(_, fail) = jump {
+            self.saved.returns.push(Return {
+                at: at.behind(),
+                fail,
+            });
+        }
+        let _ = &self.limits;
     }
 }
 
-/// Where an exit leads.
-fn exit_jump(exit: Exit) -> Jump
-    ensures { result ≡ exit_jump exit }
+/// Where a condition leads.
+fn condition_jump(answer: bool) -> Jump
+    ensures { result ≡ condition_jump answer }
 {
-    match exit {
-        Exit::Next => Jump::Next,
-        Exit::Label(statement) => Jump::To(statement),
-        Exit::Done => Jump::Done,
-        Exit::Fail => Jump::Fail,
-    }
+    if answer { Jump::Onward } else { Jump::Next }
 }

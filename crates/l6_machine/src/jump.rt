@@ -1,5 +1,7 @@
 //! Jumps.
 
+use crate::position::Position;
+
 /// Where a run goes on after an action.
 #[derive(Clone, Copy, Debug, PartialEq, Eq)]
 pub enum Jump {
@@ -9,9 +11,13 @@ pub enum Jump {
     Next,
     /// With the condition of the statement of this number.
     To(u16),
-    /// Behind the latest call that waits for its return. As no call does, the run ends.
+    /// With the action at this position, behind a call that has returned.
+    Back(Position),
+    /// With the condition of the statement of this number, which is called; the call has this fail
+    /// label, if it has one, and waits for its return.
+    Call(u16, Option<u16>),
+    /// Nowhere: an exit DONE ends the run.
     Done,
-    /// At the fail label of the latest call that waits for its return. As no call does, the run
-    /// ends.
+    /// Nowhere: an exit FAIL ends the run.
     Fail,
 }

@@ -1,14 +1,15 @@
-//! The laws of calculations and of runs, and that the numbers of the code are those of the
+//! The laws of calculations, tests and runs, and that the numbers of the code are those of the
 //! language.
 
 ghost use Rattle.std.specs.Prelude.{◌≡◌, ◌+◌, ◌%◌, min, max};
 ghost use Rattle.l6_prog.specs.Numerals.{letter_count, name_count};
-ghost use Rattle.l6_machine.specs.Laws.{DifferencesAddUp, EndsInOneState, EndsUnderEachRule, GoesBitByBit, RulesRunBySteps, TurnsEachBit};
-ghost use Rattle.l6_machine.specs.Numerals.{most_input, most_output, most_steps};
+ghost use Rattle.l6_machine.specs.Laws.{DifferencesAddUp, EndsInOneState, EndsUnderEachRule, GoesBitByBit, OnesBitByBit, RulesRunBySteps, TurnsEachBit, ZerosBitByBit};
+ghost use Rattle.l6_machine.specs.Numerals.{most_entries, most_input, most_output, most_steps};
 
 use crate::calculation::Calculation;
 use crate::limits::{MAX_INPUT, MAX_OUTPUT, MAX_STEPS};
 use crate::registers::{BUGS, FIELDS};
+use crate::stack::MAX_ENTRIES;
 
 /// What `And`, `Or` and `ExclusiveOr` calculate has a one where both numbers, either or just one of
 /// them have a one, and `Complement` turns each bit of the width.
@@ -33,12 +34,20 @@ pub fn runs_are_determined()
     ensures each_rule { EndsUnderEachRule }
 {}
 
-/// Runs may be as long, and print as much, as the language says, and there is a bug for each
-/// letter, and a definition for each name.
+/// The tests of bits look at each bit: those that are one in the operand are one in the content, or
+/// are zero there.
+pub fn tests_look_at_each_bit()
+    ensures ones { OnesBitByBit }
+    ensures zeros { ZerosBitByBit }
+{}
+
+/// Runs may be as long, and print and save as much, as the language says, and there is a bug for
+/// each letter, and a definition for each name.
 pub fn runs_have_their_limits()
     ensures steps { MAX_STEPS ≡ most_steps }
     ensures output { MAX_OUTPUT ≡ most_output }
     ensures input { MAX_INPUT ≡ most_input }
     ensures bugs { BUGS ≡ letter_count }
     ensures fields { FIELDS ≡ name_count }
+    ensures entries { MAX_ENTRIES ≡ most_entries }
 {}

@@ -7,7 +7,7 @@ ghost use Rattle.l6_store.specs.Blocks.{Fits};
 ghost use Rattle.l6_store.specs.Store.{fresh};
 ghost use Rattle.l6_machine.specs.Limits.{are_allowed};
 ghost use Rattle.l6_machine.specs.Moment.{first_moment, moment_after, EndsBy, IsNumbered};
-ghost use Rattle.l6_machine.specs.Numerals.{most_input, most_output, most_steps};
+ghost use Rattle.l6_machine.specs.Numerals.{most_entries, most_input, most_output, most_steps};
 ghost use Rattle.l6_machine.specs.Ready.{is_ready};
 ghost use Rattle.l6_machine.specs.State.{is_at_limit, is_last};
 ghost use Rattle.l6_machine.specs.Locus.{index_of};
@@ -19,6 +19,7 @@ use crate::limits::Limits;
 use crate::position::Position;
 use crate::progress::Progress;
 use crate::registers::Registers;
+use crate::saved::Depths;
 use crate::trap::Trap;
 use l6_prog::{Name, Program};
 use l6_store::Places;
@@ -182,6 +183,8 @@ impl<S: Places> Machine<S> {
             self.new.moment.state.count ≡ self.old.moment.state.count + 1 }
         ensures within { self.new.moment.state.count ≤ self.new.world.setting.limits.steps }
         ensures words { All (λ word. word < 2 ^ word_bits) self.new.moment.state.memory.bugs }
+        ensures saved_words { All (λ word. word < 2 ^ word_bits)
+            self.new.moment.state.memory.saved_contents }
         ensures blocks { Fits self.new.world.setting.units self.new.moment.state.memory.blocks }
     {
         self.progress.step(&self.program, &mut self.registers)
@@ -203,6 +206,19 @@ impl<S: Places> Machine<S> {
         ensures { result ≡ slice_index self.now.moment.state.memory.bugs (index_of name) }
     {
         self.registers.bug(name)
+    }
+
+    /// How many contents and definitions are saved, and for how many returns calls wait: each at
+    /// most `MAX_ENTRIES`.
+    pub fn depths(&self) -> Depths
+        ensures contents { result.contents ≡ length self.now.moment.state.memory.saved_contents }
+        ensures definitions { result.definitions
+            ≡ length self.now.moment.state.memory.saved_definitions }
+        ensures returns { result.returns ≡ length self.now.moment.state.memory.returns }
+        ensures within { (result.contents ≤ most_entries)
+            × (result.definitions ≤ most_entries) × (result.returns ≤ most_entries) }
+    {
+        self.registers.depths()
     }
 
     /// What a field of this name is defined as, if it is.

@@ -2,11 +2,12 @@
 
 ghost use Rattle.std.specs.Prelude.{◌≡◌, not};
 ghost use Rattle.std.specs.List.{list_all};
-ghost use Rattle.l6_machine.specs.Ready.{is_ready, is_ready_statement, waits_condition, waits_operation};
+ghost use Rattle.l6_machine.specs.Ready.{is_ready, is_ready_statement, waits_operation};
 
-use l6_prog::{Cond, Op, Program, Statement};
+use l6_prog::{Op, Program, Statement};
 
-/// Whether the machine has the row of each condition, operation and exit of the program.
+/// Whether the machine has the row of each operation of the program; of each condition and of each
+/// exit it has one.
 pub fn ready(program: &Program) -> bool
     ensures { result ≡ is_ready program.now }
 {
@@ -22,17 +23,7 @@ pub fn ready(program: &Program) -> bool
 fn is_ready(statement: &Statement) -> bool
     ensures { result ≡ is_ready_statement statement.now }
 {
-    has_condition(statement.condition()) && has_operations(statement.operations())
-}
-
-/// Whether it has the row of a condition.
-fn has_condition(condition: Cond) -> bool
-    ensures { result ≡ not (waits_condition condition) }
-{
-    match condition {
-        Cond::Always => true,
-        _ => false,
-    }
+    has_operations(statement.operations())
 }
 
 /// Whether it has the row of each operation.
@@ -69,6 +60,11 @@ fn has_operation(operation: &Op) -> bool
         | Op::Get(..)
         | Op::Duplicate(..)
         | Op::Free(..)
+        | Op::SaveContent(_)
+        | Op::RestoreContent(_)
+        | Op::SaveDefinition(_)
+        | Op::RestoreDefinition(_)
+        | Op::Call(..)
         | Op::PrintDecimal(_)
         | Op::PrintOctal(_)
         | Op::PrintLine => true,

@@ -1,6 +1,6 @@
-//! Worked examples of the definitions: theorems about them alone, of operations worked by hand.
+//! Worked examples of the definitions: theorems about them alone, of steps worked by hand.
 
-ghost use Rattle.l6_machine.specs.Worked.{BugsExchange, ChainLeads, DifferenceWraps, GetKeepsTheOld, UseAfterFreeTraps};
+ghost use Rattle.l6_machine.specs.Worked.{BugsExchange, ChainLeads, DifferenceWraps, FailGoesToItsLabel, FailWithoutLabelTraps, GetKeepsTheOld, NotAllStops, UseAfterFreeTraps};
 
 /// A difference below 0 wraps.
 pub fn difference_wraps()
@@ -25,4 +25,15 @@ pub fn get_keeps_the_old()
 /// A field of a block that was freed is no field of a block.
 pub fn use_after_free_traps()
     ensures { UseAfterFreeTraps }
+{}
+
+/// A condition takes no test behind the one that decides it.
+pub fn not_all_stops()
+    ensures { NotAllStops }
+{}
+
+/// The exit FAIL goes to the fail label of the latest call, or traps where that has none.
+pub fn fail_goes_to_its_label()
+    ensures label { FailGoesToItsLabel }
+    ensures none { FailWithoutLabelTraps }
 {}

@@ -65,7 +65,7 @@ pub enum RunFault {
     /// Memory ran out.
     #[error("out of memory")]
     NoMemory,
-    /// The program has a condition or an operation of which the machine has no row yet.
+    /// The program has an operation of which the machine has no row yet.
     #[error("not yet")]
     NotYet,
 }

@@ -15,3 +15,6 @@ pub mod Gathering
 pub mod Bits
 pub mod Rows
 pub mod Landing
+pub mod Laying
+pub mod Packing
+pub mod Arrivals

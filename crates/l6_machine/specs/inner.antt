@@ -1,4 +1,6 @@
 pub mod Calculation
 pub mod Registers
 pub mod Progress
+pub mod Fields
+pub mod Code
 pub mod Upcoming

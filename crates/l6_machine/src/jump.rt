@@ -1,5 +1,10 @@
 //! Jumps.
 
+ghost use Rattle.std.specs.Prelude.{◌≡◌, ◌+◌, ◌<◌, ◌≤◌};
+ghost use Rattle.l6_prog.specs.Numerals.{most_operations, most_statements};
+ghost use Rattle.l6_machine.specs.Step.{ending_after, position_after};
+
+use crate::halt::Halt;
 use crate::position::Position;
 
 /// Where a run goes on after an action.
@@ -20,4 +25,30 @@ pub enum Jump {
     Done,
     /// Nowhere: an exit FAIL ends the run.
     Fail,
+}
+
+/// The position to which a jump leads; it stays where the run ends.
+pub(crate) fn position_after(jump: Jump, at: Position) -> Position
+    requires action { at.action ≤ most_operations + 1 }
+    requires statement { at.statement < most_statements }
+    ensures { result ≡ position_after jump at }
+{
+    match jump {
+        Jump::Onward => at.behind(),
+        Jump::Next => Position::start_of(at.statement + 1),
+        Jump::To(statement) | Jump::Call(statement, _) => Position::start_of(statement),
+        Jump::Back(there) => there,
+        Jump::Done | Jump::Fail => at,
+    }
+}
+
+/// How a jump ends the run, if it does.
+pub(crate) fn ending_after(jump: Jump) -> Option<Halt>
+    ensures { result ≡ ending_after jump }
+{
+    match jump {
+        Jump::Onward | Jump::Next | Jump::To(_) | Jump::Back(_) | Jump::Call(..) => None,
+        Jump::Done => Some(Halt::Done),
+        Jump::Fail => Some(Halt::Fail),
+    }
 }

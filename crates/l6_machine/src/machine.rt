@@ -14,6 +14,7 @@ ghost use Rattle.l6_machine.specs.Locus.{index_of};
 ghost use Rattle.l6_machine.specs.Step.{Step, answer};
 ghost use Rattle.l6_machine.specs.Run.{EndsIn, IsReached};
 
+use crate::code::Code;
 use crate::halt::{Halt, StepResult};
 use crate::limits::Limits;
 use crate::position::Position;
@@ -65,7 +66,7 @@ fn check(limits: Limits) -> Result<(), MachineFault>
 /// A machine with a program to run and a store of blocks, at some moment of its run.
 #[derive(Drop)]
 pub struct Machine<S: Places> {
-    program: Program,
+    code: Code,
     registers: Registers<S>,
     progress: Progress,
 }
@@ -79,21 +80,23 @@ impl<S: Places> Model for Machine<S> {
 
     ghost coded = { Prim.hlevel (codes, blocks_code) };
 
-    ghost use Rattle.l6_machine.specs.inner.Progress.{moment_of, world_of, IsSound};
+    ghost use Rattle.l6_machine.specs.inner.Code.{course_of, IsSoundAt};
+    ghost use Rattle.l6_machine.specs.inner.Progress.{moment_of, world_of};
 
     ghost view = { λ m. record {
-      world = world_of m.program m.registers;
-      moment = moment_of m.registers m.progress;
+      world = world_of m.code.program m.registers;
+      moment = moment_of m.registers (course_of m.code.layout m.progress);
     } };
 
-    ghost invariant = { λ m. IsSound S.rule m.program m.registers m.progress };
+    ghost invariant = { λ m. IsSoundAt S.rule m.code m.registers m.progress };
 }
 
 impl<S: Places> Machine<S> {
     /// A machine before the first step of the program. All that a run needs is taken from memory
-    /// here: a copy of the program, and room for the output. The input is not looked at: no
-    /// operation reads it yet. Where no machine is made, the store is given up. The caller owes a
-    /// program that is `ready`, a store that is new or reset, and no more than `MAX_INPUT` bytes.
+    /// here: a copy of the program and its instructions, and room for the output and for all that
+    /// may be saved. The input is not looked at: no operation reads it yet. Where no machine is
+    /// made, the store is given up. The caller owes a program that is `ready`, a store that is new
+    /// or reset, and no more than `MAX_INPUT` bytes.
     pub fn new(
         alloc: Global,
         program: &Program,
@@ -142,17 +145,19 @@ impl<S: Places> Machine<S> {
         ensures allowed { OnOk result (are_allowed limits ≡ true) }
     {
         check(limits)?;
+        let code = Code::new(alloc, program)?;
         let registers = Registers::new(alloc, store, limits)?;
+        let start = Position {
+            statement: 0,
+            action: 0,
+        };
         let progress = Progress {
-            at: Position {
-                statement: 0,
-                action: 0,
-            },
+            place: code.place(start),
             count: 0,
             ending: None,
         };
         Ok(Machine {
-            program,
+            code,
             registers,
             progress,
         })
@@ -187,7 +192,7 @@ impl<S: Places> Machine<S> {
             self.new.moment.state.memory.saved_contents }
         ensures blocks { Fits self.new.world.setting.units self.new.moment.state.memory.blocks }
     {
-        self.progress.step(&self.program, &mut self.registers)
+        self.progress.step(&self.code, &mut self.registers)
     }
 
     /// Makes steps until the run has ended or is at its limit.
@@ -197,7 +202,7 @@ impl<S: Places> Machine<S> {
         ensures numbered { IsNumbered S.rule self.new.world self.new.moment }
         ensures world { self.new.world ≡ self.old.world }
     {
-        self.progress.run(&self.program, &mut self.registers);
+        self.progress.run(&self.code, &mut self.registers);
     }
 
     /// What the bug of a letter holds. The caller owes a letter (`Name::is_letter`).
@@ -249,7 +254,7 @@ impl<S: Places> Machine<S> {
     pub fn at(&self) -> Position
         ensures { result ≡ self.now.moment.state.at }
     {
-        self.progress.at
+        self.code.position(self.progress.place)
     }
 
     /// How many steps have been counted, at most as many as the run may count.

@@ -5,6 +5,7 @@ use Rattle.l6_machine.specs.Moment.{moment_after}
 use Rattle.l6_machine.specs.Standing.{Standing}
 use Rattle.l6_machine.specs.State.{is_last}
 use Rattle.l6_machine.specs.Step.{Step}
+use Rattle.l6_machine.specs.inner.Code.{course_of}
 use Rattle.l6_machine.specs.inner.Progress.{moment_of}
 use Rattle.l6_machine.proofs.Stepping.{steps_on, trapped_at, traps_alone}
 use Rattle.l6_machine.proofs.machine.Machine.step.Goals as goal
@@ -18,18 +19,19 @@ returns-clause-moment g c =
 -- that is a step further
 pub returns-clause-step : goal.returns-clause-step
 returns-clause-step g c =
-    let new = moment_of c.step.new.registers c.step.new.self in
+    let new = moment_of c.step.new.registers (course_of c.self.inside.code.layout c.step.new.self) in
     let sound = c.self.invariant in
     subst
     (λ (s : Standing). is_last s.world s.moment.state ≡ false →
     Step s.world s.moment.state new.state)
     c.self.view_is
-    (steps_on g.S.Places.rule _ _ new sound.ready sound.are_held.chooses c.step.ensures.moment)
+    (steps_on g.S.Places.rule _ _ new sound.sound.ready sound.sound.are_held.chooses
+    c.step.ensures.moment)
 
 -- a trap changes the ending alone
 pub returns-clause-trapped : goal.returns-clause-trapped
 returns-clause-trapped g c =
-    let new = moment_of c.step.new.registers c.step.new.self in
+    let new = moment_of c.step.new.registers (course_of c.self.inside.code.layout c.step.new.self) in
     subst
     (λ (s : Standing).
     (trap : Trap) → s.moment.state.ending ≡ None → c.step.result ≡ Trapped trap →

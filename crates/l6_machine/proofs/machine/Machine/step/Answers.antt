@@ -19,7 +19,8 @@ returns-clause-moment g c =
 -- that is a step further
 pub returns-clause-step : goal.returns-clause-step
 returns-clause-step g c =
-    let new = moment_of c.step.new.registers (course_of c.self.inside.code.layout c.step.new.self) in
+    let new =
+    moment_of c.step.new.registers (course_of c.self.inside.code.layout c.step.new.self) in
     let sound = c.self.invariant in
     subst
     (λ (s : Standing). is_last s.world s.moment.state ≡ false →
@@ -31,7 +32,8 @@ returns-clause-step g c =
 -- a trap changes the ending alone
 pub returns-clause-trapped : goal.returns-clause-trapped
 returns-clause-trapped g c =
-    let new = moment_of c.step.new.registers (course_of c.self.inside.code.layout c.step.new.self) in
+    let new =
+    moment_of c.step.new.registers (course_of c.self.inside.code.layout c.step.new.self) in
     subst
     (λ (s : Standing).
     (trap : Trap) → s.moment.state.ending ≡ None → c.step.result ≡ Trapped trap →

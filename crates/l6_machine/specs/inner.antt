@@ -3,4 +3,5 @@ pub mod Registers
 pub mod Progress
 pub mod Fields
 pub mod Code
+pub mod Condition
 pub mod Upcoming

@@ -8,3 +8,4 @@ pub mod Contents
 pub mod Runs
 pub mod Calls
 pub mod Live
+pub mod Sizes

@@ -43,6 +43,10 @@ pub trait Places: Sized {
             ≡ option_map length (map.get (store self.now).blocks word) }
         ensures level { IfSome result (λ level. level ≤ largest_level) };
 
+    /// How many words the block has that begins at the place of this number, or 0 where none does.
+    fn size(&self, word: Word) -> u16
+        ensures { result ≡ length (block_at (store self.now).blocks word) };
+
     /// The place that `get` would give.
     fn peek(&self, level: Level) -> Option<Place>
         requires { level ≤ largest_level }

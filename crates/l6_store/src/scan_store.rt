@@ -25,6 +25,9 @@ pub struct ScanStore {
     tags: Vec<Tag>,
     // the word at each place, below 2^36
     words: Vec<u64>,
+    // how many words the block has that begins at each place, 0 where none does: one look tells
+    // whether a word lies in a block
+    sizes: Vec<u16>,
     // no place below this one is free
     low: usize,
 }
@@ -41,7 +44,7 @@ impl Model for ScanStore {
 
     ghost view = { λ s. store_of s.units s.tags.items s.words.items };
 
-    ghost invariant = { λ s. IsHeld s.units s.tags.items s.words.items s.low };
+    ghost invariant = { λ s. IsHeld s.units s.tags.items s.words.items s.sizes.items s.low };
 }
 
 impl ScanStore {
@@ -62,6 +65,7 @@ impl ScanStore {
             units,
             tags: vec![in alloc; Tag::Free; places]?,
             words: vec![in alloc; 0; places]?,
+            sizes: vec![in alloc; 0; places]?,
             low: usize::from(UNIT_SIZE),
         })
     }
@@ -80,6 +84,10 @@ impl Places for ScanStore {
         level_at(&self.tags, word.get() as usize)
     }
 
+    fn size(&self, word: Word) -> u16 {
+        self.sizes.get(word.get() as usize).copied().unwrap_or(0)
+    }
+
     fn peek(&self, level: Level) -> Option<Place> {
         lowest_open(&self.tags, self.low, level)
     }
@@ -88,6 +96,7 @@ impl Places for ScanStore {
         let place = lowest_open(&self.tags, self.low, level)?;
         mark(&mut self.tags, place as usize, level);
         clear(&mut self.words, place as usize, size_of(level));
+        self.sizes[place as usize] = 1 << level;
         self.low = raised(self.low, place as usize, level);
         Some(place)
     }
@@ -95,6 +104,7 @@ impl Places for ScanStore {
     fn free(&mut self, place: Place) {
         let level = level_at(&self.tags, place as usize).unwrap();
         fill(&mut self.tags, place as usize, size_of(level), Tag::Free);
+        self.sizes[place as usize] = 0;
         self.low = self.low.min(place as usize);
     }
 
@@ -124,12 +134,14 @@ impl Places for ScanStore {
             units: self.units,
             tags: self.tags.to_vec(alloc)?,
             words: self.words.to_vec(alloc)?,
+            sizes: self.sizes.to_vec(alloc)?,
             low: self.low,
         })
     }
 
     fn reset(&mut self) {
         self.tags.fill(Tag::Free);
+        self.sizes.fill(0);
         self.low = usize::from(UNIT_SIZE);
     }
 }

@@ -98,12 +98,14 @@ fn agrees<S: Places>(store: &S, ledger: &Ledger) -> bool {
     for (place, word) in (0..).zip(ledger.words.iter()) {
         let at = place_of(place);
         let level = store.live(word_of(at));
-        if level.is_some() != ledger.begins(place) {
+        let size = usize::from(store.size(word_of(at)));
+        if level.is_some() != ledger.begins(place) || level.is_some() != (size > 0) {
             return false;
         }
         if let Some(level) = level {
             let words = store.block(at);
             if words.len() != 1 << level
+                || words.len() != size
                 || !words
                     .iter()
                     .eq(ledger.words.iter().skip(place).take(words.len()))

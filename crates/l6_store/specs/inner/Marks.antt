@@ -1,7 +1,7 @@
 -- What the helpers of a plain store do to its tags and words.
 use Rattle.std.specs.Prelude.{◌≡◌, ℕ, ◌+◌, ◌%◌, ◌^◌, ◌<◌, ◌≤◌, List, length, slice_index, Option, Some, None, ◌⊎◌}
 use Rattle.l6_word.specs.Numerals.{unit_size}
-use Rattle.l6_store.specs.inner.Tags.{tag_at, IsKept}
+use Rattle.l6_store.specs.inner.Tags.{size_by, tag_at, IsKept}
 use Rattle.l6_store.specs.declared.tag.Tag.{Tag}
 use Rattle.l6_store.specs.declared.tag.Tag.TheVariants.{Free, First, Inside}
 
@@ -29,9 +29,15 @@ abbrev pub IsRaised : ℕ → ℕ → ℕ → ℕ → Type 0
 IsRaised low place level result =
     (result ≡ low) ⊎ ((result ≡ place + 2 ^ level) × ((level ≡ 0) ⊎ (place ≡ low)))
 
+-- the sizes are those of the blocks that begin at the places
+pub record AreSizes (tags : List Tag) (sizes : List ℕ) : Type 0 where
+  pub count : length sizes ≡ length tags
+  pub each : (at : ℕ) → slice_index sizes at ≡ size_by (tag_at tags at)
+
 -- what is true of each plain store
-pub record IsHeld (units : ℕ) (tags : List Tag) (words : List ℕ) (low : ℕ) : Type 0 where
+pub record IsHeld (units : ℕ) (tags : List Tag) (words sizes : List ℕ) (low : ℕ) : Type 0 where
   pub kept : IsKept units tags words
+  pub sized : AreSizes tags sizes
   pub full : IsFull tags low
 
 -- the places of a new block are tagged, and no others change

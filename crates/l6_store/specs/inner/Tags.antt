@@ -19,6 +19,12 @@ level_of (First level) = Some level
 level_of Inside = None
 level_of Free = None
 
+-- how many words the block has that begins at a place with that tag, 0 if none does
+abbrev pub size_by : Tag → ℕ
+size_by (First level) = 2 ^ level
+size_by Inside = 0
+size_by Free = 0
+
 -- the words of the block that begins at a place with that tag, if one does
 abbrev pub tagged : List ℕ → ℕ → Tag → Option (List ℕ)
 tagged words place (First level) = Some (slice_range words place (place + 2 ^ level))

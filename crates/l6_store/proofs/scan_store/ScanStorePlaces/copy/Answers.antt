@@ -97,7 +97,11 @@ kept c =
     c.args.from c.args.to (2 ^ c.unwrap-level.result) within (copied c)
 
 pub invariant_of-self : goal.invariant_of-self
-invariant_of-self c = record { kept = kept c; full = c.self.invariant.full }
+invariant_of-self c = record {
+  kept = kept c;
+  sized = c.self.invariant.sized;
+  full = c.self.invariant.full;
+}
 
 pub returns-clause-after : goal.returns-clause-after
 returns-clause-after c =

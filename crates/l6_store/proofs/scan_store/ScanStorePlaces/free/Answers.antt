@@ -1,14 +1,15 @@
-use Rattle.std.proofs.Common.{◌≡◌, ℕ, ◌^◌, List, length, ap, sym, ◌∙◌, subst, arith}
+use Rattle.std.proofs.Common.{◌≡◌, ℕ, ◌^◌, List, length, ap, sym, ◌∙◌, subst, set, arith}
 use Rattle.std.proofs.lemmas.List.{with_items_is}
 use Rattle.std.specs.Vec.{with_items}
 use Rattle.l6_store.specs.Scan.{scan_rule}
 use Rattle.l6_store.specs.Store.{Store, after_free}
 use Rattle.l6_store.specs.inner.Tags.{tag_at, store_of, IsKept}
-use Rattle.l6_store.specs.inner.Marks.{IsFull, IsFilled}
+use Rattle.l6_store.specs.inner.Marks.{AreSizes, IsFull, IsFilled}
 use Rattle.l6_store.specs.declared.tag.Tag.{Tag}
 use Rattle.l6_store.specs.declared.tag.Tag.TheVariants.{Free, First}
 use Rattle.l6_store.proofs.Runs.{filled_full}
 use Rattle.l6_store.proofs.Kept.{sound_of}
+use Rattle.l6_store.proofs.Sizes.{freed_sizes}
 use Rattle.l6_store.proofs.Calls.{live_at, first_at, freed_kept, freed_store}
 use Rattle.l6_store.proofs.scan_store.ScanStorePlaces.free.Goals as goal
 
@@ -42,14 +43,14 @@ fill-requires c =
       c.self.invariant.kept.are_tags.count,
     )
 
-first : (c : goal.After-self-2-1) →
+first : (c : goal.After-self-3-1) →
     tag_at c.self.inside.tags.items c.args.place ≡ First c.unwrap-level.result
 first c =
     first_at c.self.inside.tags.items c.deref.result.now c.args.place c.level_at.result
     c.unwrap-level.result c.deref.ensures.value
     c.level_at.ensures c.unwrap-level.ensures
 
-filled : (c : goal.After-self-2-1) →
+filled : (c : goal.After-self-3-1) →
     IsFilled c.self.inside.tags.items c.fill.new.tags c.args.place (2 ^ c.unwrap-level.result) Free
 filled c =
     subst (λ (size : ℕ). IsFilled c.self.inside.tags.items c.fill.new.tags c.args.place size Free)
@@ -57,13 +58,13 @@ filled c =
     (subst (λ (old : List Tag). IsFilled old c.fill.new.tags c.args.place c.size_of.result Free)
     c.deref_mut.ensures.value c.fill.ensures)
 
-tags_are : (c : goal.After-self-2-1) →
+tags_are : (c : goal.After-self-3-1) →
     (with_items c.self.inside.tags c.fill.new.tags).items ≡ c.fill.new.tags
 tags_are c =
     with_items_is c.self.inside.tags c.fill.new.tags
     ((filled c).count ∙ sym c.self.inside.tags.ok.0)
 
-kept : (c : goal.After-self-2-1) →
+kept : (c : goal.After-self-3-1) →
     IsKept c.self.inside.units (with_items c.self.inside.tags c.fill.new.tags).items
     c.self.inside.words.items
 kept c =
@@ -79,6 +80,11 @@ invariant_of-self c =
     (first c) in
     record {
       kept = kept c;
+      sized = subst (λ (ts : List Tag). AreSizes ts (set c.self.inside.sizes.items c.args.place 0))
+          (sym (tags_are c))
+          (freed_sizes c.self.inside.units c.self.inside.tags.items c.fill.new.tags
+          c.self.inside.words.items c.self.inside.sizes.items c.args.place c.unwrap-level.result
+          c.self.invariant.kept c.self.invariant.sized (first c) (filled c));
       full = subst (λ (ts : List Tag). IsFull ts c.min-self-inside.result) (sym (tags_are c))
           (subst (λ (low : ℕ). IsFull c.fill.new.tags low) (sym c.min-self-inside.ensures)
           (filled_full c.self.inside.tags.items c.fill.new.tags c.self.inside.low c.args.place

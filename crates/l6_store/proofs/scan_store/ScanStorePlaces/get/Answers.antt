@@ -1,14 +1,16 @@
-use Rattle.std.proofs.Common.{◌≡◌, ℕ, ◌^◌, List, ap, sym, ◌∙◌, subst, Option, Some}
+use Rattle.std.proofs.Common.{◌≡◌, ℕ, ◌*◌, ◌%◌, ◌^◌, List, set, arith, ap, sym, ◌∙◌, subst, Option, Some}
 use Rattle.std.proofs.lemmas.List.{with_items_is}
+use Rattle.std.proofs.lemmas.Nat.{one_shl}
 use Rattle.std.specs.Vec.{with_items}
 use Rattle.l6_store.specs.Open.{IsAnswer}
 use Rattle.l6_store.specs.Scan.{scan_rule}
 use Rattle.l6_store.specs.Store.{Store, IsSound, picked, after_get}
 use Rattle.l6_store.specs.inner.Tags.{store_of, IsKept}
-use Rattle.l6_store.specs.inner.Marks.{IsMarked, IsCleared, IsFull, IsLowest}
+use Rattle.l6_store.specs.inner.Marks.{AreSizes, IsMarked, IsCleared, IsFull, IsLowest}
 use Rattle.l6_store.specs.declared.tag.Tag.{Tag}
 use Rattle.l6_store.proofs.Runs.{raised_full}
 use Rattle.l6_store.proofs.Kept.{sound_of}
+use Rattle.l6_store.proofs.Sizes.{got_sizes}
 use Rattle.l6_store.proofs.Kept.{picked_of_lowest, answer_of_lowest}
 use Rattle.l6_store.proofs.Calls.{got_kept, got_store}
 use Rattle.l6_store.proofs.scan_store.ScanStorePlaces.get.Goals as goal
@@ -43,7 +45,7 @@ returns-in_err-place-clause-sound c =
     (sound_of c.self.inside.units c.self.inside.tags.items c.self.inside.words.items
     c.self.invariant.kept)
 
-lowest : (c : goal.After-self-3-1)
+lowest : (c : goal.After-self-4-1)
     → IsLowest c.self.inside.tags.items (2 ^ c.args.level) (Some c.in_ok-place.place)
 lowest c =
     subst (λ (answer : Option ℕ). IsLowest c.self.inside.tags.items (2 ^ c.args.level) answer)
@@ -51,13 +53,13 @@ lowest c =
     (subst (λ (tags : List Tag). IsLowest tags (2 ^ c.args.level) c.lowest_open.result)
     c.deref.ensures.value c.lowest_open.ensures)
 
-marked : (c : goal.After-self-3-1)
+marked : (c : goal.After-self-4-1)
     → IsMarked c.self.inside.tags.items c.mark.new.tags c.in_ok-place.place c.args.level
 marked c =
     subst (λ (old : List Tag). IsMarked old c.mark.new.tags c.in_ok-place.place c.args.level)
     c.deref_mut.ensures.value c.mark.ensures
 
-cleared : (c : goal.After-self-3-1)
+cleared : (c : goal.After-self-4-1)
     → IsCleared c.self.inside.words.items c.clear.new.words c.in_ok-place.place (2 ^ c.args.level)
 cleared c =
     subst (λ (size : ℕ). IsCleared c.self.inside.words.items c.clear.new.words c.in_ok-place.place
@@ -65,19 +67,19 @@ cleared c =
     (subst (λ (old : List ℕ). IsCleared old c.clear.new.words c.in_ok-place.place c.size_of.result)
     c.deref_mut-2.ensures.value c.clear.ensures)
 
-tags_are : (c : goal.After-self-3-1)
+tags_are : (c : goal.After-self-4-1)
     → (with_items c.self.inside.tags c.mark.new.tags).items ≡ c.mark.new.tags
 tags_are c =
     with_items_is c.self.inside.tags c.mark.new.tags
     ((marked c).count ∙ sym c.self.inside.tags.ok.0)
 
-words_are : (c : goal.After-self-3-1)
+words_are : (c : goal.After-self-4-1)
     → (with_items c.self.inside.words c.clear.new.words).items ≡ c.clear.new.words
 words_are c =
     with_items_is c.self.inside.words c.clear.new.words
     ((cleared c).count ∙ sym c.self.inside.words.ok.0)
 
-kept : (c : goal.After-self-3-1)
+kept : (c : goal.After-self-4-1)
     → IsKept c.self.inside.units (with_items c.self.inside.tags c.mark.new.tags).items
     (with_items c.self.inside.words c.clear.new.words).items
 kept c =
@@ -91,6 +93,13 @@ kept c =
 pub invariant_of-self : goal.invariant_of-self
 invariant_of-self c = record {
   kept = kept c;
+  sized = subst (λ (ts : List Tag). AreSizes ts
+      (set c.self.inside.sizes.items c.in_ok-place.place (1 * 2 ^ c.args.level % 2 ^ 16)))
+      (sym (tags_are c))
+      (got_sizes c.self.inside.tags.items c.mark.new.tags c.self.inside.sizes.items
+      c.in_ok-place.place c.args.level c.self.invariant.sized (lowest c).0 (marked c)
+      (1 * 2 ^ c.args.level % 2 ^ 16)
+      (one_shl c.args.level 16 (omega (arith, c.requires))));
   full = subst (λ (ts : List Tag). IsFull ts c.raised-self-inside.result) (sym (tags_are c))
       (raised_full c.self.inside.tags.items c.mark.new.tags c.self.inside.low c.in_ok-place.place
       c.args.level c.raised-self-inside.result

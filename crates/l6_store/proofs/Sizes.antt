@@ -1,0 +1,124 @@
+-- The sizes of a plain store are those of its blocks.
+use Rattle.std.proofs.Common.{◌≡◌, ℕ, ◌+◌, ◌^◌, ◌<◌, List, [], length, get_or, set, Option, Some, None, refl, ap, sym, ◌∙◌, arith, inl, inr}
+use Rattle.std.specs.Option.{option_map, unwrap_or}
+use Rattle.std.specs.FinMap as map
+use Rattle.std.proofs.lemmas.Bool.{cases_lt, cases_eq}
+use Rattle.std.proofs.lemmas.List.{get_or-set_same, get_or-set_other, length-set}
+use Rattle.std.proofs.lemmas.Nat.{pow_pos}
+use Rattle.l6_store.specs.Blocks.{block_at}
+use Rattle.l6_store.specs.inner.Tags.{gathered, level_of, size_by, tag_at, IsKept}
+use Rattle.l6_store.specs.inner.Marks.{AreSizes, IsFilled, IsFreeRun, IsMarked}
+use Rattle.l6_store.specs.declared.tag.Tag.{Tag}
+use Rattle.l6_store.specs.declared.tag.Tag.TheVariants.{Free, First, Inside}
+use Rattle.l6_store.proofs.Calls.{size_told}
+
+-- ---- a new block
+module _ (old new : List Tag) (sizes : List ℕ) (place level : ℕ) (sized : AreSizes old sizes)
+    (run : IsFreeRun old (2 ^ level) place) (marked : IsMarked old new place level) where
+  -- each other place has the size that it had
+  same_size : (at : ℕ) → (at ≡ place → ⊥) → size_by (tag_at old at) ≡ size_by (tag_at new at)
+  same_size at other =
+      elim (cases_lt at place) as (λ _. size_by (tag_at old at) ≡ size_by (tag_at new at)) [
+        | inl less ↦ ap size_by (sym (marked.before at less))
+        | inr from ↦ elim (cases_lt at (place + 2 ^ level))
+            as (λ _. size_by (tag_at old at) ≡ size_by (tag_at new at)) [
+              | inl below ↦
+                  let after : place < at =
+                  elim (cases_lt place at) as (λ _. place < at) [
+                    | inl is ↦ is
+                    | inr not ↦ absurd (other (omega (arith, from, not)))
+                  ] in
+                  ap size_by (run.free at (omega (arith, after)) below)
+                  ∙ ap size_by (sym (marked.rest at after below))
+              | inr past ↦ ap size_by (sym (marked.behind at (omega (arith, past))))
+            ]
+      ]
+
+  pub got_sizes : (size : ℕ) → size ≡ 2 ^ level → AreSizes new (set sizes place size)
+  got_sizes size is =
+      let within : place < length sizes =
+      omega (arith, run.within, sized.count, pow_pos level) in
+      record {
+        count = length-set sizes place size ∙ sized.count ∙ sym marked.count;
+        each = λ at.
+            elim (cases_eq at place)
+            as (λ _. get_or (set sizes place size) at 0 ≡ size_by (tag_at new at)) [
+              | inl same ↦
+                  ap (λ i. get_or (set sizes place size) i 0) same
+                  ∙ get_or-set_same sizes place size 0 within ∙ is
+                  ∙ ap size_by (sym (ap (tag_at new) same ∙ marked.first))
+              | inr other ↦
+                  get_or-set_other sizes place at size 0 (λ same. absurd (other same))
+                  ∙ sized.each at ∙ same_size at other
+            ];
+      }
+
+-- ---- a block that is freed
+module _ (units : ℕ) (old new : List Tag) (words sizes : List ℕ) (place level : ℕ)
+    (kept : IsKept units old words) (sized : AreSizes old sizes)
+    (first : tag_at old place ≡ First level)
+    (filled : IsFilled old new place (2 ^ level) Free) where
+  still_size : (at : ℕ) → (at ≡ place → ⊥) → size_by (tag_at old at) ≡ size_by (tag_at new at)
+  still_size at other =
+      elim (cases_lt at place) as (λ _. size_by (tag_at old at) ≡ size_by (tag_at new at)) [
+        | inl less ↦ ap size_by (sym (filled.before at less))
+        | inr from ↦ elim (cases_lt at (place + 2 ^ level))
+            as (λ _. size_by (tag_at old at) ≡ size_by (tag_at new at)) [
+              | inl below ↦
+                  let after : place < at =
+                  elim (cases_lt place at) as (λ _. place < at) [
+                    | inl is ↦ is
+                    | inr not ↦ absurd (other (omega (arith, from, not)))
+                  ] in
+                  ap size_by (kept.are_tags.rest place level at first after below)
+                  ∙ ap size_by (sym (filled.filled at (omega (arith, after)) below))
+              | inr past ↦ ap size_by (sym (filled.behind at (omega (arith, past))))
+            ]
+      ]
+
+  pub freed_sizes : AreSizes new (set sizes place 0)
+  freed_sizes =
+      let within : place < length sizes =
+      omega (
+        arith,
+        (kept.are_tags.first place level first).within,
+        kept.are_tags.count,
+        sized.count,
+        pow_pos level,
+      ) in
+      record {
+        count = length-set sizes place 0 ∙ sized.count ∙ sym filled.count;
+        each = λ at.
+            elim (cases_eq at place)
+            as (λ _. get_or (set sizes place 0) at 0 ≡ size_by (tag_at new at)) [
+              | inl same ↦
+                  ap (λ i. get_or (set sizes place 0) i 0) same
+                  ∙ get_or-set_same sizes place 0 0 within
+                  ∙ ap size_by (sym (ap (tag_at new) same
+                  ∙ filled.filled place (omega arith) (omega (arith, pow_pos level))))
+              | inr other ↦
+                  get_or-set_other sizes place at 0 0 (λ same. absurd (other same))
+                  ∙ sized.each at ∙ still_size at other
+            ];
+      }
+
+-- ---- what a size tells
+size_of_level : (tag : Tag) →
+    size_by tag ≡ unwrap_or (option_map (λ (k : ℕ). 2 ^ k) (level_of tag)) 0
+size_of_level (First level) = refl
+size_of_level Inside = refl
+size_of_level Free = refl
+
+size_of_words : (found : Option (List ℕ)) →
+    unwrap_or (option_map (λ (words : List ℕ). length words) found) 0
+    ≡ length (unwrap_or found [])
+size_of_words (Some words) = refl
+size_of_words None = refl
+
+pub size_is : (units : ℕ) (tags : List Tag) (words sizes : List ℕ) → IsKept units tags words →
+    AreSizes tags sizes → (place : ℕ) →
+    get_or sizes place 0 ≡ length (block_at (gathered tags words (length tags)) place)
+size_is units tags words sizes kept sized place =
+    sized.each place ∙ size_of_level (tag_at tags place)
+    ∙ ap (λ found. unwrap_or found 0) (size_told units tags words kept place)
+    ∙ size_of_words (map.get (gathered tags words (length tags)) place)

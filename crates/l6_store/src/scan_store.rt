@@ -25,8 +25,8 @@ pub struct ScanStore {
     tags: Vec<Tag>,
     // the word at each place, below 2^36
     words: Vec<u64>,
-    // how many words the block has that begins at each place, 0 where none does: one look tells
-    // whether a word lies in a block
+    // how many words the block has that begins at each place, 0 where none does: so one comparison
+    // tells whether a block begins there and has a word of some index
     sizes: Vec<u16>,
     // no place below this one is free
     low: usize,

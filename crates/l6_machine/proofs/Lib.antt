@@ -16,5 +16,8 @@ pub mod Bits
 pub mod Rows
 pub mod Landing
 pub mod Laying
+pub mod Apart
+pub mod Shown
 pub mod Packing
+pub mod Walking
 pub mod Arrivals

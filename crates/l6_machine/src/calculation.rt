@@ -1,6 +1,6 @@
 //! Calculations: what field operations make of two numbers.
 
-ghost use Rattle.std.specs.Prelude.{◌≡◌, ◌≤◌};
+ghost use Rattle.std.specs.Prelude.{◌≡◌, ℕ, ◌≤◌};
 ghost use Rattle.l6_word.specs.Numerals.{word_bits};
 ghost use Rattle.l6_machine.specs.Calculation.{calculated};
 ghost use Rattle.l6_machine.specs.inner.Calculation.{lowest_bits};
@@ -38,11 +38,11 @@ pub enum Calculation {
 }
 
 impl Calculation {
-    /// The number to store at a place of so many bits, which keeps that many of its lowest bits.
-    /// Traps where it would divide by 0.
-    pub(crate) fn apply(self, width: u8, content: Word, value: Word) -> Result<u64, Trap>
-        requires { width ≤ word_bits }
-        ensures { lowest_bits width result
+    /// The number to store, of which a place of any width keeps as many of the lowest bits as it
+    /// has. Traps where it would divide by 0.
+    pub(crate) fn apply(self, content: Word, value: Word) -> Result<u64, Trap>
+        ensures { (width : ℕ) → width ≤ word_bits →
+            lowest_bits width result
             ≡ lowest_bits width (calculated self width content value) }
     {
         let (content, value) = (content.get(), value.get());
@@ -57,7 +57,7 @@ impl Calculation {
             Calculation::Or => content | value,
             Calculation::ExclusiveOr => content ^ value,
             Calculation::Complement => !value,
-            Calculation::ShiftLeft if value >= u64::from(width) => 0,
+            Calculation::ShiftLeft if value >= u64::from(u64::BITS) => 0,
             Calculation::ShiftLeft => content << value,
             Calculation::ShiftRight if value >= u64::from(Word::BITS) => 0,
             Calculation::ShiftRight => content >> value,

@@ -7,8 +7,9 @@ ghost use Rattle.l6_machine.specs.Laws.{DifferencesAddUp, EndsInOneState, EndsUn
 ghost use Rattle.l6_machine.specs.Numerals.{most_entries, most_input, most_output, most_steps};
 
 use crate::calculation::Calculation;
+use crate::definitions::FIELDS;
 use crate::limits::{MAX_INPUT, MAX_OUTPUT, MAX_STEPS};
-use crate::registers::{BUGS, FIELDS};
+use crate::registers::BUGS;
 use crate::stack::MAX_ENTRIES;
 
 /// What `And`, `Or` and `ExclusiveOr` calculate has a one where both numbers, either or just one of

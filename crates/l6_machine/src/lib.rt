@@ -5,6 +5,7 @@ mod action;
 mod calculation;
 mod code;
 mod condition;
+mod definitions;
 mod fields;
 mod finding;
 mod getting;

@@ -55,8 +55,7 @@ impl<S: Places> Registers<S> {
         if !self.saved.definitions.has_room() {
             return Err(Trap::PushdownFull);
         }
-        let definition = self.definitions[usize::from(field.number())];
-        self.saved.definitions.push(definition);
+        self.saved.definitions.push(self.definitions.get(field));
         Ok(Jump::Onward)
     }
 
@@ -70,7 +69,7 @@ impl<S: Places> Registers<S> {
     {
         match self.saved.definitions.pop() {
             Some(definition) => {
-                self.definitions[usize::from(field.number())] = definition;
+                self.definitions.set(field, definition);
                 Ok(Jump::Onward)
             }
             None => Err(Trap::PushdownEmpty),

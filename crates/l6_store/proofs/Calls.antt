@@ -1,5 +1,5 @@
 -- What each call of a plain store does to its meaning.
-use Rattle.std.proofs.Common.{◌≡◌, ℕ, ◌+◌, ◌-◌, ◌*◌, ◌%◌, ◌^◌, ◌<◌, ◌≤◌, List, [], length, get_or, set, slice_range, replicate, Option, Some, refl, ap, sym, ◌∙◌, subst, arith, inl, inr, ◌⊎◌}
+use Rattle.std.proofs.Common.{◌≡◌, ℕ, ◌+◌, ◌-◌, ◌*◌, ◌^◌, ◌<◌, ◌≤◌, List, [], length, get_or, set, slice_range, replicate, Option, Some, refl, ap, sym, ◌∙◌, subst, arith, inl, inr, ◌⊎◌}
 use Rattle.std.proofs.lemmas.Bool.{cases_lt}
 use Rattle.std.proofs.lemmas.Nat.{pow_pos, pow_below}
 use Rattle.std.proofs.lemmas.Grind.{get_or_default_zero}
@@ -149,19 +149,26 @@ found_word units tags words kept place found =
     ∙ index-range words found.start (2 ^ by.level) (place - found.start) inner
     ∙ ap (λ (i : ℕ). get_or words i 0) index)
 
--- what is read is that word
+-- what is read there is a word, ..
+pub read_fits : (units : ℕ) (tags : List Tag) (words : List ℕ) → IsKept units tags words
+    → (place value : ℕ) → value ≡ get_or words place value
+    → LiesIn (gathered tags words (length tags)) place
+    → value < 2 ^ word_bits
+read_fits units tags words kept place value is found =
+    let within = found_within units tags words kept place found in
+    let zero : value ≡ get_or words place 0 = is ∙ get_or_default_zero words place value within in
+    subst (λ (w : ℕ). w < 2 ^ word_bits) (sym zero)
+    (All-get_or (λ word. word < 2 ^ word_bits) words place 0 within kept.are_words)
+
+-- .. and is that word
 pub read_word : (units : ℕ) (tags : List Tag) (words : List ℕ) → IsKept units tags words
     → (place value : ℕ) → value ≡ get_or words place value
     → (found : LiesIn (gathered tags words (length tags)) place)
-    → value % 2 ^ word_bits ≡ word_at place found
+    → value ≡ word_at place found
 read_word units tags words kept place value is found =
     let within = found_within units tags words kept place found in
-    let zero : value ≡ get_or words place 0 = is ∙ get_or_default_zero words place value within in
-    let fits : value < 2 ^ word_bits
-    = subst (λ (w : ℕ). w < 2 ^ word_bits) (sym zero)
-    (All-get_or (λ word. word < 2 ^ word_bits) words place 0 within kept.are_words) in
-    let whole : value % 2 ^ word_bits ≡ value = omega (arith, fits) in
-    whole ∙ zero ∙ found_word units tags words kept place found
+    is ∙ get_or_default_zero words place value within
+    ∙ found_word units tags words kept place found
 
 pub written_kept : (units : ℕ) (tags : List Tag) (words : List ℕ) → IsKept units tags words
     → (place value : ℕ) → value < 2 ^ word_bits

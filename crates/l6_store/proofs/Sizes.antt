@@ -1,16 +1,23 @@
 -- The sizes of a plain store are those of its blocks.
-use Rattle.std.proofs.Common.{◌≡◌, ℕ, ◌+◌, ◌^◌, ◌<◌, List, [], length, get_or, set, Option, Some, None, refl, ap, sym, ◌∙◌, arith, inl, inr}
+use Rattle.std.proofs.Common.{◌≡◌, ℕ, ◌+◌, ◌^◌, ◌<◌, ◌≤◌, List, [], length, get_or, set, slice_get, slice_range, Option, Some, None, refl, ap, sym, subst, ◌∙◌, arith, inl, inr}
 use Rattle.std.specs.Option.{option_map, unwrap_or}
 use Rattle.std.specs.FinMap as map
 use Rattle.std.proofs.lemmas.Bool.{cases_lt, cases_eq}
 use Rattle.std.proofs.lemmas.List.{get_or-set_same, get_or-set_other, length-set}
+use Rattle.std.proofs.lemmas.List.Elements.{All-get_or}
 use Rattle.std.proofs.lemmas.Nat.{pow_pos}
-use Rattle.l6_store.specs.Blocks.{block_at}
+use Rattle.std.proofs.lemmas.Option.{slice_get-get_or, slice_get_past}
+use Rattle.std.proofs.Math.Nat.{pow-le-pow_right}
+use Rattle.l6_word.specs.Numerals.{largest_level, unit_size, word_bits}
+use Rattle.l6_store.specs.Numerals.{most_units}
+use Rattle.l6_store.specs.Blocks.{block_at, end_of}
 use Rattle.l6_store.specs.inner.Tags.{gathered, level_of, size_by, tag_at, IsKept}
 use Rattle.l6_store.specs.inner.Marks.{AreSizes, IsFilled, IsFreeRun, IsMarked}
 use Rattle.l6_store.specs.declared.tag.Tag.{Tag}
 use Rattle.l6_store.specs.declared.tag.Tag.TheVariants.{Free, First, Inside}
-use Rattle.l6_store.proofs.Calls.{size_told}
+use Rattle.l6_store.proofs.Kept.{length_of}
+use Rattle.l6_store.proofs.Ranges.{index-range}
+use Rattle.l6_store.proofs.Calls.{block_told, block_within, size_told}
 
 -- ---- a new block
 module _ (old new : List Tag) (sizes : List ℕ) (place level : ℕ) (sized : AreSizes old sizes)
@@ -122,3 +129,57 @@ size_is units tags words sizes kept sized place =
     sized.each place ∙ size_of_level (tag_at tags place)
     ∙ ap (λ found. unwrap_or found 0) (size_told units tags words kept place)
     ∙ size_of_words (map.get (gathered tags words (length tags)) place)
+
+-- ---- a word by its index
+first_of_size : (tag : Tag) (index : ℕ) → index < size_by tag →
+    (level : ℕ) × (tag ≡ First level) × (size_by tag ≡ 2 ^ level)
+first_of_size (First level) index below = (level, refl, refl)
+first_of_size Inside index below = absurd (omega (arith, below))
+first_of_size Free index below = absurd (omega (arith, below))
+
+module _ (units : ℕ) (tags : List Tag) (words sizes : List ℕ) (kept : IsKept units tags words)
+    (sized : AreSizes tags sizes) (place index : ℕ) (below : index < get_or sizes place 0) where
+  first : (level : ℕ) × (tag_at tags place ≡ First level) × (size_by (tag_at tags place) ≡ 2 ^ level)
+  first =
+      first_of_size (tag_at tags place) index (omega (arith, below, sized.each place))
+
+  small : index < 2 ^ first.0
+  small = omega (arith, below, sized.each place, first.2)
+
+  -- it lies in the store, ..
+  pub word_within : place + index < length words
+  word_within =
+      omega (arith, small, block_within units tags words kept place first.0 first.1)
+
+  pub word_near : (place < end_of most_units) × (index < unit_size)
+  word_near =
+      let stands = kept.are_tags.first place first.0 first.1 in
+      let most : 2 ^ first.0 ≤ 2 ^ largest_level =
+      pow-le-pow_right (omega arith) stands.small in (
+        omega (arith, small, stands.within, kept.most),
+        omega (arith, small, most),
+      )
+
+  -- .. and is that of its block
+  pub word_is : (value : ℕ) → value ≡ get_or words (place + index) 0 →
+      slice_get (block_at (gathered tags words (length tags)) place) index ≡ Some value
+  word_is value is =
+      let whole = block_within units tags words kept place first.0 first.1 in
+      let block = slice_range words place (place + 2 ^ first.0) in
+      let long = length_of units tags words kept place first.0 first.1 in
+      ap (λ b. slice_get b index) (sym (block_told tags words place first.0 first.1))
+      ∙ slice_get-get_or block index 0 (omega (arith, small, long))
+      ∙ ap Some (index-range words place (2 ^ first.0) index small ∙ sym is)
+
+  pub word_fits : (value : ℕ) → value ≡ get_or words (place + index) 0 → value < 2 ^ word_bits
+  word_fits value is =
+      subst (λ (w : ℕ). w < 2 ^ word_bits) (sym is)
+      (All-get_or (λ word. word < 2 ^ word_bits) words (place + index) 0 word_within kept.are_words)
+
+-- where the block has none of that index, there is none
+pub no_word : (units : ℕ) (tags : List Tag) (words sizes : List ℕ) → IsKept units tags words →
+    AreSizes tags sizes → (place index : ℕ) → get_or sizes place 0 ≤ index →
+    slice_get (block_at (gathered tags words (length tags)) place) index ≡ None
+no_word units tags words sizes kept sized place index past =
+    slice_get_past (block_at (gathered tags words (length tags)) place) index
+    (omega (arith, past, size_is units tags words sizes kept sized place))

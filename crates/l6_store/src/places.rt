@@ -1,10 +1,11 @@
 //! What every store of blocks does.
 
-ghost use Rattle.std.specs.Prelude.{◌≡◌, ◌≢◌, ◌<◌, ◌≤◌, ◌^◌, length, slice_set, option_map, ◌↔◌, IsSome, IfSome, IfOk};
+ghost use Rattle.std.specs.Prelude.{◌≡◌, ◌≢◌, ◌<◌, ◌≤◌, ◌^◌, length, slice_get, slice_set, option_map, ◌↔◌, IsSome, IfSome, IfOk};
 ghost use Rattle.std.specs.List.{All};
 ghost use Rattle.std.specs.FinMap as map;
-ghost use Rattle.l6_word.specs.Numerals.{largest_level, word_bits};
-ghost use Rattle.l6_store.specs.Blocks.{IsLive, LiesIn, block_at, index_in, word_at};
+ghost use Rattle.l6_word.specs.Numerals.{largest_level, unit_size, word_bits};
+ghost use Rattle.l6_store.specs.Blocks.{IsLive, LiesIn, block_at, end_of, index_in, word_at};
+ghost use Rattle.l6_store.specs.Numerals.{most_units};
 ghost use Rattle.l6_store.specs.Open.{IsAnswer};
 ghost use Rattle.l6_store.specs.Rule.{Rule};
 ghost use Rattle.l6_store.specs.Store.{Store, IsSound, fresh, picked, with_block, after_get, after_free};
@@ -43,9 +44,12 @@ pub trait Places: Sized {
             ≡ option_map length (map.get (store self.now).blocks word) }
         ensures level { IfSome result (λ level. level ≤ largest_level) };
 
-    /// How many words the block has that begins at the place of this number, or 0 where none does.
-    fn size(&self, word: Word) -> u16
-        ensures { result ≡ length (block_at (store self.now).blocks word) };
+    /// The word of this index in the block that begins at the place of this number, or `None` where
+    /// none begins or the block has no such word.
+    fn word(&self, start: Word, index: u16) -> Option<Word>
+        ensures value { result ≡ slice_get (block_at (store self.now).blocks start) index }
+        ensures near { IfSome result
+            (λ _. (start < end_of most_units) × (index < unit_size)) };
 
     /// The place that `get` would give.
     fn peek(&self, level: Level) -> Option<Place>

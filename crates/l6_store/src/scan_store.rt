@@ -1,6 +1,6 @@
 //! The plainest store: it looks for the lowest open place.
 
-ghost use Rattle.std.specs.Prelude.{◌≡◌, ◌↔◌, ◌⊎◌, ◌<◌, ◌≤◌, ◌+◌, length, IfOk, OnOk, IsErrOf};
+ghost use Rattle.std.specs.Prelude.{◌≡◌, ◌↔◌, ◌⊎◌, ◌<◌, ◌≤◌, ◌+◌, length, slice_index_or, IfOk, OnOk, IsErrOf};
 ghost use Rattle.l6_store.specs.Numerals.{most_units};
 ghost use Rattle.l6_store.specs.Scan.{scan_rule};
 ghost use Rattle.l6_store.specs.Store.{fresh, IsSound};
@@ -84,8 +84,13 @@ impl Places for ScanStore {
         level_at(&self.tags, word.get() as usize)
     }
 
-    fn size(&self, word: Word) -> u16 {
-        self.sizes.get(word.get() as usize).copied().unwrap_or(0)
+    fn word(&self, start: Word, index: u16) -> Option<Word> {
+        let start = start.get() as usize;
+        if index < size_at(&self.sizes, start) {
+            Some(Word::from_value(self.words[start + usize::from(index)]))
+        } else {
+            None
+        }
     }
 
     fn peek(&self, level: Level) -> Option<Place> {
@@ -116,7 +121,7 @@ impl Places for ScanStore {
     }
 
     fn read(&self, place: Place) -> Word {
-        Word::wrapping(self.words[place as usize])
+        Word::from_value(self.words[place as usize])
     }
 
     fn write(&mut self, place: Place, word: Word) {
@@ -144,6 +149,13 @@ impl Places for ScanStore {
         self.sizes.fill(0);
         self.low = usize::from(UNIT_SIZE);
     }
+}
+
+/// How many words the block has that begins at a place, 0 where none does.
+fn size_at(sizes: &[u16], place: usize) -> u16
+    ensures { result ≡ slice_index_or sizes.now place 0 }
+{
+    sizes.get(place).copied().unwrap_or(0)
 }
 
 /// Clears so many words from a place on.

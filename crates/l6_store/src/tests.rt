@@ -98,17 +98,19 @@ fn agrees<S: Places>(store: &S, ledger: &Ledger) -> bool {
     for (place, word) in (0..).zip(ledger.words.iter()) {
         let at = place_of(place);
         let level = store.live(word_of(at));
-        let size = usize::from(store.size(word_of(at)));
-        if level.is_some() != ledger.begins(place) || level.is_some() != (size > 0) {
+        let size = level.map_or(0, |level| 1 << level);
+        if level.is_some() != ledger.begins(place) || store.word(word_of(at), size).is_some() {
             return false;
         }
         if let Some(level) = level {
             let words = store.block(at);
             if words.len() != 1 << level
-                || words.len() != size
                 || !words
                     .iter()
                     .eq(ledger.words.iter().skip(place).take(words.len()))
+                || !(0..size).zip(words.iter()).all(|(index, word)| {
+                    store.word(word_of(at), index).map(Word::get) == Some(*word)
+                })
             {
                 return false;
             }

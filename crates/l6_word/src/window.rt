@@ -6,56 +6,32 @@ ghost use Rattle.l6_word.specs.Window.{is_window, width, right_of, take, put};
 
 use crate::unit::UNIT_SIZE;
 use crate::word::Word;
-use std::fmt;
 use std::marker::Model;
 
 /// Bits side by side in a word of a block: the word's index in the block, and the first and the
 /// last bit. Bits are numbered from 0 (leftmost) to 35.
-#[derive(Clone, Copy, PartialEq, Eq)]
+#[derive(Clone, Copy, Debug, PartialEq, Eq)]
 pub struct Window {
     word: u16,
-    // how far a word, which stands at the right end of 64 bits, is shifted to the left, so that the
-    // window's first bit is the first of the 64, ..
-    left: u8,
-    // .. and how far then to the right, so that its last bit is the last of them
-    right: u8,
+    first: u8,
+    last: u8,
 }
 
 impl Model for Window {
-    ghost use Rattle.std.specs.Prelude.{◌+◌, ◌-◌, ◌<◌, ◌≤◌};
-    ghost use Rattle.l6_word.specs.Numerals.{word_bits, unit_size};
     ghost use Rattle.l6_word.specs.Window.{Window as Bits};
 
     ghost Value = { Bits };
 
-    ghost view = { λ w. record {
-      word = w.word;
-      first = w.left - (64 - word_bits);
-      last = w.left + (word_bits - 1) - w.right;
-    } };
+    ghost use Rattle.std.specs.Prelude.{IsTrue};
+    ghost use Rattle.l6_word.specs.Window.{is_window};
 
-    ghost invariant = { λ w. (w.word < unit_size)
-        × (64 - word_bits ≤ w.left) × (w.left ≤ w.right) × (w.right < 64) };
+    ghost view = { λ w. record { word = w.word; first = w.first; last = w.last } };
 
-    ghost inverse = { λ b. record {
-      word = b.word;
-      left = b.first + (64 - word_bits);
-      right = b.first + 63 - b.last;
-    } };
+    ghost invariant = { λ w.
+        IsTrue (is_window (record { word = w.word; first = w.first; last = w.last })) };
+
+    ghost inverse = { λ b. record { word = b.word; first = b.first; last = b.last } };
 }
-
-impl fmt::Debug for Window {
-    fn fmt<W: fmt::Write>(&self, f: &mut fmt::Formatter<W>) -> fmt::Result {
-        f.debug_struct("Window")
-            .field("word", &self.word())
-            .field("first", &self.first())
-            .field("last", &self.last())
-            .finish()
-    }
-}
-
-/// How many bits stand to the left of a word among 64.
-const LEFT_OF_A_WORD: u8 = (u64::BITS - Word::BITS) as u8;
 
 impl Window {
     /// The window on these bits of a word, or `None` where the largest block has no such word (from
@@ -67,11 +43,7 @@ impl Window {
             (λ window. window ≡ record { word = word; first = first; last = last }) }
     {
         if word < UNIT_SIZE && first <= last && u32::from(last) < Word::BITS {
-            Some(Window {
-                word,
-                left: first + LEFT_OF_A_WORD,
-                right: first + (u64::BITS as u8 - 1) - last,
-            })
+            Some(Window { word, first, last })
         } else {
             None
         }
@@ -90,7 +62,7 @@ impl Window {
         ensures value { result ≡ self.first }
         ensures range { result ≤ self.last }
     {
-        self.left - LEFT_OF_A_WORD
+        self.first
     }
 
     /// The last bit, below 36.
@@ -98,7 +70,7 @@ impl Window {
         ensures value { result ≡ self.last }
         ensures range { result < word_bits }
     {
-        self.left + (Word::BITS as u8 - 1) - self.right
+        self.last
     }
 
     /// How many bits the window has, 1 to 36.
@@ -106,7 +78,7 @@ impl Window {
         ensures value { result ≡ width self }
         ensures range { result ≤ word_bits }
     {
-        u64::BITS as u8 - self.right
+        self.last - self.first + 1
     }
 
     /// What the window shows of a word: its bits, moved to the right end.
@@ -114,7 +86,7 @@ impl Window {
         ensures value { result ≡ take self word }
         ensures range { result < 2 ^ width self }
     {
-        Word::from_value(word.get() << self.left >> self.right)
+        Word::from_value(word.get() >> self.shift() & self.mask())
     }
 
     /// The word with the lowest bits of a value in the window. Its other bits stay. As the window
@@ -134,7 +106,7 @@ impl Window {
         ensures value { result ≡ right_of self }
         ensures range { result + width self ≤ word_bits }
     {
-        u32::from(self.right - self.left)
+        Word::BITS - 1 - u32::from(self.last)
     }
 
     /// As many ones as the window has bits.

@@ -49,8 +49,8 @@ impl Word {
         }
     }
 
-    /// The word of a value that is known to fit.
-    pub(crate) fn from_value(value: u64) -> Self
+    /// The word of a value that is known to fit. The caller owes that it does.
+    pub fn from_value(value: u64) -> Self
         requires { value < 2 ^ word_bits }
         ensures { result ≡ value }
     {

@@ -16,12 +16,12 @@ use Rattle.l6_group.specs.declared.label.Label.{Label}
 use Rattle.l6_card.specs.declared.cards.Placed.{Placed}
 use Rattle.l6_card.specs.Items.{PlacedItem, group, item_on}
 use Rattle.l6_card.specs.Numerals.{card_width}
-use Rattle.l6_machine.specs.Moment.{EndsBy}
-use Rattle.l6_machine.specs.Run.{IsRun}
-use Rattle.l6_machine.specs.declared.halt.Halt.{Halt}
-use Rattle.l6_machine.specs.declared.halt.Halt.TheVariants.{Done}
-use Rattle.l6_machine.specs.State.{World, State, is_last, start}
-use Rattle.l6_machine.specs.Step.{Step, next}
+use Rattle.l6_steps.specs.Moment.{EndsBy}
+use Rattle.l6_steps.specs.Run.{IsRun}
+use Rattle.l6_steps.specs.declared.halt.Halt.{Halt}
+use Rattle.l6_steps.specs.declared.halt.Halt.TheVariants.{Done}
+use Rattle.l6_steps.specs.State.{World, State, is_last, start}
+use Rattle.l6_steps.specs.Step.{Step, next}
 use Rattle.l6_run.specs.Options.{default_options}
 use Rattle.l6_run.specs.Prints.{store_rule, world_under}
 use Rattle.l6.specs.Worked.{FiveIsSpelled, FiveIsPrinted, five_program, five_assembly, name_a}

@@ -10,10 +10,10 @@ use Rattle.l6_prog.specs.Statement.{Parts, plain_done}
 use Rattle.l6_card.specs.DeckFault.{form}
 use Rattle.l6_card.specs.Fault.{fault_of}
 use Rattle.l6_asm.specs.Assembled.{Assembled}
-use Rattle.l6_machine.specs.declared.halt.Halt.TheVariants as halts
-use Rattle.l6_machine.specs.declared.trap.Trap.TheVariants.{UndefinedField}
-use Rattle.l6_machine.specs.State.{World, State, start}
-use Rattle.l6_machine.specs.Step.{next}
+use Rattle.l6_steps.specs.declared.halt.Halt.TheVariants as halts
+use Rattle.l6_steps.specs.declared.trap.Trap.TheVariants.{UndefinedField}
+use Rattle.l6_steps.specs.State.{World, State, start}
+use Rattle.l6_steps.specs.Step.{next}
 use Rattle.l6_run.specs.declared.ending.Ending.TheVariants.{Done}
 use Rattle.l6_run.specs.Options.{default_options}
 use Rattle.l6_run.specs.Prints.{Prints, world_under}

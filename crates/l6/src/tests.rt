@@ -11,8 +11,8 @@ mod transfers;
 
 use crate::job::{Outcome, Verb, perform};
 use device::Device;
-use l6_machine::Trap;
 use l6_run::{Ending, Host, Options, Part, RunFault};
+use l6_steps::Trap;
 use std::alloc::Global;
 use std::io::ErrorKind;
 use std::test::Fail;

@@ -5,24 +5,20 @@ ghost use Rattle.l6_word.specs.Numerals.{word_bits};
 ghost use Rattle.l6_prog.specs.Numerals.{first_letter, name_count};
 ghost use Rattle.l6_store.specs.Blocks.{Fits};
 ghost use Rattle.l6_store.specs.Store.{fresh};
-ghost use Rattle.l6_machine.specs.Limits.{are_allowed};
-ghost use Rattle.l6_machine.specs.Moment.{first_moment, moment_after, EndsBy, IsNumbered};
-ghost use Rattle.l6_machine.specs.Numerals.{most_entries, most_input, most_output, most_steps};
-ghost use Rattle.l6_machine.specs.Ready.{is_ready};
-ghost use Rattle.l6_machine.specs.State.{is_at_limit, is_last};
-ghost use Rattle.l6_machine.specs.Locus.{index_of};
-ghost use Rattle.l6_machine.specs.Step.{Step, answer};
-ghost use Rattle.l6_machine.specs.Run.{EndsIn, IsReached};
+ghost use Rattle.l6_steps.specs.Limits.{are_allowed};
+ghost use Rattle.l6_steps.specs.Moment.{first_moment, moment_after, EndsBy, IsNumbered};
+ghost use Rattle.l6_steps.specs.Numerals.{most_entries, most_input, most_output, most_steps};
+ghost use Rattle.l6_steps.specs.Ready.{is_ready};
+ghost use Rattle.l6_steps.specs.State.{is_at_limit, is_last};
+ghost use Rattle.l6_steps.specs.Locus.{index_of};
+ghost use Rattle.l6_steps.specs.Step.{Step, answer};
+ghost use Rattle.l6_steps.specs.Run.{EndsIn, IsReached};
 
-use crate::code::Code;
-use crate::halt::{Halt, StepResult};
-use crate::limits::Limits;
-use crate::position::Position;
 use crate::progress::Progress;
-use crate::registers::Registers;
-use crate::saved::Depths;
-use crate::trap::Trap;
+use l6_instructions::Code;
 use l6_prog::{Name, Program};
+use l6_registers::{Depths, Registers};
+use l6_steps::{Halt, Limits, Position, StepResult, Trap};
 use l6_store::Places;
 use l6_word::{Window, Word};
 use std::alloc::{AllocError, Global};
@@ -74,7 +70,7 @@ pub struct Machine<S: Places> {
 impl<S: Places> Model for Machine<S> {
     ghost use Rattle.std.specs.Coded.{codes};
     ghost use Rattle.l6_store.specs.Blocks.{blocks_code};
-    ghost use Rattle.l6_machine.specs.Standing.{Standing};
+    ghost use Rattle.l6_steps.specs.Standing.{Standing};
 
     ghost Value = { Standing };
 

@@ -2,9 +2,9 @@
 use Rattle.std.proofs.Common.{◌≡◌, ap, sym, subst, ◌∙◌}
 use Rattle.l6_asm.specs.Assembled.{Assembled}
 use Rattle.l6_asm.specs.Spells.{SpellsInOneWay}
-use Rattle.l6_machine.specs.Laws.{EndsInOneState}
-use Rattle.l6_machine.specs.Moment.{EndsBy}
-use Rattle.l6_machine.specs.State.{State}
+use Rattle.l6_steps.specs.Laws.{EndsInOneState}
+use Rattle.l6_steps.specs.Moment.{EndsBy}
+use Rattle.l6_steps.specs.State.{State}
 use Rattle.l6_run.specs.Laws.{PrintsInOneWay}
 use Rattle.l6_run.specs.Printout.{ending_of, printout}
 use Rattle.l6_run.specs.Prints.{store_rule, world_under}

@@ -1,7 +1,7 @@
 -- What a user may choose for a run.
 use Rattle.std.specs.Prelude.{ℕ, Bool, ◌&&◌, nat_le}
-use Rattle.l6_machine.specs.declared.limits.Limits.{Limits}
-use Rattle.l6_machine.specs.Limits.{are_allowed}
+use Rattle.l6_steps.specs.declared.limits.Limits.{Limits}
+use Rattle.l6_steps.specs.Limits.{are_allowed}
 use Rattle.l6_store.specs.Numerals.{most_units}
 use Rattle.l6_run.specs.Numerals.{default_units, default_steps, default_output}
 

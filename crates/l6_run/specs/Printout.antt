@@ -1,11 +1,11 @@
 -- What a run prints.
 use Rattle.std.specs.Prelude.{ℕ, ◌-◌, ◌==◌, Bool, false, not, length, slice_get, List, [], ◌++◌, codes, decimal, Option, None, Some, if◌then◌else◌}
 use Rattle.std.specs.Str.{byte}
-use Rattle.l6_machine.specs.declared.halt.Halt.{Halt}
-use Rattle.l6_machine.specs.declared.halt.Halt.TheVariants as halts
-use Rattle.l6_machine.specs.declared.position.Position.{Position}
-use Rattle.l6_machine.specs.State.{State}
-use Rattle.l6_machine.specs.Trap.{trap_number, trap_name}
+use Rattle.l6_steps.specs.declared.halt.Halt.{Halt}
+use Rattle.l6_steps.specs.declared.halt.Halt.TheVariants as halts
+use Rattle.l6_steps.specs.declared.position.Position.{Position}
+use Rattle.l6_steps.specs.State.{State}
+use Rattle.l6_steps.specs.Trap.{trap_number, trap_name}
 use Rattle.l6_run.specs.declared.ending.Ending.{Ending}
 use Rattle.l6_run.specs.declared.ending.Ending.TheVariants.{Done, Fail, Trap, Limit}
 

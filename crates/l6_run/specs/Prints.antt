@@ -7,10 +7,10 @@ use Rattle.l6_asm.specs.Assembled.{Assembled}
 use Rattle.l6_asm.specs.Spells.{Spells, IsUnspelled}
 use Rattle.l6_store.specs.Rule.{Rule}
 use Rattle.l6_store.specs.Scan.{scan_rule}
-use Rattle.l6_machine.specs.Moment.{EndsBy}
-use Rattle.l6_machine.specs.Ready.{is_ready}
-use Rattle.l6_machine.specs.Run.{EndsIn}
-use Rattle.l6_machine.specs.State.{State, World}
+use Rattle.l6_steps.specs.Moment.{EndsBy}
+use Rattle.l6_steps.specs.Ready.{is_ready}
+use Rattle.l6_steps.specs.Run.{EndsIn}
+use Rattle.l6_steps.specs.State.{State, World}
 use Rattle.l6_run.specs.declared.ending.Ending.{Ending}
 use Rattle.l6_run.specs.declared.fault.Part.TheVariants.{Deck}
 use Rattle.l6_run.specs.declared.fault.RunFault.{RunFault}

@@ -1,6 +1,6 @@
 //! How a run has ended.
 
-use l6_machine::Trap;
+use l6_steps::Trap;
 
 /// How a run has ended.
 #[derive(Clone, Copy, Debug, PartialEq, Eq, Hash)]

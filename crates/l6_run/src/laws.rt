@@ -12,7 +12,7 @@ pub fn printouts_are_determined()
     ensures { PrintsInOneWay }
 {
     l6_asm::spelling_is_settled();
-    l6_machine::runs_are_determined();
+    l6_steps::runs_are_determined();
 }
 
 /// Jobs are as long as the language says.

@@ -2,9 +2,9 @@
 
 ghost use Rattle.std.specs.Prelude.{◌≡◌, ◌↔◌, ◌≤◌, true, IsSome, IfSome};
 ghost use Rattle.l6_store.specs.Numerals.{most_units};
-ghost use Rattle.l6_machine.specs.Limits.{are_allowed};
+ghost use Rattle.l6_steps.specs.Limits.{are_allowed};
 
-use l6_machine::Limits;
+use l6_steps::Limits;
 use l6_store::MAX_UNITS;
 use std::marker::Model;
 

@@ -1,12 +1,13 @@
 //! The printout of a run: its output, and a line that tells how it has ended.
 
 ghost use Rattle.std.specs.Prelude.{◌≡◌, ◌++◌, true, OnOk, IfOk, ◌-◌, length, slice_get};
-ghost use Rattle.l6_machine.specs.State.{is_last};
+ghost use Rattle.l6_steps.specs.State.{is_last};
 ghost use Rattle.l6_run.specs.Printout.{ending_of, ending_text, ending_line, printout, lacks_line_feed};
 
 use crate::ending::Ending;
 use itoa::{Buffer, Integer};
-use l6_machine::{Halt, Machine, Position, Trap};
+use l6_machine::Machine;
+use l6_steps::{Halt, Position, Trap};
 use l6_store::Places;
 use std::alloc::{AllocError, Global};
 

@@ -14,7 +14,8 @@ use crate::printing::{ending_of, printout};
 use crate::transfer::write_text;
 use l6_asm::assemble;
 use l6_card::MAX_DECK_BYTES;
-use l6_machine::{Machine, MachineFault, ready};
+use l6_machine::{Machine, MachineFault};
+use l6_steps::ready;
 use l6_store::{ScanStore, StoreFault};
 use std::alloc::Global;
 

@@ -1,8 +1,9 @@
 //! Limits of runs, just within and just past their ranges.
 
-use l6_machine::{Limits, Machine, MachineFault, ready};
+use l6_machine::{Machine, MachineFault};
 use l6_prog::{NAMES, Name, Program, Statement};
 use l6_run::Options;
+use l6_steps::{Limits, ready};
 use l6_store::{Places, ScanStore};
 use std::test::Fail;
 

@@ -1,11 +1,12 @@
 //! Programs that no deck spells yet: long statements, exits, and operations without a row.
 
-use l6_machine::{Limits, Machine, ready};
+use l6_machine::Machine;
 use l6_prog::{
     Chain, Cond, Exit, MAX_STATEMENTS, Name, Op, Operand, PrintText, ProgFault, Program, Statement,
     Test,
 };
 use l6_run::printout;
+use l6_steps::{Limits, ready};
 use l6_store::ScanStore;
 use l6_word::Word;
 use std::alloc::{AllocError, Global};

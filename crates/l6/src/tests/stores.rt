@@ -1,8 +1,8 @@
 //! Runs in a store of one unit.
 
 use crate::job::{Outcome, Verb, perform};
-use l6_machine::Trap;
 use l6_run::{Ending, Host, Options};
+use l6_steps::Trap;
 use std::test::Fail;
 
 #[test]

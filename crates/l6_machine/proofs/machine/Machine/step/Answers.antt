@@ -1,10 +1,10 @@
 use Rattle.std.proofs.Common.{◌≡◌, ◌∙◌, ap, subst, false, None}
-use Rattle.l6_machine.specs.declared.halt.StepResult.TheVariants.{Trapped}
-use Rattle.l6_machine.specs.declared.trap.Trap.{Trap}
-use Rattle.l6_machine.specs.Moment.{moment_after}
-use Rattle.l6_machine.specs.Standing.{Standing}
-use Rattle.l6_machine.specs.State.{is_last}
-use Rattle.l6_machine.specs.Step.{Step}
+use Rattle.l6_steps.specs.declared.halt.StepResult.TheVariants.{Trapped}
+use Rattle.l6_steps.specs.declared.trap.Trap.{Trap}
+use Rattle.l6_steps.specs.Moment.{moment_after}
+use Rattle.l6_steps.specs.Standing.{Standing}
+use Rattle.l6_steps.specs.State.{is_last}
+use Rattle.l6_steps.specs.Step.{Step}
 use Rattle.l6_machine.specs.inner.Code.{course_of}
 use Rattle.l6_machine.specs.inner.Progress.{moment_of}
 use Rattle.l6_machine.proofs.Stepping.{steps_on, trapped_at, traps_alone}

@@ -1,5 +1,0 @@
-use Rattle.l6_machine.proofs.Calculations.{differences_add_up}
-use Rattle.l6_machine.proofs.laws.sums_undo_differences.Goals as goal
-
-pub returns : goal.returns
-returns c = differences_add_up

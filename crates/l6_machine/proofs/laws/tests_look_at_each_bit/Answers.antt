@@ -1,5 +1,0 @@
-use Rattle.l6_machine.proofs.Bits.{ones-bit_by_bit, zeros-bit_by_bit}
-use Rattle.l6_machine.proofs.laws.tests_look_at_each_bit.Goals as goal
-
-pub returns : goal.returns
-returns c = record { ones = ones-bit_by_bit; zeros = zeros-bit_by_bit }

@@ -1,8 +1,0 @@
-use Rattle.l6_machine.proofs.Got.{assigned_stands}
-use Rattle.l6_machine.proofs.registers.Registers.exchange.Goals as goal
-
--- what stood at the second locus still does
-pub assign-requires-2 : goal.assign-requires-2
-assign-requires-2 g c =
-    assigned_stands c.args.self.now c.assign.new.self c.in_ok-here.here c.in_ok-there.there
-    c.get-second.result c.assign.ensures c.in_ok-there.ensures.locus

@@ -1,5 +1,0 @@
-use Rattle.l6_machine.proofs.Examples.{chain-leads}
-use Rattle.l6_machine.proofs.worked.chain_leads.Goals as goal
-
-pub returns : goal.returns
-returns c = chain-leads

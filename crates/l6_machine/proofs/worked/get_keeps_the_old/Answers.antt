@@ -1,5 +1,0 @@
-use Rattle.l6_machine.proofs.Examples.{get-keeps_the_old}
-use Rattle.l6_machine.proofs.worked.get_keeps_the_old.Goals as goal
-
-pub returns : goal.returns
-returns c = get-keeps_the_old

@@ -1,5 +1,0 @@
-use Rattle.l6_machine.proofs.Examples.{use-after_free_traps}
-use Rattle.l6_machine.proofs.worked.use_after_free_traps.Goals as goal
-
-pub returns : goal.returns
-returns c = use-after_free_traps

@@ -1,0 +1,10 @@
+pub mod Acting
+pub mod Holding
+mod Windows
+mod Got
+mod Levels
+mod NewBlocks
+pub mod Gathering
+pub mod Apart
+pub mod Shown
+pub mod Walking

@@ -1,0 +1,5 @@
+pub mod Registers
+pub mod Definitions
+pub mod Fields
+pub mod Condition
+pub mod Upcoming

@@ -1,0 +1,17 @@
+//! That there is room for all that the language has.
+
+ghost use Rattle.std.specs.Prelude.{◌≡◌};
+ghost use Rattle.l6_prog.specs.Numerals.{letter_count, name_count};
+ghost use Rattle.l6_steps.specs.Numerals.{most_entries};
+
+use crate::definitions::FIELDS;
+use crate::registers::BUGS;
+use crate::stack::MAX_ENTRIES;
+
+/// There is a bug for each letter and a definition for each name, and as much may be saved as the
+/// language says.
+pub fn registers_have_their_limits()
+    ensures bugs { BUGS ≡ letter_count }
+    ensures fields { FIELDS ≡ name_count }
+    ensures entries { MAX_ENTRIES ≡ most_entries }
+{}

@@ -1,0 +1,118 @@
+//! Calls and their returns.
+
+ghost use Rattle.std.specs.Prelude.{◌≡◌, ◌+◌, ◌≤◌, ◌∷◌, IfNone, IfSome, Ok};
+ghost use Rattle.l6_prog.specs.Numerals.{most_operations};
+ghost use Rattle.l6_prog.specs.declared.exit.Exit.TheVariants as exits;
+ghost use Rattle.l6_steps.specs.declared.jump.Jump.TheVariants as jumps;
+ghost use Rattle.l6_steps.specs.Row.{leave_by, done, fail, row};
+ghost use Rattle.l6_steps.specs.Stack.{has_room};
+ghost use Rattle.l6_steps.specs.Step.{returns_after};
+ghost use Rattle.l6_steps.specs.inner.Places.{FindsRoom};
+ghost use Rattle.l6_registers.specs.inner.Registers.{AreHeld, Does};
+
+use crate::registers::Registers;
+use l6_prog::{Exit, Op};
+use l6_steps::{Jump, Position, Return, Trap};
+use l6_store::Places;
+
+impl<S: Places> Registers<S> {
+    /// Calls a statement, where one more call may wait for its return.
+    pub(crate) fn call(&mut self, called: u16, fail: Option<u16>) -> Result<Jump, Trap>
+        ensures done { Does S.rule (λ setting choice. row setting choice (Op.Call called fail))
+            self.old self.new result }
+    {
+        if self.saved.returns.has_room() {
+            Ok(Jump::Call(called, fail))
+        } else {
+            Err(Trap::ReturnsFull)
+        }
+    }
+
+    /// Leaves a statement by its exit, and answers where the run goes on.
+    pub(crate) fn leave_by(&mut self, exit: Exit) -> Result<Jump, Trap>
+        ensures done { Does S.rule (λ setting choice. leave_by exit) self.old self.new result }
+        ensures held { AreHeld S.rule self.new }
+    {
+        let result = match exit {
+            Exit::Next => Ok(Jump::Next),
+            Exit::Label(statement) => Ok(Jump::To(statement)),
+            Exit::Done => self.done(),
+            Exit::Fail => self.fail(),
+        };
+        // a look at a field, which tells the prover what is true of them all
+        let _ = &self.limits;
+        result
+    }
+
+    /// Goes on behind the latest call that waits for its return, or ends the run.
+    #[inline(never)]
+    fn done(&mut self) -> Result<Jump, Trap>
+        ensures { Does S.rule (λ setting choice memory. done memory.returns memory)
+            self.old self.new result }
+    {
+        match self.saved.returns.pop() {
+            Some(latest) => Ok(Jump::Back(latest.at)),
+            None => Ok(Jump::Done),
+        }
+    }
+
+    /// Goes to the fail label of the latest call that waits for its return, or ends the run.
+    #[inline(never)]
+    fn fail(&mut self) -> Result<Jump, Trap>
+        ensures { Does S.rule (λ setting choice memory. fail memory.returns memory)
+            self.old self.new result }
+    {
+        let Some(latest) = self.saved.returns.latest() else {
+            return Ok(Jump::Fail);
+        };
+        let label = latest.fail.ok_or(Trap::NoFailExit)?;
+        self.saved.returns.pop();
+        Ok(Jump::To(label))
+    }
+
+    /// Whether one more call may wait for its return.
+    #[inline(always)]
+    pub fn may_wait(&self) -> bool
+        ensures { result ≡ has_room self.now.memory.returns }
+    {
+        self.saved.returns.has_room()
+    }
+
+    /// Has a call wait for its return, which is behind it. Another jump changes nothing.
+    #[inline(always)]
+    pub fn wait(&mut self, jump: Jump, at: Position)
+        requires room { FindsRoom jump self.old.memory.returns }
+        requires action { at.action ≤ most_operations + 1 }
+        ensures returns { self.new ≡ record self.old {
+          memory = record self.old.memory {
+            returns = returns_after jump at self.old.memory.returns;
+          };
+        } }
+        ensures held { AreHeld S.rule self.new }
+    {
+        if let Jump::Call(_, fail) = jump {
+            self.saved.returns.push(Return {
+                at: at.behind(),
+                fail,
+            });
+        }
+        let _ = &self.limits;
+    }
+
+    /// Takes off the latest return for which a call waits, as the exit DONE does. Where none waits,
+    /// nothing changes.
+    #[inline(always)]
+    pub fn go_back(&mut self) -> Option<Return>
+        ensures done { IfSome result (λ latest.
+            Does S.rule (λ setting choice. leave_by exits.Done) self.old self.new
+            (Ok (jumps.Back latest.at))) }
+        ensures latest { IfSome result (λ latest.
+            self.old.memory.returns ≡ latest ∷ self.new.memory.returns) }
+        ensures none { IfNone result (self.new ≡ self.old) }
+        ensures held { AreHeld S.rule self.new }
+    {
+        let latest = self.saved.returns.pop();
+        let _ = &self.limits;
+        latest
+    }
+}

@@ -1,0 +1,59 @@
+//! What a run has saved.
+
+ghost use Rattle.std.specs.Prelude.{◌≡◌, ◌≤◌, [], length, IfOk};
+ghost use Rattle.l6_steps.specs.Numerals.{most_entries};
+
+use crate::stack::Stack;
+use l6_steps::Return;
+use l6_word::{Window, Word};
+use std::alloc::{AllocError, Global};
+
+/// How many contents and definitions are saved, and for how many returns calls wait: each at most
+/// 1,024.
+#[derive(Clone, Copy, Debug, PartialEq, Eq, Hash)]
+pub struct Depths {
+    /// How many contents are saved.
+    pub contents: usize,
+    /// How many definitions are saved.
+    pub definitions: usize,
+    /// How many calls wait for their return.
+    pub returns: usize,
+}
+
+/// The contents and the definitions that a run has saved, and the returns for which calls wait.
+#[derive(Drop)]
+pub(crate) struct Saved {
+    pub(crate) contents: Stack<Word>,
+    pub(crate) definitions: Stack<Option<Window>>,
+    pub(crate) returns: Stack<Return>,
+}
+
+impl Saved {
+    /// Nothing is saved, and there is room for all that may be.
+    pub(crate) fn new(alloc: Global) -> Result<Self, AllocError>
+        ensures contents { IfOk result (λ saved. saved.contents ≡ []) }
+        ensures definitions { IfOk result (λ saved. saved.definitions ≡ []) }
+        ensures returns { IfOk result (λ saved. saved.returns ≡ []) }
+    {
+        Ok(Saved {
+            contents: Stack::new(alloc)?,
+            definitions: Stack::new(alloc)?,
+            returns: Stack::new(alloc)?,
+        })
+    }
+
+    /// How much is saved.
+    pub(crate) fn depths(&self) -> Depths
+        ensures contents { result.contents ≡ length self.now.contents }
+        ensures definitions { result.definitions ≡ length self.now.definitions }
+        ensures returns { result.returns ≡ length self.now.returns }
+        ensures within { (result.contents ≤ most_entries)
+            × (result.definitions ≤ most_entries) × (result.returns ≤ most_entries) }
+    {
+        Depths {
+            contents: self.contents.len(),
+            definitions: self.definitions.len(),
+            returns: self.returns.len(),
+        }
+    }
+}

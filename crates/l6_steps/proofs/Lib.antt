@@ -1,0 +1,10 @@
+pub mod Run
+pub mod Numbered
+pub mod Taking
+mod Examples
+pub mod Calculations
+pub mod Bits
+pub mod Rows
+pub mod Landing
+pub mod Maps
+pub mod Actions

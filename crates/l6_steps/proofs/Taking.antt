@@ -1,0 +1,106 @@
+-- Where no operation takes a block, no rule of choice matters.
+use Rattle.std.proofs.Common.{◌≡◌, ℕ, zero, suc, Bool, true, false, List, [], ◌∷◌, length, Option, None, Some, Result, Ok, not, cond, get_or, refl, ap, sym, ◌∙◌, inl, inr}
+use Rattle.std.specs.Prelude.{◌-◌, ◌==◌, slice_get}
+use Rattle.std.specs.List.{list_all}
+use Rattle.std.proofs.lemmas.Bool.{both_ways, cases_lt, not-true}
+use Rattle.std.proofs.lemmas.Option.{get_or_from_slice_get, slice_get_within}
+use Rattle.std.proofs.Math.ListN.{get_or-eq_default}
+use Rattle.l6_prog.specs.Statement.{Parts, plain_done}
+use Rattle.l6_prog.specs.declared.condition.Cond.{Cond}
+use Rattle.l6_prog.specs.declared.condition.Test.{Test}
+use Rattle.l6_prog.specs.declared.exit.Exit.{Exit}
+use Rattle.l6_prog.specs.declared.operation.Op.{Op}
+use Rattle.l6_prog.specs.declared.operation.Op.TheVariants.{Get, Duplicate}
+use Rattle.l6_prog.proofs.Targets.{passes_at}
+use Rattle.l6_store.specs.Open.{Choice}
+use Rattle.l6_store.specs.Rule.{Rule}
+use Rattle.l6_steps.specs.declared.trap.Trap.{Trap}
+use Rattle.l6_steps.specs.Laws.{EndsUnderEachRule}
+use Rattle.l6_steps.specs.Trapping.{◌>>=◌}
+use Rattle.l6_steps.specs.Moment.{Moment, moment_at, pick_at, state_at}
+use Rattle.l6_steps.specs.Row.{condition, deed_of, row}
+use Rattle.l6_steps.specs.Deed.{Deed}
+use Rattle.l6_steps.specs.Run.{IsRun}
+use Rattle.l6_steps.specs.State.{World, Setting, Memory, State, is_last}
+use Rattle.l6_steps.specs.Step.{action_behind, deed_at, done_at, next, outcome, statement_at}
+use Rattle.l6_steps.specs.Taking.{takes_block, takes_no_block, takes_none}
+use Rattle.l6_steps.proofs.Numbered.{moment_after-goes_on}
+
+-- what an operation does that takes no block
+row_same : (op : Op ℕ) (setting : Setting) (choice choice' : Choice) (memory : Memory) →
+    takes_block op ≡ false →
+    row setting choice op memory ≡ row setting choice' op memory
+row_same (Get chain size old label) setting choice choice' memory takes =
+    absurd (both_ways true takes refl)
+row_same (Duplicate chain block label) setting choice choice' memory takes =
+    absurd (both_ways true takes refl)
+row_same other setting choice choice' memory takes = refl
+
+-- what a condition, an operation that takes no block, or an exit does
+chosen_same : (setting : Setting) (choice choice' : Choice) (memory : Memory) (test : Cond)
+    (tests : List Test) (last : Exit ℕ)
+    (found : Option (Op ℕ)) (first : Bool) →
+    ((op : Op ℕ) → found ≡ Some op → takes_block op ≡ false) →
+    deed_of setting choice (cond first (condition test tests) (action_behind last found)) memory
+    ≡ deed_of setting choice' (cond first (condition test tests) (action_behind last found)) memory
+chosen_same setting choice choice' memory test tests last found true none = refl
+chosen_same setting choice choice' memory test tests last None false none = refl
+chosen_same setting choice choice' memory test tests last (Some op) false none =
+    row_same op setting choice choice' memory (none op refl)
+
+-- no operation of the statement at a number takes a block, also where there is none
+none_at : (program : List Parts) (number : ℕ) → takes_no_block program ≡ true →
+    takes_none (get_or program number plain_done) ≡ true
+none_at program number none =
+    elim (cases_lt number (length program)) as
+    (λ _. takes_none (get_or program number plain_done) ≡ true) [
+      | inl within ↦ passes_at takes_none program number plain_done none within
+      | inr past ↦ ap takes_none (get_or-eq_default program plain_done past)
+    ]
+
+-- an operation among those that take no block
+takes_not : (operations : List (Op ℕ)) (number : ℕ) (op : Op ℕ) →
+    list_all (λ operation. not (takes_block operation)) operations ≡ true →
+    slice_get operations number ≡ Some op → takes_block op ≡ false
+takes_not operations number op none found =
+    let within = slice_get_within operations number op found in
+    let is = get_or_from_slice_get operations number op op found in
+    not-true (takes_block op)
+    (ap (λ o. not (takes_block o)) (sym is)
+    ∙ passes_at (λ operation. not (takes_block operation)) operations number op none within)
+
+-- what the action at a state's position does
+deed_same : (world : World) (choice choice' : Choice) (old : State) →
+    takes_no_block world.program ≡ true →
+    deed_at world choice old ≡ deed_at world choice' old
+deed_same world choice choice' old none =
+    let statement = statement_at world.program old.at in
+    ap (λ (deed : Result Deed Trap). deed >>= λ d. Ok (done_at old.at d))
+    (chosen_same world.setting choice choice' old.memory statement.condition statement.tests
+    statement.exit
+    (slice_get statement.operations (old.at.action - 1)) (old.at.action == 0)
+    (λ op found. takes_not statement.operations (old.at.action - 1) op
+    (none_at world.program old.at.statement none) found))
+
+-- the states of a run are those of the run under a rule
+run-numbered : (rule : Rule) (world : World) (state : State) (older : List State) →
+    takes_no_block world.program ≡ true → IsRun world (state ∷ older) →
+    (n : ℕ) × (state ≡ state_at rule world n)
+run-numbered rule world state [] none run = (zero, run)
+run-numbered rule world state (old ∷ older) none run =
+    let before = run-numbered rule world old older none run.1 in
+    let moment = moment_at rule world before.0 in
+    let goes_on : is_last world moment.state ≡ false =
+    ap (is_last world) (sym before.1) ∙ run.0.goes_on in (
+      suc before.0,
+      run.0.leads
+          ∙ ap (next world run.0.choice) before.1
+          ∙ ap (outcome moment.state)
+          (deed_same world run.0.choice (pick_at rule world moment) moment.state none)
+          ∙ sym (ap (λ (m : Moment). m.state) (moment_after-goes_on rule world moment goes_on)),
+    )
+
+pub ends-under_each_rule : EndsUnderEachRule
+ends-under_each_rule rule world final none end =
+    let numbered = run-numbered rule world final end.reached.older none end.reached.run in
+    record { number = numbered.0; is = numbered.1; last = end.last }

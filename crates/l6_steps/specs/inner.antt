@@ -1,0 +1,2 @@
+pub mod Calculation
+pub mod Places

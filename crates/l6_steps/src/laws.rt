@@ -1,0 +1,46 @@
+//! The laws of calculations, tests and runs, and that the numbers of the code are those of the
+//! language.
+
+ghost use Rattle.std.specs.Prelude.{◌≡◌, ◌+◌, ◌%◌, min, max};
+ghost use Rattle.l6_steps.specs.Laws.{DifferencesAddUp, EndsInOneState, EndsUnderEachRule, GoesBitByBit, OnesBitByBit, RulesRunBySteps, TurnsEachBit, ZerosBitByBit};
+ghost use Rattle.l6_steps.specs.Numerals.{most_input, most_output, most_steps};
+
+use crate::calculation::Calculation;
+use crate::limits::{MAX_INPUT, MAX_OUTPUT, MAX_STEPS};
+
+/// What `And`, `Or` and `ExclusiveOr` calculate has a one where both numbers, either or just one of
+/// them have a one, and `Complement` turns each bit of the width.
+pub fn logic_goes_bit_by_bit()
+    ensures both { GoesBitByBit Calculation.And min }
+    ensures either { GoesBitByBit Calculation.Or max }
+    ensures just_one { GoesBitByBit Calculation.ExclusiveOr (λ one other. (one + other) % 2) }
+    ensures turned { TurnsEachBit }
+{}
+
+/// A number less a word, and that word, add up to the number again, at each width.
+pub fn sums_undo_differences()
+    ensures { DifferencesAddUp }
+{}
+
+/// All whole runs of a world under one rule of choice end in one state. A rule whose picks are open
+/// places makes a run by steps. Where no operation of a program takes a block, a whole run ends
+/// alike under each rule.
+pub fn runs_are_determined()
+    ensures one_end { EndsInOneState }
+    ensures by_steps { RulesRunBySteps }
+    ensures each_rule { EndsUnderEachRule }
+{}
+
+/// The tests of bits look at each bit: those that are one in the operand are one in the content, or
+/// are zero there.
+pub fn tests_look_at_each_bit()
+    ensures ones { OnesBitByBit }
+    ensures zeros { ZerosBitByBit }
+{}
+
+/// Runs may be as long, and read and print as much, as the language says.
+pub fn runs_have_their_limits()
+    ensures steps { MAX_STEPS ≡ most_steps }
+    ensures output { MAX_OUTPUT ≡ most_output }
+    ensures input { MAX_INPUT ≡ most_input }
+{}

@@ -1,0 +1,37 @@
+//! The written machine: what a step of a program does, told without registers.
+//!
+//! The definitions in `specs/` are what one has to believe of the machine; the functions are those on
+//! plain values, and the laws of the definitions.
+#![tactic(auto)]
+
+mod calculation;
+mod condition;
+mod halt;
+mod jump;
+mod laws;
+mod limits;
+mod locus;
+mod position;
+mod readiness;
+mod returns;
+mod trap;
+mod worked;
+
+pub use calculation::Calculation;
+pub use condition::{Stop, stop_of};
+pub use halt::{Halt, StepResult};
+pub use jump::{Jump, ending_after, position_after};
+pub use laws::{
+    logic_goes_bit_by_bit, runs_are_determined, runs_have_their_limits, sums_undo_differences,
+    tests_look_at_each_bit,
+};
+pub use limits::{Limits, MAX_INPUT, MAX_OUTPUT, MAX_STEPS};
+pub use locus::Locus;
+pub use position::Position;
+pub use readiness::ready;
+pub use returns::Return;
+pub use trap::Trap;
+pub use worked::{
+    bugs_exchange, chain_leads, difference_wraps, fail_goes_to_its_label, get_keeps_the_old,
+    not_all_stops, use_after_free_traps,
+};

@@ -52,12 +52,12 @@ def answer(stdout=b"", stderr=b"", status=0):
 
 def answer_of(command, **options):
     """The answer of a command, which is killed where it takes too long."""
-    options = {"stdout": subprocess.PIPE, **options}
+    options = {"stdout": subprocess.PIPE, "stderr": subprocess.PIPE, **options}
     try:
-        done = subprocess.run(command, stderr=subprocess.PIPE, timeout=SECONDS, **options)
+        done = subprocess.run(command, timeout=SECONDS, **options)
     except subprocess.TimeoutExpired:
         return answer(status=f"none within {SECONDS} seconds")
-    return answer(done.stdout or b"", done.stderr, done.returncode)
+    return answer(done.stdout or b"", done.stderr or b"", done.returncode)
 
 
 class Case:
@@ -107,7 +107,7 @@ class Shim:
 
 
 def failing_devices(program):
-    """The trials on a full device as output, and on a folder as input.
+    """The trials on a full device as output, on a folder as input, and without standard error.
 
     A trial is a name, what must come, and what comes.
     """
@@ -118,6 +118,11 @@ def failing_devices(program):
     folder = os.open(HERE, os.O_RDONLY)
     want = answer(stderr=b"l6: read failed\n", status=5)
     yield "a folder as input", want, answer_of([program, "run"], stdin=folder)
+    with open("/dev/full", "wb") as full:
+        come = answer_of([program, "run"], input=b" (A,Q,1)\n", stderr=full)
+        yield "a bad deck with a full standard error", answer(status=4), come
+    come = answer_of(["sh", "-c", 'exec "$0" run 2>&-', program], input=b" (A,Q,1)\n")
+    yield "a bad deck with a closed standard error", answer(status=4), come
     os.close(folder)
 
 

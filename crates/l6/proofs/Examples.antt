@@ -83,7 +83,7 @@ five-spelled = record {
 
 -- the world of the run
 abbrev world : World
-world = world_under default_options five_program
+world = world_under default_options [] five_program
 
 -- what bug A holds, the output, the statement, the action, the count and the ending make a state
 abbrev state_of : ℕ → List ℕ → ℕ → ℕ → ℕ → Option Halt → State
@@ -120,7 +120,6 @@ choice = store_rule.pick world.setting.units map.empty []
 stepped : ScanChooses → (old : State) → old.memory.blocks ≡ map.empty → is_last world old ≡ false →
     Step world old (next world choice old)
 stepped chooses old none goes_on = record {
-  ready = refl;
   goes_on = goes_on;
   choice = choice;
   fits = subst (λ (blocks : Blocks). FitsStore world.setting.units blocks choice) (sym none)
@@ -156,11 +155,14 @@ pub five-printed : ScanChooses → FiveIsPrinted
 unfolding digits
 five-printed chooses = record {
   fits = lit≤ tt;
+  input_fits = lit≤ tt;
   assembly = five_assembly;
   spelled = five-spelled;
-  final = final;
-  ends = record { reached = record { older = earlier; run = run chooses }; last = refl };
-  by_rule = by_rule;
-  ended = refl;
-  printed = refl;
+  run = record {
+    final = final;
+    ends = record { reached = record { older = earlier; run = run chooses }; last = refl };
+    by_rule = by_rule;
+    ended = refl;
+    printed = refl;
+  };
 }

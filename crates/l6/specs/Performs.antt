@@ -1,10 +1,10 @@
 -- What becomes of a job.
-use Rattle.std.specs.Prelude.{◌≡◌, List, ℕ, Option, Result, Err}
-use Rattle.l6_run.specs.Device.{Health, NoTrouble, OneTrouble}
+use Rattle.std.specs.Prelude.{◌≡◌, List, [], ℕ, Option, Result, Ok, Err}
+use Rattle.l6_run.specs.Device.{Health, NoTrouble}
 use Rattle.l6_run.specs.Options.{OptionValues}
 use Rattle.l6_run.specs.Prints.{Prints, RefusesDeck}
 use Rattle.l6_run.specs.Serves.{Serves}
-use Rattle.l6_run.specs.Transfer.{GivesPart, GivesTooMuch}
+use Rattle.l6_run.specs.Transfer.{GivesPart, GivesTooMuch, ReaderFaredAt}
 use Rattle.l6_run.specs.declared.fault.Part.TheVariants.{Job}
 use Rattle.l6_run.specs.declared.fault.RunFault.{RunFault}
 use Rattle.l6_run.specs.declared.fault.RunFault.TheVariants.{TooLong, Read, NoMemory}
@@ -13,13 +13,13 @@ use Rattle.l6.specs.declared.job.Outcome.TheVariants.{Ran}
 use Rattle.l6.specs.declared.job.Verb.{Verb}
 use Rattle.l6.specs.declared.job.Verb.TheVariants.{Run}
 
--- what a verb answers to a job, and with which text
+-- what a verb answers to a job, and with which text; the job is a deck, and the input is empty
 abbrev pub Answers : Verb → OptionValues → List ℕ → Outcome → List ℕ → Type 0
-Answers Run options job (Ran ending) text = Prints options job ending text
+Answers Run options job (Ran ending) text = Prints options job [] ending text
 
 -- why a job is refused
 abbrev pub Refuses : Verb → List ℕ → RunFault → Type 0
-Refuses Run job fault = RefusesDeck job fault
+Refuses Run job fault = RefusesDeck job [] fault
 
 -- the reader gave a whole job, and this became of it
 pub record PerformsJob (verb : Verb) (options : OptionValues)
@@ -39,7 +39,7 @@ Performs verb options left left' taken taken' (Err NoMemory) = Unit {0}
 Performs verb options left left' taken taken' result =
     PerformsJob verb options left left' taken taken' result
 
--- how the reader fared: a `Read` is its one trouble, and at any other answer it had none
+-- how the reader fared: at an answer it had no trouble
 abbrev pub ReaderFared : Health → Health → Result Outcome RunFault → Type 0
-ReaderFared old new (Err (Read part)) = OneTrouble old new
-ReaderFared old new result = NoTrouble old new
+ReaderFared old new (Ok outcome) = NoTrouble old new
+ReaderFared old new (Err fault) = ReaderFaredAt old new fault

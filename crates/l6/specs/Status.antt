@@ -2,7 +2,7 @@
 use Rattle.std.specs.Prelude.{ℕ, Result, Ok, Err}
 use Rattle.l6_run.specs.declared.ending.Ending.TheVariants.{Done, Fail, Trap, Limit}
 use Rattle.l6_run.specs.declared.fault.RunFault.{RunFault}
-use Rattle.l6_run.specs.declared.fault.RunFault.TheVariants.{TooLong, Asm, Read, Write, NoMemory, NotYet}
+use Rattle.l6_run.specs.declared.fault.RunFault.TheVariants.{TooLong, Asm, Read, Write, NoMemory}
 use Rattle.l6_asm.specs.declared.fault.AsmFault.TheVariants as asm
 use Rattle.l6.specs.declared.job.Outcome.{Outcome}
 use Rattle.l6.specs.declared.job.Outcome.TheVariants.{Ran}
@@ -20,4 +20,3 @@ status_of (Err (Asm fault)) = 4
 status_of (Err (Read part)) = 5
 status_of (Err (Write count)) = 5
 status_of (Err NoMemory) = 5
-status_of (Err NotYet) = 4

@@ -50,7 +50,7 @@ FiveIsSpelled = Spells five_deck five_assembly
 
 -- its run ends by DONE and prints 5
 abbrev pub FiveIsPrinted : Type 0
-FiveIsPrinted = Prints default_options five_deck Done (codes "5\n== DONE AFTER 6 STEPS\n")
+FiveIsPrinted = Prints default_options five_deck [] Done (codes "5\n== DONE AFTER 6 STEPS\n")
 
 -- a group that reads as nothing is the fault of its card, and not of the card behind it
 abbrev pub UnknownIsRefused : Type 0
@@ -58,7 +58,7 @@ UnknownIsRefused = fault_of (codes " (A,PD)\n (A,Q,1)\nX\n") ≡ Some (form 2)
 
 -- the program that prints what field N of A's block holds
 abbrev pub field_world : World
-field_world = world_under default_options (record {
+field_world = world_under default_options [] (record {
   condition = Always;
   tests = [];
   operations = PrintDecimal (name_a ∷ name_n ∷ []) ∷ [];

@@ -63,6 +63,6 @@ fn serve<W: Sink>(
     ensures fared { WriterFared (W.health writer.old) (W.health writer.new) result }
 {
     match verb {
-        Verb::Run => Ok(Outcome::Ran(run_deck(alloc, options, job, writer)?)),
+        Verb::Run => Ok(Outcome::Ran(run_deck(alloc, options, job, &[], writer)?)),
     }
 }

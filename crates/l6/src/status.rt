@@ -24,8 +24,7 @@ pub fn status(answer: &Result<Outcome, RunFault>) -> u8
                 | AsmFault::Limit(_)
                 | AsmFault::TwiceLabelled(_)
                 | AsmFault::NoLabel(_),
-            )
-            | RunFault::NotYet,
+            ),
         ) => 4,
         Err(
             RunFault::Asm(AsmFault::NoMemory)

@@ -5,7 +5,7 @@ use Rattle.std.specs.List.{list_all}
 use Rattle.std.specs.Str.{byte}
 use Rattle.std.proofs.lemmas.Bool.{and_parts, or_cases, eqb-true, not-true}
 use Rattle.std.proofs.lemmas.List.{append-nil}
-use Rattle.l6_word.specs.inner.Split.{lacks}
+use Rattle.l6_word.specs.Split.{lacks}
 use Rattle.l6_word.proofs.Cuts.{lacks-cons}
 use Rattle.l6_group.specs.Character.{is_blank}
 use Rattle.l6_card.specs.Items.{Item, group, word, unclosed, unopened, after_opening, after_blank, after_letter, after_column, items_of}

@@ -4,7 +4,7 @@ use Rattle.std.specs.Prelude.{not}
 use Rattle.std.specs.List.{list_all}
 use Rattle.std.specs.Str.{byte}
 use Rattle.std.proofs.lemmas.Bool.{and_parts, and_from, not-true}
-use Rattle.l6_word.specs.inner.Split.{lacks}
+use Rattle.l6_word.specs.Split.{lacks}
 use Rattle.l6_card.specs.Items.{group, word, after_column, after_blank, after_opening, items_of}
 use Rattle.l6_card.specs.Laws.{is_inner, GroupsAreInParentheses, BlanksVanishInWords, LettersMakeWords}
 use Rattle.l6_card.proofs.Bodies.{closed-front, blank_column}

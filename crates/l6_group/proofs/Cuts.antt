@@ -2,7 +2,7 @@
 use Rattle.std.proofs.Common.{◌≡◌, ℕ, List, [], ◌∷◌, ◌++◌, refl, ap, ◌∙◌, Option, IfNone, IfSome, MatchOption, Bor, Bool, true, false, Some, None, cond}
 use Rattle.std.specs.List.{onto_first}
 use Rattle.std.specs.Str.{byte}
-use Rattle.l6_word.specs.inner.Split.{lacks, IsCutAt}
+use Rattle.l6_word.specs.Split.{lacks, IsCutAt}
 use Rattle.l6_word.proofs.Cuts.{lacks-cons}
 use Rattle.l6_group.specs.Element.{is_comma, elements_of}
 use Rattle.l6_group.specs.Test.{test_from}

@@ -1,6 +1,7 @@
 pub mod Numerals
 pub mod Character
 pub mod Spelling
+pub mod Spelled
 pub mod Element
 pub mod Number
 pub mod Label

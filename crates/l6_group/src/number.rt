@@ -1,7 +1,8 @@
 //! Numbers: decimal, octal, and those that texts stand for.
 
 ghost use Rattle.std.specs.Prelude.{◌≡◌, ◌<◌, ◌≤◌, MatchOption};
-ghost use Rattle.l6_prog.specs.Numerals.{digit_count, code_count};
+ghost use Rattle.l6_word.specs.Numerals.{code_count};
+ghost use Rattle.l6_prog.specs.Numerals.{digit_count};
 ghost use Rattle.l6_group.specs.Number as spec;
 ghost use Rattle.l6_group.specs.inner.Long.{IsReadUpTo};
 

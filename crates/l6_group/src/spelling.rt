@@ -25,7 +25,7 @@ enum Characters<'a, const ROOM: usize> {
 
 impl<'a, const ROOM: usize> Model for Spelling<'a, ROOM> {
     ghost use Rattle.std.specs.Prelude.{ℕ, List};
-    ghost use Rattle.l6_group.specs.inner.Spelled.{characters_of};
+    ghost use Rattle.l6_group.specs.Spelled.{characters_of};
 
     ghost Value = { List ℕ };
 

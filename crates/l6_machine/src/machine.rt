@@ -1,6 +1,7 @@
 //! The machine.
 
 ghost use Rattle.std.specs.Prelude.{◌≡◌, ◌≤◌, ◌<◌, ◌^◌, ◌+◌, ◌↔◌, true, false, IfOk, IfErr, OnOk, IsErrOf, slice_index, slice_index_or, length, All, None, Some};
+ghost use Rattle.l6_word.specs.Input.{characters_of};
 ghost use Rattle.l6_word.specs.Numerals.{word_bits};
 ghost use Rattle.l6_prog.specs.Numerals.{first_letter, name_count};
 ghost use Rattle.l6_store.specs.Blocks.{Fits};
@@ -8,7 +9,6 @@ ghost use Rattle.l6_store.specs.Store.{fresh};
 ghost use Rattle.l6_steps.specs.Limits.{are_allowed};
 ghost use Rattle.l6_steps.specs.Moment.{first_moment, moment_after, EndsBy, IsNumbered};
 ghost use Rattle.l6_steps.specs.Numerals.{most_entries, most_input, most_output, most_steps};
-ghost use Rattle.l6_steps.specs.Ready.{is_ready};
 ghost use Rattle.l6_steps.specs.State.{is_at_limit, is_last};
 ghost use Rattle.l6_steps.specs.Locus.{index_of};
 ghost use Rattle.l6_steps.specs.Step.{Step, answer};
@@ -89,10 +89,9 @@ impl<S: Places> Model for Machine<S> {
 
 impl<S: Places> Machine<S> {
     /// A machine before the first step of the program. All that a run needs is taken from memory
-    /// here: a copy of the program and its instructions, and room for the output and for all that
-    /// may be saved. The input is not looked at: no operation reads it yet. Where no machine is
-    /// made, the store is given up. The caller owes a program that is `ready`, a store that is new
-    /// or reset, and no more than `MAX_INPUT` bytes.
+    /// here: a copy of the program and its instructions, a copy of the input, and room for the output
+    /// and for all that may be saved. Where no machine is made, the store is dropped. Requires a store
+    /// that is new or reset, and at most `MAX_INPUT` bytes of input.
     pub fn new(
         alloc: Global,
         program: &Program,
@@ -102,13 +101,16 @@ impl<S: Places> Machine<S> {
     ) -> Result<Self, MachineFault>
     where
         S: Drop,
-        requires ready { is_ready program.now ≡ true }
         requires input { length input.now ≤ most_input }
         requires fresh { S.store store ≡ fresh S.rule (S.store store).units }
         ensures start { IfOk result (λ m. m.moment ≡ first_moment S.rule m.world) }
         ensures world { IfOk result (λ m. m.world ≡ record {
           program = program.now;
-          setting = record { units = (S.store store).units; limits = limits };
+          setting = record {
+            units = (S.store store).units;
+            limits = limits;
+            input = characters_of input.now;
+          };
         }) }
         ensures reached { IfOk result (λ m. IsReached m.world m.moment.state) }
         ensures bad_limits { IsErrOf result MachineFault.BadLimits ↔ (are_allowed limits ≡ false) }
@@ -118,7 +120,7 @@ impl<S: Places> Machine<S> {
         Self::with_program(alloc, program.duplicate(alloc)?, input, store, limits)
     }
 
-    /// A machine before the first step of the program, which is given up to it; else as `new`.
+    /// The same for who needs the program no longer: the machine takes it, and no copy is made.
     pub fn with_program(
         alloc: Global,
         program: Program,
@@ -128,13 +130,16 @@ impl<S: Places> Machine<S> {
     ) -> Result<Self, MachineFault>
     where
         S: Drop,
-        requires ready { is_ready program ≡ true }
         requires input { length input.now ≤ most_input }
         requires fresh { S.store store ≡ fresh S.rule (S.store store).units }
         ensures start { IfOk result (λ m. m.moment ≡ first_moment S.rule m.world) }
         ensures world { IfOk result (λ m. m.world ≡ record {
           program = program;
-          setting = record { units = (S.store store).units; limits = limits };
+          setting = record {
+            units = (S.store store).units;
+            limits = limits;
+            input = characters_of input.now;
+          };
         }) }
         ensures reached { IfOk result (λ m. IsReached m.world m.moment.state) }
         ensures bad_limits { IsErrOf result MachineFault.BadLimits ↔ (are_allowed limits ≡ false) }
@@ -142,7 +147,7 @@ impl<S: Places> Machine<S> {
     {
         check(limits)?;
         let code = Code::new(alloc, program)?;
-        let registers = Registers::new(alloc, store, limits)?;
+        let registers = Registers::new(alloc, input, store, limits)?;
         let start = Position {
             statement: 0,
             action: 0,
@@ -260,6 +265,13 @@ impl<S: Places> Machine<S> {
         ensures bound { result ≤ most_steps }
     {
         self.progress.count
+    }
+
+    /// How many characters of the input have been taken.
+    pub fn taken(&self) -> usize
+        ensures { result ≡ self.now.moment.state.memory.taken }
+    {
+        self.registers.taken()
     }
 
     /// What has been printed, at most as much as the run may print.

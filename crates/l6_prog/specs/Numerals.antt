@@ -20,10 +20,6 @@ first_letter = digit_count
 abbrev pub most_names : ℕ
 most_names = 6
 
--- how many codes of characters there are, those of the blank to the underscore
-abbrev pub code_count : ℕ
-code_count = 64
-
 -- how many characters a printed text may have
 abbrev pub most_characters : ℕ
 most_characters = 60

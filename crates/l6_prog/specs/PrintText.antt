@@ -3,7 +3,8 @@ use Rattle.std.specs.Prelude.{ℕ, List, length, Bool, false, not, ◌&&◌, ◌
 use Rattle.std.specs.List.{list_all}
 use Rattle.std.specs.Str.{byte}
 use Rattle.l6_word.specs.Code.{code_of}
-use Rattle.l6_prog.specs.Numerals.{code_count, most_characters}
+use Rattle.l6_word.specs.Numerals.{code_count}
+use Rattle.l6_prog.specs.Numerals.{most_characters}
 
 -- there is a code, and it is this one
 abbrev pub is_code : ℕ → Option ℕ → Bool

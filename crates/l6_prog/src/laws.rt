@@ -1,7 +1,8 @@
 //! That the numbers of the code are those of the language, and which statements make a program.
 
 ghost use Rattle.std.specs.Prelude.{◌≡◌};
-ghost use Rattle.l6_prog.specs.Numerals.{name_count, first_letter, most_names, code_count, most_characters, most_statements, most_tests, most_operations};
+ghost use Rattle.l6_word.specs.Numerals.{code_count};
+ghost use Rattle.l6_prog.specs.Numerals.{name_count, first_letter, most_names, most_characters, most_statements, most_tests, most_operations};
 ghost use Rattle.l6_prog.specs.Laws.{TakesJustPrograms};
 
 use crate::chain::MAX_NAMES;

@@ -8,3 +8,5 @@ pub mod Gathering
 pub mod Apart
 pub mod Shown
 pub mod Walking
+pub mod Inputs
+pub mod Lasts

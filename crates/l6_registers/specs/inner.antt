@@ -1,3 +1,4 @@
+pub mod Input
 pub mod Registers
 pub mod Definitions
 pub mod Fields

@@ -3,10 +3,12 @@
 
 mod action;
 mod calculating;
+mod characters;
 mod condition;
 mod definitions;
 mod fields;
 mod getting;
+mod input;
 mod laws;
 mod pushdown;
 mod readable;

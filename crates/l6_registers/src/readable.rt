@@ -1,4 +1,5 @@
-//! Following chains.
+//! Where chains lead, name by name, or why they can't be followed. The quick way of most steps, which
+//! tells no trap, is in `fields.rt`.
 
 ghost use Rattle.std.specs.Prelude.{◌≡◌, ◌<◌, ◌≤◌, ◌^◌, length, option_map, slice_index_or, IfOk, IfSome, None};
 ghost use Rattle.std.specs.FinMap as map;

@@ -10,14 +10,15 @@ use Rattle.l6_run.specs.Printout.{ending_of, printout}
 use Rattle.l6_run.specs.Prints.{store_rule, world_under}
 
 pub prints-one : SpellsInOneWay → EndsInOneState → PrintsInOneWay
-prints-one one_way one_end options deck ending ending' text text' prints prints' =
+prints-one one_way one_end options deck input ending ending' text text' prints prints' =
     let same : prints'.assembly ≡ prints.assembly =
     one_way deck prints.assembly prints'.assembly prints.spelled prints'.spelled in
-    let ends' : EndsBy store_rule (world_under options prints.assembly.program) prints'.final =
-    subst (λ (assembly : Assembled). EndsBy store_rule (world_under options assembly.program)
-    prints'.final) same prints'.by_rule in
-    let finals : prints.final ≡ prints'.final
-    = one_end store_rule _ prints.final prints'.final prints.by_rule ends' in (
-      prints.ended ∙ ap (λ (s : State). ending_of s.ending) finals ∙ sym prints'.ended,
-      prints.printed ∙ ap printout finals ∙ sym prints'.printed,
+    let world = world_under options input prints.assembly.program in
+    let ends' : EndsBy store_rule world prints'.run.final =
+    subst (λ (assembly : Assembled). EndsBy store_rule (world_under options input assembly.program)
+    prints'.run.final) same prints'.run.by_rule in
+    let finals : prints.run.final ≡ prints'.run.final
+    = one_end store_rule world prints.run.final prints'.run.final prints.run.by_rule ends' in (
+      prints.run.ended ∙ ap (λ (s : State). ending_of s.ending) finals ∙ sym prints'.run.ended,
+      prints.run.printed ∙ ap printout finals ∙ sym prints'.run.printed,
     )

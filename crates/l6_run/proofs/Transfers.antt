@@ -13,7 +13,7 @@ use Rattle.l6_run.specs.inner.Transfer.{GivesMore, IsReadFault}
 use Rattle.l6_run.specs.declared.device.Trouble.TheVariants.{Failed}
 use Rattle.l6_run.specs.declared.fault.Part.{Part}
 use Rattle.l6_run.specs.declared.fault.RunFault.{RunFault}
-use Rattle.l6_run.specs.declared.fault.RunFault.TheVariants.{TooLong, Asm, Read, Write, NoMemory, NotYet}
+use Rattle.l6_run.specs.declared.fault.RunFault.TheVariants.{TooLong, Asm, Read, Write, NoMemory}
 
 -- no trouble, and then one
 pub OneTrouble-after : (first second third : Health) →
@@ -51,7 +51,6 @@ EndsReading-read_fault part old new (Asm _) p = absurd p
 EndsReading-read_fault part old new (Read _) p = p
 EndsReading-read_fault part old new (Write _) p = absurd p
 EndsReading-read_fault part old new NoMemory p = tt
-EndsReading-read_fault part old new NotYet p = absurd p
 
 -- the reader gave these bytes, and then more
 pub Consumes-more : (a b d : Option (List ℕ)) (bytes bytes' : List ℕ) (count : ℕ) →

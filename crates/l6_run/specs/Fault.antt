@@ -3,20 +3,23 @@ use Rattle.std.specs.Prelude.{ℕ, List, codes}
 use Rattle.l6_card.specs.Numerals.{most_deck_bytes}
 use Rattle.l6_asm.specs.declared.fault.AsmFault.{AsmFault}
 use Rattle.l6_asm.specs.declared.fault.AsmFault.TheVariants.{NoMemory}
+use Rattle.l6_steps.specs.Numerals.{most_input}
 use Rattle.l6_run.specs.Numerals.{most_job_bytes}
 use Rattle.l6_run.specs.declared.fault.Part.{Part}
-use Rattle.l6_run.specs.declared.fault.Part.TheVariants.{Deck, Job}
+use Rattle.l6_run.specs.declared.fault.Part.TheVariants.{Deck, Input, Job}
 use Rattle.l6_run.specs.declared.fault.RunFault.{RunFault}
 use Rattle.l6_run.specs.declared.fault.RunFault.TheVariants as run
 
 -- the most bytes that a part may have
 abbrev pub limit_of : Part → ℕ
 limit_of Deck = most_deck_bytes
+limit_of Input = most_input
 limit_of Job = most_job_bytes
 
 -- the word for a part in the line of a fault
 abbrev pub part_text : Part → List ℕ
 part_text Deck = codes "deck"
+part_text Input = codes "input"
 part_text Job = codes "job"
 
 -- why a job is not done whose deck was not assembled: want of memory is told as such

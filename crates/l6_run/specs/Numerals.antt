@@ -1,9 +1,13 @@
 -- The numbers of the language that jobs stand on.
-use Rattle.std.specs.Prelude.{ℕ}
+use Rattle.std.specs.Prelude.{ℕ, ◌-◌, ◌^◌}
 
 -- how many bytes a job may have
 abbrev pub most_job_bytes : ℕ
 most_job_bytes = 16777216
+
+-- how many bytes of an answer are counted that went out before its writer failed: a count stops there
+abbrev pub most_counted : ℕ
+most_counted = 2 ^ 64 - 1
 
 -- what a user has who chooses nothing: so many units, steps, and bytes of output
 abbrev pub default_units : ℕ

@@ -3,6 +3,7 @@ use Rattle.std.specs.Prelude.{Option, ◌≡◌, ℕ, ◌+◌, ◌-◌, ◌^◌,
 use Rattle.std.specs.Io.KnownBytes.{Appends, Consumes, IsAtEnd}
 use Rattle.l6_run.specs.Device.{Health, NoTrouble, OneTrouble}
 use Rattle.l6_run.specs.Fault.{limit_of}
+use Rattle.l6_run.specs.Numerals.{most_counted}
 use Rattle.l6_run.specs.declared.fault.Part.{Part}
 use Rattle.l6_run.specs.declared.fault.RunFault.{RunFault}
 use Rattle.l6_run.specs.declared.fault.RunFault.TheVariants.{TooLong, Read, Write, NoMemory}
@@ -32,13 +33,13 @@ EndsReading part old new (Read which) = which ≡ part
 EndsReading part old new NoMemory = Unit {0}
 EndsReading part old new other = ⊥
 
--- the writer took the first bytes of a text and not all, and n counts them and those before, up to
--- `u64::MAX`
+-- the writer took the first bytes of a text and not all, and n counts them and those before, as far as
+-- they are counted
 pub record TakesFront (text : List ℕ) (before n : ℕ) (old new : Option (List ℕ)) : Type 0 where
   pub count : ℕ
   pub short : count < length text
   pub front : Appends old new (take count text)
-  pub counted : n ≡ min (before + count) (2 ^ 64 - 1)
+  pub counted : n ≡ min (before + count) most_counted
 
 -- why a text did not go out whole: its writer had trouble
 abbrev pub EndsWriting : List ℕ → ℕ → Option (List ℕ) → Option (List ℕ) → RunFault → Type 0

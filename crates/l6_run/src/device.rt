@@ -5,7 +5,7 @@ ghost use Rattle.std.specs.Io.{ReadsAtMost, WritesAtMost};
 ghost use Rattle.std.specs.Io.KnownBytes.{ReadConsumes, WriteAppends};
 ghost use Rattle.std.specs.IoError.{error_kind};
 ghost use Rattle.l6_run.specs.Device.{Health, after_read, after_trouble, after_write};
-ghost use Rattle.l6_run.specs.inner.Host.{device_of, health_of};
+ghost use Rattle.l6_run.specs.Host.{device_of, health_of};
 
 use std::io;
 use std::io::ErrorKind;

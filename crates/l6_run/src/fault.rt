@@ -7,6 +7,7 @@ ghost use Rattle.l6_run.specs.declared.fault.RunFault.TheVariants.{NoMemory};
 
 use l6_asm::AsmFault;
 use l6_card::MAX_DECK_BYTES;
+use l6_steps::MAX_INPUT;
 use std::alloc::AllocError;
 use std::fmt;
 use thiserror::Error;
@@ -19,6 +20,8 @@ pub const MAX_JOB_BYTES: usize = 16_777_216;
 pub enum Part {
     /// The cards that spell a program.
     Deck,
+    /// The characters that the program reads.
+    Input,
     /// The whole job.
     Job,
 }
@@ -31,6 +34,7 @@ impl Part {
     {
         match self {
             Part::Deck => MAX_DECK_BYTES,
+            Part::Input => MAX_INPUT,
             Part::Job => MAX_JOB_BYTES,
         }
     }
@@ -42,6 +46,7 @@ impl fmt::Display for Part {
     fn fmt<W: fmt::Write>(&self, f: &mut fmt::Formatter<W>) -> fmt::Result {
         f.write_str(match self {
             Part::Deck => "deck",
+            Part::Input => "input",
             Part::Job => "job",
         })
     }
@@ -65,9 +70,6 @@ pub enum RunFault {
     /// Memory ran out.
     #[error("out of memory")]
     NoMemory,
-    /// The program has an operation of which the machine has no row yet.
-    #[error("not yet")]
-    NotYet,
 }
 
 impl From<AllocError> for RunFault {

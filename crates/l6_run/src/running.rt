@@ -1,8 +1,12 @@
 //! The run of a deck.
 
-ghost use Rattle.std.specs.Prelude.{◌≡◌, ◌≤◌, length, IfOk, IfErr};
+ghost use Rattle.std.specs.Prelude.{◌≡◌, ◌≤◌, length, true, IfOk, IfErr};
+ghost use Rattle.l6_word.specs.Input.{characters_of};
 ghost use Rattle.l6_card.specs.Numerals.{most_deck_bytes};
-ghost use Rattle.l6_run.specs.Prints.{Prints, RefusesDeck};
+ghost use Rattle.l6_store.specs.Store.{fresh};
+ghost use Rattle.l6_steps.specs.Limits.{are_allowed};
+ghost use Rattle.l6_steps.specs.Numerals.{most_input};
+ghost use Rattle.l6_run.specs.Prints.{Prints, RefusesDeck, RunPrints};
 ghost use Rattle.l6_run.specs.inner.Running.{IsNoRun};
 ghost use Rattle.l6_run.specs.Serves.{IsUnwritten, Serves, WriterFared};
 
@@ -15,11 +19,12 @@ use crate::transfer::write_text;
 use l6_asm::assemble;
 use l6_card::MAX_DECK_BYTES;
 use l6_machine::{Machine, MachineFault};
-use l6_steps::ready;
-use l6_store::{ScanStore, StoreFault};
+use l6_prog::Program;
+use l6_steps::{Limits, MAX_INPUT};
+use l6_store::{Places, ScanStore, StoreFault};
 use std::alloc::Global;
 
-/// Runs a deck, and writes the printout. Answers how the run has ended.
+/// Runs a deck with an input, and writes the printout. Answers how the run has ended.
 ///
 /// # Errors
 ///
@@ -28,9 +33,10 @@ pub fn run_deck<W: Sink>(
     alloc: Global,
     options: Options,
     deck: &[u8],
+    input: &[u8],
     writer: &mut W,
 ) -> Result<Ending, RunFault>
-    ensures done { Serves (Prints options deck.now) (RefusesDeck deck.now)
+    ensures done { Serves (Prints options deck.now input.now) (RefusesDeck deck.now input.now)
         (W.taken writer.old) (W.taken writer.new) result }
     ensures unwritten { IsUnwritten result → writer.new ≡ writer.old }
     ensures fared { WriterFared (W.health writer.old) (W.health writer.new) result }
@@ -38,28 +44,61 @@ pub fn run_deck<W: Sink>(
     if deck.len() > MAX_DECK_BYTES {
         return Err(RunFault::TooLong(Part::Deck));
     }
-    let (ending, text) = printout_of(alloc, options, deck)?;
+    if input.len() > MAX_INPUT {
+        return Err(RunFault::TooLong(Part::Input));
+    }
+    let (ending, text) = printout_of(alloc, options, deck, input)?;
     write_text(writer, text.as_slice(), 0)?;
     Ok(ending)
 }
 
 /// How the run of a deck ends, and what it prints.
-fn printout_of(alloc: Global, options: Options, deck: &[u8]) -> Result<(Ending, Vec<u8>), RunFault>
-    requires { length deck.now ≤ most_deck_bytes }
-    ensures prints { IfOk result (λ found. Prints options deck.now found.0 found.1.items) }
-    ensures refuses { IfErr result (IsNoRun deck.now) }
+fn printout_of(
+    alloc: Global,
+    options: Options,
+    deck: &[u8],
+    input: &[u8],
+) -> Result<(Ending, Vec<u8>), RunFault>
+    requires deck { length deck.now ≤ most_deck_bytes }
+    requires input { length input.now ≤ most_input }
+    ensures prints { IfOk result
+        (λ found. Prints options deck.now input.now found.0 found.1.items) }
+    ensures refuses { IfErr result (IsNoRun deck.now input.now) }
 {
-    let assembly = assemble(alloc, deck)?;
-    let program = assembly.into_program();
-    if !ready(&program) {
-        return Err(RunFault::NotYet);
-    }
+    let program = assemble(alloc, deck)?.into_program();
     let store = match ScanStore::new(alloc, options.units()) {
         Ok(store) => store,
         Err(StoreFault::NoMemory) => return Err(RunFault::NoMemory),
         Err(StoreFault::BadUnits) => unreachable!(),
     };
-    let mut machine = match Machine::with_program(alloc, program, &[], store, options.limits()) {
+    let (ending, text) = run_in(alloc, program, input, store, options.limits())?;
+    Ok((ending, text))
+}
+
+/// How the run of a program in a store ends, and what it prints.
+fn run_in<S: Places>(
+    alloc: Global,
+    program: Program,
+    input: &[u8],
+    store: S,
+    limits: Limits,
+) -> Result<(Ending, Vec<u8>), RunFault>
+where
+    S: Drop,
+    requires input { length input.now ≤ most_input }
+    requires fresh { S.store store ≡ fresh S.rule (S.store store).units }
+    requires allowed { are_allowed limits ≡ true }
+    ensures prints { IfOk result (λ found. RunPrints S.rule (record {
+      program = program;
+      setting = record {
+        units = (S.store store).units;
+        limits = limits;
+        input = characters_of input.now;
+      };
+    }) found.0 found.1.items) }
+    ensures refuses { IfErr result (λ fault. fault ≡ RunFault.NoMemory) }
+{
+    let mut machine = match Machine::with_program(alloc, program, input, store, limits) {
         Ok(machine) => machine,
         Err(MachineFault::NoMemory) => return Err(RunFault::NoMemory),
         Err(MachineFault::BadLimits) => unreachable!(),

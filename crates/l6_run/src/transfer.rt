@@ -3,6 +3,7 @@
 ghost use Rattle.std.specs.Prelude.{◌≡◌, ◌+◌, ◌-◌, ◌^◌, ◌<◌, ◌≤◌, min, length, vec_len, MatchResult, OnOk, IfOk, IfErr};
 ghost use Rattle.std.specs.Io.KnownBytes.{Appends};
 ghost use Rattle.l6_run.specs.Fault.{limit_of};
+ghost use Rattle.l6_run.specs.Numerals.{most_counted};
 ghost use Rattle.l6_run.specs.Device.{NoTrouble, OneTrouble};
 ghost use Rattle.l6_run.specs.Transfer.{EndsReading, EndsWriting, GivesAtMost, GivesPart, ReaderFaredAt};
 ghost use Rattle.l6_run.specs.inner.Transfer.{GivesMore, IsReadFault};
@@ -103,7 +104,7 @@ pub fn write_text<W: Sink>(writer: &mut W, text: &[u8], before: u64) -> Result<(
 
 // The fault of a writer that took `count` bytes after the `before` that went out earlier.
 fn write_fault(before: u64, count: usize) -> RunFault
-    ensures { result ≡ RunFault.Write (min (before + count) (2 ^ 64 - 1)) }
+    ensures { result ≡ RunFault.Write (min (before + count) most_counted) }
 {
     RunFault::Write(before.saturating_add(count as u64))
 }

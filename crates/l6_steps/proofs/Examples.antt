@@ -6,14 +6,14 @@ use Rattle.l6_store.specs.Blocks.{Blocks}
 use Rattle.l6_store.proofs.Gathered.{get-insert_same, get-insert_other, get-remove_same}
 use Rattle.l6_steps.specs.declared.locus.Locus.TheVariants.{Bug, Field}
 use Rattle.l6_steps.specs.declared.trap.Trap.TheVariants.{UndefinedField, NotABlock, WordOutsideBlock}
-use Rattle.l6_store.specs.Scan.{least}
+use Rattle.l6_store.specs.Least.{least}
 use Rattle.l6_steps.specs.declared.jump.Jump.TheVariants.{Onward}
 use Rattle.l6_steps.specs.Deed.{leave, took}
 use Rattle.l6_steps.specs.Getting.{get, level_for, new_block, with_place}
 use Rattle.l6_steps.proofs.Maps.{insert_twice}
 use Rattle.l6_steps.specs.Locus.{assign, content, field_at, follow, locus, put_into}
 use Rattle.l6_steps.specs.State.{Memory}
-use Rattle.l6_steps.specs.Trapping.{◌>>=◌}
+use Rattle.l6_word.specs.Trying.{◌>>=◌}
 use Rattle.l6_steps.specs.Worked.{ChainLeads, GetKeepsTheOld, UseAfterFreeTraps, freed_still, just_x, linked, name_n, name_v, name_x, stacked}
 
 -- one name further, by what is known of the definition and the block

@@ -16,7 +16,7 @@ use Rattle.l6_store.specs.Open.{Choice}
 use Rattle.l6_store.specs.Rule.{Rule}
 use Rattle.l6_steps.specs.declared.trap.Trap.{Trap}
 use Rattle.l6_steps.specs.Laws.{EndsUnderEachRule}
-use Rattle.l6_steps.specs.Trapping.{◌>>=◌}
+use Rattle.l6_word.specs.Trying.{◌>>=◌}
 use Rattle.l6_steps.specs.Moment.{Moment, moment_at, pick_at, state_at}
 use Rattle.l6_steps.specs.Row.{condition, deed_of, row}
 use Rattle.l6_steps.specs.Deed.{Deed}

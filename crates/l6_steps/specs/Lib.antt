@@ -1,15 +1,14 @@
 pub mod Numerals
 pub mod Limits
 pub mod Trap
-pub mod Trapping
 pub mod State
 pub mod Stack
-pub mod Ready
 pub mod Locus
 pub mod Calculation
 pub mod Condition
 pub mod Deed
 pub mod Getting
+pub mod Characters
 pub mod Row
 pub mod Step
 pub mod Run

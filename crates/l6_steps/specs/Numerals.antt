@@ -16,3 +16,7 @@ most_entries = 1024
 -- how many bytes of input a run may be given
 abbrev pub most_input : ℕ
 most_input = 1048576
+
+-- how many characters a word holds, and so how many may be taken or printed at a time
+abbrev pub word_characters : ℕ
+word_characters = 6

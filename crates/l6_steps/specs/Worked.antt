@@ -32,7 +32,7 @@ name_n = first_letter + 13
 abbrev pub small_world : List Parts → World
 small_world program = record {
   program = program;
-  setting = record { units = 1; limits = record { steps = 100; output = 100 } };
+  setting = record { units = 1; limits = record { steps = 100; output = 100 }; input = [] };
 }
 
 -- the state at a statement's action after so many steps, in which nothing is held but these returns

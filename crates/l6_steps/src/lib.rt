@@ -12,7 +12,6 @@ mod laws;
 mod limits;
 mod locus;
 mod position;
-mod readiness;
 mod returns;
 mod trap;
 mod worked;
@@ -28,7 +27,6 @@ pub use laws::{
 pub use limits::{Limits, MAX_INPUT, MAX_OUTPUT, MAX_STEPS};
 pub use locus::Locus;
 pub use position::Position;
-pub use readiness::ready;
 pub use returns::Return;
 pub use trap::Trap;
 pub use worked::{

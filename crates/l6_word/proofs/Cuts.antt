@@ -4,7 +4,7 @@ use Rattle.std.specs.Prelude.{not}
 use Rattle.std.specs.List.{onto_first}
 use Rattle.std.specs.Str.{byte}
 use Rattle.std.proofs.lemmas.Bool.{and_parts, not-true}
-use Rattle.l6_word.specs.inner.Split.{lacks, IsCutAt}
+use Rattle.l6_word.specs.Split.{lacks, IsCutAt}
 use Rattle.l6_word.specs.Lines.{lines_of}
 
 -- the mark is not the first byte, nor behind it

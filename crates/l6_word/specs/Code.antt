@@ -1,5 +1,5 @@
 -- The codes of characters.
-use Rattle.std.specs.Prelude.{ℕ, ◌+◌, ◌-◌, ◌==◌, Option, Some, None, if◌then◌else◌}
+use Rattle.std.specs.Prelude.{ℕ, ◌+◌, ◌-◌, ◌==◌, Option, Some, None, unwrap_or, if◌then◌else◌}
 use Rattle.std.specs.Int.{is_in_range}
 use Rattle.std.specs.Str.{byte}
 
@@ -18,3 +18,11 @@ code_of given =
     if is_in_range (byte " ") (byte "_") (character_of given)
     then Some (character_of given - byte " ")
     else None
+
+-- the character that has a code
+abbrev pub char_of : ℕ → ℕ
+char_of code = code + byte " "
+
+-- the code that a byte of an input is read as: where its character has none, that of `?`
+abbrev pub input_code : ℕ → ℕ
+input_code given = unwrap_or (code_of given) (byte "?" - byte " ")

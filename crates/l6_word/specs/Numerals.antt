@@ -16,3 +16,11 @@ largest_level = 7
 -- how many words the largest block has; the store is made of units of this size
 abbrev pub unit_size : ℕ
 unit_size = 2 ^ largest_level
+
+-- how many codes of characters there are
+abbrev pub code_count : ℕ
+code_count = 64
+
+-- how many characters a line of an input has
+unfoldable pub input_width : ℕ
+input_width = 80

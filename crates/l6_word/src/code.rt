@@ -1,6 +1,7 @@
 //! The codes of characters.
 
-ghost use Rattle.std.specs.Prelude.{◌≡◌};
+ghost use Rattle.std.specs.Prelude.{◌≡◌, ◌<◌};
+ghost use Rattle.l6_word.specs.Numerals.{code_count};
 ghost use Rattle.l6_word.specs.Code as spec;
 
 /// The character that a byte is read as: a tab as a blank, a small letter as its capital, any other
@@ -25,4 +26,20 @@ pub fn code_of(byte: u8) -> Option<u8>
         character @ b' '..=b'_' => Some(character - b' '),
         _ => None,
     }
+}
+
+/// The code that a byte of an input is read as, below 64: that of `?` where it has none.
+pub fn input_code(byte: u8) -> u8
+    ensures value { result ≡ spec.input_code byte }
+    ensures range { result < code_count }
+{
+    code_of(byte).unwrap_or(b'?' - b' ')
+}
+
+/// The character that has a code. The caller owes a code below 64.
+pub fn char_of(code: u8) -> u8
+    requires { code < code_count }
+    ensures { result ≡ spec.char_of code }
+{
+    code + b' '
 }

@@ -10,10 +10,10 @@ mod unit;
 mod window;
 mod word;
 
-pub use code::{character_of, code_of};
-pub use laws::{units_have_their_size, words_have_their_bits};
+pub use code::{char_of, character_of, code_of, input_code};
+pub use laws::{digits_tell_words, units_have_their_size, words_have_their_bits};
 pub use line::{first_line, without_return};
-pub use octal::octal12;
+pub use octal::{OCTALS, octal12, read_octal12};
 pub use split::split_at_mark;
 pub use unit::{LARGEST_LEVEL, UNIT_SIZE};
 pub use window::Window;

@@ -1,7 +1,7 @@
 //! Cutting bytes at a mark.
 
 ghost use Rattle.std.specs.Prelude.{◌≡◌, ◌+◌, true, length, IfSome, IfNone};
-ghost use Rattle.l6_word.specs.inner.Split.{lacks, IsCutAt};
+ghost use Rattle.l6_word.specs.Split.{lacks, IsCutAt};
 
 /// The bytes in front of the first mark and those behind it, or `None` where no mark stands.
 pub fn split_at_mark(bytes: &[u8], mark: u8) -> Option<(&[u8], &[u8])>

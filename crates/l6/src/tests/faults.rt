@@ -10,6 +10,7 @@ use std::test::Fail;
 fn faults_are_told(rt: HostRuntime) -> Result<(), Fail> {
     for (fault, text) in [
         (RunFault::TooLong(Part::Deck), "deck too long"),
+        (RunFault::TooLong(Part::Input), "input too long"),
         (RunFault::TooLong(Part::Job), "job too long"),
         (RunFault::Asm(AsmFault::Form(3)), "card 3: no reading"),
         (RunFault::Asm(AsmFault::Limit(7)), "card 7: past a limit"),
@@ -22,7 +23,6 @@ fn faults_are_told(rt: HostRuntime) -> Result<(), Fail> {
         (RunFault::Read(Part::Job), "read failed"),
         (RunFault::Write(80), "write failed after 80 bytes"),
         (RunFault::NoMemory, "out of memory"),
-        (RunFault::NotYet, "not yet"),
     ] {
         let told = fault.to_string(rt.alloc())?;
         assert_eq!(rt; told.as_str(), text);

@@ -3,7 +3,7 @@
 use l6_machine::{Machine, MachineFault};
 use l6_prog::{NAMES, Name, Program, Statement};
 use l6_run::Options;
-use l6_steps::{Limits, ready};
+use l6_steps::Limits;
 use l6_store::{Places, ScanStore};
 use std::test::Fail;
 
@@ -12,7 +12,6 @@ fn limits_have_their_ranges(rt: HostRuntime) -> Result<(), Fail> {
     let mut statements = Vec::new(rt.alloc());
     statements.push(Statement::plain_done(rt.alloc()))?;
     let program = Program::new(statements)?;
-    assert!(rt; ready(&program));
     for (steps, output, fault) in [
         (0, 0, None),
         (1_000_000_000, 16_777_216, None),

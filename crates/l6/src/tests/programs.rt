@@ -1,12 +1,12 @@
-//! Programs that no deck spells yet: long statements, exits, and operations without a row.
+//! Programs that are made without a deck, and programs that read an input.
 
 use l6_machine::Machine;
 use l6_prog::{
     Chain, Cond, Exit, MAX_STATEMENTS, Name, Op, Operand, PrintText, ProgFault, Program, Statement,
     Test,
 };
-use l6_run::printout;
-use l6_steps::{Limits, ready};
+use l6_run::{Host, Options, Part, RunFault, printout, run_deck};
+use l6_steps::Limits;
 use l6_store::ScanStore;
 use l6_word::Word;
 use std::alloc::{AllocError, Global};
@@ -39,14 +39,10 @@ fn long_statement(alloc: Global) -> Result<Statement, Fail> {
     Ok(statement(alloc, operations, Exit::Next))
 }
 
-/// What the program of these statements, and the plain `DONE` behind them, prints: nothing where
-/// the machine is not ready for it.
+/// What the program of these statements, and the plain `DONE` behind them, prints.
 fn printed(alloc: Global, mut statements: Vec<Statement>) -> Result<Vec<u8>, Fail> {
     statements.push(Statement::plain_done(alloc))?;
     let program = Program::new(statements)?.duplicate(alloc)?;
-    if !ready(&program) {
-        return Ok(Vec::new(alloc));
-    }
     let limits = Limits {
         steps: 100,
         output: 99,
@@ -135,7 +131,6 @@ fn a_program_of_everything_is_copied(rt: HostRuntime) -> Result<(), Fail> {
     let everything = Statement::new(Cond::Not, tests, operations, Exit::Label(1));
     let statements = vec![in alloc; everything, Statement::plain_done(alloc)]?;
     let program = Program::new(statements)?.duplicate(alloc)?;
-    assert!(rt; !ready(&program));
     assert_eq!(rt; program.statements().len(), 2);
     let copied = &program.statements()[0];
     assert_eq!(rt; copied.condition(), Cond::Not);
@@ -143,5 +138,66 @@ fn a_program_of_everything_is_copied(rt: HostRuntime) -> Result<(), Fail> {
     assert_eq!(rt; copied.tests().len(), 1);
     assert_eq!(rt; copied.operations().len(), 7);
     assert!(rt; matches!(&copied.operations()[3], Op::Get(_, _, Some(_), Some(1))));
+    Ok(())
+}
+
+#[test]
+fn programs_read_their_input(rt: HostRuntime) -> Result<(), Fail> {
+    let lines = b" (A,IN,3)(A,PR,2)(PL)\nL (B,IN,6,OUT)(C,A,6) L\nOUT (C,PD)(PL)(B,IN,1)(B,IN,1)\n";
+    let rows: [(&[u8], &[u8], &[u8]); 6] = [
+        (
+            lines,
+            b"ab\n\n",
+            b"B \n156\n== TRAP 8 INPUT ENDED AT 2.4 AFTER 115 STEPS\n",
+        ),
+        // a byte without a code, a tab and a carriage return at the end of a line
+        (
+            b" (A,IN,5)(A,PR,5)\n",
+            b"a\t{z\r\n",
+            b"A ?Z \n== DONE AFTER 6 STEPS\n",
+        ),
+        // what stands past the width of a line is nothing, and no line is an empty one
+        (
+            b" (A,IN,1,X)(A,PR,1)\nX (A,IN,1,Y)\nY (PL)\n",
+            b"",
+            b"\n== DONE AFTER 9 STEPS\n",
+        ),
+        (
+            b" (B,E,13)\nL (A,IN,6)(B,S,1) NEXT\nNEXT IF (B,N,0) THEN L\n (A,IN,4)(A,PR,4)\n",
+            b"12345678901234567890123456789012345678901234567890123456789012345678901234567890X\nEND\n",
+            b"90EN\n== DONE AFTER 86 STEPS\n",
+        ),
+        (
+            b" (hello  L6!,PH)\n",
+            b"",
+            b"HELLO  L6!\n== DONE AFTER 5 STEPS\n",
+        ),
+        (
+            b" (A,PR,7)\n",
+            b"",
+            b"== TRAP 13 BAD COUNT AT 0.1 AFTER 1 STEPS\n",
+        ),
+    ];
+    for (deck, input, text) in rows {
+        let mut writer = Host::new(Vec::new(rt.alloc()));
+        let result = run_deck(rt.alloc(), Options::default(), deck, input, &mut writer);
+        assert!(rt; result.is_ok());
+        assert_eq!(rt; writer.into_inner().as_slice(), text);
+    }
+    for (size, fault) in [
+        (1_048_576, None),
+        (1_048_577, Some(RunFault::TooLong(Part::Input))),
+    ] {
+        let input = vec![in rt.alloc(); b'A'; size]?;
+        let mut writer = Host::new(Vec::new(rt.alloc()));
+        let result = run_deck(
+            rt.alloc(),
+            Options::default(),
+            b" (PL)",
+            input.as_slice(),
+            &mut writer,
+        );
+        assert_eq!(rt; result.err(), fault);
+    }
     Ok(())
 }

@@ -1,7 +1,7 @@
 -- What a body begins with, as far as a reader has to know.
 use Rattle.std.specs.Prelude.{◌≡◌, ℕ, ◌+◌, ◌<◌, ◌==◌, not, ◌&&◌, ◌||◌, Bool, true, false, List, [], ◌∷◌, ◌++◌, length, filter}
 use Rattle.std.specs.Str.{byte}
-use Rattle.l6_word.specs.inner.Split.{lacks}
+use Rattle.l6_word.specs.Split.{lacks}
 use Rattle.l6_group.specs.Character.{is_blank}
 use Rattle.l6_card.specs.declared.item.First.{First}
 use Rattle.l6_card.specs.declared.item.First.TheVariants.{End, Group, Word, Other}

@@ -1,4 +1,4 @@
--- Why a deck that is not too long has no run.
+-- Why a deck has no run that is not too long, and whose input is not.
 use Rattle.std.specs.Prelude.{ℕ, List}
 use Rattle.l6_run.specs.declared.fault.RunFault.{RunFault}
 use Rattle.l6_run.specs.declared.fault.RunFault.TheVariants.{TooLong, NoMemory}
@@ -6,7 +6,7 @@ use Rattle.l6_run.specs.Prints.{RefusesDeck}
 
 -- want of memory says nothing of the deck, and nothing has gone out yet; any other fault refuses
 -- the deck
-abbrev pub IsNoRun : List ℕ → RunFault → Type 0
-IsNoRun deck NoMemory = Unit {0}
-IsNoRun deck (TooLong part) = ⊥
-IsNoRun deck fault = RefusesDeck deck fault
+abbrev pub IsNoRun : List ℕ → List ℕ → RunFault → Type 0
+IsNoRun deck input NoMemory = Unit {0}
+IsNoRun deck input (TooLong part) = ⊥
+IsNoRun deck input fault = RefusesDeck deck input fault

@@ -1,6 +1,6 @@
 use Rattle.std.proofs.Common.{◌≡◌, true, take}
 use Rattle.std.specs.Str.{byte}
-use Rattle.l6_word.specs.inner.Split.{lacks}
+use Rattle.l6_word.specs.Split.{lacks}
 use Rattle.l6_card.proofs.item.split_at_parenthesis.Given as goal
 
 -- no parenthesis stands so far

@@ -1,5 +1,5 @@
 use Rattle.std.proofs.Common.{arith, drop, sym}
-use Rattle.l6_prog.specs.Numerals.{code_count}
+use Rattle.l6_word.specs.Numerals.{code_count}
 use Rattle.l6_group.proofs.Numbers.{number_from-large}
 use Rattle.l6_group.proofs.number.number_from.Goals as goal
 

@@ -1,6 +1,6 @@
 use Rattle.std.proofs.Common.{◌≡◌, drop}
 use Rattle.std.specs.Int.Digits.{number_from_digits, number_from_digits_after}
-use Rattle.l6_prog.specs.Numerals.{code_count}
+use Rattle.l6_word.specs.Numerals.{code_count}
 use Rattle.l6_group.proofs.number.number_from.Given as goal
 
 -- the value so far and the codes that are left make the number

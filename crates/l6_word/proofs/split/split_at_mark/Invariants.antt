@@ -1,5 +1,5 @@
 use Rattle.std.proofs.Common.{◌≡◌, true, take}
-use Rattle.l6_word.specs.inner.Split.{lacks}
+use Rattle.l6_word.specs.Split.{lacks}
 use Rattle.l6_word.proofs.split.split_at_mark.Given as goal
 
 -- no mark stands so far

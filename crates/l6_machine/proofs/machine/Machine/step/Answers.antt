@@ -26,7 +26,7 @@ returns-clause-step g c =
     (λ (s : Standing). is_last s.world s.moment.state ≡ false →
     Step s.world s.moment.state new.state)
     c.self.view_is
-    (steps_on g.S.Places.rule _ _ new sound.sound.ready sound.sound.are_held.chooses
+    (steps_on g.S.Places.rule _ _ new sound.sound.are_held.chooses
     c.step.ensures.moment)
 
 -- a trap changes the ending alone

@@ -27,7 +27,7 @@ invariant_of-self-in-Field g c =
     put_with old new c.in-Field.place c.in-Field.window c.place_of-at.result c.word_at.result
     c.put-word.result c.args.number c.place_of-at.ensures.value below was
     (c.put-word.ensures.cut c.args.number c.wrapping-value.ensures) c.write.ensures.after in
-    kept_with g.S.Places.rule inside.bugs inside.definitions inside.saved inside.output.items
+    kept_with g.S.Places.rule inside.bugs inside.definitions inside.saved inside.output.items inside.input
     inside.units inside.limits old new _ c.self.invariant (ap (λ (s : Store). s.units) put)
     c.write.ensures.sound
 
@@ -53,8 +53,8 @@ returns-in-Field g c =
     c.put-word.result c.args.number c.place_of-at.ensures.value below was
     (c.put-word.ensures.cut c.args.number c.wrapping-value.ensures) c.write.ensures.after in
     ap
-    (held_of inside.bugs inside.definitions inside.saved inside.output.items inside.units
-    inside.limits) put
+    (held_of inside.bugs inside.definitions inside.saved inside.output.items inside.input
+    inside.units inside.limits) put
     ∙ ap (λ (h : Held). record h { memory = assign h.memory at c.args.number }) c.self.view_is
     ∙ ap
     (λ l. record c.args.self.now { memory = assign c.args.self.now.memory l c.args.number })

@@ -1,0 +1,112 @@
+"""Edits that the prover must refuse: what their files say, and which functions they turn.
+
+An edit is a file of lines. 'file: src/lib.rt' names a file of the crate's code; 'old: TEXT' and
+'new: TEXT' behind it replace a text that stands there exactly once. Further pairs apply to what the
+earlier ones made. The lines of a file stay as many as they are.
+"""
+from __future__ import annotations
+
+import functools
+import re
+from dataclasses import dataclass
+from pathlib import Path
+
+# A function's first line, and that of an impl or a trait, as rt fmt lays them out.
+FUNCTION = re.compile(r"( *)(?:pub(?:\([^)]*\))? )?(?:const )?fn (\w+)")
+IMPL = re.compile(r"impl(?:<.*?>)? (?:(?P<of>.+?) for )?(?P<type>\w+)[^{]*\{?$")
+TRAIT = re.compile(r"(?:pub(?:\([^)]*\))? )?trait (?P<type>\w+)")
+
+
+class BadEdit(Exception):
+    """An edit that cannot be applied: why not."""
+
+
+@dataclass(frozen=True)
+class Function:
+    """A function of a crate: its name as a check prints it, and where it stands."""
+
+    name: str
+    file: str
+    first: int  # its first line
+    last: int  # its last line
+
+    def has(self, file: str, line: int) -> bool:
+        """Whether a line of a file is one of its lines."""
+        return file == self.file and self.first <= line <= self.last
+
+
+@dataclass(frozen=True)
+class Edit:
+    """A file of edits."""
+
+    path: Path
+
+    @property
+    def name(self) -> str:
+        return self.path.stem
+
+    @functools.cached_property
+    def pairs(self) -> list[tuple[str, str, str]]:
+        """The file, the old text and the new one of each replacement."""
+        pairs, file, old = [], "", None
+        for line in self.path.read_text("utf-8").splitlines():
+            word, _, text = line.partition(":")
+            text = text.removeprefix(" ")
+            if word == "file":
+                file = text.strip()
+            elif word == "old":
+                old = text
+            elif word == "new" and old and file:
+                pairs.append((file, old, text))
+                old = None
+            elif line.strip():
+                raise BadEdit(f"a line that is not understood: {line[:60]}")
+        if not pairs or old is not None:
+            raise BadEdit("it has no whole pair of an old and a new text")
+        return pairs
+
+    def apply(self, folder: Path, crate: str) -> frozenset[Function | None]:
+        """Edits the crate in a folder, wholly or not at all; answers the functions that it turns.
+
+        What it turns outside of functions, as a constant or a type, stands there as None.
+        """
+        turned: set[Function | None] = set()
+        texts: dict[str, str] = {}
+        for file, old, new in self.pairs:
+            source = folder / file
+            if not file.startswith("src/") or ".." in file or not source.is_file():
+                raise BadEdit(f"{file} is no file of the crate's code")
+            text = texts.get(file) or source.read_text("utf-8")
+            if text.count(old) != 1:
+                raise BadEdit(f"an old text stands in {file} {text.count(old)} times, and not once")
+            line = text[: text.index(old)].count("\n")
+            turned.add(function_at(text.splitlines(), line, file, crate))
+            texts[file] = text.replace(old, new)
+        for file, text in texts.items():
+            (folder / file).write_text(text, "utf-8")
+        return frozenset(turned)
+
+
+def function_at(lines: list[str], line: int, file: str, crate: str) -> Function | None:
+    """The function in which a line of a file stands, lines counted from 0, or None."""
+    for first in range(line, -1, -1):
+        begins = FUNCTION.match(lines[first])
+        if begins is None:
+            continue
+        indent, name = begins.groups()
+        last = next((n for n in range(first, len(lines)) if lines[n] == f"{indent}}}"), None)
+        if last is None or last < line:
+            return None
+        module = file.removeprefix("src/").removesuffix(".rt").replace("/", "::")
+        path = [crate, *([] if module in ("lib", "main") else [module])]
+        path += [owner(lines, first)] if indent else []
+        return Function("::".join([*path, name]), file, first + 1, last + 1)
+    return None
+
+
+def owner(lines: list[str], line: int) -> str:
+    """The name under which a check lists the methods of the impl or the trait that a line stands in."""
+    head = next(row for row in reversed(lines[:line]) if IMPL.match(row) or TRAIT.match(row))
+    found = IMPL.match(head) or TRAIT.match(head)
+    of = found.groupdict().get("of") or ""
+    return found["type"] + "".join(re.findall(r"\b[A-Z]\w*", of))

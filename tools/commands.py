@@ -1,0 +1,88 @@
+"""Commands that run side by side, and that end where this program does."""
+from __future__ import annotations
+
+import os
+import signal
+import subprocess
+import sys
+import tempfile
+import threading
+import time
+from collections.abc import Callable, Sequence
+from dataclasses import dataclass
+from pathlib import Path
+from typing import NoReturn
+
+
+class Stopped(Exception):
+    """This program was told to stop, so the command was not run, or not to its end."""
+
+
+@dataclass(frozen=True)
+class Ended:
+    """A command that has ended."""
+
+    status: int  # below 0 where a signal ended it
+    text: str  # what it wrote to both outputs
+    seconds: float
+    processor_seconds: float  # with those of the commands that it ran
+
+    @property
+    def was_killed(self) -> bool:
+        """Whether it was killed, most likely for want of memory, or ended since what it ran was."""
+        return self.status in (-signal.SIGKILL, 256 - signal.SIGKILL)
+
+
+class Commands:
+    """Runs commands, in threads of the caller's, until it is told to stop."""
+
+    def __init__(self) -> None:
+        self._running: set[subprocess.Popen[bytes]] = set()
+        self._stopped = False
+        self._lock = threading.Lock()
+
+    def run(self, words: Sequence[str], folder: Path) -> Ended:
+        """Runs a command in a folder, on no input, to its end."""
+        start = time.monotonic()
+        with tempfile.TemporaryFile() as output:
+            process = self._start(words, folder, output)
+            _, status, usage = os.wait4(process.pid, 0)
+            with self._lock:
+                process.returncode = os.waitstatus_to_exitcode(status)
+                self._running.remove(process)
+                if self._stopped:
+                    raise Stopped
+            output.seek(0)
+            text = output.read().decode("utf-8", "replace")
+        seconds = time.monotonic() - start
+        return Ended(process.returncode, text, seconds, usage.ru_utime + usage.ru_stime)
+
+    def stop(self) -> None:
+        """Ends all commands, and starts no more."""
+        with self._lock:
+            self._stopped = True
+            for process in self._running:
+                process.send_signal(signal.SIGTERM)
+
+    def _start(self, words: Sequence[str], folder: Path, output) -> subprocess.Popen[bytes]:
+        with self._lock:
+            if self._stopped:
+                raise Stopped
+            how = {"stdin": subprocess.DEVNULL, "stdout": output, "stderr": subprocess.STDOUT}
+            process = subprocess.Popen(words, cwd=folder, **how)
+            self._running.add(process)
+            return process
+
+
+def run_program(main: Callable[[], int]) -> NoReturn:
+    """Ends this program with the status that main answers; a request to end is a KeyboardInterrupt."""
+    for number in (signal.SIGTERM, signal.SIGHUP):
+        signal.signal(number, signal.default_int_handler)
+    try:
+        sys.exit(main())
+    except KeyboardInterrupt:
+        print("stopped; what was proved is kept", file=sys.stderr)
+        # (so that a shell that waits for this program learns that it was interrupted)
+        signal.signal(signal.SIGINT, signal.SIG_DFL)
+        os.kill(os.getpid(), signal.SIGINT)
+        sys.exit(128 + signal.SIGINT)

@@ -1,0 +1,71 @@
+"""The crates of the repository, as crates.txt lists them."""
+from __future__ import annotations
+
+import functools
+from dataclasses import dataclass
+from pathlib import Path
+
+TOP = Path(__file__).resolve().parent.parent
+SOURCES = ("src", "specs", "proofs")  # the folders of a crate that its check reads
+
+
+@dataclass(frozen=True)
+class Crate:
+    """A crate, and the crates of this repository that it uses, at once or through others."""
+
+    name: str
+    below: tuple[Crate, ...]  # each behind those that it uses
+
+    @property
+    def folder(self) -> Path:
+        return TOP / "crates" / self.name
+
+    @property
+    def is_program(self) -> bool:
+        return (self.folder / "src" / "main.rt").is_file()
+
+    @functools.cached_property
+    def lines(self) -> int:
+        """How many lines of code it has, by which the work of its check is guessed."""
+        files = (self.folder / "src").rglob("*.rt")
+        return sum(file.read_text("utf-8").count("\n") for file in files)
+
+    @property
+    def memory(self) -> int:
+        """How many bytes its check takes at the most, by what was measured."""
+        return 1_000_000_000 + 800_000 * self.lines
+
+
+def read_crates() -> dict[str, Crate]:
+    """The crates by their names, each behind those that it uses."""
+    uses = dict(map(uses_of, listed()))
+    crates: dict[str, Crate] = {}
+
+    def add(name: str) -> Crate:
+        if name not in crates:
+            own = [add(library) for library in uses[name] if library in uses]
+            below = dict.fromkeys(it for library in own for it in (*library.below, library))
+            crates[name] = Crate(name, tuple(below))
+        return crates[name]
+
+    for name in uses:
+        add(name)
+    return crates
+
+
+def listed() -> list[str]:
+    """The lines of crates.txt, comments left out."""
+    rows = (TOP / "crates.txt").read_text("utf-8").splitlines()
+    return [row for row in (line.partition("#")[0].strip() for line in rows) if row]
+
+
+def uses_of(row: str) -> tuple[str, list[str]]:
+    """The name of a line's crate, and the libraries that it uses, those of the kit among them."""
+    name, _, libraries = row.partition(":")
+    return name.split()[0], libraries.split()
+
+
+def rows_of(crates: tuple[Crate, ...]) -> str:
+    """The lines of crates.txt for these crates."""
+    names = {crate.name for crate in crates}
+    return "".join(f"{row}\n" for row in listed() if uses_of(row)[0] in names)

@@ -1,0 +1,76 @@
+"""Processors and memory, which checks that run side by side share."""
+from __future__ import annotations
+
+import contextlib
+import os
+import re
+import threading
+from collections.abc import Iterator
+from pathlib import Path
+
+# What a control group grants: of processor time a quota in each period, and of memory a limit.
+QUOTA = Path("/sys/fs/cgroup/cpu.max")
+LIMIT = Path("/sys/fs/cgroup/memory.max")
+HELD = Path("/sys/fs/cgroup/memory.stat")
+
+ALL_MEMORY = 1 << 62  # what a check asks for that is to run alone
+
+
+def processors() -> int:
+    """How many processors this process may use."""
+    found = len(os.sched_getaffinity(0))
+    with contextlib.suppress(OSError, ValueError):
+        quota, period = map(int, QUOTA.read_text().split())
+        found = min(found, max(quota // period, 1))
+    return found
+
+
+def free_memory() -> int:
+    """How many bytes of memory are free."""
+    meminfo = Path("/proc/meminfo").read_text()
+    free = 1024 * int(re.search(r"MemAvailable:\s+(\d+)", meminfo)[1])
+    with contextlib.suppress(OSError, ValueError):
+        limit = int(LIMIT.read_text())
+        held = int(re.search(r"^anon (\d+)", HELD.read_text(), re.M)[1])
+        free = min(free, max(limit - held, 0))
+    return free
+
+
+def usable_memory() -> int:
+    """How many bytes of the free memory checks may share, since some take more than was guessed."""
+    return free_memory() * 85 // 100
+
+
+class Lanes:
+    """So many lanes, and memory, which are lent to checks that run side by side."""
+
+    def __init__(self, lanes: int) -> None:
+        self._lanes = lanes
+        self._memory = usable_memory()
+        self._running = 0
+        self._waiting: list[int] = []  # the work of each check that waits
+        self._changed = threading.Condition()
+
+    @contextlib.contextmanager
+    def lane(self, memory: int, work: int) -> Iterator[None]:
+        """Lends a lane and so many bytes, once both are free and no check with more work waits.
+
+        What asks for more memory than there is runs alone.
+        """
+        with self._changed:
+            self._waiting.append(work)
+            self._changed.wait_for(lambda: self._is_free(memory) and work == max(self._waiting))
+            self._waiting.remove(work)
+            self._running += 1
+            self._memory -= memory
+            self._changed.notify_all()
+        try:
+            yield
+        finally:
+            with self._changed:
+                self._running -= 1
+                self._memory += memory
+                self._changed.notify_all()
+
+    def _is_free(self, memory: int) -> bool:
+        return self._running == 0 or (self._running < self._lanes and memory <= self._memory)

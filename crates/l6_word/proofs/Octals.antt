@@ -1,14 +1,17 @@
 -- Octal digits, one by one.
-use Rattle.std.proofs.Common.{◌≡◌, ℕ, zero, suc, ◌+◌, ◌-◌, ◌/◌, ◌%◌, ◌^◌, ◌<◌, List, [], ◌∷◌, ◌++◌, replicate, get_or, set, refl, ap, sym, ◌∙◌, arith}
+use Rattle.std.proofs.Common.{◌≡◌, ℕ, zero, suc, ◌+◌, ◌-◌, ◌*◌, ◌/◌, ◌%◌, ◌^◌, ◌<◌, List, [], ◌∷◌, ◌++◌, replicate, get_or, set, length, true, length-append, take, ◌≤◌, rules, refl, ap, sym, ◌∙◌, arith}
+use Rattle.std.specs.List.{list_all}
 use Rattle.std.specs.Str.{byte}
 use Rattle.std.specs.Str.Parse.{digits_value}
 use Rattle.std.specs.Char.{digit_value}
 use Rattle.std.proofs.lemmas.Int.Digits.{digits_value_push}
+use Rattle.std.proofs.lemmas.List.Folds.{list_all-append}
 use Rattle.std.proofs.lemmas.Nat.{div_below, mod_below}
+use Rattle.std.proofs.lemmas.List.{take_all}
 use Rattle.std.proofs.lemmas.Str.{digit_value_digit}
-use Rattle.std.proofs.Math.Nat.{div-div-eq-div-mul, pow-suc}
+use Rattle.std.proofs.Math.Nat.{div-div-eq-div-mul, pow-suc, pow-le-pow_right}
 use Rattle.l6_word.specs.Numerals.{word_bits, word_octals}
-use Rattle.l6_word.specs.Octal.{octal12, octal_digits}
+use Rattle.l6_word.specs.Octal.{octal12, octal_digits, is_octal_digit, DigitsTellWords}
 
 -- the digit of a number at a place, counted from the right
 abbrev pub digit_at : ℕ → ℕ → ℕ
@@ -105,3 +108,54 @@ pub octal12-whole : (place word : ℕ) (text : List ℕ) → place ≡ 0 →
 unfolding octal12
 octal12-whole place word text none is =
     is ∙ ap (λ (n : ℕ). replicate n (byte "0") ++ octal_digits (word_octals - n) word) none
+
+-- one digit more, behind
+pub octal_digits-more : (count value digit : ℕ) → digit < 8 →
+    octal_digits (suc count) (value * 8 + digit)
+    ≡ octal_digits count value ++ (byte "0" + digit) ∷ []
+octal_digits-more count value digit below =
+    let front : (value * 8 + digit) / 8 ≡ value = omega arith in
+    let last : (value * 8 + digit) % 8 ≡ digit = omega arith in
+    ap (λ (n : ℕ). octal_digits count n ++ (byte "0" + (value * 8 + digit) % 8) ∷ []) front
+    ∙ ap (λ (n : ℕ). octal_digits count value ++ (byte "0" + n) ∷ []) last
+
+-- each digit is one
+octal_digit-is : (digit : ℕ) → digit < 8 → is_octal_digit (byte "0" + digit) ≡ true
+octal_digit-is digit below = search (rules, arith)
+
+octal_digits-are : (count number : ℕ) →
+    list_all is_octal_digit (octal_digits count number) ≡ true
+octal_digits-are zero number = refl
+octal_digits-are (suc count) number =
+    list_all-append is_octal_digit (octal_digits count (number / 8)) ((byte "0" + number % 8) ∷ [])
+    ∙ rw (octal_digits-are count (number / 8),
+    octal_digit-is (number % 8) (mod_below number 8 (omega arith))) refl
+
+octal_digits-length : (count number : ℕ) → length (octal_digits count number) ≡ count
+octal_digits-length zero number = refl
+octal_digits-length (suc count) number =
+    length-append (octal_digits count (number / 8)) ((byte "0" + number % 8) ∷ [])
+    ∙ omega (arith, octal_digits-length count (number / 8))
+
+-- the digits of a word are read as that word
+pub digits_tell_words : DigitsTellWords
+unfolding octal12
+digits_tell_words word fits =
+    let whole = octal_digits-length word_octals word in
+    (rw (octal_digits-are word_octals word) refl, octal_digits-value word_octals word fits)
+
+-- where so many digits are not too many, their number fits
+pub few_digits : (index number : ℕ) → index ≤ word_octals → number < 8 ^ index →
+    number < 2 ^ word_bits
+few_digits index number few fits =
+    omega (arith, fits, pow-le-pow_right {n = 8} (omega arith) few)
+
+-- all bytes that are digits are those of their number
+pub read_whole : (index number word : ℕ) (text : List ℕ) → length text ≡ word_octals →
+    length text ≤ index → index ≤ length text →
+    take index text ≡ octal_digits index number → word ≡ number → text ≡ octal12 word
+unfolding octal12
+read_whole index number word text whole after within is same =
+    let at : index ≡ word_octals = omega arith in
+    sym (take_all index text after) ∙ is
+    ∙ ap (λ (n : ℕ). octal_digits n number) at ∙ ap (octal_digits word_octals) (sym same)

@@ -1,7 +1,10 @@
 -- Words as octal digits.
-use Rattle.std.specs.Prelude.{ℕ, zero, suc, ◌+◌, ◌/◌, ◌%◌, List, [], ◌∷◌, ◌++◌}
+use Rattle.std.specs.Prelude.{◌≡◌, ℕ, zero, suc, ◌+◌, ◌/◌, ◌%◌, ◌^◌, ◌<◌, ◌==◌, List, [], ◌∷◌, ◌++◌, length, Bool, true, ◌&&◌}
+use Rattle.std.specs.Int.{is_in_range}
+use Rattle.std.specs.List.{list_all}
 use Rattle.std.specs.Str.{byte}
-use Rattle.l6_word.specs.Numerals.{word_octals}
+use Rattle.std.specs.Str.Parse.{digits_value}
+use Rattle.l6_word.specs.Numerals.{word_bits, word_octals}
 
 -- the last digits of a number to the base 8, so many of them, as text
 abbrev pub octal_digits : ℕ → ℕ → List ℕ
@@ -11,3 +14,17 @@ octal_digits (suc more) number = octal_digits more (number / 8) ++ (byte "0" + n
 -- the digits of a word, also those that are 0
 unfoldable pub octal12 : ℕ → List ℕ
 octal12 word = octal_digits word_octals word
+
+-- the byte is an octal digit
+abbrev pub is_octal_digit : ℕ → Bool
+is_octal_digit given = is_in_range (byte "0") (byte "7") given
+
+-- the text is as many octal digits as a word is written with
+abbrev pub is_octal12 : List ℕ → Bool
+is_octal12 text = length text == word_octals && list_all is_octal_digit text
+
+-- a word's digits are such a text, and tell the word
+abbrev pub DigitsTellWords : Type 0
+DigitsTellWords =
+    (word : ℕ) → word < 2 ^ word_bits →
+    (is_octal12 (octal12 word) ≡ true) × (digits_value 8 (octal12 word) ≡ word)

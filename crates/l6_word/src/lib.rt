@@ -11,9 +11,9 @@ mod window;
 mod word;
 
 pub use code::{character_of, code_of};
-pub use laws::{units_have_their_size, words_have_their_bits};
+pub use laws::{digits_tell_words, units_have_their_size, words_have_their_bits};
 pub use line::{first_line, without_return};
-pub use octal::octal12;
+pub use octal::{OCTALS, octal12, read_octal12};
 pub use split::split_at_mark;
 pub use unit::{LARGEST_LEVEL, UNIT_SIZE};
 pub use window::Window;

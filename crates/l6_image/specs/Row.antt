@@ -70,11 +70,11 @@ row_words row =
 
 -- the number is one of a name
 abbrev pub is_name : ℕ → Bool
-is_name number = nat_lt number name_count
+is_name n = nat_lt n name_count
 
 -- the number is a word
 abbrev pub is_word : ℕ → Bool
-is_word number = nat_lt number (2 ^ word_bits)
+is_word n = nat_lt n (2 ^ word_bits)
 
 -- the operand is one of a program: names of a chain, a word, or a text that may be printed
 abbrev pub is_slot : Slot → Bool

@@ -1,8 +1,11 @@
 //! Images: programs as machine words, and those words as lines of octal digits.
 #![tactic(auto)]
 
-mod row;
+mod head;
+mod items;
+mod rows;
 mod table;
 mod version;
 mod writing;
 
+pub use writing::{statement_words, words_of};

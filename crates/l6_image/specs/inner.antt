@@ -1,2 +1,6 @@
 pub mod Fields
 pub mod Heads
+pub mod Reading
+pub mod Back
+pub mod Statements
+pub mod Seen

@@ -1,11 +1,12 @@
 //! The first words of rows: what a test or an operation is, and which operands follow.
 
-ghost use Rattle.std.specs.Prelude.{◌≡◌, ◌<◌, unwrap_or};
+ghost use Rattle.std.specs.Prelude.{◌≡◌, ◌<◌, ◌/◌, ◌%◌, ◌^◌, unwrap_or};
 ghost use Rattle.l6_image.specs.Numerals.{no_name};
+ghost use Rattle.l6_image.specs.inner.Fields as fields;
 ghost use Rattle.l6_image.specs.inner.Heads.{kind_code, head_word};
 
 use crate::items::NO_NAME;
-use crate::version::label_bits;
+use crate::version::{label_bits, label_in};
 use l6_prog::Name;
 
 /// What an operand is.
@@ -51,7 +52,38 @@ impl Kind {
     }
 }
 
+/// The kind of a number, of which the last two bits count.
+fn kind_in(number: u64) -> Kind
+    ensures { kind_code result ≡ number % 4 }
+{
+    match number % 4 {
+        0 => Kind::Absent,
+        1 => Kind::Chain,
+        2 => Kind::Number,
+        _ => Kind::Text,
+    }
+}
+
 impl Head {
+    /// What a word says.
+    pub(crate) fn of(word: u64) -> Self
+        ensures code { result.code ≡ word / 2 ^ 30 % 64 }
+        ensures first { kind_code result.first ≡ word / 2 ^ 28 % 4 }
+        ensures second { kind_code result.second ≡ word / 2 ^ 26 % 4 }
+        ensures third { kind_code result.third ≡ word / 2 ^ 24 % 4 }
+        ensures field { result.field ≡ fields.name_if (word / 2 ^ 18 % 64) }
+        ensures label { result.label ≡ fields.label_in word }
+    {
+        Head {
+            code: (word / (1 << 30) % 64) as u8,
+            first: kind_in(word / (1 << 28)),
+            second: kind_in(word / (1 << 26)),
+            third: kind_in(word / (1 << 24)),
+            field: Name::new((word / (1 << 18) % 64) as u8),
+            label: label_in(word),
+        }
+    }
+
     /// The word.
     pub(crate) fn word(self) -> u64
         ensures { result ≡ head_word self }

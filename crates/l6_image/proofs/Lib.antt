@@ -1,1 +1,3 @@
 pub mod Sixes
+pub mod Taken
+pub mod Counted

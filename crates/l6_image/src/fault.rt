@@ -4,7 +4,7 @@ ghost use Rattle.std.specs.Prelude.{◌≡◌};
 ghost use Rattle.l6_image.specs.declared.fault.LoadFault.TheVariants.{NoMemory};
 ghost use Rattle.l6_image.specs.declared.fault.ReadFault.TheVariants.{NoMemory as NoRoom};
 
-use std::alloc::AllocError;
+use std::alloc::{AllocError, AllocFailed};
 use thiserror::Error;
 
 /// Why a text is no image.
@@ -30,6 +30,7 @@ impl From<AllocError> for LoadFault {
 }
 
 /// Why no statements could be read from words.
+#[derive(Clone, Copy)]
 pub(crate) enum ReadFault {
     /// They are the words of no program.
     NotAnImage,
@@ -41,6 +42,14 @@ impl From<AllocError> for ReadFault {
     ghost from_gives = { λ _ fault. fault ≡ NoRoom };
 
     fn from(_error: AllocError) -> Self {
+        ReadFault::NoMemory
+    }
+}
+
+impl<T: Drop> From<AllocFailed<T>> for ReadFault {
+    ghost from_gives = { λ _ fault. fault ≡ NoRoom };
+
+    fn from(_error: AllocFailed<T>) -> Self {
         ReadFault::NoMemory
     }
 }

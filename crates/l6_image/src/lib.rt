@@ -4,8 +4,11 @@
 mod fault;
 mod head;
 mod items;
+mod operands;
 mod reader;
+mod reading;
 mod rows;
+mod statements;
 mod table;
 mod version;
 mod writing;

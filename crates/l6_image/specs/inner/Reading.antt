@@ -16,13 +16,16 @@ abbrev pub first_of : List ℕ → Option (ℕ × List ℕ)
 first_of [] = None
 first_of (word ∷ words) = Some (word, words)
 
+-- so many codes of words, at most those that a text may have
+abbrev pub codes_in : ℕ → List ℕ → List ℕ
+codes_in count words = take count (take most_characters (flat_map items_in words))
+
 -- so many codes, and the words behind theirs
 abbrev pub codes_at : ℕ → List ℕ → Option (Slot × List ℕ)
 codes_at count words =
     if nat_lt most_characters count then None
     else if nat_lt (length words) ((count + 5) / 6) then None
-    else Some (text (take count (flat_map items_in (take ((count + 5) / 6) words))),
-    drop ((count + 5) / 6) words)
+    else Some (text (codes_in count (take ((count + 5) / 6) words)), drop ((count + 5) / 6) words)
 
 -- the operand of a kind
 unfoldable pub slot_at : ℕ → List ℕ → Option (Slot × List ℕ)

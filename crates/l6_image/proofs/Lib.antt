@@ -1,3 +1,4 @@
 pub mod Sixes
 pub mod Taken
 pub mod Counted
+pub mod Packing

@@ -5,4 +5,5 @@ pub mod Table
 pub mod Version
 pub mod Image
 pub mod Text
+pub mod Load
 pub mod inner

@@ -1,7 +1,7 @@
 -- The texts of images.
-use Rattle.std.specs.Prelude.{◌≡◌, ℕ, ◌+◌, ◌==◌, List, [], ◌∷◌, ◌++◌, length, take, drop, Option, Some, None, Bool, ◌&&◌, if◌then◌else◌}
+use Rattle.std.specs.Prelude.{◌≡◌, ℕ, ◌+◌, ◌==◌, List, [], ◌∷◌, ◌++◌, length, take, slice_index, Option, Some, None, Bool, ◌&&◌, if◌then◌else◌}
 use Rattle.std.specs.List.{flat_map, onto_first}
-use Rattle.std.specs.Str.{byte, bytes_eq}
+use Rattle.std.specs.Str.{byte}
 use Rattle.l6_word.specs.Numerals.{word_octals}
 use Rattle.l6_word.specs.Octal.{octal12, is_octal12}
 use Rattle.l6_prog.specs.Statement.{Parts}
@@ -30,10 +30,11 @@ whole_lines (first ∷ rest) =
     if first == byte "\n" then (first ∷ []) ∷ whole_lines rest
     else onto_first first (whole_lines rest)
 
--- the line is one of a word: twelve octal digits and a line feed
+-- the line is one of a word: twelve octal digits, a line feed, and nothing else
 abbrev pub is_word_line : List ℕ → Bool
 is_word_line line =
-    is_octal12 (take word_octals line) && bytes_eq (drop word_octals line) (byte "\n" ∷ [])
+    length line == word_octals + 1 && slice_index line word_octals == byte "\n"
+    && is_octal12 (take word_octals line)
 
 -- the number of the first line that is not one of a word, where the first of these lines has this
 -- number

@@ -4,3 +4,7 @@ pub mod Reading
 pub mod Back
 pub mod Statements
 pub mod Seen
+pub mod Lines
+pub mod Loading
+pub mod TextFault
+pub mod Faults

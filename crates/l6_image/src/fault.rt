@@ -3,6 +3,7 @@
 ghost use Rattle.std.specs.Prelude.{◌≡◌};
 ghost use Rattle.l6_image.specs.declared.fault.LoadFault.TheVariants.{NoMemory};
 ghost use Rattle.l6_image.specs.declared.fault.ReadFault.TheVariants.{NoMemory as NoRoom};
+ghost use Rattle.l6_image.specs.inner.Faults.{load_fault};
 
 use std::alloc::{AllocError, AllocFailed};
 use thiserror::Error;
@@ -43,6 +44,25 @@ impl From<AllocError> for ReadFault {
 
     fn from(_error: AllocError) -> Self {
         ReadFault::NoMemory
+    }
+}
+
+impl<T: Drop> From<AllocFailed<T>> for LoadFault {
+    ghost from_gives = { λ _ fault. fault ≡ NoMemory };
+
+    fn from(_error: AllocFailed<T>) -> Self {
+        LoadFault::NoMemory
+    }
+}
+
+impl From<ReadFault> for LoadFault {
+    ghost from_gives = { λ read fault. fault ≡ load_fault read };
+
+    fn from(fault: ReadFault) -> Self {
+        match fault {
+            ReadFault::NotAnImage => LoadFault::NotAnImage,
+            ReadFault::NoMemory => LoadFault::NoMemory,
+        }
     }
 }
 

@@ -4,14 +4,22 @@
 mod fault;
 mod head;
 mod items;
+mod laws;
+mod loading;
 mod operands;
 mod reader;
 mod reading;
 mod rows;
 mod statements;
 mod table;
+mod text;
 mod version;
 mod writing;
 
 pub use fault::LoadFault;
+pub use items::{ITEMS_PER_WORD, NO_NAME};
+pub use laws::{images_have_their_numbers, texts_tell_programs};
+pub use loading::{MAX_BYTES, load};
+pub use text::text_of;
+pub use version::MARK;
 pub use writing::{statement_words, words_of};

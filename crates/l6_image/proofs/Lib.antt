@@ -2,3 +2,8 @@ pub mod Sixes
 pub mod Taken
 pub mod Counted
 pub mod Packing
+pub mod Slots
+pub mod Found
+pub mod Knowing
+pub mod Programs
+pub mod Lines

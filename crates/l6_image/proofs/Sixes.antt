@@ -22,7 +22,7 @@ sixes-step (a ∷ b ∷ c ∷ d ∷ e ∷ []) some = refl
 sixes-step (a ∷ b ∷ c ∷ d ∷ e ∷ f ∷ codes) some = refl
 
 -- there is no name, or not too many
-few_names : (names : List ℕ) → is_chain names ≡ true → length names ≤ most_names
+pub few_names : (names : List ℕ) → is_chain names ≡ true → length names ≤ most_names
 few_names [] chained = omega arith
 few_names (bug ∷ fields) chained =
     leb-true (length (bug ∷ fields)) most_names

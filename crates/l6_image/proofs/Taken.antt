@@ -10,11 +10,11 @@ use Rattle.l6_prog.specs.Numerals.{most_characters}
 use Rattle.l6_image.specs.inner.Fields.{items_in}
 
 -- what is taken from a list that begins with one that passes, or fails
-take_while-passes : {A : Type 0} (p : A → Bool) (x : A) (xs : List A) → p x ≡ true →
+pub take_while-passes : {A : Type 0} (p : A → Bool) (x : A) (xs : List A) → p x ≡ true →
     take_while p (x ∷ xs) ≡ x ∷ take_while p xs
 take_while-passes p x xs passes = take_while-cons p x xs ∙ rw passes refl
 
-take_while-fails : {A : Type 0} (p : A → Bool) (x : A) (xs : List A) → p x ≡ false →
+pub take_while-fails : {A : Type 0} (p : A → Bool) (x : A) (xs : List A) → p x ≡ false →
     take_while p (x ∷ xs) ≡ []
 take_while-fails p x xs fails = take_while-cons p x xs ∙ rw fails refl
 

@@ -61,7 +61,7 @@ abbrev pub body : List Parts → List ℕ
 body program = flat_map statement_words program
 
 -- the words of a program: the mark, how many statements it has, how many words follow, and these
-abbrev pub words_of : List Parts → List ℕ
+unfoldable pub words_of : List Parts → List ℕ
 words_of program = mark ∷ length program ∷ length (body program) ∷ body program
 
 -- operands and names of the statement's tests and operations are those of a program

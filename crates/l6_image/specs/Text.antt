@@ -16,7 +16,7 @@ abbrev pub text_of_words : List ℕ → List ℕ
 text_of_words words = flat_map word_line words
 
 -- the text of a program's image
-abbrev pub text_of : List Parts → List ℕ
+unfoldable pub text_of : List Parts → List ℕ
 text_of program = text_of_words (words_of program)
 
 -- the text is that of a program's image

@@ -21,6 +21,7 @@ use std::alloc::{AllocError, Global};
 const LINE_BYTES: usize = OCTALS + 1;
 
 /// The text of a program's image: a line for each of its words.
+#[tactic(auto, unfolding(crate::specs::Text::text_of))]
 pub fn text_of(alloc: Global, program: &Program) -> Result<Vec<u8>, AllocError>
     ensures text { IfOk result (λ text. text.items ≡ spec.text_of program.now) }
     // What is a program of the code has an image.

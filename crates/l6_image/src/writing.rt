@@ -14,6 +14,7 @@ use std::alloc::{AllocError, Global};
 
 /// The words of a program's image: the mark, how many statements there are, how many words follow,
 /// and the words of the statements, in order.
+#[tactic(auto, unfolding(crate::specs::Image::words_of))]
 pub fn words_of(alloc: Global, program: &Program) -> Result<Vec<u64>, AllocError>
     ensures words { IfOk result (λ words. words.items ≡ spec.words_of program.now) }
     // What is a program of the code has an image.

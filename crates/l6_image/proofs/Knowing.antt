@@ -39,7 +39,7 @@ each_of p P passes (x ∷ xs) each =
     (passes x parts.0, each_of p P passes xs parts.1)
 
 -- targets below an end are below a later one
-below-more : (end later : ℕ) (targets : List ℕ) → end ≤ later →
+pub below-more : (end later : ℕ) (targets : List ℕ) → end ≤ later →
     list_all (is_below end) targets ≡ true → list_all (is_below later) targets ≡ true
 below-more end later [] more each = refl
 below-more end later (target ∷ targets) more each =

@@ -6,4 +6,7 @@ pub mod Slots
 pub mod Found
 pub mod Knowing
 pub mod Programs
+pub mod Fitness
 pub mod Lines
+pub mod Texts
+pub mod Loadings

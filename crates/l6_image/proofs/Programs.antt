@@ -11,6 +11,7 @@ use Rattle.l6_prog.specs.declared.exit.Exit.{Exit}
 use Rattle.l6_prog.specs.declared.exit.Exit.TheVariants.{Next, Label, Done, Fail}
 use Rattle.l6_prog.specs.Statement.{Parts}
 use Rattle.l6_prog.specs.Program.{program_of}
+use Rattle.l6_prog.specs.Target.{targets_of_operation}
 use Rattle.l6_image.specs.Bits.{Field, bits, packed}
 use Rattle.l6_image.specs.Version.{mark, target_fields}
 use Rattle.l6_image.specs.Row.{is_row}
@@ -21,7 +22,7 @@ use Rattle.l6_image.specs.inner.Statements.{many, test_at, operation_at, conditi
 use Rattle.l6_image.specs.inner.Loading.{if_made, program_in}
 use Rattle.l6_image.proofs.Packing.{AllFit, unpacked, unpacked-packed, values}
 use Rattle.l6_image.proofs.Found.{row-again, test_again, operation_again}
-use Rattle.l6_image.proofs.Knowing.{Each, target_count, KnownStatement, KnownProgram, known_program, KnownParts, known_parts, KnownOperation, known_test, known_operation}
+use Rattle.l6_image.proofs.Knowing.{Each, below-more, target_count, KnownStatement, KnownProgram, known_program, KnownParts, known_parts, KnownOperation, known_test, known_operation}
 
 -- one is found again in its words, and what follows them
 abbrev pub Again : {A : Type 0} → (A → List ℕ) → (List ℕ → Option (A × List ℕ)) → A → Type 0
@@ -50,7 +51,9 @@ operation_at-again : (operation : Op ℕ) → KnownOperation operation →
 unfolding operation_at
 operation_at-again operation known rest =
     rw (row-again (row_of operation) rest (known_operation operation known.values known.targets),
-    operation_again operation known.values ?) refl
+    operation_again operation known.values
+    (below-more target_count (2 ^ 16) (targets_of_operation operation) (omega arith)
+    known.targets)) refl
 
 -- condition and exit
 condition-again : (condition : Cond) → condition_in (condition_code condition) ≡ condition

@@ -32,7 +32,7 @@ items-unpacked word =
     ∷ word / 2 ^ 6 % 64 ∷ n % 64 ∷ []) whole
 
 -- items that pass a test, and what stands behind them, have six bits
-item-below : (p : ℕ → Bool) → ((n : ℕ) → p n ≡ true → n < 2 ^ 6) → (filling : ℕ) →
+pub item-below : (p : ℕ → Bool) → ((n : ℕ) → p n ≡ true → n < 2 ^ 6) → (filling : ℕ) →
     filling < 2 ^ 6 → (items : List ℕ) (place : ℕ) → list_all p items ≡ true →
     get_or items place filling < 2 ^ 6
 item-below p small filling below [] place each = below
@@ -53,7 +53,7 @@ items-again p small filling below items each =
     (fits 0, (fits 1, (fits 2, (fits 3, (fits 4, (fits 5, tt))))))
 
 -- names have six bits
-name-small : (n : ℕ) → is_name n ≡ true → n < 2 ^ 6
+pub name-small : (n : ℕ) → is_name n ≡ true → n < 2 ^ 6
 name-small n is = omega (arith, ltb-true n name_count is)
 
 -- names and what fills the word behind them
@@ -90,7 +90,7 @@ names-again names known =
     ∙ names-taken names (most_names - length names) parts.1
 
 -- codes have six bits
-code-small : (n : ℕ) → may_print n ≡ true → n < 2 ^ 6
+pub code-small : (n : ℕ) → may_print n ≡ true → n < 2 ^ 6
 code-small n may =
     omega (arith, ltb-true n code_count
     (and_parts (nat_lt n code_count) (not (is_barred n)) may).0)
@@ -101,7 +101,7 @@ codes-again : (codes : List ℕ) → list_all may_print codes ≡ true →
 codes-again codes each = items-again may_print code-small 0 (omega arith) codes each
 
 -- how many words codes take
-length-sixes : (codes : List ℕ) → length (sixes codes) ≡ (length codes + 5) / 6
+pub length-sixes : (codes : List ℕ) → length (sixes codes) ≡ (length codes + 5) / 6
 length-sixes [] = refl
 length-sixes (a ∷ []) = refl
 length-sixes (a ∷ b ∷ []) = refl
@@ -161,11 +161,11 @@ codes-found codes few each =
     ∙ take-append_seam codes (take more zeros)
 
 -- what is known of a text
-record IsText (codes : List ℕ) : Type 0 where
-  few : length codes ≤ most_characters
-  each : list_all may_print codes ≡ true
+pub record IsText (codes : List ℕ) : Type 0 where
+  pub few : length codes ≤ most_characters
+  pub each : list_all may_print codes ≡ true
 
-text-known : (codes : List ℕ) → is_print_text codes ≡ true → IsText codes
+pub text-known : (codes : List ℕ) → is_print_text codes ≡ true → IsText codes
 text-known codes known =
     let some = nat_lt 0 (length codes) in
     let few = nat_le (length codes) most_characters in

@@ -1,5 +1,5 @@
 -- So many of something, read one after another.
-use Rattle.std.proofs.Common.{◌≡◌, ℕ, ◌+◌, ◌-◌, ◌<◌, ◌≤◌, zero, suc, List, [], ◌∷◌, ◌++◌, Option, Some, None, refl, ap, sym, ◌∙◌, arith, append_assoc, append-nil}
+use Rattle.std.proofs.Common.{◌≡◌, ℕ, ◌+◌, ◌-◌, ◌<◌, ◌≤◌, suc, List, [], ◌∷◌, ◌++◌, Option, Some, None, refl, ap, sym, ◌∙◌, arith, append_assoc, append-nil}
 use Rattle.l6_image.specs.declared.fault.ReadFault.{ReadFault}
 use Rattle.l6_image.specs.declared.fault.ReadFault.TheVariants.{NotAnImage, NoMemory}
 use Rattle.l6_image.specs.inner.Reading.{◌>>=◌}

@@ -1,27 +1,24 @@
 -- The words of a program are words, and not too many.
-use Rattle.std.proofs.Common.{◌≡◌, ℕ, ◌+◌, ◌*◌, ◌/◌, ◌^◌, ◌<◌, ◌≤◌, List, [], ◌∷◌, ◌++◌, length, get_or, Bool, true, refl, ap, sym, ◌∙◌, arith, length-append}
-use Rattle.std.specs.Prelude.{◌&&◌, nat_lt, nat_le}
+use Rattle.std.proofs.Common.{◌≡◌, ℕ, ◌+◌, ◌*◌, ◌^◌, ◌<◌, ◌≤◌, List, [], ◌∷◌, ◌++◌, length, Bool, true, refl, ap, sym, ◌∙◌, arith, length-append}
 use Rattle.std.specs.List.{flat_map, list_all}
-use Rattle.std.proofs.lemmas.Bool.{and_parts, lt-ltb, ltb-true, leb-true}
+use Rattle.std.proofs.lemmas.Bool.{and_parts, lt-ltb, ltb-true}
 use Rattle.std.proofs.lemmas.List.Folds.{list_all-append}
 use Rattle.std.proofs.lemmas.List.Concat.{flat_map-cons}
 use Rattle.l6_word.specs.Numerals.{word_bits}
 use Rattle.l6_prog.specs.declared.condition.Test.{Test}
 use Rattle.l6_prog.specs.declared.operation.Op.{Op}
-use Rattle.l6_prog.specs.Numerals.{most_characters, most_names, most_statements, most_tests, most_operations}
 use Rattle.l6_prog.specs.Chain.{is_chain}
 use Rattle.l6_prog.specs.PrintText.{may_print}
 use Rattle.l6_prog.specs.Statement.{Parts}
-use Rattle.l6_image.specs.Bits.{item, six, packed}
+use Rattle.l6_image.specs.Bits.{item, six}
 use Rattle.l6_image.specs.Numerals.{no_name}
-use Rattle.l6_image.specs.Version.{mark}
 use Rattle.l6_image.specs.Row.{Slot, absent, chain, number, text, Row, sixes, slot_words, row_head, row_words, is_name, is_word, is_slot, is_row}
 use Rattle.l6_image.specs.Table.{row_of, row_of_test}
 use Rattle.l6_image.specs.Image.{header, test_words, operation_words, statement_words, body, words_of, HasImage}
 use Rattle.l6_image.proofs.Packing.{packed-below}
 use Rattle.l6_image.proofs.Slots.{item-below, name-small, code-small, text-known, length-sixes}
 use Rattle.l6_image.proofs.Found.{Known, head_fields, head_fit}
-use Rattle.l6_image.proofs.Knowing.{Each, KnownStatement, KnownProgram, known_program, KnownParts, known_parts, KnownOperation, known_test, known_operation}
+use Rattle.l6_image.proofs.Knowing.{Each, KnownStatement, known_program, known_parts, KnownOperation, known_test, known_operation}
 use Rattle.l6_image.proofs.Programs.{header_fields, header_fit}
 
 -- these are words, and at most so many
@@ -167,5 +164,8 @@ words_of-words program has =
     let known = known_program program has in
     let fine = fine-flat_map KnownStatement statement_words most_of_statement fine-statement
     program known.each in
-    rw (is_word-below (length program) (omega (arith, known.count)),
-    is_word-below (length (body program)) (omega (arith, known.count, fine.count)), fine.words) refl
+    rw (
+      is_word-below (length program) (omega (arith, known.count)),
+      is_word-below (length (body program)) (omega (arith, known.count, fine.count)),
+      fine.words,
+    ) refl

@@ -1,26 +1,25 @@
 -- Rows are found again in their words, and tests and operations in their rows.
-use Rattle.std.proofs.Common.{◌≡◌, ℕ, ◌+◌, ◌*◌, ◌/◌, ◌%◌, ◌^◌, ◌<◌, ◌≤◌, List, [], ◌∷◌, ◌++◌, get_or, Bool, true, false, Option, Some, None, refl, ap, sym, ◌∙◌, arith, append_assoc}
-use Rattle.std.specs.Prelude.{◌&&◌, nat_lt, unwrap_or, option_to_list}
+use Rattle.std.proofs.Common.{◌≡◌, ℕ, ◌/◌, ◌%◌, ◌^◌, ◌<◌, List, [], ◌∷◌, ◌++◌, get_or, true, Option, Some, None, refl, ap, ◌∙◌, arith, append_assoc}
+use Rattle.std.specs.Prelude.{◌&&◌, unwrap_or, option_to_list}
 use Rattle.std.specs.List.{list_all}
 use Rattle.std.proofs.lemmas.Bool.{and_parts, ltb-true, lt-ltb}
-use Rattle.l6_word.specs.Numerals.{word_bits}
 use Rattle.l6_prog.specs.declared.condition.Test.{Test}
 use Rattle.l6_prog.specs.declared.condition.Test.TheVariants.{Equal, NotEqual, Greater, Less, AllOnes, AllZeros}
 use Rattle.l6_prog.specs.declared.operand.Operand.{Operand}
 use Rattle.l6_prog.specs.declared.operand.Operand.TheVariants.{Chain, Number}
 use Rattle.l6_prog.specs.declared.operation.Op.{Op}
 use Rattle.l6_prog.specs.declared.operation.Op.TheVariants.{Get, Duplicate, Call, Input, Set, Add, Subtract, Multiply, Divide, Remainder, And, Or, ExclusiveOr, Complement, ShiftLeft, ShiftRight, Exchange, Define, SaveContent, RestoreContent, SaveDefinition, RestoreDefinition, Free, PrintCharacters, PrintDecimal, PrintOctal, PrintText, PrintLine}
-use Rattle.l6_prog.specs.Numerals.{name_count, most_statements}
+use Rattle.l6_prog.specs.Numerals.{name_count}
 use Rattle.l6_prog.specs.Chain.{is_chain}
 use Rattle.l6_prog.specs.Target.{is_below, targets_of_operation}
 use Rattle.l6_image.specs.Numerals.{no_name}
-use Rattle.l6_image.specs.Bits.{Field, bits, packed}
+use Rattle.l6_image.specs.Bits.{Field, bits}
 use Rattle.l6_image.specs.Version.{flag, label_fields}
-use Rattle.l6_image.specs.Row.{Slot, absent, chain, number, text, Row, row, kind, slot_words, row_head, row_words, is_name, is_word, is_slot, is_field, is_row}
+use Rattle.l6_image.specs.Row.{Slot, absent, chain, number, text, Row, row, kind, slot_words, row_head, row_words, is_name, is_slot, is_field, is_row}
 use Rattle.l6_image.specs.Table.{operand, operand_if_given, chain_if_given, row_of, row_of_test}
 use Rattle.l6_image.specs.inner.Fields.{name_if, label_in}
 use Rattle.l6_image.specs.inner.Reading.{row_at}
-use Rattle.l6_image.specs.inner.Back.{chain_in, operand_in, chain_if_given_in, operand_if_given_in, statement_in, text_in, of_two, of_one, of_field, exchange_of, define_of, get_of, free_of, call_of, print_text_of, test_of, operation_of}
+use Rattle.l6_image.specs.inner.Back.{chain_in, operand_in, chain_if_given_in, operand_if_given_in, statement_in, text_in, of_two, of_one, test_of, operation_of}
 use Rattle.l6_image.proofs.Packing.{AllFit, unpacked, unpacked-packed, values}
 use Rattle.l6_image.proofs.Slots.{slot-again}
 
@@ -86,10 +85,28 @@ head_fields row =
     ∷ bits 2 (kind row.third) ∷ bits 6 (unwrap_or row.field no_name) ∷ label_fields row.label
 
 pub head_fit : (row : Row) → Known row → AllFit (head_fields row)
-head_fit row known =
-    (known.code, (kind-below row.first, (kind-below row.second, (kind-below row.third,
-    (field-below row.field known.field, (omega arith, (flag-below row.label,
-    (known.label, tt))))))))
+head_fit row known = (
+  known.code,
+  (
+    kind-below row.first,
+    (
+      kind-below row.second,
+      (
+        kind-below row.third,
+        (
+          field-below row.field known.field,
+          (
+            omega arith,
+            (
+              flag-below row.label,
+              (known.label, tt),
+            ),
+          ),
+        ),
+      ),
+    ),
+  ),
+)
 
 -- a name is found again in its field
 name_if-again : (field : Option ℕ) → is_field field ≡ true →
@@ -120,10 +137,19 @@ row_at-again row head rest known is =
     let whole : head ≡ head / 1 = omega arith in
     let labelled : head % 2 ^ 12 ≡ unwrap_or row.label 0 =
     ap (λ n. n % 2 ^ 12) whole ∙ at 7 in
-    rw (first, slot-again row.first (slot_words row.second ++ (slot_words row.third ++ rest))
-    known.first, second, slot-again row.second (slot_words row.third ++ rest) known.second, third,
-    slot-again row.third rest known.third, code, field, name_if-again row.field known.field,
-    label_in-again head row.label flagged labelled) refl
+    rw (
+      first,
+      slot-again row.first (slot_words row.second ++ (slot_words row.third ++ rest))
+          known.first,
+      second,
+      slot-again row.second (slot_words row.third ++ rest) known.second,
+      third,
+      slot-again row.third rest known.third,
+      code,
+      field,
+      name_if-again row.field known.field,
+      label_in-again head row.label flagged labelled,
+    ) refl
 
 -- a row is found again in its words, and what follows them
 pub row-again : (row : Row) (rest : List ℕ) → Known row →

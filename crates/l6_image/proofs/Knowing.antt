@@ -1,6 +1,6 @@
 -- What is known of a program is known of its statements, tests and operations.
-use Rattle.std.proofs.Common.{◌≡◌, ℕ, ◌+◌, ◌<◌, ◌≤◌, ◌^◌, List, [], ◌∷◌, ◌++◌, length, Bool, true, Option, Some, None, Ok, refl, ap, sym, ◌∙◌, arith}
-use Rattle.std.specs.Prelude.{◌&&◌, nat_lt, nat_le, unwrap_or, option_to_list}
+use Rattle.std.proofs.Common.{◌≡◌, ℕ, ◌<◌, ◌≤◌, ◌^◌, List, [], ◌∷◌, length, Bool, true, Option, Some, None, refl, sym, ◌∙◌, arith}
+use Rattle.std.specs.Prelude.{nat_le, unwrap_or, option_to_list}
 use Rattle.std.specs.List.{flat_map, list_all}
 use Rattle.std.proofs.lemmas.Bool.{and_parts, ltb-true, lt-ltb, leb-true}
 use Rattle.std.proofs.lemmas.List.Folds.{list_all-append}
@@ -13,10 +13,10 @@ use Rattle.l6_prog.specs.declared.exit.Exit.TheVariants.{Next, Label, Done, Fail
 use Rattle.l6_prog.specs.Numerals.{most_statements, most_tests, most_operations}
 use Rattle.l6_prog.specs.Statement.{Parts}
 use Rattle.l6_prog.specs.Target.{is_below, targets_of, targets_of_operation, targets_of_exit}
-use Rattle.l6_prog.specs.Program.{fits, IsProgram}
+use Rattle.l6_prog.specs.Program.{fits}
 use Rattle.l6_prog.proofs.Programs.{takes_just_programs}
 use Rattle.l6_prog.proofs.Targets.{list_all-flat_map}
-use Rattle.l6_image.specs.Row.{row, is_row}
+use Rattle.l6_image.specs.Row.{is_row}
 use Rattle.l6_image.specs.Table.{row_of, row_of_test}
 use Rattle.l6_image.specs.Image.{exit_target, has_values, HasImage}
 use Rattle.l6_image.proofs.Found.{Known, known_row}

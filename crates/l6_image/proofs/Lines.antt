@@ -1,9 +1,9 @@
 -- The lines of words, and texts that begin with one.
-use Rattle.std.proofs.Common.{◌≡◌, ℕ, ◌+◌, ◌-◌, ◌*◌, ◌<◌, ◌≤◌, ◌^◌, List, [], ◌∷◌, ◌++◌, length, get_or, take, Bool, true, false, eqb, Option, Some, None, refl, ap, sym, ◌∙◌, arith, append_assoc, append-nil, length-append}
-use Rattle.std.specs.Prelude.{◌&&◌, nat_lt, nat_le}
-use Rattle.std.specs.List.{flat_map, list_all, onto_first}
+use Rattle.std.proofs.Common.{◌≡◌, ℕ, ◌+◌, ◌<◌, ◌^◌, List, [], ◌∷◌, ◌++◌, length, get_or, take, Bool, true, false, eqb, Some, None, refl, ap, sym, ◌∙◌, arith, append_assoc, append-nil, length-append}
+use Rattle.std.specs.Prelude.{◌&&◌, nat_le}
+use Rattle.std.specs.List.{list_all, onto_first}
 use Rattle.std.specs.Str.{byte}
-use Rattle.std.proofs.lemmas.Bool.{and_parts, and_from, eqb-true, ltb-true, lt-ltb, le-leb, both_ways, false_from_ne_true}
+use Rattle.std.proofs.lemmas.Bool.{and_parts, eqb-true, ltb-true, lt-ltb, le-leb, both_ways, false_from_ne_true}
 use Rattle.std.proofs.lemmas.List.{take-append-le, get_or_append_left}
 use Rattle.std.proofs.lemmas.Grind.{flat_map-append}
 use Rattle.std.proofs.lemmas.List.Folds.{list_all-append}
@@ -125,9 +125,9 @@ other_line : (line behind : List ℕ) → begins_with_word (line ++ behind) ≡ 
     is_word_line line ≡ false
 other_line line behind none = by_test (is_word_line line) refl
   where
-  by_test : (is : Bool) → is_word_line line ≡ is → is_word_line line ≡ false
-  by_test true is = absurd (both_ways false refl (sym none ∙ begins-line line behind is))
-  by_test false is = is
+    by_test : (is : Bool) → is_word_line line ≡ is → is_word_line line ≡ false
+    by_test true is = absurd (both_ways false refl (sym none ∙ begins-line line behind is))
+    by_test false is = is
 
 pub first_other-stops : (number : ℕ) (text : List ℕ) → eqb (length text) 0 ≡ false →
     begins_with_word text ≡ false → first_other number (whole_lines text) ≡ Some number

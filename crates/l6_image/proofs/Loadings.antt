@@ -1,5 +1,5 @@
 -- What becomes of a text that is loaded.
-use Rattle.std.proofs.Common.{◌≡◌, ℕ, List, true, false, eqb, Option, Some, None, Result, Ok, Err, refl, ap, sym, ◌∙◌}
+use Rattle.std.proofs.Common.{◌≡◌, ℕ, List, true, false, eqb, Some, None, Err, ap, sym, ◌∙◌}
 use Rattle.std.specs.Prelude.{not}
 use Rattle.std.specs.Cmp.Lexicographic.{pointwise}
 use Rattle.std.specs.List.{list_all}
@@ -12,7 +12,7 @@ use Rattle.l6_image.specs.declared.fault.ReadFault.{ReadFault}
 use Rattle.l6_image.specs.declared.fault.ReadFault.TheVariants as reads
 use Rattle.l6_image.specs.Row.{is_word}
 use Rattle.l6_image.specs.Image.{words_of, HasImage}
-use Rattle.l6_image.specs.Text.{text_of_words, text_of, whole_lines, first_other, IsImage}
+use Rattle.l6_image.specs.Text.{text_of_words, text_of, whole_lines, first_other}
 use Rattle.l6_image.specs.Load.{Loads, Tells}
 use Rattle.l6_image.specs.inner.Faults.{load_fault}
 use Rattle.l6_image.specs.inner.Loading.{program_in}

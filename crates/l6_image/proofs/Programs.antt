@@ -1,5 +1,5 @@
 -- Programs are found again in their words.
-use Rattle.std.proofs.Common.{◌≡◌, ℕ, ◌+◌, ◌*◌, ◌/◌, ◌%◌, ◌^◌, ◌<◌, ◌≤◌, zero, suc, List, [], ◌∷◌, ◌++◌, length, get_or, Bool, true, Option, Some, None, refl, ap, sym, ◌∙◌, arith, append_assoc, append-nil}
+use Rattle.std.proofs.Common.{◌≡◌, ℕ, ◌/◌, ◌%◌, ◌^◌, ◌<◌, suc, List, [], ◌∷◌, ◌++◌, length, get_or, true, Option, Some, refl, ap, sym, ◌∙◌, arith, append_assoc, append-nil}
 use Rattle.std.specs.Prelude.{unwrap_or}
 use Rattle.std.specs.List.{flat_map}
 use Rattle.std.proofs.lemmas.List.Concat.{flat_map-cons}
@@ -10,9 +10,8 @@ use Rattle.l6_prog.specs.declared.operation.Op.{Op}
 use Rattle.l6_prog.specs.declared.exit.Exit.{Exit}
 use Rattle.l6_prog.specs.declared.exit.Exit.TheVariants.{Next, Label, Done, Fail}
 use Rattle.l6_prog.specs.Statement.{Parts}
-use Rattle.l6_prog.specs.Program.{program_of}
 use Rattle.l6_prog.specs.Target.{targets_of_operation}
-use Rattle.l6_image.specs.Bits.{Field, bits, packed}
+use Rattle.l6_image.specs.Bits.{Field, bits}
 use Rattle.l6_image.specs.Version.{mark, target_fields}
 use Rattle.l6_image.specs.Row.{is_row}
 use Rattle.l6_image.specs.Table.{row_of, row_of_test}
@@ -22,7 +21,7 @@ use Rattle.l6_image.specs.inner.Statements.{many, test_at, operation_at, conditi
 use Rattle.l6_image.specs.inner.Loading.{if_made, program_in}
 use Rattle.l6_image.proofs.Packing.{AllFit, unpacked, unpacked-packed, values}
 use Rattle.l6_image.proofs.Found.{row-again, test_again, operation_again}
-use Rattle.l6_image.proofs.Knowing.{Each, below-more, target_count, KnownStatement, KnownProgram, known_program, KnownParts, known_parts, KnownOperation, known_test, known_operation}
+use Rattle.l6_image.proofs.Knowing.{Each, below-more, target_count, KnownStatement, KnownProgram, known_program, known_parts, KnownOperation, known_test, known_operation}
 
 -- one is found again in its words, and what follows them
 abbrev pub Again : {A : Type 0} → (A → List ℕ) → (List ℕ → Option (A × List ℕ)) → A → Type 0
@@ -37,8 +36,10 @@ each-again spell at P again (x ∷ xs) each rest =
     ap (λ ws. ws ++ rest) (flat_map-cons spell x xs)
     ∙ append_assoc (spell x) (flat_map spell xs) rest in
     ap (many at (suc (length xs))) words
-    ∙ rw (again x each.0 (flat_map spell xs ++ rest),
-    each-again spell at P again xs each.1 rest) refl
+    ∙ rw (
+      again x each.0 (flat_map spell xs ++ rest),
+      each-again spell at P again xs each.1 rest,
+    ) refl
 
 -- a test, and an operation
 test_at-again : (test : Test) → is_row (row_of_test test) ≡ true → Again test_words test_at test
@@ -50,10 +51,12 @@ operation_at-again : (operation : Op ℕ) → KnownOperation operation →
     Again operation_words operation_at operation
 unfolding operation_at
 operation_at-again operation known rest =
-    rw (row-again (row_of operation) rest (known_operation operation known.values known.targets),
-    operation_again operation known.values
-    (below-more target_count (2 ^ 16) (targets_of_operation operation) (omega arith)
-    known.targets)) refl
+    rw (
+      row-again (row_of operation) rest (known_operation operation known.values known.targets),
+      operation_again operation known.values
+          (below-more target_count (2 ^ 16) (targets_of_operation operation) (omega arith)
+          known.targets),
+    ) refl
 
 -- condition and exit
 condition-again : (condition : Cond) → condition_in (condition_code condition) ≡ condition
@@ -95,9 +98,16 @@ header_fields s =
     ∷ target_fields (exit_target s.exit)
 
 pub header_fit : (s : Parts) → KnownStatement s → AllFit (header_fields s)
-header_fit s known =
-    (condition-below s.condition, (omega (arith, known.tests), (omega (arith, known.operations),
-    (exit-below s.exit, (omega arith, ((known_parts s known).target, tt))))))
+header_fit s known = (
+  condition-below s.condition,
+  (
+    omega (arith, known.tests),
+    (
+      omega (arith, known.operations),
+      (exit-below s.exit, (omega arith, ((known_parts s known).target, tt))),
+    ),
+  ),
+)
 
 -- a statement is found again in words that begin with one that has its header's fields
 statement_at-found : (s : Parts) (head : ℕ) (rest : List ℕ) → KnownStatement s →
@@ -115,11 +125,19 @@ statement_at-found s head rest known is =
     let whole : head ≡ head / 1 = omega arith in
     let target : target_in head ≡ unwrap_or (exit_target s.exit) 0 =
     ap (λ n. n % 2 ^ 12) whole ∙ at 5 in
-    rw (tests, each-again test_words test_at (λ test. is_row (row_of_test test) ≡ true)
-    test_at-again s.tests parts.tests (flat_map operation_words s.operations ++ rest),
-    operations, each-again operation_words operation_at KnownOperation operation_at-again
-    s.operations parts.operations rest, condition, condition-again s.condition, leaving, target,
-    exit-again s.exit) refl
+    rw (
+      tests,
+      each-again test_words test_at (λ test. is_row (row_of_test test) ≡ true)
+          test_at-again s.tests parts.tests (flat_map operation_words s.operations ++ rest),
+      operations,
+      each-again operation_words operation_at KnownOperation operation_at-again
+          s.operations parts.operations rest,
+      condition,
+      condition-again s.condition,
+      leaving,
+      target,
+      exit-again s.exit,
+    ) refl
 
 statement_at-again : (s : Parts) → KnownStatement s → Again statement_words statement_at s
 statement_at-again s known rest =

@@ -1,5 +1,5 @@
 -- Names and codes, six in a word.
-use Rattle.std.proofs.Common.{◌≡◌, ℕ, ◌+◌, ◌<◌, ◌≤◌, List, [], ◌∷◌, ◌++◌, length, get_or, drop, min, true, false, eqb, refl, ap, sym, ◌∙◌, arith, append_assoc}
+use Rattle.std.proofs.Common.{◌≡◌, ℕ, ◌<◌, ◌≤◌, List, [], ◌∷◌, ◌++◌, length, drop, min, true, false, eqb, refl, ap, sym, ◌∙◌, arith, append_assoc}
 use Rattle.std.specs.List.{list_all}
 use Rattle.std.specs.Prelude.{slice_index_or, nat_le}
 use Rattle.std.proofs.lemmas.List.{drop_min}
@@ -39,21 +39,21 @@ pub names-known : (names : List ℕ) → is_chain names ≡ true →
     is_slot (chain names) ≡ true
 names-known names chained a b c d e f = rw chained (each names (few_names names chained) a b c d e f)
   where
-  each : (names : List ℕ) → length names ≤ most_names →
-      (0 < length names → slice_index_or names 0 no_name < name_count) →
-      (1 < length names → slice_index_or names 1 no_name < name_count) →
-      (2 < length names → slice_index_or names 2 no_name < name_count) →
-      (3 < length names → slice_index_or names 3 no_name < name_count) →
-      (4 < length names → slice_index_or names 4 no_name < name_count) →
-      (5 < length names → slice_index_or names 5 no_name < name_count) →
-      list_all is_name names ≡ true
-  each [] few a b c d e f = refl
-  each (x ∷ names) few a b c d e f =
-    rw (lt-ltb x name_count (a (omega arith)))
-    (each names (omega (arith, few)) (λ some. b (omega (arith, some)))
-    (λ some. c (omega (arith, some))) (λ some. d (omega (arith, some)))
-    (λ some. e (omega (arith, some))) (λ some. f (omega (arith, some)))
-    (λ past. absurd (omega (arith, few, past))))
+    each : (names : List ℕ) → length names ≤ most_names →
+        (0 < length names → slice_index_or names 0 no_name < name_count) →
+        (1 < length names → slice_index_or names 1 no_name < name_count) →
+        (2 < length names → slice_index_or names 2 no_name < name_count) →
+        (3 < length names → slice_index_or names 3 no_name < name_count) →
+        (4 < length names → slice_index_or names 4 no_name < name_count) →
+        (5 < length names → slice_index_or names 5 no_name < name_count) →
+        list_all is_name names ≡ true
+    each [] few a b c d e f = refl
+    each (x ∷ names) few a b c d e f =
+        rw (lt-ltb x name_count (a (omega arith)))
+        (each names (omega (arith, few)) (λ some. b (omega (arith, some)))
+        (λ some. c (omega (arith, some))) (λ some. d (omega (arith, some)))
+        (λ some. e (omega (arith, some))) (λ some. f (omega (arith, some)))
+        (λ past. absurd (omega (arith, few, past))))
 
 -- the codes in front are written, and those behind are left
 pub sixes-more : (words more codes behind : List ℕ) (room : ℕ) → eqb (length codes) 0 ≡ false →

@@ -1,5 +1,5 @@
 -- Operands are found again in their words.
-use Rattle.std.proofs.Common.{◌≡◌, ℕ, ◌+◌, ◌-◌, ◌*◌, ◌/◌, ◌%◌, ◌^◌, ◌<◌, ◌≤◌, zero, suc, List, [], ◌∷◌, ◌++◌, length, get_or, take, drop, replicate, Bool, true, false, Option, Some, None, refl, ap, sym, ◌∙◌, arith, append_assoc, append-nil, length-append}
+use Rattle.std.proofs.Common.{◌≡◌, ℕ, ◌+◌, ◌-◌, ◌/◌, ◌%◌, ◌^◌, ◌<◌, ◌≤◌, zero, suc, List, [], ◌∷◌, ◌++◌, length, get_or, take, drop, replicate, Bool, true, false, Some, refl, ap, sym, ◌∙◌, arith, append-nil, length-append}
 use Rattle.std.specs.Prelude.{◌&&◌, nat_lt, nat_le, not}
 use Rattle.std.specs.List.{flat_map, list_all, take_while}
 use Rattle.std.proofs.lemmas.Bool.{and_parts, ltb-true, leb-true, le-ltb}
@@ -92,8 +92,11 @@ names-again names known =
 -- codes have six bits
 pub code-small : (n : ℕ) → may_print n ≡ true → n < 2 ^ 6
 code-small n may =
-    omega (arith, ltb-true n code_count
-    (and_parts (nat_lt n code_count) (not (is_barred n)) may).0)
+    omega (
+      arith,
+      ltb-true n code_count
+          (and_parts (nat_lt n code_count) (not (is_barred n)) may).0,
+    )
 
 -- six codes are found in their word
 codes-again : (codes : List ℕ) → list_all may_print codes ≡ true →

@@ -1,6 +1,6 @@
 -- Texts tell words, and programs.
-use Rattle.std.proofs.Common.{◌≡◌, ℕ, ◌+◌, ◌^◌, ◌<◌, List, [], ◌∷◌, ◌++◌, length, take, drop, Bool, true, eqb, Option, Some, None, refl, ap, sym, ◌∙◌, arith, append_assoc, length-append}
-use Rattle.std.specs.List.{flat_map, list_all}
+use Rattle.std.proofs.Common.{◌≡◌, ℕ, ◌^◌, ◌<◌, List, [], ◌∷◌, ◌++◌, length, take, drop, true, eqb, Some, refl, ap, sym, ◌∙◌, arith, append_assoc, length-append}
+use Rattle.std.specs.List.{list_all}
 use Rattle.std.specs.Str.{byte}
 use Rattle.std.specs.Str.Parse.{digits_value}
 use Rattle.std.proofs.lemmas.Bool.{and_parts, eqb-true, ltb-true}
@@ -60,8 +60,12 @@ same-rest one other xs ys fits too same =
 -- a line is not empty
 line-some : (word : ℕ) (rest : List ℕ) → [] ≡ word_line word ++ rest → ⊥
 line-some word rest same =
-    omega (arith, ap length same, length-append (word_line word) rest,
-    length-append (octal12 word) (byte "\n" ∷ []))
+    omega (
+      arith,
+      ap length same,
+      length-append (word_line word) rest,
+      length-append (octal12 word) (byte "\n" ∷ []),
+    )
 
 -- the lines of words tell the words
 pub same-words : (words others : List ℕ) → list_all is_word words ≡ true →

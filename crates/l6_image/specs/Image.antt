@@ -1,5 +1,5 @@
 -- Images: the words of programs.
-use Rattle.std.specs.Prelude.{◌≡◌, ℕ, List, [], ◌∷◌, ◌++◌, length, Option, Some, None, Ok, Bool, true, ◌&&◌}
+use Rattle.std.specs.Prelude.{◌≡◌, ℕ, List, ◌∷◌, ◌++◌, length, Option, Some, None, Ok, Bool, true, ◌&&◌}
 use Rattle.std.specs.List.{list_all, flat_map}
 use Rattle.l6_prog.specs.declared.condition.Cond.{Cond}
 use Rattle.l6_prog.specs.declared.condition.Cond.TheVariants.{Always, If, Not, IfAll, IfAny, IfNone, IfNotAll}
@@ -10,7 +10,7 @@ use Rattle.l6_prog.specs.declared.exit.Exit.TheVariants.{Next, Label, Done, Fail
 use Rattle.l6_prog.specs.Statement.{Parts}
 use Rattle.l6_prog.specs.Program.{program_of}
 use Rattle.l6_image.specs.Bits.{bits, packed}
-use Rattle.l6_image.specs.Row.{Row, row_words, is_row}
+use Rattle.l6_image.specs.Row.{row_words, is_row}
 use Rattle.l6_image.specs.Table.{row_of, row_of_test}
 use Rattle.l6_image.specs.Version.{mark, target_fields}
 

@@ -1,5 +1,5 @@
 -- What becomes of a text that is loaded.
-use Rattle.std.specs.Prelude.{◌≡◌, ℕ, List, Option, Some, None, Result, Ok, Err}
+use Rattle.std.specs.Prelude.{◌≡◌, ℕ, List, Some, None, Result, Ok, Err}
 use Rattle.l6_prog.specs.Statement.{Parts}
 use Rattle.l6_image.specs.declared.fault.LoadFault.{LoadFault}
 use Rattle.l6_image.specs.declared.fault.LoadFault.TheVariants.{NotWords, NotAnImage, NoMemory}

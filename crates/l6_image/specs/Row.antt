@@ -6,7 +6,7 @@ use Rattle.l6_prog.specs.Numerals.{name_count}
 use Rattle.l6_prog.specs.Chain.{is_chain}
 use Rattle.l6_prog.specs.PrintText.{is_print_text}
 use Rattle.l6_image.specs.Numerals.{no_name}
-use Rattle.l6_image.specs.Bits.{Field, bits, packed, six}
+use Rattle.l6_image.specs.Bits.{bits, packed, six}
 use Rattle.l6_image.specs.Version.{label_fields}
 
 -- where a row may have an operand: there is none, or names, a number or codes

@@ -11,10 +11,7 @@ use l6_prog::{Chain, Name, Operand, PrintText};
 use std::alloc::AllocError;
 
 /// Writes the row without operands.
-pub(crate) fn push_none(
-    words: &mut Vec<u64>,
-    code: u8,
-) -> Result<(), AllocError>
+pub(crate) fn push_none(words: &mut Vec<u64>, code: u8) -> Result<(), AllocError>
     ensures words { OnOk result (words.new.items ≡ words.old.items ++ spec.row_words
         (spec.row code spec.absent spec.absent spec.absent None None)) }
     ensures known { OnOk result (spec.is_row
@@ -33,11 +30,7 @@ pub(crate) fn push_none(
 }
 
 /// Writes the row of a field.
-pub(crate) fn push_field(
-    words: &mut Vec<u64>,
-    code: u8,
-    field: Name,
-) -> Result<(), AllocError>
+pub(crate) fn push_field(words: &mut Vec<u64>, code: u8, field: Name) -> Result<(), AllocError>
     ensures words { OnOk result (words.new.items ≡ words.old.items ++ spec.row_words
         (spec.row code spec.absent spec.absent spec.absent (Some field) None)) }
     ensures known { OnOk result (spec.is_row
@@ -56,11 +49,7 @@ pub(crate) fn push_field(
 }
 
 /// Writes the row of a chain.
-pub(crate) fn push_one(
-    words: &mut Vec<u64>,
-    code: u8,
-    chain: &Chain,
-) -> Result<(), AllocError>
+pub(crate) fn push_one(words: &mut Vec<u64>, code: u8, chain: &Chain) -> Result<(), AllocError>
     ensures words { OnOk result (words.new.items ≡ words.old.items ++ spec.row_words
         (spec.row code (spec.chain chain.now) spec.absent spec.absent None None)) }
     ensures known { OnOk result (spec.is_row
@@ -211,11 +200,7 @@ pub(crate) fn push_statement(
 }
 
 /// Writes the row of a text.
-pub(crate) fn push_text(
-    words: &mut Vec<u64>,
-    code: u8,
-    text: &PrintText,
-) -> Result<(), AllocError>
+pub(crate) fn push_text(words: &mut Vec<u64>, code: u8, text: &PrintText) -> Result<(), AllocError>
     ensures words { OnOk result (words.new.items ≡ words.old.items ++ spec.row_words
         (spec.row code (spec.text text.now) spec.absent spec.absent None None)) }
     ensures known { OnOk result (spec.is_row

@@ -86,11 +86,7 @@ fn push_get(
 }
 
 /// Writes the words of an operation that frees a block.
-fn push_free(
-    words: &mut Vec<u64>,
-    chain: &Chain,
-    value: &Option<Operand>,
-) -> Result<(), AllocError>
+fn push_free(words: &mut Vec<u64>, chain: &Chain, value: &Option<Operand>) -> Result<(), AllocError>
     ensures words { OnOk result
         (words.new.items ≡ words.old.items ++ operation_words (Op.Free chain.now value.now)) }
     ensures known { OnOk result (is_row (row_of (Op.Free chain.now value.now)) ≡ true) }

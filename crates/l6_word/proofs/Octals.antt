@@ -128,8 +128,10 @@ octal_digits-are : (count number : ℕ) →
 octal_digits-are zero number = refl
 octal_digits-are (suc count) number =
     list_all-append is_octal_digit (octal_digits count (number / 8)) ((byte "0" + number % 8) ∷ [])
-    ∙ rw (octal_digits-are count (number / 8),
-    octal_digit-is (number % 8) (mod_below number 8 (omega arith))) refl
+    ∙ rw (
+      octal_digits-are count (number / 8),
+      octal_digit-is (number % 8) (mod_below number 8 (omega arith)),
+    ) refl
 
 octal_digits-length : (count number : ℕ) → length (octal_digits count number) ≡ count
 octal_digits-length zero number = refl

@@ -1,5 +1,5 @@
 -- The first words of rows, with kinds in place of operands.
-use Rattle.std.specs.Prelude.{ℕ, List, [], ◌∷◌, Option, Some, None, unwrap_or}
+use Rattle.std.specs.Prelude.{ℕ, ◌∷◌, unwrap_or}
 use Rattle.l6_image.specs.declared.head.Kind.{Kind}
 use Rattle.l6_image.specs.declared.head.Kind.TheVariants.{Absent, Chain, Number, Text}
 use Rattle.l6_image.specs.declared.head.Head.{Head}

@@ -1,5 +1,5 @@
 -- Programs, read from words.
-use Rattle.std.specs.Prelude.{◌≡◌, ℕ, List, Option, Some, None, Result, Ok, Err, MatchResult, IfSome}
+use Rattle.std.specs.Prelude.{ℕ, List, Option, Some, None, Result, Ok, Err}
 use Rattle.l6_prog.specs.Statement.{Parts}
 use Rattle.l6_prog.specs.Program.{program_of}
 use Rattle.l6_prog.specs.declared.program.ProgFault.{ProgFault}

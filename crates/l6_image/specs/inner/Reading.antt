@@ -42,5 +42,8 @@ row_at words = do
   first ← slot_at (head.0 / 2 ^ 28 % 4) head.1
   second ← slot_at (head.0 / 2 ^ 26 % 4) first.1
   third ← slot_at (head.0 / 2 ^ 24 % 4) second.1
-  Some (row (head.0 / 2 ^ 30 % 64) first.0 second.0 third.0
-    (name_if (head.0 / 2 ^ 18 % 64)) (label_in head.0), third.1)
+  Some (
+    row (head.0 / 2 ^ 30 % 64) first.0 second.0 third.0
+        (name_if (head.0 / 2 ^ 18 % 64)) (label_in head.0),
+    third.1,
+  )

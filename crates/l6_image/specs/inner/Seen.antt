@@ -1,5 +1,5 @@
 -- What the code's readers answer, and what that stands for.
-use Rattle.std.specs.Prelude.{◌≡◌, ℕ, List, Option, Some, None, Result, Ok, Err}
+use Rattle.std.specs.Prelude.{◌≡◌, Option, Some, None, Result, Ok, Err}
 use Rattle.l6_image.specs.declared.reader.Slot.{Slot as Raw}
 use Rattle.l6_image.specs.declared.reader.Slot.TheVariants.{Absent, Chain, Number, Text}
 use Rattle.l6_image.specs.declared.fault.ReadFault.{ReadFault}

@@ -1,5 +1,5 @@
 -- Statements, read from words.
-use Rattle.std.specs.Prelude.{◌≡◌, ℕ, zero, suc, ◌/◌, ◌%◌, ◌^◌, ◌==◌, List, [], ◌∷◌, ◌++◌, Option, Some, None, Result, Ok, Err, if◌then◌else◌}
+use Rattle.std.specs.Prelude.{ℕ, zero, suc, ◌/◌, ◌%◌, ◌^◌, ◌==◌, List, [], ◌∷◌, ◌++◌, Option, Some, None, if◌then◌else◌}
 use Rattle.l6_prog.specs.declared.condition.Cond.{Cond}
 use Rattle.l6_prog.specs.declared.condition.Cond.TheVariants.{Always, If, Not, IfAll, IfAny, IfNone, IfNotAll}
 use Rattle.l6_prog.specs.declared.condition.Test.{Test}
@@ -64,12 +64,15 @@ statement_at words = do
   head ← first_of words
   tests ← many test_at (head.0 / 2 ^ 27 % 64) head.1
   operations ← many operation_at (head.0 / 2 ^ 21 % 64) tests.1
-  Some (record {
-    condition = condition_in (head.0 / 2 ^ 33 % 8);
-    tests = tests.0;
-    operations = operations.0;
-    exit = exit_in (head.0 / 2 ^ 18 % 8) (target_in head.0);
-  }, operations.1)
+  Some (
+    record {
+      condition = condition_in (head.0 / 2 ^ 33 % 8);
+      tests = tests.0;
+      operations = operations.0;
+      exit = exit_in (head.0 / 2 ^ 18 % 8) (target_in head.0);
+    },
+    operations.1,
+  )
 
 -- the statements of an image's words
 unfoldable pub statements_of : List ℕ → Option (List Parts)

@@ -1,9 +1,9 @@
-use Rattle.std.proofs.Common.{◌≡◌, ◌+◌, ◌++◌, ◌∷◌, [], drop, length, ◌<◌, get_or, true, rules, ap, sym, ◌∙◌, arith}
+use Rattle.std.proofs.Common.{◌≡◌, ◌+◌, ◌++◌, drop, length, ◌<◌, get_or, true, rules, ap, sym, ◌∙◌, arith}
 use Rattle.std.specs.List.{take_while}
 use Rattle.std.proofs.lemmas.Bool.{lt-ltb}
 use Rattle.l6_prog.specs.Numerals.{name_count}
 use Rattle.l6_image.specs.Row.{is_name}
-use Rattle.l6_image.specs.inner.Fields.{items_in, names_in}
+use Rattle.l6_image.specs.inner.Fields.{names_in}
 use Rattle.l6_image.proofs.Taken.{front-more}
 use Rattle.l6_image.proofs.operands.chain_in.Goals as goal
 

@@ -1,4 +1,4 @@
-use Rattle.std.proofs.Common.{◌≡◌, ◌+◌, ◌<◌, length, rules, ◌∙◌, arith}
+use Rattle.std.proofs.Common.{◌≡◌, ◌+◌, ◌<◌, length, rules, ◌∙◌}
 use Rattle.l6_prog.specs.Numerals.{most_characters}
 use Rattle.l6_image.proofs.Taken.{codes-full, codes-whole}
 use Rattle.l6_image.proofs.operands.codes_in.Goals as goal

@@ -1,4 +1,4 @@
-use Rattle.std.proofs.Common.{◌≡◌, ◌∷◌, ◌++◌, [], ap, sym, ◌∙◌, ◌-◌, ◌+◌, rules}
+use Rattle.std.proofs.Common.{◌≡◌, ◌∷◌, ◌++◌, [], ap, ◌∙◌, ◌-◌, ◌+◌, rules}
 use Rattle.std.proofs.lemmas.Result.{err_from_is_err_and}
 use Rattle.l6_image.specs.inner.Statements.{operation_at, many, with_front}
 use Rattle.l6_image.proofs.Counted.{goes_on, fails}

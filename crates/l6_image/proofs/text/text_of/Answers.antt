@@ -1,4 +1,4 @@
-use Rattle.std.proofs.Common.{◌≡◌, true, ap, ◌∙◌, rules}
+use Rattle.std.proofs.Common.{◌≡◌, ap, ◌∙◌, rules}
 use Rattle.std.specs.List.{list_all}
 use Rattle.l6_image.specs.Image.{words_of}
 use Rattle.l6_image.specs.Row.{is_word}

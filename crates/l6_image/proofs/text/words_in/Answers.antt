@@ -1,4 +1,4 @@
-use Rattle.std.proofs.Common.{◌≡◌, ◌+◌, ◌++◌, ◌∷◌, [], ◌*◌, length, Some, ap, sym, ◌∙◌, arith, rules, length-append}
+use Rattle.std.proofs.Common.{◌≡◌, ◌+◌, ◌++◌, ◌∷◌, [], length, Some, ap, sym, ◌∙◌, arith, rules, length-append}
 use Rattle.l6_image.specs.Text.{first_other, whole_lines}
 use Rattle.l6_image.proofs.Lines.{first_other-more, first_other-stops, text-more, words-more}
 use Rattle.l6_image.proofs.text.words_in.Goals as goal

@@ -2,6 +2,7 @@
 use Rattle.std.proofs.Common.{◌≡◌, ℕ, ◌/◌, ◌%◌, ◌^◌, ◌<◌, suc, List, [], ◌∷◌, ◌++◌, length, get_or, true, Option, Some, refl, ap, sym, ◌∙◌, arith, append_assoc, append-nil}
 use Rattle.std.specs.Prelude.{unwrap_or}
 use Rattle.std.specs.List.{flat_map}
+use Rattle.std.proofs.lemmas.Bool.{le-ltb}
 use Rattle.std.proofs.lemmas.List.Concat.{flat_map-cons}
 use Rattle.l6_prog.specs.declared.condition.Cond.{Cond}
 use Rattle.l6_prog.specs.declared.condition.Cond.TheVariants.{Always, If, Not, IfAll, IfAny, IfNone, IfNotAll}
@@ -9,6 +10,7 @@ use Rattle.l6_prog.specs.declared.condition.Test.{Test}
 use Rattle.l6_prog.specs.declared.operation.Op.{Op}
 use Rattle.l6_prog.specs.declared.exit.Exit.{Exit}
 use Rattle.l6_prog.specs.declared.exit.Exit.TheVariants.{Next, Label, Done, Fail}
+use Rattle.l6_prog.specs.Numerals.{most_statements}
 use Rattle.l6_prog.specs.Statement.{Parts}
 use Rattle.l6_prog.specs.Target.{targets_of_operation}
 use Rattle.l6_image.specs.Bits.{Field, bits}
@@ -153,8 +155,11 @@ unfolding words_of statements_of
 statements_of-again program known =
     let words : body program ≡ body program ++ [] = sym (append-nil (body program)) in
     ap (λ ws. statements_of (mark ∷ length program ∷ length (body program) ∷ ws)) words
-    ∙ rw (each-again statement_words statement_at KnownStatement statement_at-again program
-    known.each []) refl
+    ∙ rw (
+      le-ltb most_statements (length program) known.count,
+      each-again statement_words statement_at KnownStatement statement_at-again program
+          known.each [],
+    ) refl
 
 pub program_in-again : (program : List Parts) → HasImage program →
     program_in (words_of program) ≡ Some program

@@ -1,5 +1,6 @@
 pub mod Fields
 pub mod Heads
+pub mod Writing
 pub mod Reading
 pub mod Back
 pub mod Statements

@@ -65,6 +65,34 @@ fn kind_in(number: u64) -> Kind
 }
 
 impl Head {
+    /// The head of these parts.
+    pub(crate) fn new(
+        code: u8,
+        first: Kind,
+        second: Kind,
+        third: Kind,
+        field: Option<Name>,
+        label: Option<u16>,
+    ) -> Self
+        ensures { result ≡ record {
+          code = code;
+          first = first;
+          second = second;
+          third = third;
+          field = field;
+          label = label;
+        } }
+    {
+        Head {
+            code,
+            first,
+            second,
+            third,
+            field,
+            label,
+        }
+    }
+
     /// What a word says.
     pub(crate) fn of(word: u64) -> Self
         ensures code { result.code ≡ word / 2 ^ 30 % 64 }

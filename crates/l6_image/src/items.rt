@@ -10,10 +10,10 @@ use l6_prog::{Chain, Name};
 use std::alloc::AllocError;
 
 /// How many names or codes one word holds.
-pub const ITEMS_PER_WORD: usize = 6;
+const ITEMS_PER_WORD: usize = 6;
 
 /// Stands where a name could stand and none does.
-pub const NO_NAME: u8 = 63;
+pub(crate) const NO_NAME: u8 = 63;
 
 /// The word of a chain's names.
 pub(crate) fn names_word(chain: &Chain) -> u64

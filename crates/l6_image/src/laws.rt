@@ -2,17 +2,16 @@
 
 ghost use Rattle.std.specs.Prelude.{◌≡◌};
 ghost use Rattle.l6_image.specs.Load.{TextsTellPrograms};
-ghost use Rattle.l6_image.specs.Numerals.{items_per_word, no_name, most_bytes};
+ghost use Rattle.l6_image.specs.Numerals.{no_name, most_bytes};
 ghost use Rattle.l6_image.specs.Version.{mark};
 
-use crate::items::{ITEMS_PER_WORD, NO_NAME};
+use crate::items::NO_NAME;
 use crate::loading::MAX_BYTES;
 use crate::version::MARK;
 
 /// The numbers of the code are those of images.
 pub fn images_have_their_numbers()
     ensures mark { MARK ≡ mark }
-    ensures items { ITEMS_PER_WORD ≡ items_per_word }
     ensures no_name { NO_NAME ≡ no_name }
     ensures bytes { MAX_BYTES ≡ most_bytes }
 {}

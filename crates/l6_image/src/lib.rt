@@ -19,9 +19,7 @@ mod version;
 mod writing;
 
 pub use fault::LoadFault;
-pub use items::{ITEMS_PER_WORD, NO_NAME};
 pub use laws::{images_have_their_numbers, texts_tell_programs};
 pub use loading::{MAX_BYTES, load};
 pub use text::text_of;
-pub use version::MARK;
 pub use writing::{statement_words, words_of};

@@ -1,9 +1,10 @@
 //! Rows, written behind words: a first word, and the words of the operands.
 
-ghost use Rattle.std.specs.Prelude.{◌≡◌, ◌++◌, ◌∷◌, [], true, OnOk, Some, None};
+ghost use Rattle.std.specs.Prelude.{◌≡◌, OnOk, Some, None};
 ghost use Rattle.l6_image.specs.Row as spec;
 ghost use Rattle.l6_image.specs.Table.{operand as slot_of};
 ghost use Rattle.l6_image.specs.inner.Heads.{kind_code};
+ghost use Rattle.l6_image.specs.inner.Writing.{Writes, WritesSlot};
 
 use crate::head::{Head, Kind};
 use crate::items::{names_word, push_codes};
@@ -12,58 +13,36 @@ use std::alloc::AllocError;
 
 /// Writes the row without operands.
 pub(crate) fn push_none(words: &mut Vec<u64>, code: u8) -> Result<(), AllocError>
-    ensures words { OnOk result (words.new.items ≡ words.old.items ++ spec.row_words
+    ensures { OnOk result (Writes words.old.items words.new.items
         (spec.row code spec.absent spec.absent spec.absent None None)) }
-    ensures known { OnOk result (spec.is_row
-        (spec.row code spec.absent spec.absent spec.absent None None) ≡ true) }
 {
-    let head = Head {
-        code,
-        first: Kind::Absent,
-        second: Kind::Absent,
-        third: Kind::Absent,
-        field: None,
-        label: None,
-    };
-    words.push(head.word())?;
+    words.push(Head::new(code, Kind::Absent, Kind::Absent, Kind::Absent, None, None).word())?;
     Ok(())
 }
 
 /// Writes the row of a field.
 pub(crate) fn push_field(words: &mut Vec<u64>, code: u8, field: Name) -> Result<(), AllocError>
-    ensures words { OnOk result (words.new.items ≡ words.old.items ++ spec.row_words
+    ensures { OnOk result (Writes words.old.items words.new.items
         (spec.row code spec.absent spec.absent spec.absent (Some field) None)) }
-    ensures known { OnOk result (spec.is_row
-        (spec.row code spec.absent spec.absent spec.absent (Some field) None) ≡ true) }
 {
-    let head = Head {
+    words.push(Head::new(
         code,
-        first: Kind::Absent,
-        second: Kind::Absent,
-        third: Kind::Absent,
-        field: Some(field),
-        label: None,
-    };
-    words.push(head.word())?;
+        Kind::Absent,
+        Kind::Absent,
+        Kind::Absent,
+        Some(field),
+        None,
+    )
+    .word())?;
     Ok(())
 }
 
 /// Writes the row of a chain.
 pub(crate) fn push_one(words: &mut Vec<u64>, code: u8, chain: &Chain) -> Result<(), AllocError>
-    ensures words { OnOk result (words.new.items ≡ words.old.items ++ spec.row_words
+    ensures { OnOk result (Writes words.old.items words.new.items
         (spec.row code (spec.chain chain.now) spec.absent spec.absent None None)) }
-    ensures known { OnOk result (spec.is_row
-        (spec.row code (spec.chain chain.now) spec.absent spec.absent None None) ≡ true) }
 {
-    let head = Head {
-        code,
-        first: Kind::Chain,
-        second: Kind::Absent,
-        third: Kind::Absent,
-        field: None,
-        label: None,
-    };
-    words.push(head.word())?;
+    words.push(Head::new(code, Kind::Chain, Kind::Absent, Kind::Absent, None, None).word())?;
     push_chain(words, chain)
 }
 
@@ -75,20 +54,18 @@ pub(crate) fn push_two(
     operand: &Operand,
     label: Option<u16>,
 ) -> Result<(), AllocError>
-    ensures words { OnOk result (words.new.items ≡ words.old.items ++ spec.row_words
+    ensures { OnOk result (Writes words.old.items words.new.items
         (spec.row code (spec.chain chain.now) (slot_of operand.now) spec.absent None label)) }
-    ensures known { OnOk result (spec.is_row
-        (spec.row code (spec.chain chain.now) (slot_of operand.now) spec.absent None label) ≡ true) }
 {
-    let head = Head {
+    words.push(Head::new(
         code,
-        first: Kind::Chain,
-        second: kind_of(operand),
-        third: Kind::Absent,
-        field: None,
+        Kind::Chain,
+        kind_of(operand),
+        Kind::Absent,
+        None,
         label,
-    };
-    words.push(head.word())?;
+    )
+    .word())?;
     push_chain(words, chain)?;
     push_operand(words, operand)
 }
@@ -100,20 +77,10 @@ pub(crate) fn push_chains(
     first: &Chain,
     second: &Chain,
 ) -> Result<(), AllocError>
-    ensures words { OnOk result (words.new.items ≡ words.old.items ++ spec.row_words
+    ensures { OnOk result (Writes words.old.items words.new.items
         (spec.row code (spec.chain first.now) (spec.chain second.now) spec.absent None None)) }
-    ensures known { OnOk result (spec.is_row
-        (spec.row code (spec.chain first.now) (spec.chain second.now) spec.absent None None) ≡ true) }
 {
-    let head = Head {
-        code,
-        first: Kind::Chain,
-        second: Kind::Chain,
-        third: Kind::Absent,
-        field: None,
-        label: None,
-    };
-    words.push(head.word())?;
+    words.push(Head::new(code, Kind::Chain, Kind::Chain, Kind::Absent, None, None).word())?;
     push_chain(words, first)?;
     push_chain(words, second)
 }
@@ -127,20 +94,10 @@ pub(crate) fn push_three(
     third: &Chain,
     label: Option<u16>,
 ) -> Result<(), AllocError>
-    ensures words { OnOk result (words.new.items ≡ words.old.items ++ spec.row_words
+    ensures { OnOk result (Writes words.old.items words.new.items
         (spec.row code (spec.chain first.now) (slot_of second.now) (spec.chain third.now) None label)) }
-    ensures known { OnOk result (spec.is_row
-        (spec.row code (spec.chain first.now) (slot_of second.now) (spec.chain third.now) None label) ≡ true) }
 {
-    let head = Head {
-        code,
-        first: Kind::Chain,
-        second: kind_of(second),
-        third: Kind::Chain,
-        field: None,
-        label,
-    };
-    words.push(head.word())?;
+    words.push(Head::new(code, Kind::Chain, kind_of(second), Kind::Chain, None, label).word())?;
     push_chain(words, first)?;
     push_operand(words, second)?;
     push_chain(words, third)
@@ -155,20 +112,18 @@ pub(crate) fn push_definition(
     second: &Operand,
     third: &Operand,
 ) -> Result<(), AllocError>
-    ensures words { OnOk result (words.new.items ≡ words.old.items ++ spec.row_words
+    ensures { OnOk result (Writes words.old.items words.new.items
         (spec.row code (slot_of first.now) (slot_of second.now) (slot_of third.now) (Some field) None)) }
-    ensures known { OnOk result (spec.is_row
-        (spec.row code (slot_of first.now) (slot_of second.now) (slot_of third.now) (Some field) None) ≡ true) }
 {
-    let head = Head {
+    words.push(Head::new(
         code,
-        first: kind_of(first),
-        second: kind_of(second),
-        third: kind_of(third),
-        field: Some(field),
-        label: None,
-    };
-    words.push(head.word())?;
+        kind_of(first),
+        kind_of(second),
+        kind_of(third),
+        Some(field),
+        None,
+    )
+    .word())?;
     push_operand(words, first)?;
     push_operand(words, second)?;
     push_operand(words, third)
@@ -181,40 +136,20 @@ pub(crate) fn push_statement(
     statement: u16,
     label: Option<u16>,
 ) -> Result<(), AllocError>
-    ensures words { OnOk result (words.new.items ≡ words.old.items ++ spec.row_words
+    ensures { OnOk result (Writes words.old.items words.new.items
         (spec.row code (spec.number statement) spec.absent spec.absent None label)) }
-    ensures known { OnOk result (spec.is_row
-        (spec.row code (spec.number statement) spec.absent spec.absent None label) ≡ true) }
 {
-    let head = Head {
-        code,
-        first: Kind::Number,
-        second: Kind::Absent,
-        third: Kind::Absent,
-        field: None,
-        label,
-    };
-    words.push(head.word())?;
+    words.push(Head::new(code, Kind::Number, Kind::Absent, Kind::Absent, None, label).word())?;
     words.push(u64::from(statement))?;
     Ok(())
 }
 
 /// Writes the row of a text.
 pub(crate) fn push_text(words: &mut Vec<u64>, code: u8, text: &PrintText) -> Result<(), AllocError>
-    ensures words { OnOk result (words.new.items ≡ words.old.items ++ spec.row_words
+    ensures { OnOk result (Writes words.old.items words.new.items
         (spec.row code (spec.text text.now) spec.absent spec.absent None None)) }
-    ensures known { OnOk result (spec.is_row
-        (spec.row code (spec.text text.now) spec.absent spec.absent None None) ≡ true) }
 {
-    let head = Head {
-        code,
-        first: Kind::Text,
-        second: Kind::Absent,
-        third: Kind::Absent,
-        field: None,
-        label: None,
-    };
-    words.push(head.word())?;
+    words.push(Head::new(code, Kind::Text, Kind::Absent, Kind::Absent, None, None).word())?;
     let codes = text.codes();
     words.push(codes.len() as u64)?;
     push_codes(words, codes)
@@ -232,9 +167,7 @@ fn kind_of(operand: &Operand) -> Kind
 
 /// Writes the word of an operand.
 fn push_operand(words: &mut Vec<u64>, operand: &Operand) -> Result<(), AllocError>
-    ensures words { OnOk result (words.new.items ≡ words.old.items ++ spec.slot_words
-        (slot_of operand.now)) }
-    ensures known { OnOk result (spec.is_slot (slot_of operand.now) ≡ true) }
+    ensures { OnOk result (WritesSlot words.old.items words.new.items (slot_of operand.now)) }
 {
     match operand {
         Operand::Chain(chain) => push_chain(words, chain),
@@ -247,9 +180,7 @@ fn push_operand(words: &mut Vec<u64>, operand: &Operand) -> Result<(), AllocErro
 
 /// Writes the word of a chain.
 fn push_chain(words: &mut Vec<u64>, chain: &Chain) -> Result<(), AllocError>
-    ensures words { OnOk result (words.new.items ≡ words.old.items ++ spec.slot_words
-        (spec.chain chain.now)) }
-    ensures known { OnOk result (spec.is_slot (spec.chain chain.now) ≡ true) }
+    ensures { OnOk result (WritesSlot words.old.items words.new.items (spec.chain chain.now)) }
 {
     words.push(names_word(chain))?;
     Ok(())

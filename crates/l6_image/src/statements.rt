@@ -9,7 +9,7 @@ use crate::fault::ReadFault;
 use crate::reader::row_at;
 use crate::reading::{operation_of, test_of};
 use crate::version::target_in;
-use l6_prog::{Cond, Exit, Op, Statement, Test};
+use l6_prog::{Cond, Exit, MAX_STATEMENTS, Op, Statement, Test};
 use std::alloc::Global;
 
 /// The statements that an image's words tell. Its mark, its number of words and words behind the
@@ -21,6 +21,9 @@ pub(crate) fn statements_of(alloc: Global, words: &[u64]) -> Result<Vec<Statemen
     let (_, rest) = words.split_first().ok_or(ReadFault::NotAnImage)?;
     let (count, rest) = rest.split_first().ok_or(ReadFault::NotAnImage)?;
     let (_, rest) = rest.split_first().ok_or(ReadFault::NotAnImage)?;
+    if *count > MAX_STATEMENTS as u64 {
+        return Err(ReadFault::NotAnImage);
+    }
     let (statements, _) = statements_at(alloc, *count, rest)?;
     Ok(statements)
 }

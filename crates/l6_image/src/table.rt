@@ -1,10 +1,9 @@
 //! The table of rows: for each test and each operation its code, its operands, its field and its
 //! label.
 
-ghost use Rattle.std.specs.Prelude.{◌≡◌, ◌++◌, true, OnOk};
-ghost use Rattle.l6_image.specs.Image.{test_words, operation_words};
-ghost use Rattle.l6_image.specs.Row.{is_row};
+ghost use Rattle.std.specs.Prelude.{OnOk};
 ghost use Rattle.l6_image.specs.Table.{row_of, row_of_test};
+ghost use Rattle.l6_image.specs.inner.Writing.{Writes};
 
 use crate::rows::{
     push_chains, push_definition, push_field, push_none, push_one, push_statement, push_text,
@@ -15,8 +14,7 @@ use std::alloc::AllocError;
 
 /// Writes the words of a test.
 pub(crate) fn push_test(words: &mut Vec<u64>, test: &Test) -> Result<(), AllocError>
-    ensures words { OnOk result (words.new.items ≡ words.old.items ++ test_words test.now) }
-    ensures known { OnOk result (is_row (row_of_test test.now) ≡ true) }
+    ensures { OnOk result (Writes words.old.items words.new.items (row_of_test test.now)) }
 {
     match test {
         Test::Equal(c, v) => push_two(words, 1, c, v, None),
@@ -30,9 +28,7 @@ pub(crate) fn push_test(words: &mut Vec<u64>, test: &Test) -> Result<(), AllocEr
 
 /// Writes the words of an operation.
 pub(crate) fn push_operation(words: &mut Vec<u64>, operation: &Op) -> Result<(), AllocError>
-    ensures words { OnOk result
-        (words.new.items ≡ words.old.items ++ operation_words operation.now) }
-    ensures known { OnOk result (is_row (row_of operation.now) ≡ true) }
+    ensures { OnOk result (Writes words.old.items words.new.items (row_of operation.now)) }
 {
     match operation {
         Op::Set(c, v) => push_two(words, 1, c, v, None),
@@ -74,10 +70,8 @@ fn push_get(
     old: &Option<Chain>,
     label: Option<u16>,
 ) -> Result<(), AllocError>
-    ensures words { OnOk result (words.new.items ≡ words.old.items
-        ++ operation_words (Op.Get chain.now size.now old.now label)) }
-    ensures known { OnOk result
-        (is_row (row_of (Op.Get chain.now size.now old.now label)) ≡ true) }
+    ensures { OnOk result (Writes words.old.items words.new.items
+        (row_of (Op.Get chain.now size.now old.now label))) }
 {
     match old {
         None => push_two(words, 19, chain, size, label),
@@ -87,9 +81,8 @@ fn push_get(
 
 /// Writes the words of an operation that frees a block.
 fn push_free(words: &mut Vec<u64>, chain: &Chain, value: &Option<Operand>) -> Result<(), AllocError>
-    ensures words { OnOk result
-        (words.new.items ≡ words.old.items ++ operation_words (Op.Free chain.now value.now)) }
-    ensures known { OnOk result (is_row (row_of (Op.Free chain.now value.now)) ≡ true) }
+    ensures { OnOk result (Writes words.old.items words.new.items
+        (row_of (Op.Free chain.now value.now))) }
 {
     match value {
         None => push_one(words, 21, chain),

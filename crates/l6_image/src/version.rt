@@ -7,7 +7,7 @@ ghost use Rattle.l6_image.specs.Version as spec;
 ghost use Rattle.l6_image.specs.inner.Fields as fields;
 
 /// The first word of every image, which is the text `L6IMG1`.
-pub const MARK: u64 = 0o542651554721;
+pub(crate) const MARK: u64 = 0o542651554721;
 
 /// The bit that says whether a row has a label. The statement's number stands to the right of it.
 const LABEL_FLAG: u64 = 1 << 12;

@@ -1,11 +1,12 @@
 -- Statements, read from words.
-use Rattle.std.specs.Prelude.{ℕ, zero, suc, ◌/◌, ◌%◌, ◌^◌, ◌==◌, List, [], ◌∷◌, ◌++◌, Option, Some, None, if◌then◌else◌}
+use Rattle.std.specs.Prelude.{ℕ, zero, suc, ◌/◌, ◌%◌, ◌^◌, ◌==◌, List, [], ◌∷◌, ◌++◌, Option, Some, None, if◌then◌else◌, nat_lt}
 use Rattle.l6_prog.specs.declared.condition.Cond.{Cond}
 use Rattle.l6_prog.specs.declared.condition.Cond.TheVariants.{Always, If, Not, IfAll, IfAny, IfNone, IfNotAll}
 use Rattle.l6_prog.specs.declared.condition.Test.{Test}
 use Rattle.l6_prog.specs.declared.exit.Exit.{Exit}
 use Rattle.l6_prog.specs.declared.exit.Exit.TheVariants.{Next, Label, Done, Fail}
 use Rattle.l6_prog.specs.declared.operation.Op.{Op}
+use Rattle.l6_prog.specs.Numerals.{most_statements}
 use Rattle.l6_prog.specs.Statement.{Parts}
 use Rattle.l6_image.specs.inner.Fields.{target_in}
 use Rattle.l6_image.specs.inner.Reading.{◌>>=◌, first_of, row_at}
@@ -74,11 +75,16 @@ statement_at words = do
     operations.1,
   )
 
+-- so many statements, if a program may have so many
+abbrev pub limited : ℕ → List ℕ → Option (List Parts)
+limited count words =
+    if nat_lt most_statements count then None
+    else many statement_at count words >>= (λ statements. Some statements.0)
+
 -- the statements of an image's words
 unfoldable pub statements_of : List ℕ → Option (List Parts)
 statements_of words = do
   mark ← first_of words
   count ← first_of mark.1
   size ← first_of count.1
-  statements ← many statement_at count.0 size.1
-  Some statements.0
+  limited count.0 size.1

@@ -1,10 +1,6 @@
 -- What becomes of a text that is loaded.
-use Rattle.std.proofs.Common.{◌≡◌, ℕ, List, true, false, eqb, Some, None, Err, ap, sym, ◌∙◌}
-use Rattle.std.specs.Prelude.{not}
-use Rattle.std.specs.Cmp.Lexicographic.{pointwise}
+use Rattle.std.proofs.Common.{◌≡◌, ℕ, List, true, Some, None, Err, ap, sym, ◌∙◌}
 use Rattle.std.specs.List.{list_all}
-use Rattle.std.proofs.lemmas.Bool.{not-true, not-false, both_ways}
-use Rattle.std.proofs.lemmas.Slice.Eq.{bytes_eq-Decides}
 use Rattle.l6_prog.specs.Statement.{Parts}
 use Rattle.l6_image.specs.declared.fault.LoadFault.{LoadFault}
 use Rattle.l6_image.specs.declared.fault.LoadFault.TheVariants.{NotWords, NotAnImage, NoMemory}
@@ -21,16 +17,6 @@ use Rattle.l6_image.specs.inner.TextFault.{TellsLine}
 use Rattle.l6_image.proofs.Fitness.{words_of-words}
 use Rattle.l6_image.proofs.Lines.{first_other-none}
 use Rattle.l6_image.proofs.Texts.{words-are, program_in-words}
-
--- what a comparison of words says
-pub are_same : (one other : List ℕ) → false ≡ not (pointwise eqb one other) → one ≡ other
-are_same one other same =
-    (bytes_eq-Decides one other).0 (not-false (pointwise eqb one other) (sym same))
-
-pub are_not_same : (one other : List ℕ) → true ≡ not (pointwise eqb one other) → one ≡ other → ⊥
-are_not_same one other differ same =
-    both_ways (pointwise eqb one other) (not-true (pointwise eqb one other) (sym differ))
-    ((bytes_eq-Decides one other).1 same)
 
 -- each line of an image is one of a word
 lines-none : (text : List ℕ) (program : List Parts) → HasImage program →

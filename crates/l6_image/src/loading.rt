@@ -1,6 +1,6 @@
 //! From texts to programs.
 
-ghost use Rattle.std.specs.Prelude.{◌≡◌, ◌≤◌, List, length, IfOk, IfErr, OnOk};
+ghost use Rattle.std.specs.Prelude.{◌≡◌, ◌≤◌, ◌↔◌, List, length, IfOk, IfErr, IsTrue};
 ghost use Rattle.l6_prog.specs.Statement.{Parts};
 ghost use Rattle.l6_image.specs.Image.{HasImage};
 ghost use Rattle.l6_image.specs.Load.{Loads, Tells};
@@ -35,7 +35,7 @@ pub fn load(alloc: Global, text: &[u8]) -> Result<Program, LoadFault>
     let words = words_in(alloc, text)?;
     let program = program_in(alloc, &words)?;
     let written = words_of(alloc, &program)?;
-    if written.as_slice() != words.as_slice() {
+    if !are_same(&written, &words) {
         return Err(LoadFault::NotAnImage);
     }
     Ok(program)
@@ -51,4 +51,11 @@ fn program_in(alloc: Global, words: &[u64]) -> Result<Program, ReadFault>
         Ok(program) => Ok(program),
         Err(_) => Err(ReadFault::NotAnImage),
     }
+}
+
+/// Whether two lists of words are one.
+fn are_same(one: &[u64], other: &[u64]) -> bool
+    ensures { IsTrue result ↔ (one.now ≡ other.now) }
+{
+    one == other
 }

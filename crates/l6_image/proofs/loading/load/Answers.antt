@@ -1,10 +1,11 @@
-use Rattle.std.proofs.Common.{◌≡◌, ℕ, List, Some, ap, sym, ◌∙◌, subst}
+use Rattle.std.proofs.Common.{false, refl, ◌≡◌, ℕ, List, Some, ap, sym, ◌∙◌, subst}
+use Rattle.std.proofs.lemmas.Bool.{both_ways}
 use Rattle.std.proofs.lemmas.Result.{err_from_is_err_and}
 use Rattle.l6_image.specs.Image.{words_of}
 use Rattle.l6_image.specs.Text.{text_of, text_of_words}
 use Rattle.l6_image.specs.inner.Loading.{program_in}
 use Rattle.l6_image.specs.inner.Seen.{Fails}
-use Rattle.l6_image.proofs.Loadings.{are_same, are_not_same, line_loads, words_load, words_tell, found_loads, others_load, others_tell}
+use Rattle.l6_image.proofs.Loadings.{line_loads, words_load, words_tell, found_loads, others_load, others_tell}
 use Rattle.l6_image.proofs.loading.load.Goals as goal
 
 pub returns-in_err-words-clause-complete : goal.returns-in_err-words-clause-complete
@@ -36,36 +37,36 @@ returns-in_err-program-clause-fault c =
     (words_tell c.args.text.now words c.in_ok-words.ensures.known c.in_ok-words.ensures.words
     c.in_err-program.field-0.0 fails)
 
-pub returns-then-ne-clause-complete : goal.returns-then-ne-clause-complete
-returns-then-ne-clause-complete c program has same =
+pub returns-then-not-are_same-clause-complete : goal.returns-then-not-are_same-clause-complete
+returns-then-not-are_same-clause-complete c program has same =
     let words = c.in_ok-words.words.items in
     let is : program_in words ≡ Some c.in_ok-program.program =
     ap program_in (sym c.deref.ensures.value) ∙ c.in_ok-program.ensures in
     let differ : words_of c.in_ok-program.program ≡ words → ⊥ =
-    λ equal. are_not_same c.as_slice.result.now c.as_slice-2.result.now c.if-ne.ensures
-    (c.as_slice.ensures.value ∙ c.in_ok-written.ensures.words ∙ equal
-    ∙ sym c.as_slice-2.ensures.value) in
+    λ equal. both_ways false refl (c.if-not-are_same.ensures.1
+    (c.deref-2.ensures.value ∙ c.in_ok-written.ensures.words ∙ equal
+    ∙ sym c.deref-3.ensures.value)) in
     others_load c.args.text.now words c.in_ok-words.ensures.known c.in_ok-words.ensures.words
     c.in_ok-program.program program is differ has same
 
-pub returns-then-ne-clause-fault : goal.returns-then-ne-clause-fault
-returns-then-ne-clause-fault c =
+pub returns-then-not-are_same-clause-fault : goal.returns-then-not-are_same-clause-fault
+returns-then-not-are_same-clause-fault c =
     let words = c.in_ok-words.words.items in
     let is : program_in words ≡ Some c.in_ok-program.program =
     ap program_in (sym c.deref.ensures.value) ∙ c.in_ok-program.ensures in
     let differ : words_of c.in_ok-program.program ≡ words → ⊥ =
-    λ equal. are_not_same c.as_slice.result.now c.as_slice-2.result.now c.if-ne.ensures
-    (c.as_slice.ensures.value ∙ c.in_ok-written.ensures.words ∙ equal
-    ∙ sym c.as_slice-2.ensures.value) in
+    λ equal. both_ways false refl (c.if-not-are_same.ensures.1
+    (c.deref-2.ensures.value ∙ c.in_ok-written.ensures.words ∙ equal
+    ∙ sym c.deref-3.ensures.value)) in
     others_tell c.args.text.now words c.in_ok-words.ensures.known c.in_ok-words.ensures.words
     c.in_ok-program.program is differ
 
 pub returns-clause-sound : goal.returns-clause-sound
 unfolding text_of
 returns-clause-sound c =
-    let same = are_same c.as_slice.result.now c.as_slice-2.result.now c.if-ne.ensures in
+    let same = c.if-not-are_same.ensures.0 refl in
     c.in_ok-words.ensures.words
-    ∙ ap text_of_words (sym c.as_slice-2.ensures.value ∙ sym same ∙ c.as_slice.ensures.value
+    ∙ ap text_of_words (sym c.deref-3.ensures.value ∙ sym same ∙ c.deref-2.ensures.value
     ∙ c.in_ok-written.ensures.words)
 
 pub returns-clause-complete : goal.returns-clause-complete

@@ -1,0 +1,171 @@
+-- The words of a program are words, and not too many.
+use Rattle.std.proofs.Common.{◌≡◌, ℕ, ◌+◌, ◌*◌, ◌^◌, ◌<◌, ◌≤◌, List, [], ◌∷◌, ◌++◌, length, Bool, true, refl, ap, sym, ◌∙◌, arith, length-append}
+use Rattle.std.specs.List.{flat_map, list_all}
+use Rattle.std.proofs.lemmas.Bool.{and_parts, lt-ltb, ltb-true}
+use Rattle.std.proofs.lemmas.List.Folds.{list_all-append}
+use Rattle.std.proofs.lemmas.List.Concat.{flat_map-cons}
+use Rattle.l6_word.specs.Numerals.{word_bits}
+use Rattle.l6_prog.specs.declared.condition.Test.{Test}
+use Rattle.l6_prog.specs.declared.operation.Op.{Op}
+use Rattle.l6_prog.specs.Chain.{is_chain}
+use Rattle.l6_prog.specs.PrintText.{may_print}
+use Rattle.l6_prog.specs.Statement.{Parts}
+use Rattle.l6_image.specs.Bits.{item, six}
+use Rattle.l6_image.specs.Numerals.{no_name}
+use Rattle.l6_image.specs.Row.{Slot, absent, chain, number, text, Row, sixes, slot_words, row_head, row_words, is_name, is_word, is_slot, is_row}
+use Rattle.l6_image.specs.Table.{row_of, row_of_test}
+use Rattle.l6_image.specs.Image.{header, test_words, operation_words, statement_words, body, words_of, HasImage}
+use Rattle.l6_image.proofs.Packing.{packed-below}
+use Rattle.l6_image.proofs.Slots.{item-below, name-small, code-small, text-known, length-sixes}
+use Rattle.l6_image.proofs.Found.{Known, head_fields, head_fit}
+use Rattle.l6_image.proofs.Knowing.{Each, KnownStatement, known_program, known_parts, KnownOperation, known_test, known_operation}
+use Rattle.l6_image.proofs.Programs.{header_fields, header_fit}
+
+-- these are words, and at most so many
+pub record Fine (most : ℕ) (these : List ℕ) : Type 0 where
+  pub words : list_all is_word these ≡ true
+  pub count : length these ≤ most
+
+is_word-below : (n : ℕ) → n < 2 ^ word_bits → is_word n ≡ true
+is_word-below n below = lt-ltb n (2 ^ word_bits) below
+
+fine-one : (word : ℕ) → word < 2 ^ word_bits → Fine 1 (word ∷ [])
+fine-one word below =
+    record { words = rw (is_word-below word below) refl; count = omega arith }
+
+fine-append : (most more : ℕ) (xs ys : List ℕ) → Fine most xs → Fine more ys →
+    Fine (most + more) (xs ++ ys)
+fine-append most more xs ys one other =
+    record {
+      words = list_all-append is_word xs ys ∙ rw (one.words, other.words) refl;
+      count = omega (arith, length-append xs ys, one.count, other.count);
+    }
+
+fine-cons : (most word : ℕ) (xs : List ℕ) → word < 2 ^ word_bits → Fine most xs →
+    Fine (1 + most) (word ∷ xs)
+fine-cons most word xs below fine = fine-append 1 most (word ∷ []) xs (fine-one word below) fine
+
+fine-more : (most more : ℕ) (xs : List ℕ) → most ≤ more → Fine most xs → Fine more xs
+fine-more most more xs less fine =
+    record { words = fine.words; count = omega (arith, fine.count, less) }
+
+fine-flat_map : {A : Type 0} (P : A → Type 0) (f : A → List ℕ) (most : ℕ) →
+    ((x : A) → P x → Fine most (f x)) → (xs : List A) → Each P xs →
+    Fine (length xs * most) (flat_map f xs)
+fine-flat_map P f most fine [] each = record { words = refl; count = omega arith }
+fine-flat_map P f most fine (x ∷ xs) each =
+    let both = fine-append most (length xs * most) (f x) (flat_map f xs) (fine x each.0)
+    (fine-flat_map P f most fine xs each.1) in
+    record {
+      words = ap (list_all is_word) (flat_map-cons f x xs) ∙ both.words;
+      count = omega (arith, ap length (flat_map-cons f x xs), both.count);
+    }
+
+-- a word of six items is one
+six-below : (p : ℕ → Bool) → ((n : ℕ) → p n ≡ true → n < 2 ^ 6) → (filling : ℕ) →
+    filling < 2 ^ 6 → (items : List ℕ) → list_all p items ≡ true →
+    six filling items < 2 ^ word_bits
+six-below p small filling below items each =
+    let fits = λ (place : ℕ). item-below p small filling below items place each in
+    packed-below (item filling items 0 ∷ item filling items 1 ∷ item filling items 2
+    ∷ item filling items 3 ∷ item filling items 4 ∷ item filling items 5 ∷ [])
+    (fits 0, (fits 1, (fits 2, (fits 3, (fits 4, (fits 5, tt))))))
+
+codes-below : (codes : List ℕ) → list_all may_print codes ≡ true → six 0 codes < 2 ^ word_bits
+codes-below codes each = six-below may_print code-small 0 (omega arith) codes each
+
+-- the words of codes are words
+sixes-words : (codes : List ℕ) → list_all may_print codes ≡ true →
+    list_all is_word (sixes codes) ≡ true
+sixes-words [] each = refl
+sixes-words (a ∷ []) each = (fine-one (six 0 (a ∷ [])) (codes-below (a ∷ []) each)).words
+sixes-words (a ∷ b ∷ []) each =
+    (fine-one (six 0 (a ∷ b ∷ [])) (codes-below (a ∷ b ∷ []) each)).words
+sixes-words (a ∷ b ∷ c ∷ []) each =
+    (fine-one (six 0 (a ∷ b ∷ c ∷ [])) (codes-below (a ∷ b ∷ c ∷ []) each)).words
+sixes-words (a ∷ b ∷ c ∷ d ∷ []) each =
+    (fine-one (six 0 (a ∷ b ∷ c ∷ d ∷ [])) (codes-below (a ∷ b ∷ c ∷ d ∷ []) each)).words
+sixes-words (a ∷ b ∷ c ∷ d ∷ e ∷ []) each =
+    (fine-one (six 0 (a ∷ b ∷ c ∷ d ∷ e ∷ [])) (codes-below (a ∷ b ∷ c ∷ d ∷ e ∷ []) each)).words
+sixes-words (a ∷ b ∷ c ∷ d ∷ e ∷ f ∷ codes) each =
+    let front : List ℕ = a ∷ b ∷ c ∷ d ∷ e ∷ f ∷ [] in
+    let parts = and_parts (list_all may_print front) (list_all may_print codes)
+    (sym (list_all-append may_print front codes) ∙ each) in
+    rw (is_word-below (six 0 front) (codes-below front parts.0), sixes-words codes parts.1) refl
+
+-- the most words that an operand, a row and a statement have
+abbrev pub most_of_slot : ℕ
+most_of_slot = 11
+
+abbrev pub most_of_row : ℕ
+most_of_row = 1 + (most_of_slot + most_of_slot + most_of_slot)
+
+abbrev pub most_of_statement : ℕ
+most_of_statement = 5000
+
+fine-slot : (slot : Slot) → is_slot slot ≡ true → Fine most_of_slot (slot_words slot)
+fine-slot absent known = record { words = refl; count = omega arith }
+fine-slot (chain names) known =
+    let parts = and_parts (is_chain names) (list_all is_name names) known in
+    fine-more 1 most_of_slot (six no_name names ∷ []) (omega arith)
+    (fine-one (six no_name names)
+    (six-below is_name name-small no_name (omega arith) names parts.1))
+fine-slot (number n) known =
+    fine-more 1 most_of_slot (n ∷ []) (omega arith)
+    (fine-one n (ltb-true n (2 ^ word_bits) known))
+fine-slot (text codes) known =
+    let is = text-known codes known in
+    fine-cons 10 (length codes) (sixes codes) (omega (arith, is.few))
+    (record {
+      words = sixes-words codes is.each;
+      count = omega (arith, length-sixes codes, is.few);
+    })
+
+fine-row : (row : Row) → Known row → Fine most_of_row (row_words row)
+fine-row row known =
+    let a = slot_words row.first in
+    let b = slot_words row.second in
+    let c = slot_words row.third in
+    fine-cons (most_of_slot + most_of_slot + most_of_slot) (row_head row) (a ++ b ++ c)
+    (packed-below (head_fields row) (head_fit row known))
+    (fine-append (most_of_slot + most_of_slot) most_of_slot (a ++ b) c
+    (fine-append most_of_slot most_of_slot a b (fine-slot row.first known.first)
+    (fine-slot row.second known.second))
+    (fine-slot row.third known.third))
+
+fine-test : (test : Test) → is_row (row_of_test test) ≡ true → Fine most_of_row (test_words test)
+fine-test test known = fine-row (row_of_test test) (known_test test known)
+
+fine-operation : (operation : Op ℕ) → KnownOperation operation →
+    Fine most_of_row (operation_words operation)
+fine-operation operation known =
+    fine-row (row_of operation) (known_operation operation known.values known.targets)
+
+fine-statement : (s : Parts) → KnownStatement s → Fine most_of_statement (statement_words s)
+fine-statement s known =
+    let parts = known_parts s known in
+    let tests = fine-flat_map (λ test. is_row (row_of_test test) ≡ true) test_words most_of_row
+    fine-test s.tests parts.tests in
+    let operations = fine-flat_map KnownOperation operation_words most_of_row fine-operation
+    s.operations parts.operations in
+    let all = flat_map test_words s.tests ++ flat_map operation_words s.operations in
+    fine-more (1 + (length s.tests * most_of_row + length s.operations * most_of_row))
+    most_of_statement (header s ∷ all) (omega (arith, known.tests, known.operations))
+    (fine-cons (length s.tests * most_of_row + length s.operations * most_of_row) (header s) all
+    (packed-below (header_fields s) (header_fit s known))
+    (fine-append (length s.tests * most_of_row) (length s.operations * most_of_row)
+    (flat_map test_words s.tests) (flat_map operation_words s.operations) tests operations))
+
+-- the words of a program are words
+pub words_of-words : (program : List Parts) → HasImage program →
+    list_all is_word (words_of program) ≡ true
+unfolding words_of
+words_of-words program has =
+    let known = known_program program has in
+    let fine = fine-flat_map KnownStatement statement_words most_of_statement fine-statement
+    program known.each in
+    rw (
+      is_word-below (length program) (omega (arith, known.count)),
+      is_word-below (length (body program)) (omega (arith, known.count, fine.count)),
+      fine.words,
+    ) refl

@@ -1,0 +1,280 @@
+-- Rows are found again in their words, and tests and operations in their rows.
+use Rattle.std.proofs.Common.{◌≡◌, ℕ, ◌/◌, ◌%◌, ◌^◌, ◌<◌, List, [], ◌∷◌, ◌++◌, get_or, true, Option, Some, None, refl, ap, ◌∙◌, arith, append_assoc}
+use Rattle.std.specs.Prelude.{◌&&◌, unwrap_or, option_to_list}
+use Rattle.std.specs.List.{list_all}
+use Rattle.std.proofs.lemmas.Bool.{and_parts, ltb-true, lt-ltb}
+use Rattle.l6_prog.specs.declared.condition.Test.{Test}
+use Rattle.l6_prog.specs.declared.condition.Test.TheVariants.{Equal, NotEqual, Greater, Less, AllOnes, AllZeros}
+use Rattle.l6_prog.specs.declared.operand.Operand.{Operand}
+use Rattle.l6_prog.specs.declared.operand.Operand.TheVariants.{Chain, Number}
+use Rattle.l6_prog.specs.declared.operation.Op.{Op}
+use Rattle.l6_prog.specs.declared.operation.Op.TheVariants.{Get, Duplicate, Call, Input, Set, Add, Subtract, Multiply, Divide, Remainder, And, Or, ExclusiveOr, Complement, ShiftLeft, ShiftRight, Exchange, Define, SaveContent, RestoreContent, SaveDefinition, RestoreDefinition, Free, PrintCharacters, PrintDecimal, PrintOctal, PrintText, PrintLine}
+use Rattle.l6_prog.specs.Numerals.{name_count}
+use Rattle.l6_prog.specs.Chain.{is_chain}
+use Rattle.l6_prog.specs.Target.{is_below, targets_of_operation}
+use Rattle.l6_image.specs.Numerals.{no_name}
+use Rattle.l6_image.specs.Bits.{Field, bits}
+use Rattle.l6_image.specs.Version.{flag, label_fields}
+use Rattle.l6_image.specs.Row.{Slot, absent, chain, number, text, Row, row, kind, slot_words, row_head, row_words, is_name, is_slot, is_field, is_row}
+use Rattle.l6_image.specs.Table.{operand, operand_if_given, chain_if_given, row_of, row_of_test}
+use Rattle.l6_image.specs.inner.Fields.{name_if, label_in}
+use Rattle.l6_image.specs.inner.Reading.{row_at}
+use Rattle.l6_image.specs.inner.Back.{chain_in, operand_in, chain_if_given_in, operand_if_given_in, statement_in, text_in, of_two, of_one, test_of, operation_of}
+use Rattle.l6_image.proofs.Packing.{AllFit, unpacked, unpacked-packed, values}
+use Rattle.l6_image.proofs.Slots.{slot-again}
+
+-- what is known of a row of a program
+pub record Known (row : Row) : Type 0 where
+  pub code : row.code < 2 ^ 6
+  pub first : is_slot row.first ≡ true
+  pub second : is_slot row.second ≡ true
+  pub third : is_slot row.third ≡ true
+  pub field : is_field row.field ≡ true
+  pub label : unwrap_or row.label 0 < 2 ^ 12
+
+-- the parts of a row that are known
+record Parts (row : Row) : Type 0 where
+  first : is_slot row.first ≡ true
+  second : is_slot row.second ≡ true
+  third : is_slot row.third ≡ true
+  field : is_field row.field ≡ true
+
+parts_of : (row : Row) → is_row row ≡ true → Parts row
+parts_of row known =
+    let a = is_slot row.first in
+    let b = is_slot row.second in
+    let c = is_slot row.third in
+    let d = is_field row.field in
+    let three = and_parts (a && b && c) d known in
+    let two = and_parts (a && b) c three.0 in
+    let one = and_parts a b two.0 in
+    record { first = one.0; second = one.1; third = two.1; field = three.1 }
+
+pub known_row : (row : Row) → row.code < 2 ^ 6 → unwrap_or row.label 0 < 2 ^ 12 →
+    is_row row ≡ true → Known row
+known_row row code label known =
+    let is = parts_of row known in
+    record {
+      code = code;
+      first = is.first;
+      second = is.second;
+      third = is.third;
+      field = is.field;
+      label = label;
+    }
+
+-- the number of a kind has two bits, that of a name six, and the flag one
+pub kind-below : (slot : Slot) → kind slot < 2 ^ 2
+kind-below absent = omega arith
+kind-below (chain names) = omega arith
+kind-below (number n) = omega arith
+kind-below (text codes) = omega arith
+
+pub field-below : (field : Option ℕ) → is_field field ≡ true → unwrap_or field no_name < 2 ^ 6
+field-below None known = omega arith
+field-below (Some name) known = omega (arith, ltb-true name name_count known)
+
+pub flag-below : (label : Option ℕ) → flag label < 2 ^ 1
+flag-below None = omega arith
+flag-below (Some label) = omega arith
+
+-- the fields of a row's first word, which have room for what they hold
+abbrev pub head_fields : Row → List Field
+head_fields row =
+    bits 6 row.code ∷ bits 2 (kind row.first) ∷ bits 2 (kind row.second)
+    ∷ bits 2 (kind row.third) ∷ bits 6 (unwrap_or row.field no_name) ∷ label_fields row.label
+
+pub head_fit : (row : Row) → Known row → AllFit (head_fields row)
+head_fit row known = (
+  known.code,
+  (
+    kind-below row.first,
+    (
+      kind-below row.second,
+      (
+        kind-below row.third,
+        (
+          field-below row.field known.field,
+          (
+            omega arith,
+            (
+              flag-below row.label,
+              (known.label, tt),
+            ),
+          ),
+        ),
+      ),
+    ),
+  ),
+)
+
+-- a name is found again in its field
+name_if-again : (field : Option ℕ) → is_field field ≡ true →
+    name_if (unwrap_or field no_name) ≡ field
+name_if-again None known = refl
+name_if-again (Some name) known = rw known refl
+
+-- a label is found again in its bits
+label_in-again : (word : ℕ) (label : Option ℕ) → word / 2 ^ 12 % 2 ≡ flag label →
+    word % 2 ^ 12 ≡ unwrap_or label 0 → label_in word ≡ label
+label_in-again word None flagged is = rw flagged refl
+label_in-again word (Some label) flagged is = rw (flagged, is) refl
+
+-- a row is found again in words that begin with one that has its fields
+row_at-again : (row : Row) (head : ℕ) (rest : List ℕ) → Known row →
+    unpacked (6 ∷ 2 ∷ 2 ∷ 2 ∷ 6 ∷ 5 ∷ 1 ∷ 12 ∷ []) head ≡ values (head_fields row) →
+    row_at (head ∷ slot_words row.first ++ (slot_words row.second ++ (slot_words row.third ++ rest)))
+    ≡ Some (row, rest)
+unfolding row_at
+row_at-again row head rest known is =
+    let at = λ (place : ℕ). ap (λ (xs : List ℕ). get_or xs place 0) is in
+    let code : head / 2 ^ 30 % 64 ≡ row.code = at 0 in
+    let first : head / 2 ^ 28 % 4 ≡ kind row.first = at 1 in
+    let second : head / 2 ^ 26 % 4 ≡ kind row.second = at 2 in
+    let third : head / 2 ^ 24 % 4 ≡ kind row.third = at 3 in
+    let field : head / 2 ^ 18 % 64 ≡ unwrap_or row.field no_name = at 4 in
+    let flagged : head / 2 ^ 12 % 2 ≡ flag row.label = at 6 in
+    let whole : head ≡ head / 1 = omega arith in
+    let labelled : head % 2 ^ 12 ≡ unwrap_or row.label 0 =
+    ap (λ n. n % 2 ^ 12) whole ∙ at 7 in
+    rw (
+      first,
+      slot-again row.first (slot_words row.second ++ (slot_words row.third ++ rest))
+          known.first,
+      second,
+      slot-again row.second (slot_words row.third ++ rest) known.second,
+      third,
+      slot-again row.third rest known.third,
+      code,
+      field,
+      name_if-again row.field known.field,
+      label_in-again head row.label flagged labelled,
+    ) refl
+
+-- a row is found again in its words, and what follows them
+pub row-again : (row : Row) (rest : List ℕ) → Known row →
+    row_at (row_words row ++ rest) ≡ Some (row, rest)
+row-again row rest known =
+    let a = slot_words row.first in
+    let b = slot_words row.second in
+    let c = slot_words row.third in
+    let regrouped : (a ++ b ++ c) ++ rest ≡ a ++ (b ++ (c ++ rest)) =
+    append_assoc (a ++ b) c rest ∙ append_assoc a b (c ++ rest) in
+    ap (λ xs. row_at (row_head row ∷ xs)) regrouped
+    ∙ row_at-again row (row_head row) rest known
+    (unpacked-packed (head_fields row) (head_fit row known))
+
+-- operands are found again in their slots
+chain-again : (names : List ℕ) → is_slot (chain names) ≡ true → chain_in (chain names) ≡ Some names
+unfolding chain_in
+chain-again names known =
+    rw (and_parts (is_chain names) (list_all is_name names) known).0 refl
+
+operand-again : (v : Operand) → is_slot (operand v) ≡ true → operand_in (operand v) ≡ Some v
+unfolding operand_in
+operand-again (Chain names) known =
+    rw (and_parts (is_chain names) (list_all is_name names) known).0 refl
+operand-again (Number n) known = rw known refl
+
+chain_if_given-again : (d : Option (List ℕ)) → is_slot (chain_if_given d) ≡ true →
+    chain_if_given_in (chain_if_given d) ≡ Some d
+unfolding chain_if_given_in
+chain_if_given-again None known = refl
+chain_if_given-again (Some names) known =
+    rw (and_parts (is_chain names) (list_all is_name names) known).0 refl
+
+operand_if_given-again : (v : Option Operand) → is_slot (operand_if_given v) ≡ true →
+    operand_if_given_in (operand_if_given v) ≡ Some v
+unfolding operand_if_given_in operand_in
+operand_if_given-again None known = refl
+operand_if_given-again (Some (Chain names)) known =
+    rw (and_parts (is_chain names) (list_all is_name names) known).0 refl
+operand_if_given-again (Some (Number n)) known = rw known refl
+
+statement-again : (n : ℕ) → n < 2 ^ 16 → statement_in (number n) ≡ Some n
+unfolding statement_in
+statement-again n below = rw (lt-ltb n (2 ^ 16) below) refl
+
+text-again : (codes : List ℕ) → is_slot (text codes) ≡ true → text_in (text codes) ≡ Some codes
+unfolding text_in
+text-again codes known = rw known refl
+
+-- what has a chain and an operand is found again
+two-again : {A : Type 0} (make : List ℕ → Operand → A) (code : ℕ) (c : List ℕ) (v : Operand)
+    (third : Slot) (field label : Option ℕ) →
+    is_row (row code (chain c) (operand v) third field label) ≡ true →
+    of_two make (row code (chain c) (operand v) third field label) ≡ Some (make c v)
+two-again make code c v third field label known =
+    let is = parts_of (row code (chain c) (operand v) third field label) known in
+    rw (chain-again c is.first, operand-again v is.second) refl
+
+-- what has a chain
+one-again : {A : Type 0} (make : List ℕ → A) (code : ℕ) (c : List ℕ)
+    (second third : Slot) (field label : Option ℕ) →
+    is_row (row code (chain c) second third field label) ≡ true →
+    of_one make (row code (chain c) second third field label) ≡ Some (make c)
+one-again make code c second third field label known =
+    let is = parts_of (row code (chain c) second third field label) known in
+    rw (chain-again c is.first) refl
+
+-- a test is found again in its row
+pub test_again : (test : Test) → is_row (row_of_test test) ≡ true →
+    test_of (row_of_test test) ≡ Some test
+unfolding test_of
+test_again (Equal c v) known = two-again Equal 1 c v absent None None known
+test_again (NotEqual c v) known = two-again NotEqual 2 c v absent None None known
+test_again (Greater c v) known = two-again Greater 3 c v absent None None known
+test_again (Less c v) known = two-again Less 4 c v absent None None known
+test_again (AllOnes c v) known = two-again AllOnes 5 c v absent None None known
+test_again (AllZeros c v) known = two-again AllZeros 6 c v absent None None known
+
+-- an operation is found again in its row
+pub operation_again : (operation : Op ℕ) → is_row (row_of operation) ≡ true →
+    list_all (is_below (2 ^ 16)) (targets_of_operation operation) ≡ true →
+    operation_of (row_of operation) ≡ Some operation
+unfolding operation_of
+operation_again (Set c v) known _ = two-again Set 1 c v absent None None known
+operation_again (Add c v) known _ = two-again Add 2 c v absent None None known
+operation_again (Subtract c v) known _ = two-again Subtract 3 c v absent None None known
+operation_again (Multiply c v) known _ = two-again Multiply 4 c v absent None None known
+operation_again (Divide c v) known _ = two-again Divide 5 c v absent None None known
+operation_again (Remainder c v) known _ = two-again Remainder 6 c v absent None None known
+operation_again (And c v) known _ = two-again And 7 c v absent None None known
+operation_again (Or c v) known _ = two-again Or 8 c v absent None None known
+operation_again (ExclusiveOr c v) known _ = two-again ExclusiveOr 9 c v absent None None known
+operation_again (Complement c v) known _ = two-again Complement 10 c v absent None None known
+operation_again (ShiftLeft c v) known _ = two-again ShiftLeft 11 c v absent None None known
+operation_again (ShiftRight c v) known _ = two-again ShiftRight 12 c v absent None None known
+operation_again (Exchange c d) known _ =
+    let is = parts_of (row_of (Exchange c d)) known in
+    rw (chain-again c is.first, chain-again d is.second) refl
+operation_again (Define f w a z) known _ =
+    let is = parts_of (row_of (Define f w a z)) known in
+    rw (operand-again w is.first, operand-again a is.second, operand-again z is.third) refl
+operation_again (SaveContent c) known _ = one-again SaveContent 15 c absent absent None None known
+operation_again (RestoreContent c) known _ =
+    one-again RestoreContent 16 c absent absent None None known
+operation_again (SaveDefinition f) known _ = refl
+operation_again (RestoreDefinition f) known _ = refl
+operation_again (Get c v d label) known _ =
+    let is = parts_of (row_of (Get c v d label)) known in
+    rw (chain-again c is.first, operand-again v is.second, chain_if_given-again d is.third) refl
+operation_again (Duplicate c v label) known _ =
+    two-again (λ c v. Duplicate c v label) 20 c v absent None label known
+operation_again (Free c v) known _ =
+    let is = parts_of (row_of (Free c v)) known in
+    rw (chain-again c is.first, operand_if_given-again v is.second) refl
+operation_again (Call called fail) known below =
+    let first = and_parts (is_below (2 ^ 16) called)
+    (list_all (is_below (2 ^ 16)) (option_to_list fail)) below in
+    rw (statement-again called (ltb-true called (2 ^ 16) first.0)) refl
+operation_again (Input c v label) known _ =
+    two-again (λ c v. Input c v label) 23 c v absent None label known
+operation_again (PrintCharacters c v) known _ =
+    two-again PrintCharacters 24 c v absent None None known
+operation_again (PrintDecimal c) known _ = one-again PrintDecimal 25 c absent absent None None known
+operation_again (PrintOctal c) known _ = one-again PrintOctal 26 c absent absent None None known
+operation_again (PrintText codes) known _ =
+    let is = parts_of (row_of (PrintText codes)) known in
+    rw (text-again codes is.first) refl
+operation_again PrintLine known _ = refl

@@ -1,0 +1,235 @@
+-- What is known of a program is known of its statements, tests and operations.
+use Rattle.std.proofs.Common.{◌≡◌, ℕ, ◌<◌, ◌≤◌, ◌^◌, List, [], ◌∷◌, length, Bool, true, Option, Some, None, refl, sym, ◌∙◌, arith}
+use Rattle.std.specs.Prelude.{nat_le, unwrap_or, option_to_list}
+use Rattle.std.specs.List.{flat_map, list_all}
+use Rattle.std.proofs.lemmas.Bool.{and_parts, ltb-true, lt-ltb, leb-true}
+use Rattle.std.proofs.lemmas.List.Folds.{list_all-append}
+use Rattle.l6_prog.specs.declared.condition.Test.{Test}
+use Rattle.l6_prog.specs.declared.condition.Test.TheVariants.{Equal, NotEqual, Greater, Less, AllOnes, AllZeros}
+use Rattle.l6_prog.specs.declared.operation.Op.{Op}
+use Rattle.l6_prog.specs.declared.operation.Op.TheVariants.{Get, Duplicate, Call, Input, Set, Add, Subtract, Multiply, Divide, Remainder, And, Or, ExclusiveOr, Complement, ShiftLeft, ShiftRight, Exchange, Define, SaveContent, RestoreContent, SaveDefinition, RestoreDefinition, Free, PrintCharacters, PrintDecimal, PrintOctal, PrintText, PrintLine}
+use Rattle.l6_prog.specs.declared.exit.Exit.{Exit}
+use Rattle.l6_prog.specs.declared.exit.Exit.TheVariants.{Next, Label, Done, Fail}
+use Rattle.l6_prog.specs.Numerals.{most_statements, most_tests, most_operations}
+use Rattle.l6_prog.specs.Statement.{Parts}
+use Rattle.l6_prog.specs.Target.{is_below, targets_of, targets_of_operation, targets_of_exit}
+use Rattle.l6_prog.specs.Program.{fits}
+use Rattle.l6_prog.proofs.Programs.{takes_just_programs}
+use Rattle.l6_prog.proofs.Targets.{list_all-flat_map}
+use Rattle.l6_image.specs.Row.{is_row}
+use Rattle.l6_image.specs.Table.{row_of, row_of_test}
+use Rattle.l6_image.specs.Image.{exit_target, has_values, HasImage}
+use Rattle.l6_image.proofs.Found.{Known, known_row}
+
+-- how many statements can be told in the bits for a target
+abbrev pub target_count : ℕ
+target_count = 2 ^ 12
+
+-- so it is with each of a list
+abbrev pub Each : {A : Type 0} → (A → Type 0) → List A → Type 0
+Each P [] = Unit {0}
+Each P (x ∷ xs) = P x × Each P xs
+
+-- what each passes that passes a test
+pub each_of : {A : Type 0} (p : A → Bool) (P : A → Type 0) → ((x : A) → p x ≡ true → P x) →
+    (xs : List A) → list_all p xs ≡ true → Each P xs
+each_of p P passes [] each = tt
+each_of p P passes (x ∷ xs) each =
+    let parts = and_parts (p x) (list_all p xs) each in
+    (passes x parts.0, each_of p P passes xs parts.1)
+
+-- targets below an end are below a later one
+pub below-more : (end later : ℕ) (targets : List ℕ) → end ≤ later →
+    list_all (is_below end) targets ≡ true → list_all (is_below later) targets ≡ true
+below-more end later [] more each = refl
+below-more end later (target ∷ targets) more each =
+    let parts = and_parts (is_below end target) (list_all (is_below end) targets) each in
+    let below : target < later = omega (arith, ltb-true target end parts.0, more) in
+    rw (lt-ltb target later below, below-more end later targets more parts.1) refl
+
+-- what is known of a statement of a program
+pub record KnownStatement (s : Parts) : Type 0 where
+  pub tests : length s.tests ≤ most_tests
+  pub operations : length s.operations ≤ most_operations
+  pub values : has_values s ≡ true
+  pub targets : list_all (is_below target_count) (targets_of s) ≡ true
+
+known_statement : (s : Parts) → fits s ≡ true → has_values s ≡ true →
+    list_all (is_below target_count) (targets_of s) ≡ true → KnownStatement s
+known_statement s fit values targets =
+    let tests = nat_le (length s.tests) most_tests in
+    let operations = nat_le (length s.operations) most_operations in
+    let parts = and_parts tests operations fit in
+    record {
+      tests = leb-true (length s.tests) most_tests parts.0;
+      operations = leb-true (length s.operations) most_operations parts.1;
+      values = values;
+      targets = targets;
+    }
+
+known_statements : (program : List Parts) → list_all fits program ≡ true →
+    list_all has_values program ≡ true →
+    list_all (λ s. list_all (is_below target_count) (targets_of s)) program ≡ true →
+    Each KnownStatement program
+known_statements [] fit values targets = tt
+known_statements (s ∷ program) fit values targets =
+    let below = λ (s : Parts). list_all (is_below target_count) (targets_of s) in
+    let a = and_parts (fits s) (list_all fits program) fit in
+    let b = and_parts (has_values s) (list_all has_values program) values in
+    let c = and_parts (below s) (list_all below program) targets in
+    (known_statement s a.0 b.0 c.0, known_statements program a.1 b.1 c.1)
+
+-- what is known of a program
+pub record KnownProgram (program : List Parts) : Type 0 where
+  pub count : length program ≤ most_statements
+  pub each : Each KnownStatement program
+
+pub known_program : (program : List Parts) → HasImage program → KnownProgram program
+known_program program has =
+    let is = (takes_just_programs program).0 has.taken in
+    let few = nat_le (length program) most_statements in
+    let parts = and_parts few (list_all fits program) is.limits in
+    let count : length program ≤ most_statements =
+    leb-true (length program) most_statements parts.0 in
+    let below : list_all (is_below target_count) (flat_map targets_of program) ≡ true =
+    below-more (length program) target_count (flat_map targets_of program)
+    (omega (arith, count)) is.targets in
+    record {
+      count = count;
+      each = known_statements program parts.1 has.values
+          (sym (list_all-flat_map (is_below target_count) targets_of program) ∙ below);
+    }
+
+-- a label is below an end, or there is none
+label-below : (label : Option ℕ) →
+    list_all (is_below target_count) (option_to_list label) ≡ true →
+    unwrap_or label 0 < target_count
+label-below None each = omega arith
+label-below (Some label) each =
+    ltb-true label target_count (and_parts (is_below target_count label) true each).0
+
+-- the row of a test is known
+pub known_test : (test : Test) → is_row (row_of_test test) ≡ true → Known (row_of_test test)
+known_test (Equal c v) known =
+    known_row (row_of_test (Equal c v)) (omega arith) (omega arith) known
+known_test (NotEqual c v) known =
+    known_row (row_of_test (NotEqual c v)) (omega arith) (omega arith) known
+known_test (Greater c v) known =
+    known_row (row_of_test (Greater c v)) (omega arith) (omega arith) known
+known_test (Less c v) known =
+    known_row (row_of_test (Less c v)) (omega arith) (omega arith) known
+known_test (AllOnes c v) known =
+    known_row (row_of_test (AllOnes c v)) (omega arith) (omega arith) known
+known_test (AllZeros c v) known =
+    known_row (row_of_test (AllZeros c v)) (omega arith) (omega arith) known
+
+-- so is that of an operation
+pub known_operation : (operation : Op ℕ) → is_row (row_of operation) ≡ true →
+    list_all (is_below target_count) (targets_of_operation operation) ≡ true →
+    Known (row_of operation)
+known_operation (Set c v) known _ =
+    known_row (row_of (Set c v)) (omega arith) (omega arith) known
+known_operation (Add c v) known _ =
+    known_row (row_of (Add c v)) (omega arith) (omega arith) known
+known_operation (Subtract c v) known _ =
+    known_row (row_of (Subtract c v)) (omega arith) (omega arith) known
+known_operation (Multiply c v) known _ =
+    known_row (row_of (Multiply c v)) (omega arith) (omega arith) known
+known_operation (Divide c v) known _ =
+    known_row (row_of (Divide c v)) (omega arith) (omega arith) known
+known_operation (Remainder c v) known _ =
+    known_row (row_of (Remainder c v)) (omega arith) (omega arith) known
+known_operation (And c v) known _ =
+    known_row (row_of (And c v)) (omega arith) (omega arith) known
+known_operation (Or c v) known _ =
+    known_row (row_of (Or c v)) (omega arith) (omega arith) known
+known_operation (ExclusiveOr c v) known _ =
+    known_row (row_of (ExclusiveOr c v)) (omega arith) (omega arith) known
+known_operation (Complement c v) known _ =
+    known_row (row_of (Complement c v)) (omega arith) (omega arith) known
+known_operation (ShiftLeft c v) known _ =
+    known_row (row_of (ShiftLeft c v)) (omega arith) (omega arith) known
+known_operation (ShiftRight c v) known _ =
+    known_row (row_of (ShiftRight c v)) (omega arith) (omega arith) known
+known_operation (Exchange c d) known _ =
+    known_row (row_of (Exchange c d)) (omega arith) (omega arith) known
+known_operation (Define f w a z) known _ =
+    known_row (row_of (Define f w a z)) (omega arith) (omega arith) known
+known_operation (SaveContent c) known _ =
+    known_row (row_of (SaveContent c)) (omega arith) (omega arith) known
+known_operation (RestoreContent c) known _ =
+    known_row (row_of (RestoreContent c)) (omega arith) (omega arith) known
+known_operation (SaveDefinition f) known _ =
+    known_row (row_of (SaveDefinition f)) (omega arith) (omega arith) known
+known_operation (RestoreDefinition f) known _ =
+    known_row (row_of (RestoreDefinition f)) (omega arith) (omega arith) known
+known_operation (Get c v d label) known below =
+    known_row (row_of (Get c v d label)) (omega arith) (label-below label below) known
+known_operation (Duplicate c v label) known below =
+    known_row (row_of (Duplicate c v label)) (omega arith) (label-below label below) known
+known_operation (Free c v) known _ =
+    known_row (row_of (Free c v)) (omega arith) (omega arith) known
+known_operation (Call called fail) known below =
+    let others = (and_parts (is_below target_count called)
+    (list_all (is_below target_count) (option_to_list fail)) below).1 in
+    known_row (row_of (Call called fail)) (omega arith) (label-below fail others) known
+known_operation (Input c v label) known below =
+    known_row (row_of (Input c v label)) (omega arith) (label-below label below) known
+known_operation (PrintCharacters c v) known _ =
+    known_row (row_of (PrintCharacters c v)) (omega arith) (omega arith) known
+known_operation (PrintDecimal c) known _ =
+    known_row (row_of (PrintDecimal c)) (omega arith) (omega arith) known
+known_operation (PrintOctal c) known _ =
+    known_row (row_of (PrintOctal c)) (omega arith) (omega arith) known
+known_operation (PrintText codes) known _ =
+    known_row (row_of (PrintText codes)) (omega arith) (omega arith) known
+known_operation PrintLine known _ =
+    known_row (row_of PrintLine) (omega arith) (omega arith) known
+
+-- what is known of an operation of a program
+pub record KnownOperation (operation : Op ℕ) : Type 0 where
+  pub values : is_row (row_of operation) ≡ true
+  pub targets : list_all (is_below target_count) (targets_of_operation operation) ≡ true
+
+known_operations : (operations : List (Op ℕ)) →
+    list_all (λ operation. is_row (row_of operation)) operations ≡ true →
+    list_all (λ o. list_all (is_below target_count) (targets_of_operation o)) operations ≡ true →
+    Each KnownOperation operations
+known_operations [] values targets = tt
+known_operations (operation ∷ operations) values targets =
+    let p = λ (o : Op ℕ). is_row (row_of o) in
+    let q = λ (o : Op ℕ). list_all (is_below target_count) (targets_of_operation o) in
+    let a = and_parts (p operation) (list_all p operations) values in
+    let b = and_parts (q operation) (list_all q operations) targets in
+    (record { values = a.0; targets = b.0 }, known_operations operations a.1 b.1)
+
+-- what is known of the parts of a statement
+pub record KnownParts (s : Parts) : Type 0 where
+  pub tests : Each (λ test. is_row (row_of_test test) ≡ true) s.tests
+  pub operations : Each KnownOperation s.operations
+  pub target : unwrap_or (exit_target s.exit) 0 < target_count
+
+exit-below : (leaving : Exit ℕ) →
+    list_all (is_below target_count) (targets_of_exit leaving) ≡ true →
+    unwrap_or (exit_target leaving) 0 < target_count
+exit-below Next each = omega arith
+exit-below (Label target) each =
+    ltb-true target target_count (and_parts (is_below target_count target) true each).0
+exit-below Done each = omega arith
+exit-below Fail each = omega arith
+
+pub known_parts : (s : Parts) → KnownStatement s → KnownParts s
+known_parts s known =
+    let p = λ (test : Test). is_row (row_of_test test) in
+    let q = λ (o : Op ℕ). is_row (row_of o) in
+    let below = is_below target_count in
+    let called = flat_map targets_of_operation s.operations in
+    let a = and_parts (list_all p s.tests) (list_all q s.operations) known.values in
+    let b = and_parts (list_all below called) (list_all below (targets_of_exit s.exit))
+    (sym (list_all-append below called (targets_of_exit s.exit)) ∙ known.targets) in
+    record {
+      tests = each_of p (λ test. p test ≡ true) (λ test is. is) s.tests a.0;
+      operations = known_operations s.operations a.1
+          (sym (list_all-flat_map below targets_of_operation s.operations) ∙ b.0);
+      target = exit-below s.exit b.1;
+    }

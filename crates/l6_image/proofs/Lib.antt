@@ -1,0 +1,12 @@
+pub mod Sixes
+pub mod Taken
+pub mod Counted
+pub mod Packing
+pub mod Slots
+pub mod Found
+pub mod Knowing
+pub mod Programs
+pub mod Fitness
+pub mod Lines
+pub mod Texts
+pub mod Loadings

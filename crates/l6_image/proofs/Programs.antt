@@ -1,0 +1,168 @@
+-- Programs are found again in their words.
+use Rattle.std.proofs.Common.{◌≡◌, ℕ, ◌/◌, ◌%◌, ◌^◌, ◌<◌, suc, List, [], ◌∷◌, ◌++◌, length, get_or, true, Option, Some, refl, ap, sym, ◌∙◌, arith, append_assoc, append-nil}
+use Rattle.std.specs.Prelude.{unwrap_or}
+use Rattle.std.specs.List.{flat_map}
+use Rattle.std.proofs.lemmas.Bool.{le-ltb}
+use Rattle.std.proofs.lemmas.List.Concat.{flat_map-cons}
+use Rattle.l6_prog.specs.declared.condition.Cond.{Cond}
+use Rattle.l6_prog.specs.declared.condition.Cond.TheVariants.{Always, If, Not, IfAll, IfAny, IfNone, IfNotAll}
+use Rattle.l6_prog.specs.declared.condition.Test.{Test}
+use Rattle.l6_prog.specs.declared.operation.Op.{Op}
+use Rattle.l6_prog.specs.declared.exit.Exit.{Exit}
+use Rattle.l6_prog.specs.declared.exit.Exit.TheVariants.{Next, Label, Done, Fail}
+use Rattle.l6_prog.specs.Numerals.{most_statements}
+use Rattle.l6_prog.specs.Statement.{Parts}
+use Rattle.l6_prog.specs.Target.{targets_of_operation}
+use Rattle.l6_image.specs.Bits.{Field, bits}
+use Rattle.l6_image.specs.Version.{mark, target_fields}
+use Rattle.l6_image.specs.Row.{is_row}
+use Rattle.l6_image.specs.Table.{row_of, row_of_test}
+use Rattle.l6_image.specs.Image.{condition_code, exit_code, exit_target, header, test_words, operation_words, statement_words, body, words_of, HasImage}
+use Rattle.l6_image.specs.inner.Fields.{target_in}
+use Rattle.l6_image.specs.inner.Statements.{many, test_at, operation_at, condition_in, exit_in, statement_at, statements_of}
+use Rattle.l6_image.specs.inner.Loading.{if_made, program_in}
+use Rattle.l6_image.proofs.Packing.{AllFit, unpacked, unpacked-packed, values}
+use Rattle.l6_image.proofs.Found.{row-again, test_again, operation_again}
+use Rattle.l6_image.proofs.Knowing.{Each, below-more, target_count, KnownStatement, KnownProgram, known_program, known_parts, KnownOperation, known_test, known_operation}
+
+-- one is found again in its words, and what follows them
+abbrev pub Again : {A : Type 0} → (A → List ℕ) → (List ℕ → Option (A × List ℕ)) → A → Type 0
+Again spell at x = (rest : List ℕ) → at (spell x ++ rest) ≡ Some (x, rest)
+
+each-again : {A : Type 0} (spell : A → List ℕ) (at : List ℕ → Option (A × List ℕ))
+    (P : A → Type 0) → ((x : A) → P x → Again spell at x) → (xs : List A) → Each P xs →
+    (rest : List ℕ) → many at (length xs) (flat_map spell xs ++ rest) ≡ Some (xs, rest)
+each-again spell at P again [] each rest = refl
+each-again spell at P again (x ∷ xs) each rest =
+    let words : flat_map spell (x ∷ xs) ++ rest ≡ spell x ++ (flat_map spell xs ++ rest) =
+    ap (λ ws. ws ++ rest) (flat_map-cons spell x xs)
+    ∙ append_assoc (spell x) (flat_map spell xs) rest in
+    ap (many at (suc (length xs))) words
+    ∙ rw (
+      again x each.0 (flat_map spell xs ++ rest),
+      each-again spell at P again xs each.1 rest,
+    ) refl
+
+-- a test, and an operation
+test_at-again : (test : Test) → is_row (row_of_test test) ≡ true → Again test_words test_at test
+unfolding test_at
+test_at-again test known rest =
+    rw (row-again (row_of_test test) rest (known_test test known), test_again test known) refl
+
+operation_at-again : (operation : Op ℕ) → KnownOperation operation →
+    Again operation_words operation_at operation
+unfolding operation_at
+operation_at-again operation known rest =
+    rw (
+      row-again (row_of operation) rest (known_operation operation known.values known.targets),
+      operation_again operation known.values
+          (below-more target_count (2 ^ 16) (targets_of_operation operation) (omega arith)
+          known.targets),
+    ) refl
+
+-- condition and exit
+condition-again : (condition : Cond) → condition_in (condition_code condition) ≡ condition
+condition-again Always = refl
+condition-again If = refl
+condition-again Not = refl
+condition-again IfAll = refl
+condition-again IfAny = refl
+condition-again IfNone = refl
+condition-again IfNotAll = refl
+
+exit-again : (leaving : Exit ℕ) →
+    exit_in (exit_code leaving) (unwrap_or (exit_target leaving) 0) ≡ leaving
+exit-again Next = refl
+exit-again (Label target) = refl
+exit-again Done = refl
+exit-again Fail = refl
+
+condition-below : (condition : Cond) → condition_code condition < 2 ^ 3
+condition-below Always = omega arith
+condition-below If = omega arith
+condition-below Not = omega arith
+condition-below IfAll = omega arith
+condition-below IfAny = omega arith
+condition-below IfNone = omega arith
+condition-below IfNotAll = omega arith
+
+exit-below : (leaving : Exit ℕ) → exit_code leaving < 2 ^ 3
+exit-below Next = omega arith
+exit-below (Label target) = omega arith
+exit-below Done = omega arith
+exit-below Fail = omega arith
+
+-- the fields of a header, which have room for what they hold
+abbrev pub header_fields : Parts → List Field
+header_fields s =
+    bits 3 (condition_code s.condition) ∷ bits 6 (length s.tests)
+    ∷ bits 6 (length s.operations) ∷ bits 3 (exit_code s.exit)
+    ∷ target_fields (exit_target s.exit)
+
+pub header_fit : (s : Parts) → KnownStatement s → AllFit (header_fields s)
+header_fit s known = (
+  condition-below s.condition,
+  (
+    omega (arith, known.tests),
+    (
+      omega (arith, known.operations),
+      (exit-below s.exit, (omega arith, ((known_parts s known).target, tt))),
+    ),
+  ),
+)
+
+-- a statement is found again in words that begin with one that has its header's fields
+statement_at-found : (s : Parts) (head : ℕ) (rest : List ℕ) → KnownStatement s →
+    unpacked (3 ∷ 6 ∷ 6 ∷ 3 ∷ 6 ∷ 12 ∷ []) head ≡ values (header_fields s) →
+    statement_at (head ∷ flat_map test_words s.tests
+    ++ (flat_map operation_words s.operations ++ rest)) ≡ Some (s, rest)
+unfolding statement_at
+statement_at-found s head rest known is =
+    let at = λ (place : ℕ). ap (λ (xs : List ℕ). get_or xs place 0) is in
+    let parts = known_parts s known in
+    let condition : head / 2 ^ 33 % 8 ≡ condition_code s.condition = at 0 in
+    let tests : head / 2 ^ 27 % 64 ≡ length s.tests = at 1 in
+    let operations : head / 2 ^ 21 % 64 ≡ length s.operations = at 2 in
+    let leaving : head / 2 ^ 18 % 8 ≡ exit_code s.exit = at 3 in
+    let whole : head ≡ head / 1 = omega arith in
+    let target : target_in head ≡ unwrap_or (exit_target s.exit) 0 =
+    ap (λ n. n % 2 ^ 12) whole ∙ at 5 in
+    rw (
+      tests,
+      each-again test_words test_at (λ test. is_row (row_of_test test) ≡ true)
+          test_at-again s.tests parts.tests (flat_map operation_words s.operations ++ rest),
+      operations,
+      each-again operation_words operation_at KnownOperation operation_at-again
+          s.operations parts.operations rest,
+      condition,
+      condition-again s.condition,
+      leaving,
+      target,
+      exit-again s.exit,
+    ) refl
+
+statement_at-again : (s : Parts) → KnownStatement s → Again statement_words statement_at s
+statement_at-again s known rest =
+    ap (λ ws. statement_at (header s ∷ ws))
+    (append_assoc (flat_map test_words s.tests) (flat_map operation_words s.operations) rest)
+    ∙ statement_at-found s (header s) rest known
+    (unpacked-packed (header_fields s) (header_fit s known))
+
+-- a program is found again in its words
+statements_of-again : (program : List Parts) → KnownProgram program →
+    statements_of (words_of program) ≡ Some program
+unfolding words_of statements_of
+statements_of-again program known =
+    let words : body program ≡ body program ++ [] = sym (append-nil (body program)) in
+    ap (λ ws. statements_of (mark ∷ length program ∷ length (body program) ∷ ws)) words
+    ∙ rw (
+      le-ltb most_statements (length program) known.count,
+      each-again statement_words statement_at KnownStatement statement_at-again program
+          known.each [],
+    ) refl
+
+pub program_in-again : (program : List Parts) → HasImage program →
+    program_in (words_of program) ≡ Some program
+unfolding program_in
+program_in-again program has =
+    rw (statements_of-again program (known_program program has)) (ap if_made has.taken)

@@ -1,0 +1,208 @@
+-- Operands are found again in their words.
+use Rattle.std.proofs.Common.{◌≡◌, ℕ, ◌+◌, ◌-◌, ◌/◌, ◌%◌, ◌^◌, ◌<◌, ◌≤◌, zero, suc, List, [], ◌∷◌, ◌++◌, length, get_or, take, drop, replicate, Bool, true, false, Some, refl, ap, sym, ◌∙◌, arith, append-nil, length-append}
+use Rattle.std.specs.Prelude.{◌&&◌, nat_lt, nat_le, not}
+use Rattle.std.specs.List.{flat_map, list_all, take_while}
+use Rattle.std.proofs.lemmas.Bool.{and_parts, ltb-true, leb-true, le-ltb}
+use Rattle.std.proofs.Math.Seq.{take-append_seam, take-append-add, drop-append_seam}
+use Rattle.std.proofs.lemmas.List.Folds.{list_all-append}
+use Rattle.std.proofs.lemmas.List.Concat.{flat_map-cons}
+use Rattle.l6_word.specs.Numerals.{code_count}
+use Rattle.l6_prog.specs.Numerals.{name_count, most_characters, most_names}
+use Rattle.l6_prog.specs.Chain.{is_chain}
+use Rattle.l6_prog.specs.PrintText.{is_print_text, may_print, is_barred}
+use Rattle.l6_image.specs.Numerals.{no_name}
+use Rattle.l6_image.specs.Bits.{item, six}
+use Rattle.l6_image.specs.Row.{Slot, absent, chain, number, text, kind, sixes, slot_words, is_name, is_slot}
+use Rattle.l6_image.specs.inner.Fields.{items_in, names_in}
+use Rattle.l6_image.specs.inner.Reading.{slot_at, codes_at, codes_in}
+use Rattle.l6_image.proofs.Packing.{unpacked, unpacked-packed}
+use Rattle.l6_image.proofs.Sixes.{few_names}
+use Rattle.l6_image.proofs.Taken.{take_while-passes, take_while-fails}
+
+-- the items of a word, as a list
+abbrev pub filled : ℕ → List ℕ → List ℕ
+filled filling items =
+    get_or items 0 filling ∷ get_or items 1 filling ∷ get_or items 2 filling
+    ∷ get_or items 3 filling ∷ get_or items 4 filling ∷ get_or items 5 filling ∷ []
+
+-- the six items of a word are what its fields hold
+items-unpacked : (word : ℕ) → items_in word ≡ unpacked (6 ∷ 6 ∷ 6 ∷ 6 ∷ 6 ∷ 6 ∷ []) word
+items-unpacked word =
+    let whole : word ≡ word / 1 = omega arith in
+    ap (λ n. word / 2 ^ 30 % 64 ∷ word / 2 ^ 24 % 64 ∷ word / 2 ^ 18 % 64 ∷ word / 2 ^ 12 % 64
+    ∷ word / 2 ^ 6 % 64 ∷ n % 64 ∷ []) whole
+
+-- items that pass a test, and what stands behind them, have six bits
+pub item-below : (p : ℕ → Bool) → ((n : ℕ) → p n ≡ true → n < 2 ^ 6) → (filling : ℕ) →
+    filling < 2 ^ 6 → (items : List ℕ) (place : ℕ) → list_all p items ≡ true →
+    get_or items place filling < 2 ^ 6
+item-below p small filling below [] place each = below
+item-below p small filling below (x ∷ items) zero each =
+    small x (and_parts (p x) (list_all p items) each).0
+item-below p small filling below (x ∷ items) (suc place) each =
+    item-below p small filling below items place (and_parts (p x) (list_all p items) each).1
+
+-- so they are found in their word
+items-again : (p : ℕ → Bool) → ((n : ℕ) → p n ≡ true → n < 2 ^ 6) → (filling : ℕ) →
+    filling < 2 ^ 6 → (items : List ℕ) → list_all p items ≡ true →
+    items_in (six filling items) ≡ filled filling items
+items-again p small filling below items each =
+    let fits = λ (place : ℕ). item-below p small filling below items place each in
+    items-unpacked (six filling items)
+    ∙ unpacked-packed (item filling items 0 ∷ item filling items 1 ∷ item filling items 2
+    ∷ item filling items 3 ∷ item filling items 4 ∷ item filling items 5 ∷ [])
+    (fits 0, (fits 1, (fits 2, (fits 3, (fits 4, (fits 5, tt))))))
+
+-- names have six bits
+pub name-small : (n : ℕ) → is_name n ≡ true → n < 2 ^ 6
+name-small n is = omega (arith, ltb-true n name_count is)
+
+-- names and what fills the word behind them
+names-filled : (names : List ℕ) → length names ≤ most_names →
+    filled no_name names ≡ names ++ replicate (most_names - length names) no_name
+names-filled [] few = refl
+names-filled (a ∷ []) few = refl
+names-filled (a ∷ b ∷ []) few = refl
+names-filled (a ∷ b ∷ c ∷ []) few = refl
+names-filled (a ∷ b ∷ c ∷ d ∷ []) few = refl
+names-filled (a ∷ b ∷ c ∷ d ∷ e ∷ []) few = refl
+names-filled (a ∷ b ∷ c ∷ d ∷ e ∷ f ∷ []) few = refl
+names-filled (a ∷ b ∷ c ∷ d ∷ e ∷ f ∷ g ∷ names) few = absurd (omega (arith, few))
+
+-- the filling is no name
+filling-fails : (count : ℕ) → take_while is_name (replicate count no_name) ≡ []
+filling-fails zero = refl
+filling-fails (suc count) = take_while-fails is_name no_name (replicate count no_name) refl
+
+names-taken : (names : List ℕ) (count : ℕ) → list_all is_name names ≡ true →
+    take_while is_name (names ++ replicate count no_name) ≡ names
+names-taken [] count each = filling-fails count
+names-taken (x ∷ names) count each =
+    let parts = and_parts (is_name x) (list_all is_name names) each in
+    take_while-passes is_name x (names ++ replicate count no_name) parts.0
+    ∙ ap (λ ns. x ∷ ns) (names-taken names count parts.1)
+
+names-again : (names : List ℕ) → is_slot (chain names) ≡ true →
+    names_in (six no_name names) ≡ names
+names-again names known =
+    let parts = and_parts (is_chain names) (list_all is_name names) known in
+    ap (take_while is_name) (items-again is_name name-small no_name (omega arith) names parts.1
+    ∙ names-filled names (few_names names parts.0))
+    ∙ names-taken names (most_names - length names) parts.1
+
+-- codes have six bits
+pub code-small : (n : ℕ) → may_print n ≡ true → n < 2 ^ 6
+code-small n may =
+    omega (
+      arith,
+      ltb-true n code_count
+          (and_parts (nat_lt n code_count) (not (is_barred n)) may).0,
+    )
+
+-- six codes are found in their word
+codes-again : (codes : List ℕ) → list_all may_print codes ≡ true →
+    items_in (six 0 codes) ≡ filled 0 codes
+codes-again codes each = items-again may_print code-small 0 (omega arith) codes each
+
+-- how many words codes take
+pub length-sixes : (codes : List ℕ) → length (sixes codes) ≡ (length codes + 5) / 6
+length-sixes [] = refl
+length-sixes (a ∷ []) = refl
+length-sixes (a ∷ b ∷ []) = refl
+length-sixes (a ∷ b ∷ c ∷ []) = refl
+length-sixes (a ∷ b ∷ c ∷ d ∷ []) = refl
+length-sixes (a ∷ b ∷ c ∷ d ∷ e ∷ []) = refl
+length-sixes (a ∷ b ∷ c ∷ d ∷ e ∷ f ∷ codes) = omega (arith, length-sixes codes)
+
+-- the items of their words are the codes, and zeros behind them
+record Padded (codes : List ℕ) : Type 0 where
+  count : ℕ
+  is : flat_map items_in (sixes codes) ≡ codes ++ replicate count 0
+
+-- the items of one word
+padded-last : (codes : List ℕ) (count : ℕ) → list_all may_print codes ≡ true →
+    filled 0 codes ≡ codes ++ replicate count 0 →
+    flat_map items_in (six 0 codes ∷ []) ≡ codes ++ replicate count 0
+padded-last codes count each is =
+    flat_map-cons items_in (six 0 codes) [] ∙ append-nil (items_in (six 0 codes))
+    ∙ codes-again codes each ∙ is
+
+padded : (codes : List ℕ) → list_all may_print codes ≡ true → Padded codes
+padded [] each = record { count = 0; is = refl }
+padded (a ∷ []) each =
+    record { count = 5; is = padded-last (a ∷ []) 5 each refl }
+padded (a ∷ b ∷ []) each =
+    record { count = 4; is = padded-last (a ∷ b ∷ []) 4 each refl }
+padded (a ∷ b ∷ c ∷ []) each =
+    record { count = 3; is = padded-last (a ∷ b ∷ c ∷ []) 3 each refl }
+padded (a ∷ b ∷ c ∷ d ∷ []) each =
+    record { count = 2; is = padded-last (a ∷ b ∷ c ∷ d ∷ []) 2 each refl }
+padded (a ∷ b ∷ c ∷ d ∷ e ∷ []) each =
+    record { count = 1; is = padded-last (a ∷ b ∷ c ∷ d ∷ e ∷ []) 1 each refl }
+padded (a ∷ b ∷ c ∷ d ∷ e ∷ f ∷ codes) each =
+    let front : List ℕ = a ∷ b ∷ c ∷ d ∷ e ∷ f ∷ [] in
+    let parts = and_parts (list_all may_print front) (list_all may_print codes)
+    (sym (list_all-append may_print front codes) ∙ each) in
+    let others = padded codes parts.1 in
+    record {
+      count = others.count;
+      is = flat_map-cons items_in (six 0 front) (sixes codes)
+          ∙ ap (λ xs. xs ++ flat_map items_in (sixes codes)) (codes-again front parts.0)
+          ∙ ap (λ xs. front ++ xs) others.is;
+    }
+
+-- so many codes are found
+codes-found : (codes : List ℕ) → length codes ≤ most_characters →
+    list_all may_print codes ≡ true → codes_in (length codes) (sixes codes) ≡ codes
+codes-found codes few each =
+    let others = padded codes each in
+    let zeros : List ℕ = replicate others.count 0 in
+    let more : ℕ = most_characters - length codes in
+    let room : most_characters ≡ length codes + more = omega (arith, few) in
+    ap (λ xs. take (length codes) (take most_characters xs)) others.is
+    ∙ ap (λ n. take (length codes) (take n (codes ++ zeros))) room
+    ∙ ap (take (length codes)) (take-append-add codes zeros more)
+    ∙ take-append_seam codes (take more zeros)
+
+-- what is known of a text
+pub record IsText (codes : List ℕ) : Type 0 where
+  pub few : length codes ≤ most_characters
+  pub each : list_all may_print codes ≡ true
+
+pub text-known : (codes : List ℕ) → is_print_text codes ≡ true → IsText codes
+text-known codes known =
+    let some = nat_lt 0 (length codes) in
+    let few = nat_le (length codes) most_characters in
+    let parts = and_parts (some && few) (list_all may_print codes) known in
+    record {
+      few = leb-true (length codes) most_characters (and_parts some few parts.0).1;
+      each = parts.1;
+    }
+
+-- a text is found again
+codes_at-again : (codes rest : List ℕ) → is_print_text codes ≡ true →
+    codes_at (length codes) (sixes codes ++ rest) ≡ Some (text codes, rest)
+codes_at-again codes rest known =
+    let is = text-known codes known in
+    let needed : ℕ = (length codes + 5) / 6 in
+    let count : needed ≡ length (sixes codes) = sym (length-sixes codes) in
+    let fits : nat_lt most_characters (length codes) ≡ false =
+    le-ltb most_characters (length codes) is.few in
+    let there : nat_lt (length (sixes codes ++ rest)) needed ≡ false =
+    le-ltb (length (sixes codes ++ rest)) needed
+    (omega (arith, count, length-append (sixes codes) rest)) in
+    let front : take needed (sixes codes ++ rest) ≡ sixes codes =
+    ap (λ n. take n (sixes codes ++ rest)) count ∙ take-append_seam (sixes codes) rest in
+    let behind : drop needed (sixes codes ++ rest) ≡ rest =
+    ap (λ n. drop n (sixes codes ++ rest)) count ∙ drop-append_seam (sixes codes) rest in
+    rw (fits, there, front, behind, codes-found codes is.few is.each) refl
+
+-- an operand is found again, and what follows it
+pub slot-again : (slot : Slot) (rest : List ℕ) → is_slot slot ≡ true →
+    slot_at (kind slot) (slot_words slot ++ rest) ≡ Some (slot, rest)
+unfolding slot_at
+slot-again absent rest known = refl
+slot-again (chain names) rest known =
+    ap (λ ns. Some (chain ns, rest)) (names-again names known)
+slot-again (number n) rest known = refl
+slot-again (text codes) rest known = codes_at-again codes rest known

@@ -1,0 +1,112 @@
+-- Texts tell words, and programs.
+use Rattle.std.proofs.Common.{◌≡◌, ℕ, ◌^◌, ◌<◌, List, [], ◌∷◌, ◌++◌, length, take, drop, true, eqb, Some, refl, ap, sym, ◌∙◌, arith, append_assoc, length-append}
+use Rattle.std.specs.List.{list_all}
+use Rattle.std.specs.Str.{byte}
+use Rattle.std.specs.Str.Parse.{digits_value}
+use Rattle.std.proofs.lemmas.Bool.{and_parts, eqb-true, ltb-true}
+use Rattle.std.proofs.lemmas.List.Concat.{flat_map-cons}
+use Rattle.std.proofs.Math.Seq.{take-append_seam, drop-append_seam}
+use Rattle.l6_word.specs.Numerals.{word_bits, word_octals}
+use Rattle.l6_word.specs.Octal.{octal12, is_octal_digit}
+use Rattle.l6_word.proofs.Octals.{digits_tell_words}
+use Rattle.l6_prog.specs.Statement.{Parts}
+use Rattle.l6_image.specs.Row.{is_word}
+use Rattle.l6_image.specs.Image.{words_of, HasImage}
+use Rattle.l6_image.specs.Text.{word_line, text_of_words, text_of}
+use Rattle.l6_image.specs.Load.{TextsTellPrograms}
+use Rattle.l6_image.specs.inner.Loading.{program_in}
+use Rattle.l6_image.proofs.Fitness.{words_of-words}
+use Rattle.l6_image.proofs.Programs.{program_in-again}
+
+-- a word has twelve digits
+octal12-length : (word : ℕ) → word < 2 ^ word_bits → length (octal12 word) ≡ word_octals
+octal12-length word fits =
+    let digits : List ℕ = octal12 word in
+    let parts = and_parts (eqb (length digits) word_octals) (list_all is_octal_digit digits)
+    (digits_tell_words word fits).0 in
+    eqb-true (length digits) word_octals parts.0
+
+-- the digits in front of a text, and what is behind them
+line-front : (word : ℕ) (rest : List ℕ) → word < 2 ^ word_bits →
+    take word_octals (word_line word ++ rest) ≡ octal12 word
+line-front word rest fits =
+    ap (take word_octals) (append_assoc (octal12 word) (byte "\n" ∷ []) rest)
+    ∙ ap (λ n. take n (octal12 word ++ byte "\n" ∷ rest)) (sym (octal12-length word fits))
+    ∙ take-append_seam (octal12 word) (byte "\n" ∷ rest)
+
+line-behind : (word : ℕ) (rest : List ℕ) → word < 2 ^ word_bits →
+    drop word_octals (word_line word ++ rest) ≡ byte "\n" ∷ rest
+line-behind word rest fits =
+    ap (drop word_octals) (append_assoc (octal12 word) (byte "\n" ∷ []) rest)
+    ∙ ap (λ n. drop n (octal12 word ++ byte "\n" ∷ rest)) (sym (octal12-length word fits))
+    ∙ drop-append_seam (octal12 word) (byte "\n" ∷ rest)
+
+-- two texts that are one have one first word, and one rest
+same-word : (one other : ℕ) (xs ys : List ℕ) → one < 2 ^ word_bits → other < 2 ^ word_bits →
+    word_line one ++ xs ≡ word_line other ++ ys → one ≡ other
+same-word one other xs ys fits too same =
+    sym (digits_tell_words one fits).1
+    ∙ ap (digits_value 8) (sym (line-front one xs fits) ∙ ap (take word_octals) same
+    ∙ line-front other ys too)
+    ∙ (digits_tell_words other too).1
+
+same-rest : (one other : ℕ) (xs ys : List ℕ) → one < 2 ^ word_bits → other < 2 ^ word_bits →
+    word_line one ++ xs ≡ word_line other ++ ys → xs ≡ ys
+same-rest one other xs ys fits too same =
+    let rest : byte "\n" ∷ xs ≡ byte "\n" ∷ ys =
+    sym (line-behind one xs fits) ∙ ap (drop word_octals) same ∙ line-behind other ys too in
+    cc
+
+-- a line is not empty
+line-some : (word : ℕ) (rest : List ℕ) → [] ≡ word_line word ++ rest → ⊥
+line-some word rest same =
+    omega (
+      arith,
+      ap length same,
+      length-append (word_line word) rest,
+      length-append (octal12 word) (byte "\n" ∷ []),
+    )
+
+-- the lines of words tell the words
+pub same-words : (words others : List ℕ) → list_all is_word words ≡ true →
+    list_all is_word others ≡ true → text_of_words words ≡ text_of_words others → words ≡ others
+same-words [] [] each every same = refl
+same-words [] (other ∷ others) each every same =
+    absurd (line-some other (text_of_words others) (same ∙ flat_map-cons word_line other others))
+same-words (word ∷ words) [] each every same =
+    absurd (line-some word (text_of_words words) (sym same ∙ flat_map-cons word_line word words))
+same-words (word ∷ words) (other ∷ others) each every same =
+    let a = and_parts (is_word word) (list_all is_word words) each in
+    let b = and_parts (is_word other) (list_all is_word others) every in
+    let fits = ltb-true word (2 ^ word_bits) a.0 in
+    let too = ltb-true other (2 ^ word_bits) b.0 in
+    let lines : word_line word ++ text_of_words words ≡ word_line other ++ text_of_words others =
+    sym (flat_map-cons word_line word words) ∙ same ∙ flat_map-cons word_line other others in
+    ap (λ w. w ∷ words)
+    (same-word word other (text_of_words words) (text_of_words others) fits too lines)
+    ∙ ap (λ ws. other ∷ ws) (same-words words others a.1 b.1
+    (same-rest word other (text_of_words words) (text_of_words others) fits too lines))
+
+-- words whose lines are the text of a program's image are the program's
+pub words-are : (text words : List ℕ) (program : List Parts) → list_all is_word words ≡ true →
+    HasImage program → text ≡ text_of_words words → text ≡ text_of program →
+    words ≡ words_of program
+unfolding text_of
+words-are text words program each has lines same =
+    same-words words (words_of program) each (words_of-words program has) (sym lines ∙ same)
+
+-- and the program is found in them
+pub program_in-words : (text words : List ℕ) (program : List Parts) →
+    list_all is_word words ≡ true → HasImage program → text ≡ text_of_words words →
+    text ≡ text_of program → program_in words ≡ Some program
+program_in-words text words program each has lines same =
+    ap program_in (words-are text words program each has lines same) ∙ program_in-again program has
+
+-- no two programs have one text
+pub texts_tell_programs : TextsTellPrograms
+unfolding text_of
+texts_tell_programs one other has too same =
+    let found : Some one ≡ Some other =
+    sym (program_in-again one has)
+    ∙ program_in-words (text_of one) (words_of one) other (words_of-words one has) too refl same in
+    cc

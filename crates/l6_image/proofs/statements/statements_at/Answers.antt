@@ -1,0 +1,23 @@
+use Rattle.std.proofs.Common.{◌≡◌, ◌∷◌, ◌++◌, [], ap, ◌∙◌, ◌-◌, ◌+◌, rules}
+use Rattle.std.proofs.lemmas.Result.{err_from_is_err_and}
+use Rattle.l6_image.specs.inner.Statements.{statement_at, many, with_front}
+use Rattle.l6_image.proofs.Counted.{goes_on, fails}
+use Rattle.l6_image.proofs.statements.statements_at.Goals as goal
+
+pub returns-in_err-statement : goal.returns-in_err-statement
+returns-in_err-statement c =
+    let now = c.loop in
+    let p = err_from_is_err_and c.from_residual.result c.from_residual.ensures.1 in
+    rw (p.1, p.2)
+    (fails statement_at now.statements.items c.args.count now.counter now.rest.now c.args.words.now
+    c.in_err-statement.field-0.0 c.loop-test.true c.in_err-statement.ensures now.invariant)
+
+pub loop-preserved : goal.loop-preserved
+loop-preserved c =
+    let now = c.loop in
+    let pushed : c.push.new.self.items ≡ now.statements.items ++ c.in_ok-statement.statement ∷ [] = search rules in
+    ap (λ xs. with_front xs (many statement_at (c.args.count - (now.counter + 1)) c.in_ok-statement.behind.now))
+    pushed
+    ∙ goes_on statement_at now.statements.items c.args.count now.counter now.rest.now c.in_ok-statement.statement
+    c.in_ok-statement.behind.now c.args.words.now c.loop-test.true c.in_ok-statement.ensures
+    now.invariant

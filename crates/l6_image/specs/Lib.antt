@@ -1,0 +1,9 @@
+pub mod Numerals
+pub mod Bits
+pub mod Row
+pub mod Table
+pub mod Version
+pub mod Image
+pub mod Text
+pub mod Load
+pub mod inner

@@ -1,0 +1,27 @@
+-- What becomes of a text that is loaded.
+use Rattle.std.specs.Prelude.{◌≡◌, ℕ, List, Some, None, Result, Ok, Err}
+use Rattle.l6_prog.specs.Statement.{Parts}
+use Rattle.l6_image.specs.declared.fault.LoadFault.{LoadFault}
+use Rattle.l6_image.specs.declared.fault.LoadFault.TheVariants.{NotWords, NotAnImage, NoMemory}
+use Rattle.l6_image.specs.Image.{HasImage}
+use Rattle.l6_image.specs.Text.{text_of, IsImage, first_other, whole_lines}
+
+-- the program is loaded, unless memory is wanting
+abbrev pub Loads : List Parts → Result (List Parts) LoadFault → Type 0
+Loads program (Ok loaded) = loaded ≡ program
+Loads program (Err NoMemory) = Unit {0}
+Loads program (Err (NotWords line)) = ⊥
+Loads program (Err NotAnImage) = ⊥
+
+-- what a fault says of the text: which line is the first that is not one of a word; or that there is
+-- none and the text is no image. Want of memory says nothing of it
+abbrev pub Tells : List ℕ → LoadFault → Type 0
+Tells text (NotWords line) = first_other 1 (whole_lines text) ≡ Some line
+Tells text NotAnImage = (first_other 1 (whole_lines text) ≡ None) × (IsImage text → ⊥)
+Tells text NoMemory = Unit {0}
+
+-- no two programs have one text
+abbrev pub TextsTellPrograms : Type 0
+TextsTellPrograms =
+    (one other : List Parts) → HasImage one → HasImage other → text_of one ≡ text_of other →
+    one ≡ other

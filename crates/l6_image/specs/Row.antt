@@ -1,0 +1,93 @@
+-- Rows: what a test or an operation is in an image, and the words of that.
+use Rattle.std.specs.Prelude.{ℕ, List, [], ◌∷◌, ◌++◌, length, Option, Some, None, unwrap_or, Bool, true, ◌&&◌, nat_lt, ◌^◌}
+use Rattle.std.specs.List.{list_all}
+use Rattle.l6_word.specs.Numerals.{word_bits}
+use Rattle.l6_prog.specs.Numerals.{name_count}
+use Rattle.l6_prog.specs.Chain.{is_chain}
+use Rattle.l6_prog.specs.PrintText.{is_print_text}
+use Rattle.l6_image.specs.Numerals.{no_name}
+use Rattle.l6_image.specs.Bits.{bits, packed, six}
+use Rattle.l6_image.specs.Version.{label_fields}
+
+-- where a row may have an operand: there is none, or names, a number or codes
+pub data Slot : Type 0 where
+  absent : Slot
+  chain : List ℕ → Slot
+  number : ℕ → Slot
+  text : List ℕ → Slot
+
+-- a test or an operation in an image: its code, its operands, a field's name and a label
+pub record Row : Type 0 where
+  pub code : ℕ
+  pub first : Slot
+  pub second : Slot
+  pub third : Slot
+  pub field : Option ℕ
+  pub label : Option ℕ
+
+-- the row of these parts
+abbrev pub row : ℕ → Slot → Slot → Slot → Option ℕ → Option ℕ → Row
+row code first second third field label =
+    record {
+      code = code;
+      first = first;
+      second = second;
+      third = third;
+      field = field;
+      label = label;
+    }
+
+-- the kind of an operand
+abbrev pub kind : Slot → ℕ
+kind absent = 0
+kind (chain names) = 1
+kind (number n) = 2
+kind (text codes) = 3
+
+-- as many words as the codes need, six in each, filled with zeros
+abbrev pub sixes : List ℕ → List ℕ
+sixes [] = []
+sixes (a ∷ b ∷ c ∷ d ∷ e ∷ f ∷ codes) = six 0 (a ∷ b ∷ c ∷ d ∷ e ∷ f ∷ []) ∷ sixes codes
+sixes codes = six 0 codes ∷ []
+
+-- the words of an operand: none, the names, the number, or how many codes there are and the codes
+abbrev pub slot_words : Slot → List ℕ
+slot_words absent = []
+slot_words (chain names) = six no_name names ∷ []
+slot_words (number n) = n ∷ []
+slot_words (text codes) = length codes ∷ sixes codes
+
+-- the first word of a row
+abbrev pub row_head : Row → ℕ
+row_head row =
+    packed (bits 6 row.code ∷ bits 2 (kind row.first) ∷ bits 2 (kind row.second)
+    ∷ bits 2 (kind row.third) ∷ bits 6 (unwrap_or row.field no_name) ∷ label_fields row.label)
+
+-- the words of a row: the first word, and those of its operands
+abbrev pub row_words : Row → List ℕ
+row_words row =
+    row_head row ∷ slot_words row.first ++ slot_words row.second ++ slot_words row.third
+
+-- the number is one of a name
+abbrev pub is_name : ℕ → Bool
+is_name n = nat_lt n name_count
+
+-- the number is a word
+abbrev pub is_word : ℕ → Bool
+is_word n = nat_lt n (2 ^ word_bits)
+
+-- the operand is one of a program: names of a chain, a word, or a text that may be printed
+abbrev pub is_slot : Slot → Bool
+is_slot absent = true
+is_slot (chain names) = is_chain names && list_all is_name names
+is_slot (number n) = is_word n
+is_slot (text codes) = is_print_text codes
+
+-- the name is one, if there is one
+abbrev pub is_field : Option ℕ → Bool
+is_field None = true
+is_field (Some name) = is_name name
+
+-- operands and name are those of a program
+abbrev pub is_row : Row → Bool
+is_row row = is_slot row.first && is_slot row.second && is_slot row.third && is_field row.field

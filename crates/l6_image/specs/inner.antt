@@ -1,0 +1,11 @@
+pub mod Fields
+pub mod Heads
+pub mod Writing
+pub mod Reading
+pub mod Back
+pub mod Statements
+pub mod Seen
+pub mod Lines
+pub mod Loading
+pub mod TextFault
+pub mod Faults

@@ -1,0 +1,61 @@
+//! From texts to programs.
+
+ghost use Rattle.std.specs.Prelude.{◌≡◌, ◌≤◌, ◌↔◌, List, length, IfOk, IfErr, IsTrue};
+ghost use Rattle.l6_prog.specs.Statement.{Parts};
+ghost use Rattle.l6_image.specs.Image.{HasImage};
+ghost use Rattle.l6_image.specs.Load.{Loads, Tells};
+ghost use Rattle.l6_image.specs.Numerals.{most_bytes};
+ghost use Rattle.l6_image.specs.Text as texts;
+ghost use Rattle.l6_image.specs.inner.Loading as spec;
+ghost use Rattle.l6_image.specs.inner.Seen.{Gives};
+
+use crate::fault::{LoadFault, ReadFault};
+use crate::statements::statements_of;
+use crate::text::words_in;
+use crate::writing::words_of;
+use l6_prog::Program;
+use std::alloc::Global;
+
+/// The most bytes that the text of an image may have: 8 MiB, which that of no deck's program has.
+pub const MAX_BYTES: usize = 1 << 23;
+
+/// The program of which this is the image's text. The caller owes at most 8,388,608 bytes.
+///
+/// The words are read with no regard to bits that must be zero, to counts and to words behind the
+/// last statement. What was read is then written again, and must come to the same words.
+pub fn load(alloc: Global, text: &[u8]) -> Result<Program, LoadFault>
+    requires { length text.now ≤ most_bytes }
+
+    ensures sound { IfOk result (λ program. text.now ≡ texts.text_of program) }
+    ensures known { IfOk result HasImage }
+    ensures complete { (program : List Parts) → HasImage program →
+        text.now ≡ texts.text_of program → Loads program result }
+    ensures fault { IfErr result (Tells text.now) }
+{
+    let words = words_in(alloc, text)?;
+    let program = program_in(alloc, &words)?;
+    let written = words_of(alloc, &program)?;
+    if !are_same(&written, &words) {
+        return Err(LoadFault::NotAnImage);
+    }
+    Ok(program)
+}
+
+/// The program that an image's words tell.
+#[tactic(auto, unfolding(crate::specs::inner::Loading::program_in))]
+fn program_in(alloc: Global, words: &[u64]) -> Result<Program, ReadFault>
+    ensures { Gives (λ program. program) result (spec.program_in words.now) }
+{
+    let statements = statements_of(alloc, words)?;
+    match Program::new(statements) {
+        Ok(program) => Ok(program),
+        Err(_) => Err(ReadFault::NotAnImage),
+    }
+}
+
+/// Whether two lists of words are one.
+fn are_same(one: &[u64], other: &[u64]) -> bool
+    ensures { IsTrue result ↔ (one.now ≡ other.now) }
+{
+    one == other
+}

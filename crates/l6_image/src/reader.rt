@@ -1,0 +1,118 @@
+//! Rows, read from words. What follows them is handed on.
+
+ghost use Rattle.std.specs.Prelude.{◌≡◌, ◌<◌, ◌≤◌};
+ghost use Rattle.l6_image.specs.inner.Heads.{kind_code};
+ghost use Rattle.l6_image.specs.inner.Reading as spec;
+ghost use Rattle.l6_image.specs.inner.Seen.{slot_seen, Finds};
+
+use crate::head::{Head, Kind};
+use l6_prog::{MAX_CHARACTERS, Name};
+use std::marker::Model;
+
+/// An operand, as it stands in words.
+#[derive(Clone, Copy)]
+pub(crate) enum Slot<'a> {
+    /// There is none.
+    Absent,
+    /// The word of a chain's names.
+    Chain(u64),
+    /// A number.
+    Number(u64),
+    /// How many codes a text has, and their words.
+    Text(usize, &'a [u64]),
+}
+
+/// A test or an operation, as it stands in words.
+#[derive(Drop)]
+pub(crate) struct Row<'a> {
+    pub(crate) code: u8,
+    pub(crate) first: Slot<'a>,
+    pub(crate) second: Slot<'a>,
+    pub(crate) third: Slot<'a>,
+    pub(crate) field: Option<Name>,
+    pub(crate) label: Option<u16>,
+}
+
+impl<'a> Model for Row<'a> {
+    ghost use Rattle.l6_image.specs.Row.{Row as Meaning};
+    ghost use Rattle.l6_image.specs.inner.Seen.{slot_seen};
+
+    ghost Value = { Meaning };
+
+    ghost view = { λ row. record {
+      code = row.code;
+      first = slot_seen row.first;
+      second = slot_seen row.second;
+      third = slot_seen row.third;
+      field = row.field;
+      label = row.label;
+    } };
+}
+
+/// The first row of words, and the words behind it.
+#[tactic(auto, unfolding(crate::specs::inner::Reading::row_at))]
+pub(crate) fn row_at(words: &[u64]) -> Option<(Row<'_>, &[u64])>
+    ensures { Finds (λ found. (found.0, found.1.now)) result (spec.row_at words.now) }
+{
+    let (word, rest) = words.split_first()?;
+    let Head {
+        code,
+        first,
+        second,
+        third,
+        field,
+        label,
+    } = Head::of(*word);
+    let (first, rest) = slot_at(first, rest)?;
+    let (second, rest) = slot_at(second, rest)?;
+    let (third, rest) = slot_at(third, rest)?;
+    let row = Row {
+        code,
+        first,
+        second,
+        third,
+        field,
+        label,
+    };
+    Some((row, rest))
+}
+
+/// The operand of a kind in front of words, and the words behind it.
+#[tactic(auto, unfolding(crate::specs::inner::Reading::slot_at))]
+fn slot_at(kind: Kind, words: &[u64]) -> Option<(Slot<'_>, &[u64])>
+    ensures { Finds (λ found. (slot_seen found.0, found.1.now)) result
+        (spec.slot_at (kind_code kind) words.now) }
+{
+    match kind {
+        Kind::Absent => Some((Slot::Absent, words)),
+        Kind::Chain => {
+            let (word, rest) = words.split_first()?;
+            Some((Slot::Chain(*word), rest))
+        }
+        Kind::Number => {
+            let (word, rest) = words.split_first()?;
+            Some((Slot::Number(*word), rest))
+        }
+        Kind::Text => {
+            let (count, rest) = words.split_first()?;
+            codes_at(*count, rest)
+        }
+    }
+}
+
+/// So many codes in front of words, and the words behind theirs.
+fn codes_at(count: u64, words: &[u64]) -> Option<(Slot<'_>, &[u64])>
+    ensures { Finds (λ found. (slot_seen found.0, found.1.now)) result
+        (spec.codes_at count words.now) }
+{
+    if count > MAX_CHARACTERS as u64 {
+        return None;
+    }
+    let count = count as usize;
+    let needed = (count + 5) / 6;
+    if words.len() < needed {
+        return None;
+    }
+    let (codes, rest) = words.split_at(needed);
+    Some((Slot::Text(count, codes), rest))
+}

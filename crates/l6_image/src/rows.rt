@@ -1,0 +1,187 @@
+//! Rows, written behind words: a first word, and the words of the operands.
+
+ghost use Rattle.std.specs.Prelude.{◌≡◌, OnOk, Some, None};
+ghost use Rattle.l6_image.specs.Row as spec;
+ghost use Rattle.l6_image.specs.Table.{operand as slot_of};
+ghost use Rattle.l6_image.specs.inner.Heads.{kind_code};
+ghost use Rattle.l6_image.specs.inner.Writing.{Writes, WritesSlot};
+
+use crate::head::{Head, Kind};
+use crate::items::{names_word, push_codes};
+use l6_prog::{Chain, Name, Operand, PrintText};
+use std::alloc::AllocError;
+
+/// Writes the row without operands.
+pub(crate) fn push_none(words: &mut Vec<u64>, code: u8) -> Result<(), AllocError>
+    ensures { OnOk result (Writes words.old.items words.new.items
+        (spec.row code spec.absent spec.absent spec.absent None None)) }
+{
+    words.push(Head::new(code, Kind::Absent, Kind::Absent, Kind::Absent, None, None).word())?;
+    Ok(())
+}
+
+/// Writes the row of a field.
+pub(crate) fn push_field(words: &mut Vec<u64>, code: u8, field: Name) -> Result<(), AllocError>
+    ensures { OnOk result (Writes words.old.items words.new.items
+        (spec.row code spec.absent spec.absent spec.absent (Some field) None)) }
+{
+    words.push(Head::new(
+        code,
+        Kind::Absent,
+        Kind::Absent,
+        Kind::Absent,
+        Some(field),
+        None,
+    )
+    .word())?;
+    Ok(())
+}
+
+/// Writes the row of a chain.
+pub(crate) fn push_one(words: &mut Vec<u64>, code: u8, chain: &Chain) -> Result<(), AllocError>
+    ensures { OnOk result (Writes words.old.items words.new.items
+        (spec.row code (spec.chain chain.now) spec.absent spec.absent None None)) }
+{
+    words.push(Head::new(code, Kind::Chain, Kind::Absent, Kind::Absent, None, None).word())?;
+    push_chain(words, chain)
+}
+
+/// Writes the row of a chain and an operand, and a label if it has one.
+pub(crate) fn push_two(
+    words: &mut Vec<u64>,
+    code: u8,
+    chain: &Chain,
+    operand: &Operand,
+    label: Option<u16>,
+) -> Result<(), AllocError>
+    ensures { OnOk result (Writes words.old.items words.new.items
+        (spec.row code (spec.chain chain.now) (slot_of operand.now) spec.absent None label)) }
+{
+    words.push(Head::new(
+        code,
+        Kind::Chain,
+        kind_of(operand),
+        Kind::Absent,
+        None,
+        label,
+    )
+    .word())?;
+    push_chain(words, chain)?;
+    push_operand(words, operand)
+}
+
+/// Writes the row of two chains.
+pub(crate) fn push_chains(
+    words: &mut Vec<u64>,
+    code: u8,
+    first: &Chain,
+    second: &Chain,
+) -> Result<(), AllocError>
+    ensures { OnOk result (Writes words.old.items words.new.items
+        (spec.row code (spec.chain first.now) (spec.chain second.now) spec.absent None None)) }
+{
+    words.push(Head::new(code, Kind::Chain, Kind::Chain, Kind::Absent, None, None).word())?;
+    push_chain(words, first)?;
+    push_chain(words, second)
+}
+
+/// Writes the row of a chain, an operand and a chain, and a label if it has one.
+pub(crate) fn push_three(
+    words: &mut Vec<u64>,
+    code: u8,
+    first: &Chain,
+    second: &Operand,
+    third: &Chain,
+    label: Option<u16>,
+) -> Result<(), AllocError>
+    ensures { OnOk result (Writes words.old.items words.new.items
+        (spec.row code (spec.chain first.now) (slot_of second.now) (spec.chain third.now) None label)) }
+{
+    words.push(Head::new(code, Kind::Chain, kind_of(second), Kind::Chain, None, label).word())?;
+    push_chain(words, first)?;
+    push_operand(words, second)?;
+    push_chain(words, third)
+}
+
+/// Writes the row of a field and three operands.
+pub(crate) fn push_definition(
+    words: &mut Vec<u64>,
+    code: u8,
+    field: Name,
+    first: &Operand,
+    second: &Operand,
+    third: &Operand,
+) -> Result<(), AllocError>
+    ensures { OnOk result (Writes words.old.items words.new.items
+        (spec.row code (slot_of first.now) (slot_of second.now) (slot_of third.now) (Some field) None)) }
+{
+    words.push(Head::new(
+        code,
+        kind_of(first),
+        kind_of(second),
+        kind_of(third),
+        Some(field),
+        None,
+    )
+    .word())?;
+    push_operand(words, first)?;
+    push_operand(words, second)?;
+    push_operand(words, third)
+}
+
+/// Writes the row of a statement, and a label if it has one.
+pub(crate) fn push_statement(
+    words: &mut Vec<u64>,
+    code: u8,
+    statement: u16,
+    label: Option<u16>,
+) -> Result<(), AllocError>
+    ensures { OnOk result (Writes words.old.items words.new.items
+        (spec.row code (spec.number statement) spec.absent spec.absent None label)) }
+{
+    words.push(Head::new(code, Kind::Number, Kind::Absent, Kind::Absent, None, label).word())?;
+    words.push(u64::from(statement))?;
+    Ok(())
+}
+
+/// Writes the row of a text.
+pub(crate) fn push_text(words: &mut Vec<u64>, code: u8, text: &PrintText) -> Result<(), AllocError>
+    ensures { OnOk result (Writes words.old.items words.new.items
+        (spec.row code (spec.text text.now) spec.absent spec.absent None None)) }
+{
+    words.push(Head::new(code, Kind::Text, Kind::Absent, Kind::Absent, None, None).word())?;
+    let codes = text.codes();
+    words.push(codes.len() as u64)?;
+    push_codes(words, codes)
+}
+
+/// The kind of an operand.
+fn kind_of(operand: &Operand) -> Kind
+    ensures { kind_code result ≡ spec.kind (slot_of operand.now) }
+{
+    match operand {
+        Operand::Chain(_) => Kind::Chain,
+        Operand::Number(_) => Kind::Number,
+    }
+}
+
+/// Writes the word of an operand.
+fn push_operand(words: &mut Vec<u64>, operand: &Operand) -> Result<(), AllocError>
+    ensures { OnOk result (WritesSlot words.old.items words.new.items (slot_of operand.now)) }
+{
+    match operand {
+        Operand::Chain(chain) => push_chain(words, chain),
+        Operand::Number(number) => {
+            words.push(number.get())?;
+            Ok(())
+        }
+    }
+}
+
+/// Writes the word of a chain.
+fn push_chain(words: &mut Vec<u64>, chain: &Chain) -> Result<(), AllocError>
+    ensures { OnOk result (WritesSlot words.old.items words.new.items (spec.chain chain.now)) }
+{
+    words.push(names_word(chain))?;
+    Ok(())
+}

@@ -1,0 +1,138 @@
+//! Statements, read from words.
+
+ghost use Rattle.std.specs.Prelude.{◌≡◌, ◌/◌, ◌%◌, ◌^◌};
+ghost use Rattle.l6_image.specs.inner.Fields.{target_in};
+ghost use Rattle.l6_image.specs.inner.Statements as spec;
+ghost use Rattle.l6_image.specs.inner.Seen.{Gives};
+
+use crate::fault::ReadFault;
+use crate::reader::row_at;
+use crate::reading::{operation_of, test_of};
+use crate::version::target_in;
+use l6_prog::{Cond, Exit, MAX_STATEMENTS, Op, Statement, Test};
+use std::alloc::Global;
+
+/// The statements that an image's words tell. Its mark, its number of words and words behind the
+/// last statement are not looked at.
+#[tactic(auto, unfolding(crate::specs::inner::Statements::statements_of))]
+pub(crate) fn statements_of(alloc: Global, words: &[u64]) -> Result<Vec<Statement>, ReadFault>
+    ensures { Gives (λ statements. statements.items) result (spec.statements_of words.now) }
+{
+    let (_, rest) = words.split_first().ok_or(ReadFault::NotAnImage)?;
+    let (count, rest) = rest.split_first().ok_or(ReadFault::NotAnImage)?;
+    let (_, rest) = rest.split_first().ok_or(ReadFault::NotAnImage)?;
+    if *count > MAX_STATEMENTS as u64 {
+        return Err(ReadFault::NotAnImage);
+    }
+    let (statements, _) = statements_at(alloc, *count, rest)?;
+    Ok(statements)
+}
+
+/// So many statements in front of words, and the words behind them.
+fn statements_at(
+    alloc: Global,
+    count: u64,
+    words: &[u64],
+) -> Result<(Vec<Statement>, &[u64]), ReadFault>
+    ensures { Gives (λ found. (found.0.items, found.1.now)) result
+        (spec.many spec.statement_at count words.now) }
+{
+    let mut statements = Vec::new(alloc);
+    let mut rest = words;
+    for _ in 0..count {
+        let (statement, behind) = statement_at(alloc, rest)?;
+        statements.push(statement)?;
+        rest = behind;
+    }
+    Ok((statements, rest))
+}
+
+/// The first statement of words, and the words behind it.
+#[tactic(auto, unfolding(crate::specs::inner::Statements::statement_at))]
+fn statement_at(alloc: Global, words: &[u64]) -> Result<(Statement, &[u64]), ReadFault>
+    ensures { Gives (λ found. (found.0, found.1.now)) result (spec.statement_at words.now) }
+{
+    let (head, rest) = words.split_first().ok_or(ReadFault::NotAnImage)?;
+    let (tests, rest) = tests_at(alloc, *head / (1 << 27) % 64, rest)?;
+    let (operations, rest) = operations_at(alloc, *head / (1 << 21) % 64, rest)?;
+    let condition = condition_in(*head / (1 << 33) % 8);
+    let exit = exit_in(*head / (1 << 18) % 8, target_in(*head));
+    Ok((Statement::new(condition, tests, operations, exit), rest))
+}
+
+/// So many tests in front of words, and the words behind them.
+fn tests_at(alloc: Global, count: u64, words: &[u64]) -> Result<(Vec<Test>, &[u64]), ReadFault>
+    ensures { Gives (λ found. (found.0.items, found.1.now)) result
+        (spec.many spec.test_at count words.now) }
+{
+    let mut tests = Vec::new(alloc);
+    let mut rest = words;
+    for _ in 0..count {
+        let (test, behind) = test_at(rest)?;
+        tests.push(test)?;
+        rest = behind;
+    }
+    Ok((tests, rest))
+}
+
+/// So many operations in front of words, and the words behind them.
+fn operations_at(alloc: Global, count: u64, words: &[u64]) -> Result<(Vec<Op>, &[u64]), ReadFault>
+    ensures { Gives (λ found. (found.0.items, found.1.now)) result
+        (spec.many spec.operation_at count words.now) }
+{
+    let mut operations = Vec::new(alloc);
+    let mut rest = words;
+    for _ in 0..count {
+        let (operation, behind) = operation_at(rest)?;
+        operations.push(operation)?;
+        rest = behind;
+    }
+    Ok((operations, rest))
+}
+
+/// The first test of words, and the words behind it.
+#[tactic(auto, unfolding(crate::specs::inner::Statements::test_at))]
+fn test_at(words: &[u64]) -> Result<(Test, &[u64]), ReadFault>
+    ensures { Gives (λ found. (found.0, found.1.now)) result (spec.test_at words.now) }
+{
+    let (row, rest) = row_at(words).ok_or(ReadFault::NotAnImage)?;
+    let test = test_of(&row).ok_or(ReadFault::NotAnImage)?;
+    Ok((test, rest))
+}
+
+/// The first operation of words, and the words behind it.
+#[tactic(auto, unfolding(crate::specs::inner::Statements::operation_at))]
+fn operation_at(words: &[u64]) -> Result<(Op, &[u64]), ReadFault>
+    ensures { Gives (λ found. (found.0, found.1.now)) result (spec.operation_at words.now) }
+{
+    let (row, rest) = row_at(words).ok_or(ReadFault::NotAnImage)?;
+    let operation = operation_of(&row).ok_or(ReadFault::NotAnImage)?;
+    Ok((operation, rest))
+}
+
+/// The condition of a code.
+fn condition_in(code: u64) -> Cond
+    ensures { result ≡ spec.condition_in code }
+{
+    match code {
+        0 => Cond::Always,
+        1 => Cond::If,
+        2 => Cond::Not,
+        3 => Cond::IfAll,
+        4 => Cond::IfAny,
+        5 => Cond::IfNone,
+        _ => Cond::IfNotAll,
+    }
+}
+
+/// The exit of a code, with its target.
+fn exit_in(code: u64, target: u16) -> Exit
+    ensures { result ≡ spec.exit_in code target }
+{
+    match code {
+        0 => Exit::Next,
+        1 => Exit::Label(target),
+        2 => Exit::Done,
+        _ => Exit::Fail,
+    }
+}

@@ -1,0 +1,80 @@
+//! Images worked out by hand, by the tables of the format.
+
+use crate::{LoadFault, load, statement_words, text_of, words_of};
+use std::test::Fail;
+
+/// The image of ` (A,E,5)(A,PD)`.
+const FIVE: &[u8] = b"542651554721\n000000000002\n000000000007\n000020000000\n013077000000\n\
+          127777777777\n000000000005\n312077000000\n127777777777\n000002000000\n";
+
+/// The image of a deck without cards.
+const NOTHING: &[u8] = b"542651554721\n000000000001\n000000000001\n000002000000\n";
+
+/// The image of `A (A,DO)`.
+const CALL: &[u8] = b"542651554721\n000000000002\n000000000004\n000010000000\n264077000000\n\
+          000000000000\n000002000000\n";
+
+#[test]
+fn images_are_loaded_and_written_again(rt: HostRuntime) -> Result<(), Fail> {
+    for text in &[FIVE, NOTHING, CALL] {
+        let program = load(rt.alloc(), *text)?;
+        assert_eq!(rt; text_of(rt.alloc(), &program)?.as_slice(), *text);
+        assert_eq!(rt; words_of(rt.alloc(), &program)?.len(), text.len() / 13);
+    }
+    Ok(())
+}
+
+#[test]
+fn statements_have_their_words(rt: HostRuntime) -> Result<(), Fail> {
+    let program = load(rt.alloc(), FIVE)?;
+    let words = statement_words(rt.alloc(), &program.statements()[0])?;
+    let expected = [
+        0o000020000000,
+        0o013077000000,
+        0o127777777777,
+        0o000000000005,
+        0o312077000000,
+        0o127777777777,
+    ];
+    assert_eq!(rt; words.as_slice(), &expected[..]);
+    Ok(())
+}
+
+#[test]
+fn other_texts_are_refused(rt: HostRuntime) -> Result<(), Fail> {
+    let rows: [(&[u8], LoadFault); 9] = [
+        (b"", LoadFault::NotAnImage),
+        (&FIVE[..FIVE.len() - 13], LoadFault::NotAnImage),
+        (&FIVE[..FIVE.len() - 1], LoadFault::NotWords(10)),
+        // A bit that must be zero, and a word too many.
+        (
+            b"542651554721\n000000000001\n000000000001\n000002400000\n",
+            LoadFault::NotAnImage,
+        ),
+        (
+            b"542651554721\n000000000001\n000000000001\n000002000000\n000000000000\n",
+            LoadFault::NotAnImage,
+        ),
+        // A chain that begins with a digit, and a text with a comma.
+        (
+            b"542651554721\n000000000002\n000000000004\n000010000000\n312077000000\n\
+          007777777777\n000002000000\n",
+            LoadFault::NotAnImage,
+        ),
+        (
+            b"542651554721\n000000000002\n000000000005\n000010000000\n336077000000\n\
+          000000000001\n140000000000\n000002000000\n",
+            LoadFault::NotAnImage,
+        ),
+        // A digit too few, and a carriage return.
+        (b"000000000000\n00002000000\n\n", LoadFault::NotWords(2)),
+        (b"542651554721\r\n", LoadFault::NotWords(1)),
+    ];
+    for (text, fault) in &rows {
+        match load(rt.alloc(), *text) {
+            Ok(_) => assert!(rt; false),
+            Err(found) => assert_eq!(rt; found, *fault),
+        }
+    }
+    Ok(())
+}

@@ -1,0 +1,143 @@
+//! From programs to words.
+
+ghost use Rattle.std.specs.Prelude.{◌≡◌, ◌<◌, ◌++◌, true, length, IfOk, OnOk, IsTrue};
+ghost use Rattle.std.specs.List.{flat_map, list_all};
+ghost use Rattle.l6_prog.specs.Program.{fits};
+ghost use Rattle.l6_image.specs.Image as spec;
+ghost use Rattle.l6_image.specs.Row.{is_row};
+ghost use Rattle.l6_image.specs.Table.{row_of, row_of_test};
+
+use crate::table::{push_operation, push_test};
+use crate::version::{MARK, target_bits};
+use l6_prog::{Cond, Exit, Op, Program, Statement, Test};
+use std::alloc::{AllocError, Global};
+
+/// The words of a program's image: the mark, how many statements there are, how many words follow,
+/// and the words of the statements, in order.
+#[tactic(auto, unfolding(crate::specs::Image::words_of))]
+pub fn words_of(alloc: Global, program: &Program) -> Result<Vec<u64>, AllocError>
+    ensures words { IfOk result (λ words. words.items ≡ spec.words_of program.now) }
+    // What is a program of the code has an image.
+    ensures known { OnOk result (spec.HasImage program.now) }
+{
+    let statements = program.statements();
+    let mut words = Vec::new(alloc);
+    words.push(MARK)?;
+    words.push(statements.len() as u64)?;
+    words.push(0)?;
+    push_statements(&mut words, statements)?;
+    words[2] = (words.len() - 3) as u64;
+    Ok(words)
+}
+
+/// The words of a statement: the first word, those of its tests and those of its operations. The
+/// caller owes that there are no more of these than a statement of a program may have.
+pub fn statement_words(alloc: Global, statement: &Statement) -> Result<Vec<u64>, AllocError>
+    requires { IsTrue (fits statement.now) }
+    ensures words { IfOk result (λ words. words.items ≡ spec.statement_words statement.now) }
+    ensures known { OnOk result (spec.has_values statement.now ≡ true) }
+{
+    let mut words = Vec::new(alloc);
+    push_statement(&mut words, statement)?;
+    Ok(words)
+}
+
+/// Writes the words of statements.
+fn push_statements(words: &mut Vec<u64>, statements: &[Statement]) -> Result<(), AllocError>
+    requires { list_all fits statements.now ≡ true }
+    ensures words { OnOk result (words.new.items ≡ words.old.items ++ spec.body statements.now) }
+    ensures known { OnOk result (list_all spec.has_values statements.now ≡ true) }
+{
+    for statement in statements {
+        push_statement(words, statement)?;
+    }
+    Ok(())
+}
+
+/// Writes the words of a statement.
+fn push_statement(words: &mut Vec<u64>, statement: &Statement) -> Result<(), AllocError>
+    requires { IsTrue (fits statement.now) }
+    ensures words { OnOk result
+        (words.new.items ≡ words.old.items ++ spec.statement_words statement.now) }
+    ensures known { OnOk result (spec.has_values statement.now ≡ true) }
+{
+    words.push(header(statement))?;
+    push_tests(words, statement.tests())?;
+    push_operations(words, statement.operations())
+}
+
+/// Writes the words of tests.
+fn push_tests(words: &mut Vec<u64>, tests: &[Test]) -> Result<(), AllocError>
+    ensures words { OnOk result
+        (words.new.items ≡ words.old.items ++ flat_map spec.test_words tests.now) }
+    ensures known { OnOk result (list_all (λ test. is_row (row_of_test test)) tests.now ≡ true) }
+{
+    for test in tests {
+        push_test(words, test)?;
+    }
+    Ok(())
+}
+
+/// Writes the words of operations.
+fn push_operations(words: &mut Vec<u64>, operations: &[Op]) -> Result<(), AllocError>
+    ensures words { OnOk result
+        (words.new.items ≡ words.old.items ++ flat_map spec.operation_words operations.now) }
+    ensures known { OnOk result
+        (list_all (λ operation. is_row (row_of operation)) operations.now ≡ true) }
+{
+    for operation in operations {
+        push_operation(words, operation)?;
+    }
+    Ok(())
+}
+
+/// The first word of a statement.
+fn header(statement: &Statement) -> u64
+    requires { IsTrue (fits statement.now) }
+    ensures { result ≡ spec.header statement.now }
+{
+    u64::from(condition_code(statement.condition())) * (1 << 33)
+        + statement.tests().len() as u64 * (1 << 27)
+        + statement.operations().len() as u64 * (1 << 21)
+        + u64::from(exit_code(statement.exit())) * (1 << 18)
+        + target_bits(exit_target(statement.exit()))
+}
+
+/// The code of a condition.
+fn condition_code(condition: Cond) -> u8
+    ensures value { result ≡ spec.condition_code condition }
+    ensures range { result < 8 }
+{
+    match condition {
+        Cond::Always => 0,
+        Cond::If => 1,
+        Cond::Not => 2,
+        Cond::IfAll => 3,
+        Cond::IfAny => 4,
+        Cond::IfNone => 5,
+        Cond::IfNotAll => 6,
+    }
+}
+
+/// The code of an exit.
+fn exit_code(exit: Exit) -> u8
+    ensures value { result ≡ spec.exit_code exit }
+    ensures range { result < 4 }
+{
+    match exit {
+        Exit::Next => 0,
+        Exit::Label(_) => 1,
+        Exit::Done => 2,
+        Exit::Fail => 3,
+    }
+}
+
+/// The target of an exit, if it has one.
+fn exit_target(exit: Exit) -> Option<u16>
+    ensures { result ≡ spec.exit_target exit }
+{
+    match exit {
+        Exit::Label(target) => Some(target),
+        _ => None,
+    }
+}

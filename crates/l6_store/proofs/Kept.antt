@@ -6,7 +6,8 @@ use Rattle.std.proofs.lemmas.List.Elements.{All-take, All-drop, All-same}
 use Rattle.l6_word.specs.Numerals.{word_bits, largest_level}
 use Rattle.l6_store.specs.Blocks.{Blocks, Fits, end_of}
 use Rattle.l6_store.specs.Open.{IsOpen, IsAnswer}
-use Rattle.l6_store.specs.Scan.{scan_rule, is_open, least}
+use Rattle.l6_store.specs.Scan.{scan_rule, is_open}
+use Rattle.l6_store.specs.Least.{least}
 use Rattle.l6_store.specs.Store.{IsSound, picked}
 use Rattle.l6_store.specs.inner.Tags.{tag_at, gathered, store_of, AreTags, IsKept}
 use Rattle.l6_store.specs.inner.Marks.{IsFreeRun, IsLowest}

@@ -1,7 +1,8 @@
 -- The least number that passes a test, and tests of all numbers below a bound.
 use Rattle.std.proofs.Common.{◌≡◌, ℕ, zero, suc, ◌<◌, Bool, true, false, ◌&&◌, Option, Some, None, if◌then◌else◌, refl, ap, ◌∙◌, arith, inl, inr, ◌⊎◌}
 use Rattle.std.proofs.lemmas.Bool.{cases_lt}
-use Rattle.l6_store.specs.Scan.{all_below, least, or_else}
+use Rattle.l6_store.specs.Scan.{all_below}
+use Rattle.l6_store.specs.Least.{least, or_else}
 
 pub and_both : (a b : Bool) → a && b ≡ true → (a ≡ true) × (b ≡ true)
 and_both true b both = (refl, both)

@@ -1,8 +1,10 @@
 -- What callers may conclude of a block that begins at a place.
-use Rattle.std.proofs.Common.{◌≡◌, ℕ, ◌+◌, ◌^◌, ◌<◌, List, [], length, Option, Some, None, refl, ap, ◌∙◌, arith}
+use Rattle.std.proofs.Common.{◌≡◌, ℕ, ◌+◌, ◌^◌, ◌<◌, ◌≤◌, List, [], length, Option, Some, None, refl, ap, ◌∙◌, arith}
+use Rattle.std.proofs.lemmas.Nat.{pow_pos}
+use Rattle.std.specs.List.{slice_get}
 use Rattle.std.specs.Option.{IsSome, option_map, unwrap_or}
 use Rattle.std.specs.FinMap as map
-use Rattle.l6_store.specs.Blocks.{Blocks, IsLive, LiesIn, block_at}
+use Rattle.l6_store.specs.Blocks.{Blocks, Fits, IsLive, LiesIn, block_at, end_of}
 
 some_of : (found : Option (List ℕ)) → IsSome found → found ≡ Some (unwrap_or found [])
 some_of (Some words) live = refl
@@ -34,3 +36,19 @@ lies_in blocks place index live below =
       from = omega arith;
       below = omega arith;
     }
+
+-- no block begins past the end of a store
+none_past_by : (units : ℕ) (blocks : Blocks) → Fits units blocks → (place : ℕ)
+    → end_of units ≤ place → (found : Option (List ℕ)) → map.get blocks place ≡ found
+    → map.get blocks place ≡ None
+none_past_by units blocks fits place past None is = is
+none_past_by units blocks fits place past (Some words) is =
+    let block = fits.each place words is in
+    absurd (omega (arith, block.stands.within, pow_pos block.level))
+
+-- so it has no words
+pub no_word_past : (units : ℕ) (blocks : Blocks) → Fits units blocks → (place index : ℕ)
+    → end_of units ≤ place → slice_get (block_at blocks place) index ≡ None
+no_word_past units blocks fits place index past =
+    ap (λ (found : Option (List ℕ)). slice_get (unwrap_or found []) index)
+    (none_past_by units blocks fits place past (map.get blocks place) refl)

@@ -6,7 +6,8 @@ use Rattle.std.specs.FinMap as map
 use Rattle.l6_word.specs.Numerals.{unit_size}
 use Rattle.l6_store.specs.Blocks.{Blocks, end_of}
 use Rattle.l6_store.specs.Open.{IsOpen, IsAnswer}
-use Rattle.l6_store.specs.Scan.{leaves, is_open, all_below, least}
+use Rattle.l6_store.specs.Scan.{leaves, is_open, all_below}
+use Rattle.l6_store.specs.Least.{least}
 use Rattle.l6_store.specs.Laws.{ScanChooses, ScanPicksTheLowest}
 use Rattle.l6_store.proofs.Least.{and_both, Answers, all_below-holds, all_below-made, least-answers}
 

@@ -3,6 +3,7 @@ pub mod Blocks
 pub mod Open
 pub mod Rule
 pub mod Store
+pub mod Least
 pub mod Scan
 pub mod Laws
 pub mod inner

@@ -1,9 +1,10 @@
 -- The plain rule of choice: the lowest open place.
-use Rattle.std.specs.Prelude.{ℕ, zero, suc, ◌+◌, ◌%◌, ◌^◌, max, Bool, true, ◌&&◌, ◌==◌, nat_le, List, [], length, Option, Some, None, if◌then◌else◌}
+use Rattle.std.specs.Prelude.{ℕ, zero, suc, ◌+◌, ◌%◌, ◌^◌, max, Bool, true, ◌&&◌, ◌==◌, nat_le, List, [], length, Option, Some, None}
 use Rattle.std.specs.FinMap as map
 use Rattle.l6_word.specs.Numerals.{unit_size}
 use Rattle.l6_store.specs.Blocks.{Blocks, end_of}
 use Rattle.l6_store.specs.Rule.{Rule}
+use Rattle.l6_store.specs.Least.{least}
 
 -- whether a block, if one begins there, leaves each place from the given one on free
 abbrev pub leaves : ℕ → ℕ → Option (List ℕ) → Bool
@@ -20,16 +21,6 @@ unfoldable pub is_open : ℕ → Blocks → ℕ → ℕ → Bool
 is_open units blocks size place =
     place % size == 0 && nat_le unit_size place && nat_le (place + size) (end_of units)
     && all_below (place + size) (λ start. leaves place start (map.get blocks start))
-
--- the first of two answers that is one
-abbrev pub or_else : Option ℕ → Option ℕ → Option ℕ
-or_else (Some number) other = Some number
-or_else None other = other
-
--- the least number below a bound that passes a test, if there is one
-unfoldable pub least : ℕ → (ℕ → Bool) → Option ℕ
-least zero test = None
-least (suc bound) test = or_else (least bound test) (if test bound then Some bound else None)
 
 -- the rule keeps no order, and never halves or joins
 abbrev pub scan_rule : Rule

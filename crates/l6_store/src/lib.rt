@@ -10,6 +10,8 @@ mod tag;
 mod tests;
 
 pub use fault::StoreFault;
-pub use laws::{scan_chooses, scan_picks_the_lowest, stores_have_their_limit};
+pub use laws::{
+    places_fit_their_bits, scan_chooses, scan_picks_the_lowest, stores_have_their_limit,
+};
 pub use places::{Level, Place, Places};
 pub use scan_store::{MAX_UNITS, ScanStore};

@@ -10,7 +10,7 @@ ghost use Rattle.l6_store.specs.Open.{IsAnswer};
 ghost use Rattle.l6_store.specs.Rule.{Rule};
 ghost use Rattle.l6_store.specs.Store.{Store, IsSound, fresh, picked, with_block, after_get, after_free};
 
-use l6_word::Word;
+use l6_word::{UNIT_SIZE, Word};
 use std::alloc::{AllocError, Global};
 
 /// The place of a word in a store. The first unit begins at the place `UNIT_SIZE`, so place 0 is no
@@ -49,7 +49,17 @@ pub trait Places: Sized {
     fn word(&self, start: Word, index: u16) -> Option<Word>
         ensures value { result ≡ slice_get (block_at (store self.now).blocks start) index }
         ensures near { IfSome result
-            (λ _. (start < end_of most_units) × (index < unit_size)) };
+            (λ _. (start < end_of most_units) × (index < unit_size)) }
+    {
+        // no block stands past the last unit
+        let end = u64::from(self.units() + 1) * u64::from(UNIT_SIZE);
+        if end <= start.get() {
+            return None;
+        }
+        self.live(start)?;
+        let word = self.block(start.get() as Place).get(usize::from(index))?;
+        Some(Word::from_value(*word))
+    }
 
     /// The place that `get` would give.
     fn peek(&self, level: Level) -> Option<Place>

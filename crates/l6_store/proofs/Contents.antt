@@ -15,7 +15,7 @@ use Rattle.l6_store.proofs.Kept.{block_apart}
 use Rattle.l6_store.proofs.Changes.{as_before, in_run, marked_change, unmarked_change}
 
 -- a block whose words are as they were is told alike
-told_alike : (old new : List ℕ) (q : ℕ) (tag : Tag)
+pub told_alike : (old new : List ℕ) (q : ℕ) (tag : Tag)
     → ((k : ℕ) → tag ≡ First k → slice_range new q (q + 2 ^ k) ≡ slice_range old q (q + 2 ^ k))
     → tagged new q tag ≡ tagged old q tag
 told_alike old new q Free same = refl

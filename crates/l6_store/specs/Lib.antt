@@ -5,5 +5,10 @@ pub mod Rule
 pub mod Store
 pub mod Least
 pub mod Scan
+pub mod Buddy
+pub mod Tiles
+pub mod Links
+pub mod BuddyStore
 pub mod Laws
+pub mod BuddyLaws
 pub mod inner

@@ -1,2 +1,5 @@
 pub mod Tags
 pub mod Marks
+pub mod Chains
+pub mod Layout
+pub mod Hands

@@ -1,17 +1,26 @@
 //! Stores of blocks: where blocks stand, how they are got and freed, and what their words are.
 #![tactic(auto)]
 
+mod arena;
+mod buddy;
+#[cfg(test)]
+mod buddy_tests;
 mod fault;
 mod laws;
+mod link;
+mod mark;
+mod piece;
 mod places;
 mod scan_store;
 mod tag;
 #[cfg(test)]
 mod tests;
 
+pub use buddy::Buddy;
 pub use fault::StoreFault;
 pub use laws::{
-    places_fit_their_bits, scan_chooses, scan_picks_the_lowest, stores_have_their_limit,
+    buddies_stay_tiled, buddy_chooses, moves_are_few, places_fit_their_bits, scan_chooses,
+    scan_picks_the_lowest, stores_have_their_limit, units_are_whole,
 };
 pub use places::{Level, Place, Places};
 pub use scan_store::{MAX_UNITS, ScanStore};

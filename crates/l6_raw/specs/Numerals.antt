@@ -1,0 +1,10 @@
+-- The numbers that regions stand on.
+use Rattle.std.specs.Prelude.{ℕ}
+
+-- how many bits a word has
+abbrev pub word_bits : ℕ
+word_bits = 36
+
+-- the most words that a region has
+abbrev pub most_words : ℕ
+most_words = 262144

@@ -1,0 +1,10 @@
+//! A region of words in one piece of memory. Others see a list of words.
+#![tactic(auto)]
+
+mod laws;
+mod region;
+#[cfg(test)]
+mod tests;
+
+pub use laws::regions_have_their_limit;
+pub use region::Region;

@@ -1,0 +1,347 @@
+-- The blocks that the marks of an arena tell, and what becomes of them.
+use Rattle.std.proofs.Common.{◌≡◌, ◌≢◌, ℕ, ◌+◌, ◌^◌, ◌<◌, ◌≤◌, List, [], length, get_or, map as mapped, slice_range, Option, Some, refl, ap, sym, ◌∙◌, subst, arith, inl, inr, ◌⊎◌}
+use Rattle.std.proofs.lemmas.Bool.{cases_lt, cases_eq}
+use Rattle.std.proofs.lemmas.List.{get_or-map, get_or_past, length-map}
+use Rattle.std.specs.Option.{IsSome, IfSome, option_map, unwrap_or}
+use Rattle.std.specs.FinMap as map
+use Rattle.l6_word.specs.Numerals.{largest_level}
+use Rattle.l6_store.specs.Blocks.{Blocks, Fits, IsBlock, IsLive, LiesIn, Stands, block_at, end_of}
+use Rattle.l6_store.specs.inner.Tags.{tag_at, tagged, level_of}
+use Rattle.l6_store.specs.inner.Layout.{mark_at, tag_of, blocks_of}
+use Rattle.l6_store.specs.declared.mark.Mark.{Mark}
+use Rattle.l6_store.specs.declared.mark.Mark.TheVariants.{Inner, Block, Listed}
+use Rattle.l6_store.specs.declared.tag.Tag.{Tag}
+use Rattle.l6_store.specs.declared.tag.Tag.TheVariants.{Free, First, Inside}
+use Rattle.l6_store.proofs.Ranges.{same_range, length-range}
+use Rattle.l6_store.proofs.Gathered.{gathered_is, get-gathered, get-insert_same, get-insert_other, get-remove_same, get-remove_other}
+use Rattle.l6_store.proofs.Contents.{told_alike}
+use Rattle.l6_store.proofs.Live.{live_words}
+
+tag_at-map : (marks : List Mark) (place : ℕ)
+    → tag_at (mapped tag_of marks) place ≡ tag_of (mark_at marks place)
+tag_at-map marks place =
+    elim (cases_lt place (length marks))
+    as (λ _. tag_at (mapped tag_of marks) place ≡ tag_of (mark_at marks place)) [
+      | inl below ↦ get_or-map tag_of marks place Inner Free below
+      | inr past ↦
+          get_or_past (mapped tag_of marks) place Free (omega (arith, length-map marks tag_of))
+          ∙ ap tag_of (sym (get_or_past marks place Inner past))
+    ]
+
+-- what begins at a place
+pub get-blocks_of : (marks : List Mark) (words : List ℕ) (place : ℕ)
+    → map.get (blocks_of marks words) place ≡ tagged words place (tag_of (mark_at marks place))
+unfolding blocks_of
+get-blocks_of marks words place =
+    get-gathered (mapped tag_of marks) words place
+    ∙ ap (tagged words place) (tag_at-map marks place)
+
+pub blocks_are : (marks : List Mark) (words : List ℕ) (blocks : Blocks)
+    → ((q : ℕ) → tagged words q (tag_of (mark_at marks q)) ≡ map.get blocks q)
+    → blocks_of marks words ≡ blocks
+unfolding blocks_of
+blocks_are marks words blocks each =
+    gathered_is (mapped tag_of marks) words blocks
+    (λ q. ap (tagged words q) (tag_at-map marks q) ∙ each q)
+
+-- a block's mark tells its words
+pub block_marked : (marks : List Mark) (words : List ℕ) (level place : ℕ)
+    → mark_at marks place ≡ Block level
+    → map.get (blocks_of marks words) place ≡ Some (slice_range words place (place + 2 ^ level))
+block_marked marks words level place is =
+    get-blocks_of marks words place ∙ ap (λ (m : Mark). tagged words place (tag_of m)) is
+
+pub record Marked (marks : List Mark) (words : List ℕ) (place : ℕ) (block : List ℕ) : Type 0 where
+  pub level : ℕ
+  pub mark : mark_at marks place ≡ Block level
+  pub is : block ≡ slice_range words place (place + 2 ^ level)
+
+marked_by : (marks : List Mark) (words : List ℕ) (place : ℕ) (block : List ℕ) (mark : Mark)
+    → mark_at marks place ≡ mark → tagged words place (tag_of mark) ≡ Some block
+    → Marked marks words place block
+marked_by marks words place block (Block level) is told = record {
+  level = level;
+  mark = is;
+  is = (let same : Some (slice_range words place (place + 2 ^ level)) ≡ Some block = told in cc);
+}
+marked_by marks words place block Inner is told = cc
+marked_by marks words place block (Listed level) is told = cc
+
+pub marked : (marks : List Mark) (words : List ℕ) (place : ℕ) (block : List ℕ)
+    → map.get (blocks_of marks words) place ≡ Some block → Marked marks words place block
+marked marks words place block is =
+    marked_by marks words place block (mark_at marks place) refl
+    (sym (get-blocks_of marks words place) ∙ is)
+
+-- a place of a block lies in it
+pub marked_lies : (units : ℕ) (marks : List Mark) (words : List ℕ) → length words ≡ end_of units
+    → ((level place : ℕ) → mark_at marks place ≡ Block level → Stands units level place)
+    → (level place at : ℕ) → mark_at marks place ≡ Block level → place ≤ at → at < place + 2 ^ level
+    → LiesIn (blocks_of marks words) at
+marked_lies units marks words filled stands level place at is from before = record {
+  start = place;
+  words = slice_range words place (place + 2 ^ level);
+  is = block_marked marks words level place is;
+  from = from;
+  below = omega (
+    arith,
+    length-range words place (2 ^ level)
+        (omega (arith, filled, (stands level place is).within)),
+  );
+}
+
+tag_first : (mark : Mark) (level : ℕ) → tag_of mark ≡ First level → mark ≡ Block level
+tag_first (Block k) level is =
+    ap (λ (l : ℕ). Block l) (let same : First k ≡ First level = is in let levels : k ≡ level = cc in levels)
+tag_first Inner level is = cc
+tag_first (Listed k) level is = cc
+
+-- ---- changes
+-- the blocks stay where their marks and their words do
+pub same_blocks : (units : ℕ) (marks after : List Mark) (words new : List ℕ)
+    → length words ≡ end_of units → length new ≡ length words
+    → ((level place : ℕ) → mark_at marks place ≡ Block level → Stands units level place)
+    → ((q : ℕ) → tag_of (mark_at after q) ≡ tag_of (mark_at marks q))
+    → ((at : ℕ) → LiesIn (blocks_of marks words) at → get_or new at 0 ≡ get_or words at 0)
+    → blocks_of after new ≡ blocks_of marks words
+same_blocks units marks after words new filled count stands tags same =
+    blocks_are after new (blocks_of marks words) (λ q.
+    ap (tagged new q) (tags q)
+    ∙ told_alike words new q (tag_of (mark_at marks q)) (λ level first.
+    let is = tag_first (mark_at marks q) level first in
+    let within = (stands level q is).within in
+    same_range new words q q (2 ^ level) (omega (arith, filled, count)) (omega (arith, filled))
+    (λ j below. same (q + j)
+    (marked_lies units marks words filled stands level q (q + j) is (omega arith) (omega arith))))
+    ∙ sym (get-blocks_of marks words q))
+
+-- one block is new, or has new words
+pub one_block : (units : ℕ) (marks after : List Mark) (words new : List ℕ) (level place : ℕ)
+    → length words ≡ end_of units → length new ≡ length words
+    → ((level place : ℕ) → mark_at marks place ≡ Block level → Stands units level place)
+    → mark_at after place ≡ Block level
+    → ((q : ℕ) → q ≢ place → tag_of (mark_at after q) ≡ tag_of (mark_at marks q))
+    → ((q k at : ℕ) → q ≢ place → mark_at marks q ≡ Block k → q ≤ at → at < q + 2 ^ k
+    → get_or new at 0 ≡ get_or words at 0)
+    → blocks_of after new
+    ≡ map.insert (blocks_of marks words) place (slice_range new place (place + 2 ^ level))
+one_block units marks after words new level place filled count stands is tags same =
+    let block : List ℕ = slice_range new place (place + 2 ^ level) in
+    blocks_are after new (map.insert (blocks_of marks words) place block) (λ q.
+    elim (cases_eq q place)
+    as (λ _. tagged new q (tag_of (mark_at after q))
+    ≡ map.get (map.insert (blocks_of marks words) place block) q) [
+      | inl there ↦
+          ap (λ (p : ℕ). tagged new p (tag_of (mark_at after p))) there
+          ∙ ap (λ (m : Mark). tagged new place (tag_of m)) is
+          ∙ sym (ap (map.get (map.insert (blocks_of marks words) place block)) there
+          ∙ get-insert_same (blocks_of marks words) place block)
+      | inr other ↦
+          ap (tagged new q) (tags q other)
+          ∙ told_alike words new q (tag_of (mark_at marks q)) (λ k first.
+          let was = tag_first (mark_at marks q) k first in
+          let within = (stands k q was).within in
+          same_range new words q q (2 ^ k) (omega (arith, filled, count)) (omega (arith, filled))
+          (λ j below. same q k (q + j) other was (omega arith) (omega arith)))
+          ∙ sym (get-insert_other (blocks_of marks words) place block q other
+          ∙ get-blocks_of marks words q)
+    ])
+
+-- one block is gone
+pub block_gone : (marks after : List Mark) (words : List ℕ) (place : ℕ)
+    → tag_of (mark_at after place) ≡ Free
+    → ((q : ℕ) → q ≢ place → tag_of (mark_at after q) ≡ tag_of (mark_at marks q))
+    → blocks_of after words ≡ map.remove (blocks_of marks words) place
+block_gone marks after words place is tags =
+    blocks_are after words (map.remove (blocks_of marks words) place) (λ q.
+    elim (cases_eq q place)
+    as (λ _. tagged words q (tag_of (mark_at after q))
+    ≡ map.get (map.remove (blocks_of marks words) place) q) [
+      | inl there ↦
+          ap (λ (p : ℕ). tagged words p (tag_of (mark_at after p))) there
+          ∙ ap (tagged words place) is
+          ∙ sym (ap (map.get (map.remove (blocks_of marks words) place)) there
+          ∙ get-remove_same (blocks_of marks words) place)
+      | inr other ↦
+          ap (tagged words q) (tags q other)
+          ∙ sym (get-remove_other (blocks_of marks words) place q other
+          ∙ get-blocks_of marks words q)
+    ])
+
+-- ---- blocks that fit
+-- the words of a map with one block more
+pub insert_cases : (blocks : Blocks) (place : ℕ) (words : List ℕ) (q : ℕ) (block : List ℕ)
+    → map.get (map.insert blocks place words) q ≡ Some block
+    → ((q ≡ place) × (block ≡ words)) ⊎ ((q ≢ place) × (map.get blocks q ≡ Some block))
+insert_cases blocks place words q block is =
+    elim (cases_eq q place)
+    as (λ _. ((q ≡ place) × (block ≡ words)) ⊎ ((q ≢ place) × (map.get blocks q ≡ Some block))) [
+      | inl same ↦
+          let found : Some words ≡ Some block
+          = sym (get-insert_same blocks place words)
+          ∙ ap (map.get (map.insert blocks place words)) (sym same) ∙ is in
+          let words_are : block ≡ words = cc in
+          inl (same, words_are)
+      | inr other ↦ inr (other, sym (get-insert_other blocks place words q other) ∙ is)
+    ]
+
+pub fits-insert : (units : ℕ) (blocks : Blocks) (place : ℕ) (words : List ℕ) → Fits units blocks
+    → IsBlock units place words
+    → ((q : ℕ) (block : List ℕ) → q ≢ place → map.get blocks q ≡ Some block
+    → (q + length block ≤ place) ⊎ (place + length words ≤ q))
+    → Fits units (map.insert blocks place words)
+fits-insert units blocks place words fits is clear = record {
+  each = λ q block found.
+      elim (insert_cases blocks place words q block found) as (λ _. IsBlock units q block) [
+        | inl (same, words_are) ↦
+            subst (λ (p : ℕ). IsBlock units p block) (sym same)
+            (subst (λ (ws : List ℕ). IsBlock units place ws) (sym words_are) is)
+        | inr (other, was) ↦ fits.each q block was
+      ];
+  apart = λ one two block others first second less.
+      elim (insert_cases blocks place words one block first) as (λ _. one + length block ≤ two) [
+        | inl (same, words_are) ↦
+            let counts : length block ≡ length words = ap (λ (ws : List ℕ). length ws) words_are in
+            elim (insert_cases blocks place words two others second)
+            as (λ _. one + length block ≤ two) [
+              | inl (again, _) ↦ absurd (omega arith)
+              | inr (other, was) ↦
+                  elim (clear two others other was) as (λ _. one + length block ≤ two) [
+                    | inl below ↦ absurd (omega arith)
+                    | inr above ↦ omega arith
+                  ]
+            ]
+        | inr (other, was) ↦
+            elim (insert_cases blocks place words two others second)
+            as (λ _. one + length block ≤ two) [
+              | inl (same, words_are) ↦
+                  let size = (fits.each one block was).size in
+                  elim (clear one block other was) as (λ _. one + length block ≤ two) [
+                    | inl below ↦ omega arith
+                    | inr above ↦ absurd (omega arith)
+                  ]
+              | inr (too, was_too) ↦ fits.apart one two block others was was_too less
+            ]
+      ];
+}
+
+pub was_there : (blocks : Blocks) (place q : ℕ) (block : List ℕ)
+    → map.get (map.remove blocks place) q ≡ Some block → map.get blocks q ≡ Some block
+was_there blocks place q block found =
+    sym (get-remove_other blocks place q (λ same.
+    (let gone = get-remove_same blocks place in
+    let there = ap (map.get (map.remove blocks place)) same in cc))) ∙ found
+
+pub fits-remove : (units : ℕ) (blocks : Blocks) (place : ℕ) → Fits units blocks
+    → Fits units (map.remove blocks place)
+fits-remove units blocks place fits = record {
+  each = λ q block found. fits.each q block (was_there blocks place q block found);
+  apart = λ one two block others first second less.
+      fits.apart one two block others (was_there blocks place one block first)
+      (was_there blocks place two others second) less;
+}
+
+-- ---- the level of a block
+pub level_live : (words : List ℕ) (place : ℕ) (tag : Tag) → IsSome (level_of tag)
+    → IsSome (tagged words place tag)
+level_live words place (First level) live = refl
+level_live words place Inside live = live
+level_live words place Free live = live
+
+pub live_level : (words : List ℕ) (place : ℕ) (tag : Tag) → IsSome (tagged words place tag)
+    → IsSome (level_of tag)
+live_level words place (First level) live = refl
+live_level words place Inside live = live
+live_level words place Free live = live
+
+pub marked_live : (marks : List Mark) (words : List ℕ) (place : ℕ)
+    → IsSome (level_of (tag_of (mark_at marks place))) → IsLive (blocks_of marks words) place
+marked_live marks words place told =
+    subst (λ (b : Option (List ℕ)). IsSome b) (sym (get-blocks_of marks words place))
+    (level_live words place (tag_of (mark_at marks place)) told)
+
+pub live_marked : (marks : List Mark) (words : List ℕ) (place : ℕ)
+    → IsLive (blocks_of marks words) place → IsSome (level_of (tag_of (mark_at marks place)))
+live_marked marks words place live =
+    live_level words place (tag_of (mark_at marks place))
+    (subst (λ (b : Option (List ℕ)). IsSome b) (get-blocks_of marks words place) live)
+
+size_by : (units : ℕ) (marks : List Mark) (words : List ℕ) → length words ≡ end_of units
+    → ((level place : ℕ) → mark_at marks place ≡ Block level → Stands units level place)
+    → (place : ℕ) (mark : Mark) → mark_at marks place ≡ mark
+    → option_map (λ (level : ℕ). 2 ^ level) (level_of (tag_of mark))
+    ≡ option_map (λ (block : List ℕ). length block) (tagged words place (tag_of mark))
+size_by units marks words filled stands place (Block level) is =
+    ap (λ (n : ℕ). Some n) (sym (length-range words place (2 ^ level)
+    (omega (arith, filled, (stands level place is).within))))
+size_by units marks words filled stands place Inner is = refl
+size_by units marks words filled stands place (Listed level) is = refl
+
+pub marked_size : (units : ℕ) (marks : List Mark) (words : List ℕ) → length words ≡ end_of units
+    → ((level place : ℕ) → mark_at marks place ≡ Block level → Stands units level place)
+    → (place : ℕ)
+    → option_map (λ (level : ℕ). 2 ^ level) (level_of (tag_of (mark_at marks place)))
+    ≡ option_map (λ (block : List ℕ). length block) (map.get (blocks_of marks words) place)
+marked_size units marks words filled stands place =
+    size_by units marks words filled stands place (mark_at marks place) refl
+    ∙ ap (option_map (λ (block : List ℕ). length block)) (sym (get-blocks_of marks words place))
+
+small_by : (units : ℕ) (marks : List Mark)
+    → ((level place : ℕ) → mark_at marks place ≡ Block level → Stands units level place)
+    → (place : ℕ) (mark : Mark) → mark_at marks place ≡ mark
+    → IfSome (level_of (tag_of mark)) (λ level. level ≤ largest_level)
+small_by units marks stands place (Block level) is = (stands level place is).small
+small_by units marks stands place Inner is = tt
+small_by units marks stands place (Listed level) is = tt
+
+pub marked_small : (units : ℕ) (marks : List Mark)
+    → ((level place : ℕ) → mark_at marks place ≡ Block level → Stands units level place)
+    → (place : ℕ)
+    → IfSome (level_of (tag_of (mark_at marks place))) (λ level. level ≤ largest_level)
+marked_small units marks stands place = small_by units marks stands place (mark_at marks place) refl
+
+told_mark_by : (mark : Mark) (level : ℕ) → Some level ≡ level_of (tag_of mark)
+    → mark ≡ Block level
+told_mark_by (Block k) level told =
+    ap (λ (l : ℕ). Block l)
+    (let both : Some level ≡ Some k = told in let same : k ≡ level = cc in same)
+told_mark_by Inner level told = cc
+told_mark_by (Listed k) level told = cc
+
+-- the mark of a level that is told
+pub told_mark : (marks : List Mark) (place level : ℕ)
+    → Some level ≡ level_of (tag_of (mark_at marks place)) → mark_at marks place ≡ Block level
+told_mark marks place level told = told_mark_by (mark_at marks place) level told
+
+-- where a block has these words, and how many they are
+pub block_at_marked : (marks : List Mark) (words : List ℕ) (level place : ℕ)
+    → mark_at marks place ≡ Block level
+    → block_at (blocks_of marks words) place ≡ slice_range words place (place + 2 ^ level)
+block_at_marked marks words level place is =
+    ap (λ (b : Option (List ℕ)). unwrap_or b []) (block_marked marks words level place is)
+
+-- a block that begins at a place: its level, its words, and that they are among the words
+pub record BlockHere (units : ℕ) (marks : List Mark) (words : List ℕ) (place : ℕ) : Type 0 where
+  pub level : ℕ
+  pub mark : mark_at marks place ≡ Block level
+  pub words_are : block_at (blocks_of marks words) place
+      ≡ slice_range words place (place + 2 ^ level)
+  pub size : length (block_at (blocks_of marks words) place) ≡ 2 ^ level
+  pub within : place + 2 ^ level ≤ length words
+
+pub block_here : (units : ℕ) (marks : List Mark) (words : List ℕ) → length words ≡ end_of units
+    → ((level place : ℕ) → mark_at marks place ≡ Block level → Stands units level place)
+    → (place : ℕ) → IsLive (blocks_of marks words) place → BlockHere units marks words place
+block_here units marks words filled stands place live =
+    let is = live_words (blocks_of marks words) place live in
+    let from = marked marks words place (block_at (blocks_of marks words) place) is in
+    let inside : place + 2 ^ from.level ≤ length words
+    = omega (arith, filled, (stands from.level place from.mark).within) in
+    record {
+      level = from.level;
+      mark = from.mark;
+      words_are = from.is;
+      size = ap (λ (ws : List ℕ). length ws) from.is
+          ∙ length-range words place (2 ^ from.level) inside;
+      within = inside;
+    }

@@ -1,0 +1,41 @@
+use Rattle.std.proofs.Common.{◌≡◌, ℕ, ◌^◌, ◌≤◌, List, length, Option, sym, ap, ◌∙◌, subst}
+use Rattle.l6_store.specs.inner.Layout.{Layout, mark_at, tag_of}
+use Rattle.l6_store.specs.declared.mark.Mark.{Mark}
+use Rattle.std.specs.Option.{IsSome, IfSome, option_map}
+use Rattle.std.specs.FinMap as map
+use Rattle.l6_store.specs.Blocks.{IsLive}
+use Rattle.l6_store.specs.inner.Tags.{level_of}
+use Rattle.l6_word.specs.Numerals.{largest_level}
+use Rattle.l6_store.proofs.Marked.{live_marked, marked_live, marked_size, marked_small}
+use Rattle.l6_store.proofs.arena.Arena.level_at.Goals as goal
+
+told : (c : goal.After-block_level)
+    → c.block_level.result ≡ level_of (tag_of (mark_at c.self.inside.marks.items c.args.place))
+told c =
+    c.block_level.ensures
+    ∙ ap (λ (marks : List Mark). level_of (tag_of (mark_at marks c.args.place)))
+    c.deref.ensures.value
+
+pub returns-clause-live : goal.returns-clause-live
+returns-clause-live c = (
+  λ some. subst (λ (l : Layout). IsLive l.blocks c.args.place) c.self.view_is
+      (marked_live c.self.inside.marks.items c.self.inside.words c.args.place
+      (subst (λ (o : Option ℕ). IsSome o) (told c) some)),
+  λ live. subst (λ (o : Option ℕ). IsSome o) (sym (told c))
+      (live_marked c.self.inside.marks.items c.self.inside.words c.args.place
+      (subst (λ (l : Layout). IsLive l.blocks c.args.place) (sym c.self.view_is) live)),
+)
+
+pub returns-clause-size : goal.returns-clause-size
+returns-clause-size c =
+    ap (option_map (λ (level : ℕ). 2 ^ level)) (told c)
+    ∙ marked_size c.self.inside.units c.self.inside.marks.items c.self.inside.words
+    c.self.invariant.filled c.self.invariant.are_blocks.stands c.args.place
+    ∙ ap (λ (l : Layout). option_map (λ (block : List ℕ). length block)
+    (map.get l.blocks c.args.place)) c.self.view_is
+
+pub returns-clause-level : goal.returns-clause-level
+returns-clause-level c =
+    subst (λ (o : Option ℕ). IfSome o (λ level. level ≤ largest_level)) (sym (told c))
+    (marked_small c.self.inside.units c.self.inside.marks.items c.self.invariant.are_blocks.stands
+    c.args.place)

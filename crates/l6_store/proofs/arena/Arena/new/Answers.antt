@@ -1,0 +1,85 @@
+use Rattle.std.proofs.Common.{◌≡◌, ℕ, suc, ◌+◌, ◌*◌, List, length, replicate, refl, sym, ap, ◌∙◌, subst, arith}
+use Rattle.l6_store.specs.inner.Layout.{mark_at}
+use Rattle.l6_store.specs.declared.mark.Mark.{Mark}
+use Rattle.l6_store.specs.declared.mark.Mark.TheVariants.{Inner}
+use Rattle.std.proofs.lemmas.List.{length-replicate}
+use Rattle.l6_word.specs.Numerals.{largest_level, unit_size}
+use Rattle.l6_store.specs.Blocks.{end_of}
+use Rattle.l6_raw.proofs.Overwriting.{are_words-zeros}
+use Rattle.l6_store.proofs.Arenas.{AreWords}
+use Rattle.l6_store.proofs.Fresh.{cleared_laid, cleared_blocks, cleared_order, all_alike, zero_heads}
+use Rattle.l6_store.proofs.arena.Arena.new.Goals as goal
+
+places : (c : goal.In_ok-vec) → (c.args.units + 1) * c.from.result ≡ end_of c.args.units
+places c =
+    let product : (c.args.units + 1) * c.from.result ≡ (c.args.units + 1) * unit_size
+    = ap (λ (n : ℕ). (c.args.units + 1) * n) c.from.ensures in
+    omega (arith, product)
+
+filled : (c : goal.In_ok-vec) → length c.in_ok-new.field-0 ≡ end_of c.args.units
+filled c =
+    ap (λ (words : List ℕ). length words) c.in_ok-new.ensures
+    ∙ length-replicate {A = ℕ} ((c.args.units + 1) * c.from.result) 0 ∙ places c
+
+marks_are : (c : goal.In_ok-vec)
+    → c.in_ok-vec.field-0.items ≡ replicate ((c.args.units + 1) * c.from.result) Inner
+marks_are c = c.in_ok-vec.ensures.items_if_clones_equal (λ y same. same)
+
+count : (c : goal.In_ok-vec) → length c.in_ok-vec.field-0.items ≡ end_of c.args.units
+count c =
+    ap (λ (marks : List Mark). length marks) (marks_are c)
+    ∙ length-replicate {A = Mark} ((c.args.units + 1) * c.from.result) Inner ∙ places c
+
+inner : (c : goal.In_ok-vec) → (at : ℕ) → mark_at c.in_ok-vec.field-0.items at ≡ Inner
+inner c at = ap (λ (marks : List Mark). mark_at marks at) (marks_are c)
+    ∙ all_alike ((c.args.units + 1) * c.from.result) at
+
+are_words : (c : goal.In_ok-vec) → AreWords c.in_ok-new.field-0
+are_words c = subst AreWords (sym c.in_ok-new.ensures)
+    (are_words-zeros ((c.args.units + 1) * c.from.result))
+
+pub invariant_of-arena : goal.invariant_of-arena
+invariant_of-arena c =
+    cleared_laid c.args.units c.in_ok-new.field-0 (replicate (suc largest_level) 0)
+    c.in_ok-vec.field-0.items c.requires.some c.requires.most (filled c) (count c) (inner c) refl
+    zero_heads (are_words c)
+
+places_then : (c : goal.After-arena-2-1) → (c.args.units + 1) * c.from.result ≡ end_of c.args.units
+places_then c =
+    let product : (c.args.units + 1) * c.from.result ≡ (c.args.units + 1) * unit_size
+    = ap (λ (n : ℕ). (c.args.units + 1) * n) c.from.ensures in
+    omega (arith, product)
+
+filled_then : (c : goal.After-arena-2-1) → length c.in_ok-new.field-0 ≡ end_of c.args.units
+filled_then c =
+    ap (λ (words : List ℕ). length words) c.in_ok-new.ensures
+    ∙ length-replicate {A = ℕ} ((c.args.units + 1) * c.from.result) 0 ∙ places_then c
+
+marks_are_then : (c : goal.After-arena-2-1)
+    → c.in_ok-vec.field-0.items ≡ replicate ((c.args.units + 1) * c.from.result) Inner
+marks_are_then c = c.in_ok-vec.ensures.items_if_clones_equal (λ y same. same)
+
+count_then : (c : goal.After-arena-2-1) → length c.in_ok-vec.field-0.items ≡ end_of c.args.units
+count_then c =
+    ap (λ (marks : List Mark). length marks) (marks_are_then c)
+    ∙ length-replicate {A = Mark} ((c.args.units + 1) * c.from.result) Inner ∙ places_then c
+
+inner_then : (c : goal.After-arena-2-1) → (at : ℕ) → mark_at c.in_ok-vec.field-0.items at ≡ Inner
+inner_then c at = ap (λ (marks : List Mark). mark_at marks at) (marks_are_then c)
+    ∙ all_alike ((c.args.units + 1) * c.from.result) at
+
+are_words_then : (c : goal.After-arena-2-1) → AreWords c.in_ok-new.field-0
+are_words_then c = subst AreWords (sym c.in_ok-new.ensures)
+    (are_words-zeros ((c.args.units + 1) * c.from.result))
+
+pub list_units-requires-clause-blocks : goal.list_units-requires-clause-blocks
+list_units-requires-clause-blocks c =
+    cleared_blocks c.args.units c.in_ok-new.field-0 (replicate (suc largest_level) 0)
+    c.in_ok-vec.field-0.items c.requires.some c.requires.most (filled_then c) (count_then c) (inner_then c) refl
+    zero_heads (are_words_then c)
+
+pub list_units-requires-clause-order : goal.list_units-requires-clause-order
+list_units-requires-clause-order c =
+    cleared_order c.args.units c.in_ok-new.field-0 (replicate (suc largest_level) 0)
+    c.in_ok-vec.field-0.items c.requires.some c.requires.most (filled_then c) (count_then c) (inner_then c) refl
+    zero_heads (are_words_then c)

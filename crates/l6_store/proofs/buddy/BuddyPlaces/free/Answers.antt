@@ -1,0 +1,64 @@
+use Rattle.std.proofs.Common.{◌-◌, sym, ap, ◌∙◌, subst}
+use Rattle.l6_store.specs.BuddyStore.{BuddyStore}
+use Rattle.std.specs.FinMap as map
+use Rattle.l6_store.specs.Blocks.{IsLive}
+use Rattle.l6_store.specs.Buddy.{buddy_rule, level_at, piece_freed, put_back}
+use Rattle.l6_store.specs.Store.{after_free}
+use Rattle.l6_store.specs.Tiles.{Tiles}
+use Rattle.l6_store.proofs.Stores.{closed_hand, freed_filled, freed_moves, freed_order, sound_store, store_is}
+use Rattle.l6_store.proofs.buddy.BuddyPlaces.free.Goals as goal
+
+live : (c : goal.After-join-arg-1) → IsLive c.self.inside.arena.blocks c.args.place
+live c =
+    subst (λ (b : BuddyStore). IsLive b.store.blocks c.args.place) (sym c.self.view_is) c.requires
+
+pub join-self-inside-requires-clause-held : goal.join-self-inside-requires-clause-held
+join-self-inside-requires-clause-held c =
+    closed_hand c.self.inside.arena c.self.invariant.0 c.self.invariant.1 c.args.place c.close-level.result
+    (live c) c.close-level.ensures.small c.close-level.ensures.level c.close-level.new.self
+    c.close-level.ensures.units c.close-level.ensures.blocks c.close-level.ensures.order
+
+live_then : (c : goal.After-self-1) → IsLive c.self.inside.arena.blocks c.args.place
+live_then c =
+    subst (λ (b : BuddyStore). IsLive b.store.blocks c.args.place) (sym c.self.view_is) c.requires
+
+tiled : (c : goal.After-self-1) → Tiles c.join-self-inside.new.arena.units
+    c.join-self-inside.new.arena.blocks c.join-self-inside.new.arena.order
+tiled c =
+    freed_filled c.self.inside.arena c.self.invariant.0 c.self.invariant.1 c.args.place c.close-level.result
+    (live_then c) c.close-level.ensures.small c.close-level.ensures.level c.close-level.new.self
+    c.close-level.ensures.units c.close-level.ensures.blocks c.close-level.ensures.order
+    c.join-self-inside.new.arena c.join-self-inside.ensures.units
+    c.join-self-inside.ensures.blocks c.join-self-inside.ensures.order
+
+pub invariant_of-self : goal.invariant_of-self
+invariant_of-self c = (c.join-self-inside.ensures.sound, tiled c)
+
+pub returns-clause-after : goal.returns-clause-after
+returns-clause-after c =
+    let was = c.self.inside.arena in
+    store_is c.join-self-inside.new.arena.units was.units c.join-self-inside.new.arena.blocks
+    (map.remove was.blocks c.args.place) c.join-self-inside.new.arena.order
+    (put_back (piece_freed was.order (level_at was.blocks c.args.place) c.args.place))
+    c.join-self-inside.result
+    ((piece_freed was.order (level_at was.blocks c.args.place) c.args.place).level
+    - level_at was.blocks c.args.place)
+    (c.join-self-inside.ensures.units ∙ c.close-level.ensures.units)
+    (c.join-self-inside.ensures.blocks ∙ c.close-level.ensures.blocks)
+    (freed_order c.self.inside.arena c.self.invariant.0 c.self.invariant.1 c.args.place c.close-level.result
+    (live_then c) c.close-level.ensures.small c.close-level.ensures.level c.close-level.new.self
+    c.close-level.ensures.units c.close-level.ensures.blocks c.close-level.ensures.order
+    c.join-self-inside.new.arena c.join-self-inside.ensures.units
+    c.join-self-inside.ensures.blocks c.join-self-inside.ensures.order)
+    (freed_moves c.self.inside.arena c.self.invariant.0 c.self.invariant.1 c.args.place c.close-level.result
+    (live_then c) c.close-level.ensures.small c.close-level.ensures.level c.close-level.new.self
+    c.close-level.ensures.units c.close-level.ensures.blocks c.close-level.ensures.order
+    c.join-self-inside.new.arena c.join-self-inside.ensures.units
+    c.join-self-inside.ensures.blocks c.join-self-inside.ensures.order
+    c.join-self-inside.result c.join-self-inside.ensures.moves)
+    ∙ ap (λ (b : BuddyStore). after_free buddy_rule b.store c.args.place) c.self.view_is
+
+pub returns-clause-sound : goal.returns-clause-sound
+returns-clause-sound c =
+    sound_store c.join-self-inside.new.arena c.join-self-inside.result
+    c.join-self-inside.ensures.sound (tiled c)

@@ -1,0 +1,81 @@
+use Rattle.std.proofs.Common.{◌≡◌, ℕ, ◌+◌, ◌-◌, ◌*◌, ◌%◌, ◌^◌, refl, sym, ap, ◌∙◌, subst, arith}
+use Rattle.std.proofs.lemmas.Nat.{one_shl, pow_below}
+use Rattle.l6_store.specs.Blocks.{Blocks, LiesIn}
+use Rattle.l6_store.specs.Rule.{Order}
+use Rattle.l6_store.specs.Buddy.{Hand, IsListed, in_front}
+use Rattle.l6_store.specs.inner.Hands.{Halves}
+use Rattle.l6_store.proofs.Hands.{hand_beside, hand_unlisted}
+use Rattle.l6_store.proofs.Loops.{halves_first, halves_more, halves_done}
+use Rattle.l6_store.proofs.piece.halve.Goals as goal
+
+pub loop-now-init : goal.loop-now-init
+loop-now-init c = (
+  record { units = refl; blocks = refl; sound = c.requires.sound },
+  halves_first c.args.arena.now.units c.args.arena.now.blocks c.args.level
+      (record { order = c.args.arena.now.order; level = c.args.from; place = c.args.place })
+      c.requires.enough c.requires.held,
+)
+
+-- where the upper half begins
+upper : (c : goal.After-link-arg-1)
+    → c.args.place + 1 * 2 ^ (c.loop-now.now - 1) % 2 ^ 32
+    ≡ c.args.place + 2 ^ (c.loop-now.now - 1)
+upper c =
+    ap (λ (size : ℕ). c.args.place + size)
+    (one_shl (c.loop-now.now - 1) 32
+    (omega (arith, c.loop-now.invariant.1.in_hand.holds.stands.small)))
+
+pub link-requires-clause-fresh : goal.link-requires-clause-fresh
+link-requires-clause-fresh c = λ k is.
+    hand_unlisted c.args.arena.now.units c.args.arena.now.blocks
+    (record { order = c.loop-now.arena.order; level = c.loop-now.now; place = c.args.place })
+    c.loop-now.invariant.1.in_hand.holds k (c.args.place + 2 ^ (c.loop-now.now - 1))
+    (omega arith)
+    (omega (arith, pow_below (c.loop-now.now - 1) c.loop-now.now (omega arith)))
+    (subst (λ (p : ℕ). IsListed c.loop-now.arena.order k p) (upper c) is)
+
+pub link-requires-clause-beside : goal.link-requires-clause-beside
+link-requires-clause-beside c = λ lies.
+    hand_beside c.args.arena.now.units c.args.arena.now.blocks
+    (record { order = c.loop-now.arena.order; level = c.loop-now.now; place = c.args.place })
+    c.loop-now.invariant.1.in_hand.holds (c.args.place + 2 ^ (c.loop-now.now - 1))
+    (omega arith)
+    (omega (arith, pow_below (c.loop-now.now - 1) c.loop-now.now (omega arith)))
+    (subst (λ (p : ℕ). LiesIn c.args.arena.now.blocks p) (upper c)
+    (subst (λ (b : Blocks). LiesIn b (c.args.place + 1 * 2 ^ (c.loop-now.now - 1) % 2 ^ 32))
+    c.loop-now.invariant.0.blocks lies))
+
+pub loop-now-preserved : goal.loop-now-preserved
+loop-now-preserved c =
+    let was = c.loop-now.invariant in
+    let size : c.args.place + 1 * 2 ^ (c.loop-now.now - 1) % 2 ^ 32
+    ≡ c.args.place + 2 ^ (c.loop-now.now - 1)
+    = ap (λ (size : ℕ). c.args.place + size)
+    (one_shl (c.loop-now.now - 1) 32 (omega (arith, was.1.in_hand.holds.stands.small))) in
+    let order : c.link.new.self.order
+    ≡ in_front c.loop-now.arena.order (c.loop-now.now - 1)
+    (c.args.place + 2 ^ (c.loop-now.now - 1))
+    = c.link.ensures.order
+    ∙ ap (in_front c.loop-now.arena.order (c.loop-now.now - 1)) size in (
+      record {
+        units = c.link.ensures.units ∙ was.0.units;
+        blocks = c.link.ensures.blocks ∙ was.0.blocks;
+        sound = c.link.ensures.sound;
+      },
+      subst (λ (o : Order). Halves c.args.arena.now.units c.args.arena.now.blocks c.args.level
+          c.args.from (record { order = c.args.arena.now.order; level = c.args.from; place = c.args.place })
+          (record { order = o; level = c.loop-now.now - 1; place = c.args.place })
+          (c.loop-now.moves + 1)) (sym order)
+          (halves_more c.args.arena.now.units c.args.arena.now.blocks c.args.level c.args.from
+          (record { order = c.args.arena.now.order; level = c.args.from; place = c.args.place })
+          (record { order = c.loop-now.arena.order; level = c.loop-now.now; place = c.args.place })
+          c.loop-now.moves c.loop-now-test.true was.1),
+    )
+
+pub returns-clause-order : goal.returns-clause-order
+returns-clause-order c =
+    ap (λ (h : Hand). h.order)
+    (halves_done c.args.arena.now.units c.args.arena.now.blocks c.args.level c.args.from
+    (record { order = c.args.arena.now.order; level = c.args.from; place = c.args.place })
+    (record { order = c.loop-now.arena.order; level = c.loop-now.now; place = c.args.place })
+    c.loop-now.moves c.loop-now-test.false c.loop-now.invariant.1)

@@ -1,0 +1,119 @@
+-- What the words, the marks and the heads of an arena mean, and what is true of them.
+use Rattle.std.specs.Prelude.{◌≡◌, ℕ, suc, ◌+◌, ◌-◌, ◌*◌, ◌^◌, ◌<◌, ◌≤◌, false, List, [], ◌∷◌, ◌++◌, length, map, replicate, slice_index_or, refl}
+use Rattle.std.specs.List.{All}
+use Rattle.std.specs.Coded.{Coded, code_by, coded×, coded_ℕ, coded_list}
+use Rattle.std.specs.FinMap as map
+use Rattle.l6_word.specs.Numerals.{largest_level, unit_size, word_bits}
+use Rattle.l6_store.specs.Numerals.{most_units}
+use Rattle.l6_store.specs.Blocks.{Blocks, blocks_code, Fits, LiesIn, Stands, end_of}
+use Rattle.l6_store.specs.Rule.{Order}
+use Rattle.l6_store.specs.Buddy.{has, listed, units_from, IsListed}
+use Rattle.l6_store.specs.Links.{Links}
+use Rattle.l6_store.specs.inner.Tags.{gathered}
+use Rattle.l6_store.specs.inner.Chains.{order_of}
+use Rattle.l6_store.specs.declared.mark.Mark.{Mark}
+use Rattle.l6_store.specs.declared.mark.Mark.TheVariants.{Inner, Block, Listed}
+use Rattle.l6_store.specs.declared.tag.Tag.{Tag}
+use Rattle.l6_store.specs.declared.tag.Tag.TheVariants.{First, Free}
+
+-- the mark of a place
+abbrev pub mark_at : List Mark → ℕ → Mark
+mark_at marks place = slice_index_or marks place Inner
+
+-- the tag that a mark is, where only blocks are told
+abbrev pub tag_of : Mark → Tag
+tag_of Inner = Free
+tag_of (Block level) = First level
+tag_of (Listed level) = Free
+
+-- the blocks that marks and words tell
+unfoldable pub blocks_of : List Mark → List ℕ → Blocks
+blocks_of marks words = gathered (map tag_of marks) words (length (map tag_of marks))
+
+-- how an arena is laid out: its units, its blocks and its free pieces, and the words and heads that
+-- hold their lists
+pub record Layout : Type 0 where
+  pub units : ℕ
+  pub blocks : Blocks
+  pub order : Order
+  pub words : List ℕ
+  pub heads : List ℕ
+
+abbrev pub layout_code : Coded Layout
+layout_code =
+    code_by (ℕ × (Blocks × (Order × (List ℕ × List ℕ))))
+    (coded× coded_ℕ (coded× blocks_code (coded× (coded_list (coded_list coded_ℕ))
+    (coded× (coded_list coded_ℕ) (coded_list coded_ℕ)))))
+    (λ l. (l.units, (l.blocks, (l.order, (l.words, l.heads)))))
+    (λ p. record { units = p.0; blocks = p.1.0; order = p.1.1.0; words = p.1.1.1.0; heads = p.1.1.1.1 })
+    (λ _. refl)
+
+abbrev pub layout_of : ℕ → List ℕ → List Mark → List ℕ → Layout
+layout_of units words marks heads = record {
+  units = units;
+  blocks = blocks_of marks words;
+  order = order_of words heads;
+  words = words;
+  heads = heads;
+}
+
+-- no place stands twice in a list
+abbrev pub AreDistinct : List ℕ → Type 0
+AreDistinct [] = Unit {0}
+AreDistinct (place ∷ places) = (has place places ≡ false) × AreDistinct places
+
+-- the lists of free pieces: they are linked, and the marks tell what is listed
+pub record AreLists (words heads : List ℕ) (marks : List Mark) (order : Order) : Type 0 where
+  pub levels : length order ≡ suc largest_level
+  pub links : Links words heads order
+  pub distinct : (level : ℕ) → AreDistinct (listed order level)
+  pub marked : (level place : ℕ) → IsListed order level place → mark_at marks place ≡ Listed level
+  pub told : (level place : ℕ) → mark_at marks place ≡ Listed level → IsListed order level place
+  pub none : mark_at marks 0 ≡ Inner
+
+-- the blocks: each stands in the store, and no two share a word
+pub record AreBlocks (units : ℕ) (words : List ℕ) (marks : List Mark) : Type 0 where
+  pub stands : (level place : ℕ) → mark_at marks place ≡ Block level → Stands units level place
+  pub fits : Fits units (blocks_of marks words)
+  pub are_words : All (λ word. word < 2 ^ word_bits) words
+
+-- no free piece begins in a block
+abbrev pub AreBeside : Blocks → Order → Type 0
+AreBeside blocks order =
+    (level place : ℕ) → IsListed order level place → LiesIn blocks place → ⊥
+
+-- what is true of each arena
+pub record IsLaid (units : ℕ) (words : List ℕ) (marks : List Mark) (heads : List ℕ) : Type 0 where
+  pub some : 1 ≤ units
+  pub most : units ≤ most_units
+  pub filled : length words ≡ end_of units
+  pub count : length marks ≡ end_of units
+  pub are_lists : AreLists words heads marks (order_of words heads)
+  pub are_blocks : AreBlocks units words marks
+  pub beside : AreBeside (blocks_of marks words) (order_of words heads)
+
+-- what of that others may know
+pub record IsSoundLayout (layout : Layout) : Type 0 where
+  pub some : 1 ≤ layout.units
+  pub most : layout.units ≤ most_units
+  pub fits : Fits layout.units layout.blocks
+  pub links : Links layout.words layout.heads layout.order
+
+-- the order while units are listed, the last first: those behind one are
+unfoldable pub order_from : ℕ → ℕ → Order
+order_from units unit =
+    replicate largest_level [] ++ units_from (unit_size * unit + unit_size) (units - unit) ∷ []
+
+-- while units are listed: those behind one are, of an arena without blocks
+pub record Listing (was now : Layout) (unit : ℕ) : Type 0 where
+  pub most : unit ≤ now.units
+  pub units : now.units ≡ was.units
+  pub blocks : now.blocks ≡ map.empty
+  pub order : now.order ≡ order_from now.units unit
+  pub sound : IsSoundLayout now
+
+-- an arena with the units and the blocks of another
+pub record IsBeside (was now : Layout) : Type 0 where
+  pub units : now.units ≡ was.units
+  pub blocks : now.blocks ≡ was.blocks
+  pub sound : IsSoundLayout now

@@ -1,0 +1,268 @@
+//! The arena: a region of words with the blocks and the lists of free pieces that stand in it.
+
+ghost use Rattle.std.specs.Prelude.{[], ℕ, ◌≡◌, ◌≢◌, ◌↔◌, ◌+◌, ◌<◌, ◌≤◌, ◌^◌, length, replicate, slice_set, option_map, IsSome, IfSome, IfOk};
+ghost use Rattle.std.specs.List.{All};
+ghost use Rattle.std.specs.FinMap as map;
+ghost use Rattle.l6_word.specs.Numerals.{largest_level, unit_size, word_bits};
+ghost use Rattle.l6_store.specs.Numerals.{most_units};
+ghost use Rattle.l6_store.specs.Blocks.{IsLive, LiesIn, Stands, block_at, end_of, index_in, word_at};
+ghost use Rattle.l6_store.specs.Buddy.{IsListed, first_of, first_or, has, in_front, first_order, level_at, listed, taken_out};
+ghost use Rattle.l6_store.specs.inner.Layout.{IsSoundLayout};
+
+use crate::link::{link, pop, unlink};
+use crate::mark::{Mark, block_level};
+use crate::places::{Level, Place};
+use crate::tag::size_of;
+use l6_raw::Region;
+use l6_word::{LARGEST_LEVEL, UNIT_SIZE, Word};
+use std::alloc::{AllocError, Global};
+use std::marker::Model;
+
+/// How many levels there are.
+const LEVELS: usize = LARGEST_LEVEL as usize + 1;
+
+/// A region of words, what stands at each of its places, and the head of each list.
+#[derive(Drop)]
+pub(crate) struct Arena {
+    units: u32,
+    // the word at each place
+    words: Region,
+    // what stands at each place
+    marks: Vec<Mark>,
+    // the first place of each level's list, 0 where it is empty
+    heads: [Place; LEVELS],
+}
+
+impl Model for Arena {
+    ghost use Rattle.l6_store.specs.inner.Layout.{Layout, layout_code};
+
+    ghost Value = { Layout };
+
+    ghost coded = { layout_code };
+
+    ghost use Rattle.l6_store.specs.inner.Layout.{layout_of, IsLaid};
+
+    ghost view = { λ a. layout_of a.units a.words a.marks.items a.heads };
+
+    ghost invariant = { λ a. IsLaid a.units a.words a.marks.items a.heads };
+}
+
+impl Arena {
+    /// An arena of so many units, all of them free.
+    pub(crate) fn new(alloc: Global, units: u32) -> Result<Self, AllocError>
+        requires some { 1 ≤ units }
+        requires most { units ≤ most_units }
+        ensures units { IfOk result (λ arena. arena.units ≡ units) }
+        ensures blocks { IfOk result (λ arena. arena.blocks ≡ map.empty) }
+        ensures order { IfOk result (λ arena. arena.order ≡ first_order units) }
+        ensures sound { IfOk result IsSoundLayout }
+    {
+        let places = (units + 1) as usize * usize::from(UNIT_SIZE);
+        let mut arena = Arena {
+            units,
+            words: Region::new(alloc, places)?,
+            marks: vec![in alloc; Mark::Inner; places]?,
+            heads: [0; LEVELS],
+        };
+        arena.list_units();
+        Ok(arena)
+    }
+
+    /// Lists each unit, the first in front.
+    fn list_units(&mut self)
+        requires blocks { self.old.blocks ≡ map.empty }
+        requires order { self.old.order ≡ replicate (largest_level + 1) [] }
+        ensures units { self.new.units ≡ self.old.units }
+        ensures blocks { self.new.blocks ≡ map.empty }
+        ensures order { self.new.order ≡ first_order self.old.units }
+        ensures sound { IsSoundLayout self.new }
+    {
+        let mut unit = self.units;
+        while 0 < unit {
+            self.link(LARGEST_LEVEL, unit * u32::from(UNIT_SIZE));
+            unit -= 1;
+        }
+    }
+
+    /// Takes out all blocks, and lists each unit.
+    pub(crate) fn reset(&mut self)
+        ensures units { self.new.units ≡ self.old.units }
+        ensures blocks { self.new.blocks ≡ map.empty }
+        ensures order { self.new.order ≡ first_order self.old.units }
+        ensures sound { IsSoundLayout self.new }
+    {
+        self.marks.fill(Mark::Inner);
+        self.heads = [0; LEVELS];
+        self.list_units();
+    }
+
+    /// How many units there are.
+    pub(crate) fn units(&self) -> u32
+        ensures { result ≡ self.now.units }
+    {
+        self.units
+    }
+
+    /// The first place of a level's list, if it has one.
+    pub(crate) fn first(&self, level: Level) -> Option<Place>
+        requires { level ≤ largest_level }
+        ensures { result ≡ first_of (listed self.now.order level) }
+    {
+        let place = self.heads[usize::from(level)];
+        if place == 0 { None } else { Some(place) }
+    }
+
+    /// Whether a place stands in a level's list.
+    pub(crate) fn is_listed(&self, level: Level, place: Place) -> bool
+        requires { place < end_of self.now.units }
+        ensures { result ≡ has place (listed self.now.order level) }
+    {
+        self.marks[place as usize] == Mark::Listed(level)
+    }
+
+    /// Puts a free piece in front of its level's list.
+    pub(crate) fn link(&mut self, level: Level, place: Place)
+        requires level { level ≤ largest_level }
+        requires some { 1 ≤ place }
+        requires within { place < end_of self.old.units }
+        requires fresh { (k : ℕ) → IsListed self.old.order k place → ⊥ }
+        requires beside { LiesIn self.old.blocks place → ⊥ }
+        ensures units { self.new.units ≡ self.old.units }
+        ensures blocks { self.new.blocks ≡ self.old.blocks }
+        ensures order { self.new.order ≡ in_front self.old.order level place }
+        ensures sound { IsSoundLayout self.new }
+    {
+        link(&mut self.words, &mut self.heads, level, place);
+        self.marks[place as usize] = Mark::Listed(level);
+    }
+
+    /// Takes a free piece out of its level's list.
+    pub(crate) fn unlink(&mut self, level: Level, place: Place)
+        requires level { level ≤ largest_level }
+        requires there { IsListed self.old.order level place }
+        ensures units { self.new.units ≡ self.old.units }
+        ensures blocks { self.new.blocks ≡ self.old.blocks }
+        ensures order { self.new.order ≡ taken_out self.old.order level place }
+        ensures sound { IsSoundLayout self.new }
+    {
+        unlink(&mut self.words, &mut self.heads, level, place);
+        self.marks[place as usize] = Mark::Inner;
+    }
+
+    /// Takes the first free piece out of a level's list.
+    pub(crate) fn pop(&mut self, level: Level) -> Place
+        requires level { level ≤ largest_level }
+        requires there { IsListed self.old.order level (first_or (listed self.old.order level) 0) }
+        ensures first { result ≡ first_or (listed self.old.order level) 0 }
+        ensures units { self.new.units ≡ self.old.units }
+        ensures blocks { self.new.blocks ≡ self.old.blocks }
+        ensures order { self.new.order ≡ taken_out self.old.order level result }
+        ensures sound { IsSoundLayout self.new }
+    {
+        let place = pop(&mut self.words, &mut self.heads, level);
+        self.marks[place as usize] = Mark::Inner;
+        place
+    }
+
+    /// The level of the block that begins at a place, if one does.
+    pub(crate) fn level_at(&self, place: usize) -> Option<Level>
+        ensures live { IsSome result ↔ IsLive self.now.blocks place }
+        ensures size { option_map (λ level. 2 ^ level) result
+            ≡ option_map length (map.get self.now.blocks place) }
+        ensures level { IfSome result (λ level. level ≤ largest_level) }
+    {
+        block_level(&self.marks, place)
+    }
+
+    /// Makes a piece a block of zeros.
+    pub(crate) fn open(&mut self, level: Level, place: Place)
+        requires stands { Stands self.old.units level place }
+        requires beside { (at : ℕ) → place ≤ at → at < place + 2 ^ level
+            → LiesIn self.old.blocks at → ⊥ }
+        requires unlisted { (k at : ℕ) → place ≤ at → at < place + 2 ^ level
+            → IsListed self.old.order k at → ⊥ }
+        ensures units { self.new.units ≡ self.old.units }
+        ensures blocks { self.new.blocks
+            ≡ map.insert self.old.blocks place (replicate (2 ^ level) 0) }
+        ensures order { self.new.order ≡ self.old.order }
+        ensures sound { IsSoundLayout self.new }
+    {
+        self.words.fill(place as usize, size_of(level));
+        self.marks[place as usize] = Mark::Block(level);
+    }
+
+    /// Takes out a block, of which a piece of the level told is left.
+    pub(crate) fn close(&mut self, place: Place) -> Level
+        requires { IsLive self.old.blocks place }
+        ensures small { result ≤ largest_level }
+        ensures level { 2 ^ result ≡ length (block_at self.old.blocks place) }
+        ensures units { self.new.units ≡ self.old.units }
+        ensures blocks { self.new.blocks ≡ map.remove self.old.blocks place }
+        ensures order { self.new.order ≡ self.old.order }
+        ensures sound { IsSoundLayout self.new }
+    {
+        let level = self.level_at(place as usize).unwrap();
+        self.marks[place as usize] = Mark::Inner;
+        level
+    }
+
+    /// The word at a place.
+    pub(crate) fn read(&self, place: Place) -> Word
+        requires { LiesIn self.now.blocks place }
+        ensures { (found : LiesIn self.now.blocks place) → result ≡ word_at place found }
+    {
+        Word::from_value(self.words.read(place as usize))
+    }
+
+    /// Writes a word at a place.
+    pub(crate) fn write(&mut self, place: Place, word: Word)
+        requires { LiesIn self.old.blocks place }
+        ensures units { self.new.units ≡ self.old.units }
+        ensures blocks { (found : LiesIn self.old.blocks place) → self.new.blocks
+            ≡ map.insert self.old.blocks found.start
+            (slice_set found.words (index_in place found) word) }
+        ensures order { self.new.order ≡ self.old.order }
+        ensures sound { IsSoundLayout self.new }
+    {
+        self.words.write(place as usize, word.get());
+    }
+
+    /// The words of the block that begins at a place.
+    pub(crate) fn block(&self, place: Place) -> &[u64]
+        requires { IsLive self.now.blocks place }
+        ensures value { result.now ≡ block_at self.now.blocks place }
+        ensures words { All (λ word. word < 2 ^ word_bits) result.now }
+    {
+        let level = self.level_at(place as usize).unwrap();
+        self.words.words(place as usize, size_of(level))
+    }
+
+    /// Copies the words of a block into another of its size.
+    pub(crate) fn copy(&mut self, from: Place, to: Place)
+        requires from_live { IsLive self.old.blocks from }
+        requires to_live { IsLive self.old.blocks to }
+        requires different { from ≢ to }
+        requires size { length (block_at self.old.blocks from)
+            ≡ length (block_at self.old.blocks to) }
+        ensures units { self.new.units ≡ self.old.units }
+        ensures blocks { self.new.blocks
+            ≡ map.insert self.old.blocks to (block_at self.old.blocks from) }
+        ensures order { self.new.order ≡ self.old.order }
+        ensures sound { IsSoundLayout self.new }
+    {
+        let level = self.level_at(from as usize).unwrap();
+        self.words.copy(from as usize, to as usize, size_of(level));
+    }
+
+    /// The same arena once more.
+    pub(crate) fn duplicate(&self, alloc: Global) -> Result<Self, AllocError>
+        ensures { IfOk result (λ copy. copy ≡ self.now) }
+    {
+        Ok(Arena {
+            units: self.units,
+            words: self.words.duplicate(alloc)?,
+            marks: self.marks.to_vec(alloc)?,
+            heads: self.heads,
+        })
+    }
+}

@@ -1,0 +1,146 @@
+//! The buddy system: a store whose free pieces are listed by their level.
+
+ghost use Rattle.std.specs.Prelude.{◌≡◌, ◌↔◌, ◌⊎◌, ◌<◌, ◌≤◌, IfOk, OnOk, IsErrOf};
+ghost use Rattle.l6_store.specs.Numerals.{most_units};
+ghost use Rattle.l6_store.specs.Buddy.{buddy_rule};
+ghost use Rattle.l6_store.specs.Links.{Links};
+ghost use Rattle.l6_store.specs.Store.{fresh, IsSound};
+ghost use Rattle.l6_store.specs.Tiles.{Tiles};
+
+use crate::arena::Arena;
+use crate::fault::StoreFault;
+use crate::piece::{halve, join, least_level};
+use crate::places::{Level, Place, Places};
+use crate::scan_store::MAX_UNITS;
+use l6_word::Word;
+use std::alloc::{AllocError, Global};
+use std::marker::Model;
+
+/// A store by the buddy system (K. C. Knowlton, CACM 8(10), 1965).
+#[derive(Drop)]
+pub struct Buddy {
+    arena: Arena,
+    moves: u32,
+}
+
+impl Model for Buddy {
+    ghost use Rattle.l6_store.specs.BuddyStore.{BuddyStore, buddy_code};
+
+    ghost Value = { BuddyStore };
+
+    ghost coded = { buddy_code };
+
+    ghost use Rattle.l6_store.specs.Tiles.{Tiles};
+    ghost use Rattle.l6_store.specs.inner.Layout.{IsSoundLayout};
+
+    ghost view = { λ b. record {
+      store = record {
+        units = b.arena.units;
+        blocks = b.arena.blocks;
+        order = b.arena.order;
+        moves = b.moves;
+      };
+      words = b.arena.words;
+      heads = b.arena.heads;
+    } };
+
+    ghost invariant = { λ b. IsSoundLayout b.arena × Tiles b.arena.units b.arena.blocks b.arena.order };
+}
+
+impl Buddy {
+    /// A store without blocks. `BadUnits` exactly for no unit or more than 2,047, before any
+    /// growth.
+    pub fn new(alloc: Global, units: u32) -> Result<Self, StoreFault>
+        ensures fresh { IfOk result (λ buddy. buddy.store ≡ fresh buddy_rule units) }
+        ensures bad_units { IsErrOf result StoreFault.BadUnits
+            ↔ ((units < 1) ⊎ (most_units < units)) }
+        ensures range { OnOk result (units ≤ most_units) }
+        ensures sound { IfOk result (λ buddy. IsSound buddy_rule buddy.store) }
+    {
+        if units < 1 || MAX_UNITS < units {
+            return Err(StoreFault::BadUnits);
+        }
+        Ok(Buddy {
+            arena: Arena::new(alloc, units)?,
+            moves: 0,
+        })
+    }
+
+    /// Of each buddy store, whatever calls made it what it is: its words and its heads hold its free
+    /// lists, by the links in the first words of the free pieces.
+    pub fn links_hold(&self)
+        ensures { Links self.now.words self.now.heads self.now.store.order }
+    {
+        let _arena = &self.arena;
+    }
+
+    /// And its blocks and its free pieces fill it: each word lies in a block or in just one free
+    /// piece, and no two buddies are both free.
+    pub fn tiles_hold(&self)
+        ensures { Tiles self.now.store.units self.now.store.blocks self.now.store.order }
+    {
+        let _arena = &self.arena;
+    }
+}
+
+impl Places for Buddy {
+    ghost use Rattle.l6_store.specs.Buddy.{buddy_rule};
+
+    ghost rule = { buddy_rule };
+
+    ghost store = { λ buddy. buddy.store };
+
+    fn units(&self) -> u32 {
+        self.arena.units()
+    }
+
+    fn live(&self, word: Word) -> Option<Level> {
+        self.arena.level_at(word.get() as usize)
+    }
+
+    fn peek(&self, level: Level) -> Option<Place> {
+        self.arena.first(least_level(&self.arena, level)?)
+    }
+
+    fn get(&mut self, level: Level) -> Option<Place> {
+        self.moves = 0;
+        let found = least_level(&self.arena, level)?;
+        let place = self.arena.pop(found);
+        self.moves = halve(&mut self.arena, found, level, place);
+        self.arena.open(level, place);
+        Some(place)
+    }
+
+    fn free(&mut self, place: Place) {
+        let level = self.arena.close(place);
+        self.moves = join(&mut self.arena, level, place);
+    }
+
+    fn copy(&mut self, from: Place, to: Place) {
+        self.arena.copy(from, to);
+    }
+
+    fn read(&self, place: Place) -> Word {
+        self.arena.read(place)
+    }
+
+    fn write(&mut self, place: Place, word: Word) {
+        self.arena.write(place, word);
+    }
+
+    fn block(&self, place: Place) -> &[u64] {
+        self.arena.block(place)
+    }
+
+    fn duplicate(&self, alloc: Global) -> Result<Self, AllocError> {
+        Ok(Buddy {
+            arena: self.arena.duplicate(alloc)?,
+            moves: self.moves,
+        })
+    }
+
+    fn reset(&mut self) {
+        self.arena.reset();
+        self.moves = 0;
+    }
+}

@@ -1,0 +1,125 @@
+//! The links of the free lists, which stand in the words of a store.
+
+ghost use Rattle.std.specs.Prelude.{◌≡◌, ◌<◌, ◌≤◌, ◌^◌, length, slice_index, slice_set};
+ghost use Rattle.l6_store.specs.Numerals.{place_bits};
+ghost use Rattle.l6_store.specs.Links.{link_word};
+ghost use Rattle.l6_store.specs.inner.Chains.{after_in, before_in, with_after, with_before, with_head, words_linked, words_unlinked};
+
+use crate::places::{Level, Place};
+use l6_raw::Region;
+
+/// How many bits of a word a place takes.
+pub(crate) const PLACE_BITS: u32 = 18;
+
+/// The places before and after a free piece in its list, 0 where there is none.
+#[derive(Clone, Copy, Debug, PartialEq, Eq)]
+pub(crate) struct Neighbors {
+    pub(crate) before: Place,
+    pub(crate) after: Place,
+}
+
+/// The link in the first word of a free piece.
+pub(crate) fn neighbors_at(words: &Region, place: Place) -> Neighbors
+    requires { place < length words.now }
+    ensures before { result.before ≡ before_in (slice_index words.now place) }
+    ensures after { result.after ≡ after_in (slice_index words.now place) }
+    ensures before_small { result.before < 2 ^ place_bits }
+    ensures after_small { result.after < 2 ^ place_bits }
+{
+    let word = words.read(place as usize);
+    Neighbors {
+        before: (word >> PLACE_BITS) as Place,
+        after: (word % (1 << PLACE_BITS)) as Place,
+    }
+}
+
+/// Puts a link into the first word of a free piece.
+fn set_neighbors(words: &mut Region, place: Place, neighbors: Neighbors)
+    requires place { place < length words.old }
+    requires before { neighbors.before < 2 ^ place_bits }
+    requires after { neighbors.after < 2 ^ place_bits }
+    ensures { words.new
+        ≡ slice_set words.old place (link_word neighbors.before neighbors.after) }
+{
+    let word = (u64::from(neighbors.before) << PLACE_BITS) + u64::from(neighbors.after);
+    words.write(place as usize, word);
+}
+
+/// Makes `before` the place before this one in its list. Place 0 is the end of a list and has none.
+fn set_before(words: &mut Region, place: Place, before: Place)
+    requires place { place < length words.old }
+    requires before { before < 2 ^ place_bits }
+    ensures { words.new ≡ with_before words.old place before }
+{
+    if place != 0 {
+        let after = neighbors_at(words, place).after;
+        set_neighbors(words, place, Neighbors { before, after });
+    }
+}
+
+/// Makes `after` the place after this one in the list of a level. Place 0 is its beginning, so the
+/// head changes.
+fn set_after(words: &mut Region, heads: &mut [Place], level: Level, place: Place, after: Place)
+    requires level { level < length heads.old }
+    requires place { place < length words.old }
+    requires after { after < 2 ^ place_bits }
+    ensures words { words.new ≡ with_after words.old place after }
+    ensures heads { heads.new ≡ with_head heads.old level place after }
+{
+    if place == 0 {
+        heads[usize::from(level)] = after;
+    } else {
+        let before = neighbors_at(words, place).before;
+        set_neighbors(words, place, Neighbors { before, after });
+    }
+}
+
+/// Puts a free piece in front of the list of its level.
+pub(crate) fn link(words: &mut Region, heads: &mut [Place], level: Level, place: Place)
+    requires level { level < length heads.old }
+    requires place { place < length words.old }
+    requires head { slice_index heads.old level < length words.old }
+    requires small { length words.old ≤ 2 ^ place_bits }
+    ensures words { words.new ≡ words_linked words.old place (slice_index heads.old level) }
+    ensures heads { heads.new ≡ slice_set heads.old level place }
+{
+    let after = heads[usize::from(level)];
+    set_neighbors(words, place, Neighbors { before: 0, after });
+    set_before(words, after, place);
+    heads[usize::from(level)] = place;
+}
+
+/// Takes a free piece out of the list of its level.
+pub(crate) fn unlink(words: &mut Region, heads: &mut [Place], level: Level, place: Place)
+    requires level { level < length heads.old }
+    requires place { place < length words.old }
+    requires before { before_in (slice_index words.old place) < length words.old }
+    requires after { after_in (slice_index words.old place) < length words.old }
+    ensures words { words.new ≡ words_unlinked words.old place }
+    ensures heads { heads.new
+        ≡ with_head heads.old level (before_in (slice_index words.old place))
+        (after_in (slice_index words.old place)) }
+{
+    let neighbors = neighbors_at(words, place);
+    set_after(words, heads, level, neighbors.before, neighbors.after);
+    set_before(words, neighbors.after, neighbors.before);
+}
+
+/// Takes the first free piece out of the list of a level.
+pub(crate) fn pop(words: &mut Region, heads: &mut [Place], level: Level) -> Place
+    requires level { level < length heads.old }
+    requires place { slice_index heads.old level < length words.old }
+    requires before { let place = slice_index heads.old level in
+        before_in (slice_index words.old place) < length words.old }
+    requires after { let place = slice_index heads.old level in
+        after_in (slice_index words.old place) < length words.old }
+    ensures place { result ≡ slice_index heads.old level }
+    ensures words { words.new ≡ words_unlinked words.old result }
+    ensures heads { heads.new
+        ≡ with_head heads.old level (before_in (slice_index words.old result))
+        (after_in (slice_index words.old result)) }
+{
+    let place = heads[usize::from(level)];
+    unlink(words, heads, level, place);
+    place
+}

@@ -70,14 +70,15 @@ class Report:
 
     def says(self, function: Function) -> Said:
         """What the check says of a function."""
-        line = re.search(rf"^fn {re.escape(function.name)}: (.*)", self.text, re.M)
-        if line is None or line[1].startswith("proved"):
+        lines = re.findall(rf"^fn ((?:\w+::)*{re.escape(function.name)}): (.*)", self.text, re.M)
+        if len(lines) != 1 or lines[0][1].startswith("proved"):
             return Said.SILENT
-        proof = "/".join(["proofs", *function.name.split("::")[1:], ""])
+        name, what = lines[0]
+        proof = "/".join(["proofs", *name.split("::")[1:], ""])
         inside = any(function.has(file, number) for file, number in self._open_goals())
-        if SEARCHED in line[1] or inside or any(it.startswith(proof) for it in self._proof_errors()):
+        if SEARCHED in what or inside or any(it.startswith(proof) for it in self._proof_errors()):
             return Said.REFUSED
-        return Said.BLOCKED if CALLS.search(line[1]) else Said.SILENT
+        return Said.BLOCKED if CALLS.search(what) else Said.SILENT
 
     def why(self) -> str:
         """The first lines that tell why the check failed, for a person."""

@@ -23,9 +23,9 @@ class BadEdit(Exception):
 
 @dataclass(frozen=True)
 class Function:
-    """A function of a crate: its name as a check prints it, and where it stands."""
+    """A function of a crate, and where it stands."""
 
-    name: str
+    name: str  # the end of the name that a check prints, which for a method begins at its type
     file: str
     first: int  # its first line
     last: int  # its last line
@@ -98,8 +98,9 @@ def function_at(lines: list[str], line: int, file: str, crate: str) -> Function 
         if last is None or last < line:
             return None
         module = file.removeprefix("src/").removesuffix(".rt").replace("/", "::")
-        path = [crate, *([] if module in ("lib", "main") else [module])]
-        path += [owner(lines, first)] if indent else []
+        path = [crate] if module in ("lib", "main") else [crate, module]
+        # (a check lists a method in its type's module, wherever the impl stands)
+        path = [owner(lines, first)] if indent else path
         return Function("::".join([*path, name]), file, first + 1, last + 1)
     return None
 

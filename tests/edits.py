@@ -70,9 +70,10 @@ class Bench:
         for trial in self.trials:
             self._find_functions(trial)
         together = [trial for trial in self.trials if trial.turns_functions]
-        for _ in range(2):  # all of them, and then those that call another that was edited
-            batches = put_together(together)
-            blocked = self._side_by_side(self._try_together, batches)
+        tried = []
+        while len(together) != len(tried):  # all, and then those alone that call another edited one
+            tried = together
+            blocked = self._side_by_side(self._try_together, put_together(tried))
             together = [trial for batch in blocked for trial in batch]
         self._side_by_side(self._try_alone, [trial for trial in self.trials if trial.is_open])
         name, refused = self.crate.name, sum(trial.is_refused for trial in self.trials)

@@ -16,13 +16,16 @@ use crate::writing::words_of;
 use l6_prog::Program;
 use std::alloc::Global;
 
-/// The most bytes that the text of an image may have: 8 MiB, which that of no deck's program has.
+/// The most bytes of a text that is loaded: 8 MiB.
 pub const MAX_BYTES: usize = 1 << 23;
 
 /// The program of which this is the image's text. The caller owes at most 8,388,608 bytes.
 ///
-/// The words are read with no regard to bits that must be zero, to counts and to words behind the
-/// last statement. What was read is then written again, and must come to the same words.
+/// Where a line is not twelve octal digits and a line feed, the answer is `NotWords` with the number
+/// of the first such line, counted from 1. Where there is none, and the text is no image, it is
+/// `NotAnImage`.
+// The words are read with no regard to bits that must be zero, to counts and to words behind the
+// last statement. What was read is then written again, and must come to the same words.
 pub fn load(alloc: Global, text: &[u8]) -> Result<Program, LoadFault>
     requires { length text.now ≤ most_bytes }
 

@@ -1,6 +1,6 @@
 //! The operands of rows, made from words.
 
-ghost use Rattle.std.specs.Prelude.{◌≡◌, ◌≤◌, take, length};
+ghost use Rattle.std.specs.Prelude.{◌≡◌, take};
 ghost use Rattle.std.specs.List.{flat_map};
 ghost use Rattle.l6_prog.specs.Numerals.{most_characters};
 ghost use Rattle.l6_image.specs.inner.Back as spec;
@@ -66,7 +66,7 @@ impl<'a> Slot<'a> {
         ensures { result ≡ spec.statement_in (slot_seen self.now) }
     {
         match self {
-            Slot::Number(number) if *number <= u16::MAX as u64 => Some(*number as u16),
+            Slot::Number(number) if *number <= u64::from(u16::MAX) => Some(*number as u16),
             _ => None,
         }
     }

@@ -1,6 +1,5 @@
 //! Rows, read from words. What follows them is handed on.
 
-ghost use Rattle.std.specs.Prelude.{◌≡◌, ◌<◌, ◌≤◌};
 ghost use Rattle.l6_image.specs.inner.Heads.{kind_code};
 ghost use Rattle.l6_image.specs.inner.Reading as spec;
 ghost use Rattle.l6_image.specs.inner.Seen.{slot_seen, Finds};

@@ -1,6 +1,6 @@
 //! Rows, written behind words: a first word, and the words of the operands.
 
-ghost use Rattle.std.specs.Prelude.{◌≡◌, OnOk, Some, None};
+ghost use Rattle.std.specs.Prelude.{◌≡◌, OnOk};
 ghost use Rattle.l6_image.specs.Row as spec;
 ghost use Rattle.l6_image.specs.Table.{operand as slot_of};
 ghost use Rattle.l6_image.specs.inner.Heads.{kind_code};

@@ -1,6 +1,6 @@
 //! Statements, read from words.
 
-ghost use Rattle.std.specs.Prelude.{◌≡◌, ◌/◌, ◌%◌, ◌^◌};
+ghost use Rattle.std.specs.Prelude.{◌≡◌};
 ghost use Rattle.l6_image.specs.inner.Fields.{target_in};
 ghost use Rattle.l6_image.specs.inner.Statements as spec;
 ghost use Rattle.l6_image.specs.inner.Seen.{Gives};

@@ -1,10 +1,9 @@
 //! Words as lines of octal digits.
 
-ghost use Rattle.std.specs.Prelude.{◌≡◌, ◌<◌, ◌≤◌, ◌+◌, ◌^◌, ◌++◌, length, true, false, IfOk, IfErr, IfSome, IfNone, OnOk, Some};
+ghost use Rattle.std.specs.Prelude.{◌≡◌, ◌<◌, ◌≤◌, ◌+◌, ◌^◌, ◌++◌, length, true, false, IfOk, IfErr, IfSome, IfNone, OnOk};
 ghost use Rattle.std.specs.List.{list_all};
 ghost use Rattle.l6_word.specs.Numerals.{word_bits};
 ghost use Rattle.l6_image.specs.Image.{HasImage};
-ghost use Rattle.l6_image.specs.Load.{Tells};
 ghost use Rattle.l6_image.specs.Numerals.{most_bytes};
 ghost use Rattle.l6_image.specs.Row.{is_word};
 ghost use Rattle.l6_image.specs.Text as spec;
@@ -24,7 +23,7 @@ const LINE_BYTES: usize = OCTALS + 1;
 #[tactic(auto, unfolding(crate::specs::Text::text_of))]
 pub fn text_of(alloc: Global, program: &Program) -> Result<Vec<u8>, AllocError>
     ensures text { IfOk result (λ text. text.items ≡ spec.text_of program.now) }
-    // What is a program of the code has an image.
+    // Every program has an image.
     ensures known { OnOk result (HasImage program.now) }
 {
     let words = words_of(alloc, program)?;

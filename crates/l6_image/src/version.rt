@@ -1,7 +1,7 @@
 //! What depends on the version of the format: its mark, and how the last 18 bits of a word tell a
 //! statement.
 
-ghost use Rattle.std.specs.Prelude.{◌≡◌, ◌<◌, ◌≤◌, ◌^◌};
+ghost use Rattle.std.specs.Prelude.{◌≡◌, ◌<◌, ◌^◌};
 ghost use Rattle.l6_image.specs.Bits.{packed};
 ghost use Rattle.l6_image.specs.Version as spec;
 ghost use Rattle.l6_image.specs.inner.Fields as fields;

@@ -1,6 +1,6 @@
 //! From programs to words.
 
-ghost use Rattle.std.specs.Prelude.{◌≡◌, ◌<◌, ◌++◌, true, length, IfOk, OnOk, IsTrue};
+ghost use Rattle.std.specs.Prelude.{◌≡◌, ◌<◌, ◌++◌, true, IfOk, OnOk, IsTrue};
 ghost use Rattle.std.specs.List.{flat_map, list_all};
 ghost use Rattle.l6_prog.specs.Program.{fits};
 ghost use Rattle.l6_image.specs.Image as spec;
@@ -17,7 +17,7 @@ use std::alloc::{AllocError, Global};
 #[tactic(auto, unfolding(crate::specs::Image::words_of))]
 pub fn words_of(alloc: Global, program: &Program) -> Result<Vec<u64>, AllocError>
     ensures words { IfOk result (λ words. words.items ≡ spec.words_of program.now) }
-    // What is a program of the code has an image.
+    // Every program has an image.
     ensures known { OnOk result (spec.HasImage program.now) }
 {
     let statements = program.statements();

@@ -10,15 +10,17 @@ use Rattle.l6_prog.specs.declared.operation.Op.{Op}
 use Rattle.l6_prog.specs.Chain.{is_chain}
 use Rattle.l6_prog.specs.PrintText.{may_print}
 use Rattle.l6_prog.specs.Statement.{Parts}
+use Rattle.l6_prog.specs.Target.{is_below, targets_of}
+use Rattle.l6_prog.specs.Program.{fits}
 use Rattle.l6_image.specs.Bits.{item, six}
 use Rattle.l6_image.specs.Numerals.{no_name}
 use Rattle.l6_image.specs.Row.{Slot, absent, chain, number, text, Row, sixes, slot_words, row_head, row_words, is_name, is_word, is_slot, is_row}
 use Rattle.l6_image.specs.Table.{row_of, row_of_test}
-use Rattle.l6_image.specs.Image.{header, test_words, operation_words, statement_words, body, words_of, HasImage}
+use Rattle.l6_image.specs.Image.{header, test_words, operation_words, statement_words, body, words_of, HasImage, target_count, has_values}
 use Rattle.l6_image.proofs.Packing.{packed-below}
 use Rattle.l6_image.proofs.Slots.{item-below, name-small, code-small, text-known, length-sixes}
 use Rattle.l6_image.proofs.Found.{Known, head_fields, head_fit}
-use Rattle.l6_image.proofs.Knowing.{Each, KnownStatement, known_program, known_parts, KnownOperation, known_test, known_operation}
+use Rattle.l6_image.proofs.Knowing.{Each, KnownStatement, known_program, known_parts, KnownOperation, known_test, known_operation, known_statement}
 use Rattle.l6_image.proofs.Programs.{header_fields, header_fit}
 
 -- these are words, and at most so many
@@ -141,7 +143,7 @@ fine-operation : (operation : Op ℕ) → KnownOperation operation →
 fine-operation operation known =
     fine-row (row_of operation) (known_operation operation known.values known.targets)
 
-fine-statement : (s : Parts) → KnownStatement s → Fine most_of_statement (statement_words s)
+pub fine-statement : (s : Parts) → KnownStatement s → Fine most_of_statement (statement_words s)
 fine-statement s known =
     let parts = known_parts s known in
     let tests = fine-flat_map (λ test. is_row (row_of_test test) ≡ true) test_words most_of_row
@@ -169,3 +171,10 @@ words_of-words program has =
       is_word-below (length (body program)) (omega (arith, known.count, fine.count)),
       fine.words,
     ) refl
+
+-- so are those of a statement whose targets can be told apart
+pub statement_words-words : (s : Parts) → fits s ≡ true → has_values s ≡ true →
+    list_all (is_below target_count) (targets_of s) ≡ true →
+    list_all is_word (statement_words s) ≡ true
+statement_words-words s fit values targets =
+    (fine-statement s (known_statement s fit values targets)).words

@@ -1,5 +1,5 @@
 -- What is known of a program is known of its statements, tests and operations.
-use Rattle.std.proofs.Common.{◌≡◌, ℕ, ◌<◌, ◌≤◌, ◌^◌, List, [], ◌∷◌, length, Bool, true, Option, Some, None, refl, sym, ◌∙◌, arith}
+use Rattle.std.proofs.Common.{◌≡◌, ℕ, ◌<◌, ◌≤◌, List, [], ◌∷◌, length, Bool, true, Option, Some, None, refl, sym, ◌∙◌, arith}
 use Rattle.std.specs.Prelude.{nat_le, unwrap_or, option_to_list}
 use Rattle.std.specs.List.{flat_map, list_all}
 use Rattle.std.proofs.lemmas.Bool.{and_parts, ltb-true, lt-ltb, leb-true}
@@ -18,12 +18,8 @@ use Rattle.l6_prog.proofs.Programs.{takes_just_programs}
 use Rattle.l6_prog.proofs.Targets.{list_all-flat_map}
 use Rattle.l6_image.specs.Row.{is_row}
 use Rattle.l6_image.specs.Table.{row_of, row_of_test}
-use Rattle.l6_image.specs.Image.{exit_target, has_values, HasImage}
+use Rattle.l6_image.specs.Image.{exit_target, target_count, has_values, HasImage}
 use Rattle.l6_image.proofs.Found.{Known, known_row}
-
--- how many statements can be told in the bits for a target
-abbrev pub target_count : ℕ
-target_count = 2 ^ 12
 
 -- so it is with each of a list
 abbrev pub Each : {A : Type 0} → (A → Type 0) → List A → Type 0
@@ -54,7 +50,7 @@ pub record KnownStatement (s : Parts) : Type 0 where
   pub values : has_values s ≡ true
   pub targets : list_all (is_below target_count) (targets_of s) ≡ true
 
-known_statement : (s : Parts) → fits s ≡ true → has_values s ≡ true →
+pub known_statement : (s : Parts) → fits s ≡ true → has_values s ≡ true →
     list_all (is_below target_count) (targets_of s) ≡ true → KnownStatement s
 known_statement s fit values targets =
     let tests = nat_le (length s.tests) most_tests in

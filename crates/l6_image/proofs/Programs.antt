@@ -17,13 +17,13 @@ use Rattle.l6_image.specs.Bits.{Field, bits}
 use Rattle.l6_image.specs.Version.{mark, target_fields}
 use Rattle.l6_image.specs.Row.{is_row}
 use Rattle.l6_image.specs.Table.{row_of, row_of_test}
-use Rattle.l6_image.specs.Image.{condition_code, exit_code, exit_target, header, test_words, operation_words, statement_words, body, words_of, HasImage}
+use Rattle.l6_image.specs.Image.{condition_code, exit_code, exit_target, header, test_words, operation_words, statement_words, body, words_of, HasImage, target_count}
 use Rattle.l6_image.specs.inner.Fields.{target_in}
 use Rattle.l6_image.specs.inner.Statements.{many, test_at, operation_at, condition_in, exit_in, statement_at, statements_of}
 use Rattle.l6_image.specs.inner.Loading.{if_made, program_in}
 use Rattle.l6_image.proofs.Packing.{AllFit, unpacked, unpacked-packed, values}
 use Rattle.l6_image.proofs.Found.{row-again, test_again, operation_again}
-use Rattle.l6_image.proofs.Knowing.{Each, below-more, target_count, KnownStatement, KnownProgram, known_program, known_parts, KnownOperation, known_test, known_operation}
+use Rattle.l6_image.proofs.Knowing.{Each, below-more, KnownStatement, KnownProgram, known_program, known_parts, KnownOperation, known_test, known_operation}
 
 -- one is found again in its words, and what follows them
 abbrev pub Again : {A : Type 0} → (A → List ℕ) → (List ℕ → Option (A × List ℕ)) → A → Type 0

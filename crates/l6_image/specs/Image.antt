@@ -1,5 +1,5 @@
 -- Images: the words of programs.
-use Rattle.std.specs.Prelude.{◌≡◌, ℕ, List, ◌∷◌, ◌++◌, length, Option, Some, None, Ok, Bool, true, ◌&&◌}
+use Rattle.std.specs.Prelude.{◌≡◌, ℕ, List, ◌∷◌, ◌++◌, length, Option, Some, None, Ok, Bool, true, ◌&&◌, ◌^◌}
 use Rattle.std.specs.List.{list_all, flat_map}
 use Rattle.l6_prog.specs.declared.condition.Cond.{Cond}
 use Rattle.l6_prog.specs.declared.condition.Cond.TheVariants.{Always, If, Not, IfAll, IfAny, IfNone, IfNotAll}
@@ -63,6 +63,10 @@ body program = flat_map statement_words program
 -- the words of a program: the mark, how many statements it has, how many words follow, and these
 unfoldable pub words_of : List Parts → List ℕ
 words_of program = mark ∷ length program ∷ length (body program) ∷ body program
+
+-- how many statements the bits for a target can tell apart
+abbrev pub target_count : ℕ
+target_count = 2 ^ 12
 
 -- operands and names of the statement's tests and operations are those of a program
 abbrev pub has_values : Parts → Bool

@@ -3,8 +3,9 @@
 ghost use Rattle.std.specs.Prelude.{◌≡◌, ◌<◌, ◌++◌, true, IfOk, OnOk, IsTrue};
 ghost use Rattle.std.specs.List.{flat_map, list_all};
 ghost use Rattle.l6_prog.specs.Program.{fits};
+ghost use Rattle.l6_prog.specs.Target.{is_below, targets_of};
 ghost use Rattle.l6_image.specs.Image as spec;
-ghost use Rattle.l6_image.specs.Row.{is_row};
+ghost use Rattle.l6_image.specs.Row.{is_row, is_word};
 ghost use Rattle.l6_image.specs.Table.{row_of, row_of_test};
 
 use crate::table::{push_operation, push_test};
@@ -36,6 +37,10 @@ pub fn statement_words(alloc: Global, statement: &Statement) -> Result<Vec<u64>,
     requires { IsTrue (fits statement.now) }
     ensures words { IfOk result (λ words. words.items ≡ spec.statement_words statement.now) }
     ensures known { OnOk result (spec.has_values statement.now ≡ true) }
+    // Where each target is one that a program may have, each is below 2^36.
+    ensures fit { IfOk result (λ words.
+        list_all (is_below spec.target_count) (targets_of statement.now) ≡ true
+        → list_all is_word words.items ≡ true) }
 {
     let mut words = Vec::new(alloc);
     push_statement(&mut words, statement)?;

@@ -1,0 +1,13 @@
+use Rattle.std.proofs.Common.{◌≡◌, ap, ◌∙◌, rules}
+use Rattle.std.specs.List.{list_all}
+use Rattle.l6_image.specs.Image.{statement_words}
+use Rattle.l6_image.specs.Row.{is_word}
+use Rattle.l6_image.proofs.Fitness.{statement_words-words}
+use Rattle.l6_image.proofs.writing.statement_words.Goals as goal
+
+pub returns-clause-fit : goal.returns-clause-fit
+returns-clause-fit c targets =
+    let s = c.args.statement.now in
+    let words : c.push_statement.new.words.items ≡ statement_words s = search rules in
+    ap (list_all is_word) words
+    ∙ statement_words-words s c.requires c.in_ok-push_statement.ensures.known targets

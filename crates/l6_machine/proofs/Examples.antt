@@ -6,7 +6,7 @@ use Rattle.l6_store.specs.Blocks.{Blocks}
 use Rattle.l6_store.proofs.Gathered.{get-insert_same, get-insert_other, get-remove_same}
 use Rattle.l6_machine.specs.declared.locus.Locus.TheVariants.{Bug, Field}
 use Rattle.l6_machine.specs.declared.trap.Trap.TheVariants.{UndefinedField, NotABlock, WordOutsideBlock}
-use Rattle.l6_store.specs.Scan.{least}
+use Rattle.l6_store.specs.Least.{least}
 use Rattle.l6_machine.specs.declared.jump.Jump.TheVariants.{Onward}
 use Rattle.l6_machine.specs.Deed.{leave, took}
 use Rattle.l6_machine.specs.Getting.{get, level_for, new_block, with_place}

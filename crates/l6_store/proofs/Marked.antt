@@ -1,8 +1,10 @@
 -- The blocks that the marks of an arena tell, and what becomes of them.
-use Rattle.std.proofs.Common.{◌≡◌, ◌≢◌, ℕ, ◌+◌, ◌^◌, ◌<◌, ◌≤◌, List, [], length, get_or, map as mapped, slice_range, Option, Some, refl, ap, sym, ◌∙◌, subst, arith, inl, inr, ◌⊎◌}
+use Rattle.std.proofs.Common.{◌≡◌, ◌≢◌, ℕ, ◌+◌, ◌^◌, ◌<◌, ◌≤◌, List, [], length, get_or, map as mapped, slice_range, Option, Some, None, refl, ap, sym, ◌∙◌, subst, arith, inl, inr, ◌⊎◌}
 use Rattle.std.proofs.lemmas.Bool.{cases_lt, cases_eq}
 use Rattle.std.proofs.lemmas.List.{get_or-map, get_or_past, length-map}
 use Rattle.std.specs.Option.{IsSome, IfSome, option_map, unwrap_or}
+use Rattle.std.proofs.lemmas.Option.{slice_get-get_or, slice_get_past}
+use Rattle.std.specs.List.{slice_get}
 use Rattle.std.specs.FinMap as map
 use Rattle.l6_word.specs.Numerals.{largest_level}
 use Rattle.l6_store.specs.Blocks.{Blocks, Fits, IsBlock, IsLive, LiesIn, Stands, block_at, end_of}
@@ -12,7 +14,7 @@ use Rattle.l6_store.specs.declared.mark.Mark.{Mark}
 use Rattle.l6_store.specs.declared.mark.Mark.TheVariants.{Inner, Block, Listed}
 use Rattle.l6_store.specs.declared.tag.Tag.{Tag}
 use Rattle.l6_store.specs.declared.tag.Tag.TheVariants.{Free, First, Inside}
-use Rattle.l6_store.proofs.Ranges.{same_range, length-range}
+use Rattle.l6_store.proofs.Ranges.{index-range, same_range, length-range}
 use Rattle.l6_store.proofs.Gathered.{gathered_is, get-gathered, get-insert_same, get-insert_other, get-remove_same, get-remove_other}
 use Rattle.l6_store.proofs.Contents.{told_alike}
 use Rattle.l6_store.proofs.Live.{live_words}
@@ -345,3 +347,37 @@ block_here units marks words filled stands place live =
           ∙ length-range words place (2 ^ from.level) inside;
       within = inside;
     }
+
+-- where no level is told no block begins, so it has no word
+no_level : (words : List ℕ) (place : ℕ) (tag : Tag) → None ≡ level_of tag
+    → tagged words place tag ≡ None
+no_level words place (First level) none = cc
+no_level words place Inside none = refl
+no_level words place Free none = refl
+
+pub no_word : (marks : List Mark) (words : List ℕ) (place index : ℕ)
+    → None ≡ level_of (tag_of (mark_at marks place))
+    → None ≡ slice_get (block_at (blocks_of marks words) place) index
+no_word marks words place index none =
+    sym (ap (λ (found : Option (List ℕ)). slice_get (unwrap_or found []) index)
+    (get-blocks_of marks words place
+    ∙ no_level words place (tag_of (mark_at marks place)) none))
+
+-- the word of an index in a block
+pub block_word : (marks : List Mark) (words : List ℕ) (level place index : ℕ)
+    → mark_at marks place ≡ Block level → place + 2 ^ level ≤ length words → index < 2 ^ level
+    → Some (get_or words (place + index) 0)
+    ≡ slice_get (block_at (blocks_of marks words) place) index
+block_word marks words level place index is within below =
+    let size = length-range words place (2 ^ level) within in
+    ap (λ (w : ℕ). Some w) (sym (index-range words place (2 ^ level) index below))
+    ∙ sym (slice_get-get_or (slice_range words place (place + 2 ^ level)) index 0 (omega arith))
+    ∙ ap (λ (ws : List ℕ). slice_get ws index) (sym (block_at_marked marks words level place is))
+
+pub past_block : (marks : List Mark) (words : List ℕ) (level place index : ℕ)
+    → mark_at marks place ≡ Block level → place + 2 ^ level ≤ length words → 2 ^ level ≤ index
+    → None ≡ slice_get (block_at (blocks_of marks words) place) index
+past_block marks words level place index is within past =
+    let size = length-range words place (2 ^ level) within in
+    sym (ap (λ (ws : List ℕ). slice_get ws index) (block_at_marked marks words level place is)
+    ∙ slice_get_past (slice_range words place (place + 2 ^ level)) index (omega arith))

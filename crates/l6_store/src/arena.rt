@@ -1,6 +1,6 @@
 //! The arena: a region of words with the blocks and the lists of free pieces that stand in it.
 
-ghost use Rattle.std.specs.Prelude.{[], ℕ, ◌≡◌, ◌≢◌, ◌↔◌, ◌+◌, ◌<◌, ◌≤◌, ◌^◌, length, replicate, slice_set, option_map, IsSome, IfSome, IfOk};
+ghost use Rattle.std.specs.Prelude.{[], ℕ, ◌≡◌, ◌≢◌, ◌↔◌, ◌+◌, ◌<◌, ◌≤◌, ◌^◌, length, replicate, slice_get, slice_set, option_map, IsSome, IfSome, IfOk};
 ghost use Rattle.std.specs.List.{All};
 ghost use Rattle.std.specs.FinMap as map;
 ghost use Rattle.l6_word.specs.Numerals.{largest_level, unit_size, word_bits};
@@ -172,6 +172,22 @@ impl Arena {
         ensures level { IfSome result (λ level. level ≤ largest_level) }
     {
         block_level(&self.marks, place)
+    }
+
+    /// The word of this index in the block that begins at a place, or `None` where none begins or the
+    /// block has no such word.
+    pub(crate) fn word(&self, start: usize, index: u16) -> Option<Word>
+        ensures value { result ≡ slice_get (block_at self.now.blocks start) index }
+        ensures near { IfSome result
+            (λ _. (start < end_of most_units) × (index < unit_size)) }
+    {
+        let level = block_level(&self.marks, start)?;
+        if usize::from(index) < size_of(level) {
+            let word = self.words.read(start + usize::from(index));
+            Some(Word::from_value(word))
+        } else {
+            None
+        }
     }
 
     /// Makes a piece a block of zeros.

@@ -1,4 +1,5 @@
-//! The buddy system: a store whose free pieces are listed by their level.
+//! The buddy system: a store whose free pieces are listed by their level. `docs/allocator.md` tells it
+//! to writers of allocators.
 
 ghost use Rattle.std.specs.Prelude.{◌≡◌, ◌↔◌, ◌⊎◌, ◌<◌, ◌≤◌, IfOk, OnOk, IsErrOf};
 ghost use Rattle.l6_store.specs.Numerals.{most_units};
@@ -16,10 +17,15 @@ use l6_word::Word;
 use std::alloc::{AllocError, Global};
 use std::marker::Model;
 
-/// A store by the buddy system (K. C. Knowlton, CACM 8(10), 1965).
+/// A store by the buddy system (K. C. Knowlton, A fast storage allocator, CACM 8(10), 1965). A get
+/// takes the first free piece of the least level that serves, and halves it down to the level wanted;
+/// a free joins the block with its buddy as long as that one is free. So a get and a free take as many
+/// steps as there are levels, at most. The free lists stand in the free words: a store takes 8 bytes
+/// for each word, 2 bytes for each place, and the heads of the lists, all of it when it is made.
 #[derive(Drop)]
 pub struct Buddy {
     arena: Arena,
+    // how often the last get or free halved or joined pieces
     moves: u32,
 }
 
@@ -44,7 +50,8 @@ impl Model for Buddy {
       heads = b.arena.heads;
     } };
 
-    ghost invariant = { λ b. IsSoundLayout b.arena × Tiles b.arena.units b.arena.blocks b.arena.order };
+    ghost invariant = { λ b. IsSoundLayout b.arena
+        × Tiles b.arena.units b.arena.blocks b.arena.order };
 }
 
 impl Buddy {
@@ -96,6 +103,10 @@ impl Places for Buddy {
 
     fn live(&self, word: Word) -> Option<Level> {
         self.arena.level_at(word.get() as usize)
+    }
+
+    fn word(&self, start: Word, index: u16) -> Option<Word> {
+        self.arena.word(start.get() as usize, index)
     }
 
     fn peek(&self, level: Level) -> Option<Place> {

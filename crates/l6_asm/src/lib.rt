@@ -7,8 +7,6 @@ mod fault;
 mod label;
 mod laws;
 mod resolution;
-#[cfg(test)]
-mod tests;
 mod worked;
 
 pub use assembler::assemble;

@@ -11,7 +11,7 @@ use Rattle.l6_prog.specs.declared.condition.Cond.TheVariants.{Always, If, Not, I
 use Rattle.l6_group.specs.Character.{spelled}
 use Rattle.l6_card.specs.DeckFault.{DeckFault, form, limit}
 use Rattle.l6_card.specs.Items.{Item, group, word, unclosed, unopened, PlacedItem, item_on}
-use Rattle.l6_card.specs.Form.{condition_in, then_in, is_operation, is_test, is_exit, are_operations_and_exit, word_on, behind_then, wants, has_its_tests, count_tests, count_operations, without_condition, tests_among, are_whole, are_condition_and_tests, stand, are_within_limits}
+use Rattle.l6_card.specs.Form.{condition_in, then_in, is_operation, is_test, is_exit, are_operations_and_exit, word_on, behind_then, wants, has_its_tests, count_tests, count_operations, body_of, tests_among, are_whole, are_condition_and_tests, stand, are_within_limits}
 use Rattle.l6_card.specs.declared.cards.PlacedLabel.{PlacedLabel}
 use Rattle.l6_card.specs.Statement.{WrittenParts, is_fit}
 use Rattle.l6_card.specs.Says.{ItemsSay}
@@ -278,9 +278,9 @@ pub few_begin : (items more : List PlacedItem) → are_whole (items ++ more) ≡
     are_within_limits (items ++ more) ≡ true → are_within_limits items ≡ true
 few_begin items more whole few =
     let n = tests_among items in
-    let m = count_operations (without_condition items) in
+    let m = count_operations (body_of items) in
     let n' = tests_among (items ++ more) in
-    let m' = count_operations (without_condition (items ++ more)) in
+    let m' = count_operations (body_of (items ++ more)) in
     let parts = and_parts (leb n' most_tests) (leb m' most_operations) few in
     let tests = leb-true n' most_tests parts.0 in
     let operations = leb-true m' most_operations parts.1 in

@@ -9,14 +9,10 @@ use Rattle.l6_word.specs.Split.{lacks}
 use Rattle.l6_word.proofs.Cuts.{lacks-cons}
 use Rattle.l6_group.specs.Character.{is_blank}
 use Rattle.l6_card.specs.Items.{Item, group, word, unclosed, unopened, after_opening, after_blank, after_letter, after_column, items_of}
+use Rattle.l6_card.specs.Laws.{closes_first}
 use Rattle.l6_card.specs.declared.item.First.{First}
 use Rattle.l6_card.specs.declared.item.First.TheVariants.{End, Group, Word, Other}
 use Rattle.l6_card.specs.inner.First.{BeginsWith, GroupFirst, WordFirst, IsUnclosed, ClosesFirst, IsShorter, IsCutAtParenthesis, letters_of, begins_with_other, begins_with_none, begins_with_closing, begins_a_word}
-
--- the first item is a `)` that no `(` opens
-abbrev closes_first : List Item → Bool
-closes_first (unopened columns ∷ items) = true
-closes_first items = false
 
 closes_first-opening : (offset : ℕ) (items : List Item) →
     closes_first (after_opening offset items) ≡ false
@@ -60,7 +56,7 @@ closes_first-column offset column items other open' =
     (closes_first-cond (eqb column (byte "(")) (is_blank column) offset column items open')
 
 -- bytes without a `)` have none that no `(` opens
-closes_first-lacks : (offset : ℕ) (columns : List ℕ) → lacks (byte ")") columns ≡ true →
+pub closes_first-lacks : (offset : ℕ) (columns : List ℕ) → lacks (byte ")") columns ≡ true →
     closes_first (items_of offset columns) ≡ false
 closes_first-lacks offset [] lacking = refl
 closes_first-lacks offset (column ∷ columns) lacking =
@@ -69,7 +65,7 @@ closes_first-lacks offset (column ∷ columns) lacking =
     (closes_first-lacks (offset + 1) columns parts.1)
 
 -- a `(` before the first `)` leaves none that no `(` opens
-closes_first-open : (offset : ℕ) (front behind : List ℕ) →
+pub closes_first-open : (offset : ℕ) (front behind : List ℕ) →
     lacks (byte ")") front ≡ true →
     closes_first (items_of offset (front ++ byte "(" ∷ behind)) ≡ false
 closes_first-open offset [] behind lacking =
@@ -166,7 +162,7 @@ blank_column offset column items blank =
       | inr same ↦ subst P (sym (eqb-true column (byte "\t") same)) refl
     ]
 
-nothing_blank : (column : ℕ) (items : List Item) → closes_first items ≡ false →
+pub nothing_blank : (column : ℕ) (items : List Item) → closes_first items ≡ false →
     after_blank column items ≡ items
 nothing_blank column [] open' = refl
 nothing_blank column (group at columns ∷ items) open' = refl

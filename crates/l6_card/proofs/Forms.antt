@@ -6,7 +6,7 @@ use Rattle.std.specs.Option.{option_map, unwrap_or}
 use Rattle.l6_prog.specs.Program.{may_have}
 use Rattle.l6_prog.specs.declared.condition.Cond.{Cond}
 use Rattle.l6_card.specs.Items.{PlacedItem}
-use Rattle.l6_card.specs.Form.{condition_in, then_in, is_operation, is_test, is_exit, are_operations_and_exit, word_on, behind_then, count_tests, behind_tests, without_condition, are_whole, stand, tests_among, count_operations}
+use Rattle.l6_card.specs.Form.{condition_in, then_in, is_operation, is_test, is_exit, are_operations_and_exit, word_on, behind_then, count_tests, behind_tests, body_of, are_whole, stand, tests_among, count_operations}
 use Rattle.l6_card.specs.inner.Draft.{Phase, New, Worded, Tested, Open, Closed}
 
 -- what the forms say of items: whether they are whole, whether they stand, and how many tests and
@@ -23,7 +23,7 @@ view_of items =
       whole = are_whole items;
       standing = stand items;
       tests = tests_among items;
-      operations = count_operations (without_condition items);
+      operations = count_operations (body_of items);
     }
 
 same_view : (w w' s s' : Bool) (t t' o o' : ℕ) → w ≡ w' → s ≡ s' → t ≡ t' → o ≡ o' →
@@ -138,12 +138,13 @@ all_tests (i ∷ items) = all_tests_in (is_test i) items i (all_tests items)
 -- a condition word that nothing follows is an exit
 alone : (i : PlacedItem) (fits : Bool) →
     is_operation i ≡ false → is_exit i ≡ true →
+    let left = unwrap_or (cond fits None None) (i ∷ []) in
     ◌≡◌ {A = View}
     (record {
-      whole = are_operations_and_exit (cond fits (i ∷ []) (i ∷ []));
-      standing = are_operations_and_exit (cond fits (i ∷ []) (i ∷ [])) || (fits && true);
+      whole = are_operations_and_exit left;
+      standing = are_operations_and_exit left || (fits && true);
       tests = 0;
-      operations = count_operations (cond fits (i ∷ []) (i ∷ []));
+      operations = count_operations left;
     })
     (record { whole = true; standing = true; tests = 0; operations = 0 })
 alone i true is_no is_one = rw (is_no, is_one) refl
@@ -153,7 +154,7 @@ alone i false is_no is_one = rw (is_no, is_one) refl
 lifted_then : (i j : PlacedItem) (rest : List PlacedItem) (fits : Bool) (n : ℕ)
     (behind : Option (List PlacedItem)) →
     is_operation i ≡ false →
-    let left = cond fits (unwrap_or behind (i ∷ j ∷ rest)) (i ∷ j ∷ rest) in
+    let left = unwrap_or (cond fits behind None) (i ∷ j ∷ rest) in
     ◌≡◌ {A = View}
     (record {
       whole = are_operations_and_exit left;
@@ -171,7 +172,7 @@ lifted_then i j rest true n (Some behind) is_no =
 lifted : (i j : PlacedItem) (rest : List PlacedItem) (fits : Bool) (n : ℕ)
     (behind : List PlacedItem) →
     is_operation i ≡ false →
-    let left = cond fits (unwrap_or (behind_then behind) (i ∷ j ∷ rest)) (i ∷ j ∷ rest) in
+    let left = unwrap_or (cond fits (behind_then behind) None) (i ∷ j ∷ rest) in
     ◌≡◌ {A = View}
     (record {
       whole = are_operations_and_exit left;

@@ -1,13 +1,14 @@
--- The laws of items: groups stand in parentheses, and blanks vanish in words.
-use Rattle.std.proofs.Common.{◌≡◌, ℕ, ◌+◌, List, [], ◌∷◌, true, eqb, refl, ap, ◌∙◌, arith}
+-- The laws of items: groups stand in parentheses, words are of letters, and blanks vanish.
+use Rattle.std.proofs.Common.{◌≡◌, ℕ, ◌+◌, List, [], ◌∷◌, ◌++◌, true, false, eqb, refl, ap, ◌∙◌, arith}
 use Rattle.std.specs.Prelude.{not}
 use Rattle.std.specs.List.{list_all}
 use Rattle.std.specs.Str.{byte}
 use Rattle.std.proofs.lemmas.Bool.{and_parts, and_from, not-true}
 use Rattle.l6_word.specs.Split.{lacks}
-use Rattle.l6_card.specs.Items.{group, word, after_column, after_blank, after_opening, items_of}
-use Rattle.l6_card.specs.Laws.{is_inner, GroupsAreInParentheses, BlanksVanishInWords, LettersMakeWords}
-use Rattle.l6_card.proofs.Bodies.{closed-front, blank_column}
+use Rattle.l6_group.specs.Character.{is_blank}
+use Rattle.l6_card.specs.Items.{Item, group, word, unclosed, unopened, after_column, after_letter, after_opening, items_of}
+use Rattle.l6_card.specs.Laws.{is_inner, closes_first, end_a_word, GroupsAreInParentheses, BlanksVanish, LettersMakeWords, LettersBeginWords, OpeningsWantClosings, OpeningsDoNotNest}
+use Rattle.l6_card.proofs.Bodies.{closed-front, closes_first-lacks, closes_first-open, blank_column, nothing_blank}
 
 -- columns without a parenthesis lack both
 lacks-inner : (columns : List ℕ) → list_all is_inner columns ≡ true →
@@ -27,16 +28,52 @@ groups_in_parentheses offset columns behind inner =
     ap (after_opening offset) (closed-front (offset + 1) columns behind lacking.0 lacking.1)
     ∙ ap (λ o. group offset columns ∷ items_of o behind) (omega arith)
 
-pub blanks_vanish : BlanksVanishInWords
-blanks_vanish offset blank columns letters items is_one before =
-    blank_column offset blank (items_of (offset + 1) columns) is_one ∙ ap (after_blank blank) before
+pub blanks_vanish : BlanksVanish
+blanks_vanish offset blank columns is_one open' =
+    let items = items_of (offset + 1) columns in
+    blank_column offset blank items is_one ∙ nothing_blank blank items open'
 
-pub letters_make_words : LettersMakeWords
-letters_make_words offset letter columns letters items not_blank inner before =
+opened_unclosed : (offset : ℕ) (items : List Item) → closes_first items ≡ false →
+    after_opening offset items ≡ unclosed ∷ items
+opened_unclosed offset [] open' = refl
+opened_unclosed offset (group at columns ∷ items) open' = refl
+opened_unclosed offset (word columns ∷ items) open' = refl
+opened_unclosed offset (unclosed ∷ items) open' = refl
+opened_unclosed offset (unopened columns ∷ items) open' = absurd (cc)
+
+pub openings_want_closings : OpeningsWantClosings
+openings_want_closings offset columns lacking =
+    opened_unclosed offset (items_of (offset + 1) columns)
+    (closes_first-lacks (offset + 1) columns lacking)
+
+pub openings_do_not_nest : OpeningsDoNotNest
+openings_do_not_nest offset columns behind inner =
+    opened_unclosed offset (items_of (offset + 1) (columns ++ byte "(" ∷ behind))
+    (closes_first-open (offset + 1) columns behind (lacks-inner columns inner).0)
+
+-- what is no parenthesis and no blank is a letter or the like
+letter_column : (offset letter : ℕ) (items : List Item) → is_blank letter ≡ false →
+    is_inner letter ≡ true → after_column offset letter items ≡ after_letter letter items
+letter_column offset letter items not_blank inner =
     let both = and_parts (not (eqb letter (byte "("))) (not (eqb letter (byte ")"))) inner in
     let no_opening = not-true (eqb letter (byte "(")) both.0 in
     let no_closing = not-true (eqb letter (byte ")")) both.1 in
-    let alone : after_column offset letter (word letters ∷ items)
-    ≡ word (letter ∷ letters) ∷ items =
-    rw (no_closing, no_opening, not_blank) refl in
-    ap (after_column offset letter) before ∙ alone
+    rw (no_closing, no_opening, not_blank) refl
+
+pub letters_make_words : LettersMakeWords
+letters_make_words offset letter columns letters items not_blank inner before =
+    ap (after_column offset letter) before
+    ∙ letter_column offset letter (word letters ∷ items) not_blank inner
+
+begun_word : (letter : ℕ) (items : List Item) → end_a_word items ≡ true →
+    after_letter letter items ≡ word (letter ∷ []) ∷ items
+begun_word letter [] ends = refl
+begun_word letter (group at columns ∷ items) ends = refl
+begun_word letter (word columns ∷ items) ends = absurd (cc)
+begun_word letter (unclosed ∷ items) ends = absurd (cc)
+begun_word letter (unopened columns ∷ items) ends = absurd (cc)
+
+pub letters_begin_words : LettersBeginWords
+letters_begin_words offset letter columns not_blank inner ends =
+    let items = items_of (offset + 1) columns in
+    letter_column offset letter items not_blank inner ∙ begun_word letter items ends

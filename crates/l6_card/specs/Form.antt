@@ -83,17 +83,20 @@ wants (Some condition) tests = may_have condition tests
 abbrev pub has_its_tests : PlacedItem → List PlacedItem → Bool
 has_its_tests i items = wants (condition_in i.what) (count_tests items)
 
--- what is left of the items without the condition, its tests and the THEN that they may begin with
-abbrev pub without_condition : List PlacedItem → List PlacedItem
-without_condition [] = []
-without_condition (i ∷ items) =
-    if has_its_tests i items then unwrap_or (behind_then (behind_tests items)) (i ∷ items)
-    else i ∷ items
+-- what stands behind the condition that items begin with: a condition word, its tests and THEN
+abbrev pub behind_condition : List PlacedItem → Option (List PlacedItem)
+behind_condition [] = None
+behind_condition (i ∷ items) =
+    if has_its_tests i items then behind_then (behind_tests items) else None
 
--- the items are a whole statement: without a condition they are operations and an exit. A condition
--- word alone is an exit, to the label of that name.
+-- the body of the items: what stands behind their condition, and all where they have none
+abbrev pub body_of : List PlacedItem → List PlacedItem
+body_of items = unwrap_or (behind_condition items) items
+
+-- the items are a whole statement: their body is operations and an exit. A condition word alone is
+-- an exit, to the label of that name.
 abbrev pub are_whole : List PlacedItem → Bool
-are_whole items = are_operations_and_exit (without_condition items)
+are_whole items = are_operations_and_exit (body_of items)
 
 -- the items are a condition word and its tests, which THEN has to follow
 abbrev pub are_condition_and_tests : List PlacedItem → Bool
@@ -118,4 +121,4 @@ count_operations (i ∷ items) = if is_operation i then count_operations items +
 abbrev pub are_within_limits : List PlacedItem → Bool
 are_within_limits items =
     nat_le (tests_among items) most_tests
-    && nat_le (count_operations (without_condition items)) most_operations
+    && nat_le (count_operations (body_of items)) most_operations

@@ -2,12 +2,13 @@
 use Rattle.std.specs.Prelude.{◌≡◌, ℕ, ◌+◌, ◌≤◌, ◌==◌, not, true, false, Bool, List, [], ◌∷◌, ◌++◌, length, ◌&&◌, Option, Some, None}
 use Rattle.std.specs.List.{All, list_all}
 use Rattle.std.specs.Str.{byte}
+use Rattle.l6_word.specs.Split.{lacks}
 use Rattle.l6_group.specs.Character.{is_blank}
 use Rattle.l6_group.specs.Operation.{operation_of}
 use Rattle.l6_group.specs.Test.{test_of}
 use Rattle.l6_card.specs.declared.cards.Placed.{Placed}
 use Rattle.l6_card.specs.Numerals.{most_written}
-use Rattle.l6_card.specs.Items.{Item, group, word, items_of, PlacedItem}
+use Rattle.l6_card.specs.Items.{Item, group, word, unclosed, unopened, items_of, PlacedItem}
 use Rattle.l6_card.specs.Statement.{WrittenParts, is_fit}
 use Rattle.l6_card.specs.Spans.{bytes_at, all_spans, Rise}
 use Rattle.l6_card.specs.DeckFault.{DeckFault}
@@ -80,12 +81,17 @@ GroupsAreInParentheses =
     items_of offset (byte "(" ∷ columns ++ byte ")" ∷ behind)
     ≡ group offset columns ∷ items_of (offset + length columns + 2) behind
 
--- blanks vanish in front of a word and inside it
-abbrev pub BlanksVanishInWords : Type 0
-BlanksVanishInWords =
-    (offset blank : ℕ) (columns letters : List ℕ) (items : List Item) → is_blank blank ≡ true →
-    items_of (offset + 1) columns ≡ word letters ∷ items →
-    items_of offset (blank ∷ columns) ≡ word letters ∷ items
+-- the first item is a `)` that no `(` opens
+abbrev pub closes_first : List Item → Bool
+closes_first (unopened columns ∷ items) = true
+closes_first items = false
+
+-- outside of groups blanks vanish: inside a word, in front of any item, and at the end
+abbrev pub BlanksVanish : Type 0
+BlanksVanish =
+    (offset blank : ℕ) (columns : List ℕ) → is_blank blank ≡ true →
+    closes_first (items_of (offset + 1) columns) ≡ false →
+    items_of offset (blank ∷ columns) ≡ items_of (offset + 1) columns
 
 -- a letter or the like in front of a word belongs to it
 abbrev pub LettersMakeWords : Type 0
@@ -94,6 +100,33 @@ LettersMakeWords =
     is_blank letter ≡ false → is_inner letter ≡ true →
     items_of (offset + 1) columns ≡ word letters ∷ items →
     items_of offset (letter ∷ columns) ≡ word (letter ∷ letters) ∷ items
+
+-- there is no item, or the items begin with a group: a word in front of them ends there
+abbrev pub end_a_word : List Item → Bool
+end_a_word [] = true
+end_a_word (group offset columns ∷ items) = true
+end_a_word items = false
+
+-- a letter or the like in front of a group, and at the end, is a word of its own
+abbrev pub LettersBeginWords : Type 0
+LettersBeginWords =
+    (offset letter : ℕ) (columns : List ℕ) →
+    is_blank letter ≡ false → is_inner letter ≡ true →
+    end_a_word (items_of (offset + 1) columns) ≡ true →
+    items_of offset (letter ∷ columns)
+    ≡ word (letter ∷ []) ∷ items_of (offset + 1) columns
+
+-- a `(` is unclosed where no `)` follows, or another `(` comes before it
+abbrev pub OpeningsWantClosings : Type 0
+OpeningsWantClosings =
+    (offset : ℕ) (columns : List ℕ) → lacks (byte ")") columns ≡ true →
+    items_of offset (byte "(" ∷ columns) ≡ unclosed ∷ items_of (offset + 1) columns
+
+abbrev pub OpeningsDoNotNest : Type 0
+OpeningsDoNotNest =
+    (offset : ℕ) (columns behind : List ℕ) → list_all is_inner columns ≡ true →
+    items_of offset (byte "(" ∷ columns ++ byte "(" ∷ behind)
+    ≡ unclosed ∷ items_of (offset + 1) (columns ++ byte "(" ∷ behind)
 
 -- the statements are no more than a deck may write, and each is fit for a program
 pub record AreWithinLimits (statements : List WrittenParts) : Type 0 where

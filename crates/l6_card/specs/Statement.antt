@@ -1,8 +1,7 @@
 -- Statements as cards give them.
-use Rattle.std.specs.Prelude.{ℕ, nat_le, Bool, ◌&&◌, List, length, Option}
+use Rattle.std.specs.Prelude.{ℕ, Bool, ◌&&◌, List, length, Option}
 use Rattle.std.specs.Option.{option_map}
-use Rattle.l6_prog.specs.Numerals.{most_tests, most_operations}
-use Rattle.l6_prog.specs.Program.{may_have}
+use Rattle.l6_prog.specs.Program.{may_have, may_hold}
 use Rattle.l6_prog.specs.declared.condition.Cond.{Cond}
 use Rattle.l6_prog.specs.declared.condition.Test.{Test}
 use Rattle.l6_prog.specs.declared.operation.Op.{Op}
@@ -33,10 +32,8 @@ placed_exit card (ToLabel label) = ToLabel (record { label = label; card = card 
 placed_exit card Done = Done
 placed_exit card Fail = Fail
 
--- the statement has no more tests and operations than it may have, and as many tests as its
--- condition wants
+-- the statement may have so many tests and operations, and its condition so many tests
 abbrev pub is_fit : WrittenParts → Bool
 is_fit statement =
-    nat_le (length statement.tests) most_tests
-    && nat_le (length statement.operations) most_operations
+    may_hold (length statement.tests) (length statement.operations)
     && may_have statement.condition (length statement.tests)

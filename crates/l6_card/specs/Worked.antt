@@ -2,7 +2,7 @@
 use Rattle.std.specs.Prelude.{◌≡◌, ℕ, List, [], ◌∷◌, ◌++◌, codes, Some, None}
 use Rattle.l6_prog.specs.Numerals.{first_letter}
 use Rattle.l6_prog.specs.declared.condition.Cond.TheVariants.{Always, If}
-use Rattle.l6_prog.specs.declared.condition.Test.TheVariants.{Greater}
+use Rattle.l6_prog.specs.declared.condition.Comparison.TheVariants.{Greater}
 use Rattle.l6_prog.specs.declared.operand.Operand.TheVariants.{Number}
 use Rattle.l6_prog.specs.declared.operation.Op.TheVariants.{Set, Subtract, PrintDecimal}
 use Rattle.l6_prog.specs.declared.exit.Exit.TheVariants.{Next, Label as ToLabel}
@@ -42,7 +42,7 @@ count_statement = record {
   condition = If;
   tests =
       record {
-        reading = Greater (name_a ∷ []) (Number 0);
+        reading = record { comparison = Greater; chain = name_a ∷ []; operand = Number 0 };
         card = 2;
         span = record { offset = 17; length = 7 };
       } ∷ [];

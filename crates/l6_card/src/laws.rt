@@ -2,7 +2,7 @@
 
 ghost use Rattle.std.specs.Prelude.{◌≡◌};
 ghost use Rattle.l6_card.specs.Numerals.{card_width, most_deck_bytes, most_written, most_continuations};
-ghost use Rattle.l6_card.specs.Laws.{ReadsOnlyWithoutFault, ReadsWithoutFault, ReadsInOneWay, GroupsStandAtSpans, SpansRise, StandingItemsBecomeWhole, BeginningsStand, WholeItemsSay, ItemsThatSayAreWhole, ItemsSayOneStatement, GroupsAreInParentheses, BlanksVanishInWords, LettersMakeWords};
+ghost use Rattle.l6_card.specs.Laws.{ReadsOnlyWithoutFault, ReadsWithoutFault, ReadsInOneWay, GroupsStandAtSpans, SpansRise, StandingItemsBecomeWhole, BeginningsStand, WholeItemsSay, ItemsThatSayAreWhole, ItemsSayOneStatement, GroupsAreInParentheses, BlanksVanish, LettersMakeWords, LettersBeginWords, OpeningsWantClosings, OpeningsDoNotNest};
 
 use crate::limits::{CARD_WIDTH, MAX_CONTINUATIONS, MAX_DECK_BYTES, MAX_WRITTEN};
 
@@ -34,12 +34,15 @@ pub fn whole_items_say_statements()
     ensures one { ItemsSayOneStatement }
 {}
 
-/// A group is what stands between parentheses. Words are of letters and the like, and blanks
-/// vanish in them.
+/// A group is what stands between parentheses, and a `(` whose `)` is missing is unclosed. Words are
+/// of letters and the like, up to a group or the end, and blanks vanish outside of groups.
 pub fn items_are_groups_and_words()
     ensures groups { GroupsAreInParentheses }
-    ensures blanks { BlanksVanishInWords }
+    ensures unclosed { OpeningsWantClosings }
+    ensures nested { OpeningsDoNotNest }
+    ensures blanks { BlanksVanish }
     ensures letters { LettersMakeWords }
+    ensures words { LettersBeginWords }
 {}
 
 /// Cards are as wide, and decks as long, as the language says.

@@ -11,8 +11,6 @@ mod laws;
 mod limits;
 mod reader;
 mod span;
-#[cfg(test)]
-mod tests;
 mod worked;
 
 pub use cards::{Cards, Parts, Placed, PlacedLabel, Written};

@@ -3,6 +3,7 @@ use Rattle.std.specs.Prelude.{ℕ, not, ◌&&◌, ◌||◌, Bool, false, nat_le,
 use Rattle.std.specs.List.{list_all}
 use Rattle.std.specs.Str.{bytes_eq}
 use Rattle.l6_group.specs.Numerals.{most_label_characters}
+use Rattle.l6_group.specs.Exits.{done_word, fail_word}
 use Rattle.l6_group.specs.Character.{is_capital, is_alphanumeric, spelled}
 
 -- the first character is a letter
@@ -12,7 +13,8 @@ begins_with_capital (first ∷ rest) = is_capital first
 
 -- the characters spell an exit that is no label
 abbrev pub is_plain_exit : List ℕ → Bool
-is_plain_exit characters = bytes_eq (codes "DONE") characters || bytes_eq (codes "FAIL") characters
+is_plain_exit characters =
+    bytes_eq (codes done_word) characters || bytes_eq (codes fail_word) characters
 
 -- the characters are a label: not too many letters and digits, the first a letter; DONE and FAIL
 -- are none

@@ -4,6 +4,7 @@ pub mod Spelling
 pub mod Spelled
 pub mod Element
 pub mod Number
+pub mod Exits
 pub mod Label
 pub mod Value
 pub mod Test

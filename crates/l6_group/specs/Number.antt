@@ -8,7 +8,8 @@ use Rattle.l6_word.specs.Numerals.{word_bits}
 use Rattle.l6_word.specs.Numerals.{code_count}
 use Rattle.l6_prog.specs.Numerals.{digit_count}
 use Rattle.l6_prog.specs.PrintText.{is_print_text}
-use Rattle.l6_group.specs.Numerals.{octal_digit_count, most_text_characters}
+use Rattle.l6_word.specs.Numerals.{octal_digit_count}
+use Rattle.l6_group.specs.Numerals.{most_text_characters}
 use Rattle.l6_group.specs.Character.{is_blank}
 use Rattle.l6_group.specs.Spelling.{◌>>=◌}
 

@@ -1,10 +1,6 @@
 -- The numbers of the language that groups stand on.
 use Rattle.std.specs.Prelude.{ℕ}
 
--- how many digits an octal number has to choose from
-abbrev pub octal_digit_count : ℕ
-octal_digit_count = 8
-
 -- how many characters a label may have
 abbrev pub most_label_characters : ℕ
 most_label_characters = 6

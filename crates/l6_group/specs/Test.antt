@@ -1,37 +1,36 @@
 -- The groups that are tests.
 use Rattle.std.specs.Prelude.{ℕ, Option, Some, None, List, [], ◌∷◌}
-use Rattle.l6_prog.specs.declared.operand.Operand.{Operand}
+use Rattle.l6_prog.specs.declared.condition.Comparison.{Comparison}
+use Rattle.l6_prog.specs.declared.condition.Comparison.TheVariants.{Equal, NotEqual, Greater, Less, AllOnes, AllZeros}
 use Rattle.l6_prog.specs.declared.condition.Test.{Test}
-use Rattle.l6_prog.specs.declared.condition.Test.TheVariants as test
 use Rattle.l6_group.specs.Character.{spelled}
 use Rattle.l6_group.specs.Element.{elements_of, chain_of}
 use Rattle.l6_group.specs.Value.{value_of}
 use Rattle.l6_group.specs.Spelling.{Line, ◌means◌, find_spelled, ◌>>=◌}
 
--- a chain, a letter, and a value that the chain's content is compared to
-abbrev pub tests : List (Line (List ℕ → Operand → Test))
-tests =
-    "E" means test.Equal
-    ∷ "N" means test.NotEqual
-    ∷ "G" means test.Greater
-    ∷ "L" means test.Less
-    ∷ "O" means test.AllOnes
-    ∷ "Z" means test.AllZeros
+-- the letters of the comparisons
+abbrev pub comparisons : List (Line Comparison)
+comparisons =
+    "E" means Equal
+    ∷ "N" means NotEqual
+    ∷ "G" means Greater
+    ∷ "L" means Less
+    ∷ "O" means AllOnes
+    ∷ "Z" means AllZeros
     ∷ []
 
--- the test of this letter
-abbrev pub with_letter : ℕ → List ℕ → Operand → Option Test
-with_letter letter chain value = do
-  make ← find_spelled tests (letter ∷ [])
-  Some (make chain value)
+-- the comparison of this letter
+abbrev pub comparison_of : ℕ → Option Comparison
+comparison_of letter = find_spelled comparisons (letter ∷ [])
 
--- the test of a letter and a suffix
+-- the test of a letter and a suffix: a chain, and a value that its content is compared to
 abbrev pub test_by : List ℕ → List ℕ → List ℕ → Option Test
 test_by [] a b = None
 test_by (letter ∷ suffix) a b = do
+  comparison ← comparison_of letter
   chain ← chain_of a
-  value ← value_of suffix b
-  with_letter letter chain value
+  operand ← value_of suffix b
+  Some (record { comparison = comparison; chain = chain; operand = operand })
 
 -- the test of three elements
 abbrev pub of_three : List ℕ → List ℕ → List ℕ → Option Test

@@ -7,12 +7,13 @@ use Rattle.l6_prog.specs.declared.condition.Cond.TheVariants as condition
 use Rattle.l6_prog.specs.declared.exit.Exit.{Exit}
 use Rattle.l6_prog.specs.declared.exit.Exit.TheVariants as exit
 use Rattle.l6_group.specs.declared.label.Label.{Label}
+use Rattle.l6_group.specs.Exits.{done_word, fail_word}
 use Rattle.l6_group.specs.Label.{label_from}
 use Rattle.l6_group.specs.Spelling.{Line, ◌means◌, find_spelled}
 
 -- the exits that are no label
 abbrev pub plain_exits : List (Line (Exit Label))
-plain_exits = "DONE" means exit.Done ∷ "FAIL" means exit.Fail ∷ []
+plain_exits = done_word means exit.Done ∷ fail_word means exit.Fail ∷ []
 
 -- the exit to the label that characters spell
 abbrev pub label_exit : List ℕ → Option (Exit Label)

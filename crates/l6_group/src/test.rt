@@ -8,7 +8,7 @@ use crate::element::chain_of;
 use crate::operation::Verb;
 use crate::spelling::spelled;
 use crate::value::value_of;
-use l6_prog::{Chain, Operand, Test};
+use l6_prog::{Comparison, Test};
 
 /// The test that a group with these columns between its parentheses spells.
 pub fn test_of(columns: &[u8]) -> Option<Test>
@@ -28,22 +28,24 @@ fn of_three(target: &[u8], verb: &[u8], operand: &[u8]) -> Option<Test>
 {
     let verb: Verb<'_> = spelled(verb)?;
     let (letter, suffix) = verb.as_slice().split_first()?;
-    let chain = chain_of(target)?;
-    let value = value_of(suffix, operand)?;
-    with_letter(*letter, chain, value)
+    Some(Test {
+        comparison: comparison_of(*letter)?,
+        chain: chain_of(target)?,
+        operand: value_of(suffix, operand)?,
+    })
 }
 
-/// The test of this letter.
-fn with_letter(letter: u8, chain: Chain, value: Operand) -> Option<Test>
-    ensures { result ≡ spec.with_letter letter chain value }
+/// The comparison of this letter.
+fn comparison_of(letter: u8) -> Option<Comparison>
+    ensures { result ≡ spec.comparison_of letter }
 {
     match letter {
-        b'E' => Some(Test::Equal(chain, value)),
-        b'N' => Some(Test::NotEqual(chain, value)),
-        b'G' => Some(Test::Greater(chain, value)),
-        b'L' => Some(Test::Less(chain, value)),
-        b'O' => Some(Test::AllOnes(chain, value)),
-        b'Z' => Some(Test::AllZeros(chain, value)),
+        b'E' => Some(Comparison::Equal),
+        b'N' => Some(Comparison::NotEqual),
+        b'G' => Some(Comparison::Greater),
+        b'L' => Some(Comparison::Less),
+        b'O' => Some(Comparison::AllOnes),
+        b'Z' => Some(Comparison::AllZeros),
         _ => None,
     }
 }

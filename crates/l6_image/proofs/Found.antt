@@ -4,7 +4,8 @@ use Rattle.std.specs.Prelude.{◌&&◌, unwrap_or, option_to_list}
 use Rattle.std.specs.List.{list_all}
 use Rattle.std.proofs.lemmas.Bool.{and_parts, ltb-true, lt-ltb}
 use Rattle.l6_prog.specs.declared.condition.Test.{Test}
-use Rattle.l6_prog.specs.declared.condition.Test.TheVariants.{Equal, NotEqual, Greater, Less, AllOnes, AllZeros}
+use Rattle.l6_prog.specs.declared.condition.Comparison.{Comparison}
+use Rattle.l6_prog.specs.declared.condition.Comparison.TheVariants.{Equal, NotEqual, Greater, Less, AllOnes, AllZeros}
 use Rattle.l6_prog.specs.declared.operand.Operand.{Operand}
 use Rattle.l6_prog.specs.declared.operand.Operand.TheVariants.{Chain, Number}
 use Rattle.l6_prog.specs.declared.operation.Op.{Op}
@@ -16,10 +17,10 @@ use Rattle.l6_image.specs.Numerals.{no_name}
 use Rattle.l6_image.specs.Bits.{Field, bits}
 use Rattle.l6_image.specs.Version.{flag, label_fields}
 use Rattle.l6_image.specs.Row.{Slot, absent, chain, number, text, Row, row, kind, slot_words, row_head, row_words, is_name, is_slot, is_field, is_row}
-use Rattle.l6_image.specs.Table.{operand, operand_if_given, chain_if_given, row_of, row_of_test}
+use Rattle.l6_image.specs.Table.{operand, operand_if_given, chain_if_given, code_of_comparison, row_of, row_of_test}
 use Rattle.l6_image.specs.inner.Fields.{name_if, label_in}
 use Rattle.l6_image.specs.inner.Reading.{row_at}
-use Rattle.l6_image.specs.inner.Back.{chain_in, operand_in, chain_if_given_in, operand_if_given_in, statement_in, text_in, of_two, of_one, test_of, operation_of}
+use Rattle.l6_image.specs.inner.Back.{comparison_of, chain_in, operand_in, chain_if_given_in, operand_if_given_in, statement_in, text_in, of_two, of_one, test_of, operation_of}
 use Rattle.l6_image.proofs.Packing.{AllFit, unpacked, unpacked-packed, values}
 use Rattle.l6_image.proofs.Slots.{slot-again}
 
@@ -217,16 +218,24 @@ one-again make code c second third field label known =
     let is = parts_of (row code (chain c) second third field label) known in
     rw (chain-again c is.first) refl
 
+-- a comparison is found again in its code
+comparison-again : (comparison : Comparison) →
+    comparison_of (code_of_comparison comparison) ≡ Some comparison
+comparison-again Equal = refl
+comparison-again NotEqual = refl
+comparison-again Greater = refl
+comparison-again Less = refl
+comparison-again AllOnes = refl
+comparison-again AllZeros = refl
+
 -- a test is found again in its row
 pub test_again : (test : Test) → is_row (row_of_test test) ≡ true →
     test_of (row_of_test test) ≡ Some test
 unfolding test_of
-test_again (Equal c v) known = two-again Equal 1 c v absent None None known
-test_again (NotEqual c v) known = two-again NotEqual 2 c v absent None None known
-test_again (Greater c v) known = two-again Greater 3 c v absent None None known
-test_again (Less c v) known = two-again Less 4 c v absent None None known
-test_again (AllOnes c v) known = two-again AllOnes 5 c v absent None None known
-test_again (AllZeros c v) known = two-again AllZeros 6 c v absent None None known
+test_again test known =
+    let is = parts_of (row_of_test test) known in
+    let found = comparison-again test.comparison in
+    rw (found, chain-again test.chain is.first, operand-again test.operand is.second) refl
 
 -- an operation is found again in its row
 pub operation_again : (operation : Op ℕ) → is_row (row_of operation) ≡ true →

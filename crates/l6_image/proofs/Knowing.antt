@@ -1,11 +1,12 @@
 -- What is known of a program is known of its statements, tests and operations.
-use Rattle.std.proofs.Common.{◌≡◌, ℕ, ◌<◌, ◌≤◌, List, [], ◌∷◌, length, Bool, true, Option, Some, None, refl, sym, ◌∙◌, arith}
+use Rattle.std.proofs.Common.{◌≡◌, ℕ, ◌^◌, ◌<◌, ◌≤◌, List, [], ◌∷◌, length, Bool, true, Option, Some, None, refl, sym, ◌∙◌, arith}
 use Rattle.std.specs.Prelude.{nat_le, unwrap_or, option_to_list}
 use Rattle.std.specs.List.{flat_map, list_all}
 use Rattle.std.proofs.lemmas.Bool.{and_parts, ltb-true, lt-ltb, leb-true}
 use Rattle.std.proofs.lemmas.List.Folds.{list_all-append}
 use Rattle.l6_prog.specs.declared.condition.Test.{Test}
-use Rattle.l6_prog.specs.declared.condition.Test.TheVariants.{Equal, NotEqual, Greater, Less, AllOnes, AllZeros}
+use Rattle.l6_prog.specs.declared.condition.Comparison.{Comparison}
+use Rattle.l6_prog.specs.declared.condition.Comparison.TheVariants.{Equal, NotEqual, Greater, Less, AllOnes, AllZeros}
 use Rattle.l6_prog.specs.declared.operation.Op.{Op}
 use Rattle.l6_prog.specs.declared.operation.Op.TheVariants.{Get, Duplicate, Call, Input, Set, Add, Subtract, Multiply, Divide, Remainder, And, Or, ExclusiveOr, Complement, ShiftLeft, ShiftRight, Exchange, Define, SaveContent, RestoreContent, SaveDefinition, RestoreDefinition, Free, PrintCharacters, PrintDecimal, PrintOctal, PrintText, PrintLine}
 use Rattle.l6_prog.specs.declared.exit.Exit.{Exit}
@@ -17,7 +18,7 @@ use Rattle.l6_prog.specs.Program.{fits}
 use Rattle.l6_prog.proofs.Programs.{takes_just_programs}
 use Rattle.l6_prog.proofs.Targets.{list_all-flat_map}
 use Rattle.l6_image.specs.Row.{is_row}
-use Rattle.l6_image.specs.Table.{row_of, row_of_test}
+use Rattle.l6_image.specs.Table.{code_of_comparison, row_of, row_of_test}
 use Rattle.l6_image.specs.Image.{exit_target, target_count, has_values, HasImage}
 use Rattle.l6_image.proofs.Found.{Known, known_row}
 
@@ -104,20 +105,19 @@ label-below None each = omega arith
 label-below (Some label) each =
     ltb-true label target_count (and_parts (is_below target_count label) true each).0
 
+-- the code of a test has six bits
+code-below : (comparison : Comparison) → code_of_comparison comparison < 2 ^ 6
+code-below Equal = omega arith
+code-below NotEqual = omega arith
+code-below Greater = omega arith
+code-below Less = omega arith
+code-below AllOnes = omega arith
+code-below AllZeros = omega arith
+
 -- the row of a test is known
 pub known_test : (test : Test) → is_row (row_of_test test) ≡ true → Known (row_of_test test)
-known_test (Equal c v) known =
-    known_row (row_of_test (Equal c v)) (omega arith) (omega arith) known
-known_test (NotEqual c v) known =
-    known_row (row_of_test (NotEqual c v)) (omega arith) (omega arith) known
-known_test (Greater c v) known =
-    known_row (row_of_test (Greater c v)) (omega arith) (omega arith) known
-known_test (Less c v) known =
-    known_row (row_of_test (Less c v)) (omega arith) (omega arith) known
-known_test (AllOnes c v) known =
-    known_row (row_of_test (AllOnes c v)) (omega arith) (omega arith) known
-known_test (AllZeros c v) known =
-    known_row (row_of_test (AllZeros c v)) (omega arith) (omega arith) known
+known_test test known =
+    known_row (row_of_test test) (code-below test.comparison) (omega arith) known
 
 -- so is that of an operation
 pub known_operation : (operation : Op ℕ) → is_row (row_of operation) ≡ true →

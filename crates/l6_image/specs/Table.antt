@@ -2,7 +2,8 @@
 -- label.
 use Rattle.std.specs.Prelude.{ℕ, List, Option, Some, None}
 use Rattle.l6_prog.specs.declared.condition.Test.{Test}
-use Rattle.l6_prog.specs.declared.condition.Test.TheVariants.{Equal, NotEqual, Greater, Less, AllOnes, AllZeros}
+use Rattle.l6_prog.specs.declared.condition.Comparison.{Comparison}
+use Rattle.l6_prog.specs.declared.condition.Comparison.TheVariants.{Equal, NotEqual, Greater, Less, AllOnes, AllZeros}
 use Rattle.l6_prog.specs.declared.operand.Operand.{Operand}
 use Rattle.l6_prog.specs.declared.operand.Operand.TheVariants.{Chain, Number}
 use Rattle.l6_prog.specs.declared.operation.Op.{Op}
@@ -24,14 +25,20 @@ abbrev pub chain_if_given : Option (List ℕ) → Slot
 chain_if_given None = absent
 chain_if_given (Some names) = chain names
 
+-- the code of a test, by its comparison
+abbrev pub code_of_comparison : Comparison → ℕ
+code_of_comparison Equal = 1
+code_of_comparison NotEqual = 2
+code_of_comparison Greater = 3
+code_of_comparison Less = 4
+code_of_comparison AllOnes = 5
+code_of_comparison AllZeros = 6
+
 -- the row of a test
 abbrev pub row_of_test : Test → Row
-row_of_test (Equal c v) = row 1 (chain c) (operand v) absent None None
-row_of_test (NotEqual c v) = row 2 (chain c) (operand v) absent None None
-row_of_test (Greater c v) = row 3 (chain c) (operand v) absent None None
-row_of_test (Less c v) = row 4 (chain c) (operand v) absent None None
-row_of_test (AllOnes c v) = row 5 (chain c) (operand v) absent None None
-row_of_test (AllZeros c v) = row 6 (chain c) (operand v) absent None None
+row_of_test test =
+    row (code_of_comparison test.comparison) (chain test.chain) (operand test.operand)
+    absent None None
 
 -- the row of an operation
 abbrev pub row_of : Op ℕ → Row

@@ -12,8 +12,6 @@ mod reading;
 mod rows;
 mod statements;
 mod table;
-#[cfg(test)]
-mod tests;
 mod text;
 mod version;
 mod writing;

@@ -4,20 +4,31 @@ ghost use Rattle.std.specs.Prelude.{◌≡◌};
 ghost use Rattle.l6_image.specs.inner.Back as spec;
 
 use crate::reader::Row;
-use l6_prog::{Op, Test};
+use l6_prog::{Comparison, Op, Test};
 
 /// The test of a row.
 #[tactic(auto, unfolding(crate::specs::inner::Back::test_of))]
 pub(crate) fn test_of(row: &Row<'_>) -> Option<Test>
     ensures { result ≡ spec.test_of row.now }
 {
-    match row.code {
-        1 => Some(Test::Equal(row.first.chain()?, row.second.operand()?)),
-        2 => Some(Test::NotEqual(row.first.chain()?, row.second.operand()?)),
-        3 => Some(Test::Greater(row.first.chain()?, row.second.operand()?)),
-        4 => Some(Test::Less(row.first.chain()?, row.second.operand()?)),
-        5 => Some(Test::AllOnes(row.first.chain()?, row.second.operand()?)),
-        6 => Some(Test::AllZeros(row.first.chain()?, row.second.operand()?)),
+    Some(Test {
+        comparison: comparison_of(row.code)?,
+        chain: row.first.chain()?,
+        operand: row.second.operand()?,
+    })
+}
+
+/// The comparison of a test's code.
+fn comparison_of(code: u8) -> Option<Comparison>
+    ensures { result ≡ spec.comparison_of code }
+{
+    match code {
+        1 => Some(Comparison::Equal),
+        2 => Some(Comparison::NotEqual),
+        3 => Some(Comparison::Greater),
+        4 => Some(Comparison::Less),
+        5 => Some(Comparison::AllOnes),
+        6 => Some(Comparison::AllZeros),
         _ => None,
     }
 }

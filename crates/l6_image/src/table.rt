@@ -1,28 +1,36 @@
 //! The table of rows: for each test and each operation its code, its operands, its field and its
 //! label.
 
-ghost use Rattle.std.specs.Prelude.{OnOk};
-ghost use Rattle.l6_image.specs.Table.{row_of, row_of_test};
+ghost use Rattle.std.specs.Prelude.{◌≡◌, OnOk};
+ghost use Rattle.l6_image.specs.Table.{code_of_comparison, row_of, row_of_test};
 ghost use Rattle.l6_image.specs.inner.Writing.{Writes};
 
 use crate::rows::{
     push_chains, push_definition, push_field, push_none, push_one, push_statement, push_text,
     push_three, push_two,
 };
-use l6_prog::{Chain, Op, Operand, Test};
+use l6_prog::{Chain, Comparison, Op, Operand, Test};
 use std::alloc::AllocError;
 
 /// Writes the words of a test.
 pub(crate) fn push_test(words: &mut Vec<u64>, test: &Test) -> Result<(), AllocError>
     ensures { OnOk result (Writes words.old.items words.new.items (row_of_test test.now)) }
 {
-    match test {
-        Test::Equal(c, v) => push_two(words, 1, c, v, None),
-        Test::NotEqual(c, v) => push_two(words, 2, c, v, None),
-        Test::Greater(c, v) => push_two(words, 3, c, v, None),
-        Test::Less(c, v) => push_two(words, 4, c, v, None),
-        Test::AllOnes(c, v) => push_two(words, 5, c, v, None),
-        Test::AllZeros(c, v) => push_two(words, 6, c, v, None),
+    let code = code_of_comparison(test.comparison);
+    push_two(words, code, &test.chain, &test.operand, None)
+}
+
+/// The code of a test, by its comparison.
+fn code_of_comparison(comparison: Comparison) -> u8
+    ensures { result ≡ code_of_comparison comparison }
+{
+    match comparison {
+        Comparison::Equal => 1,
+        Comparison::NotEqual => 2,
+        Comparison::Greater => 3,
+        Comparison::Less => 4,
+        Comparison::AllOnes => 5,
+        Comparison::AllZeros => 6,
     }
 }
 

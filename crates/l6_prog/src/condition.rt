@@ -26,21 +26,32 @@ pub enum Cond {
     IfNotAll,
 }
 
-/// A test of a condition: how the content of a chain compares to an operand.
+/// How the content of a test's chain is compared to its operand.
+#[derive(Clone, Copy, Debug, PartialEq, Eq, Hash)]
+pub enum Comparison {
+    /// `E`: the content is the operand.
+    Equal,
+    /// `N`: the content is not the operand.
+    NotEqual,
+    /// `G`: the content is greater than the operand.
+    Greater,
+    /// `L`: the content is less than the operand.
+    Less,
+    /// `O`: each bit that is one in the operand is one in the content.
+    AllOnes,
+    /// `Z`: each bit that is one in the operand is zero in the content.
+    AllZeros,
+}
+
+/// A test of a condition, as `(c,E,cd)`: how the content of a chain compares to an operand.
 #[derive(Clone, Debug, Drop)]
-pub enum Test {
-    /// `(c,E,cd)`: the content is the operand.
-    Equal(Chain, Operand),
-    /// `(c,N,cd)`: the content is not the operand.
-    NotEqual(Chain, Operand),
-    /// `(c,G,cd)`: the content is greater than the operand.
-    Greater(Chain, Operand),
-    /// `(c,L,cd)`: the content is less than the operand.
-    Less(Chain, Operand),
-    /// `(c,O,cd)`: each bit that is one in the operand is one in the content.
-    AllOnes(Chain, Operand),
-    /// `(c,Z,cd)`: each bit that is one in the operand is zero in the content.
-    AllZeros(Chain, Operand),
+pub struct Test {
+    /// How they are compared.
+    pub comparison: Comparison,
+    /// The chain whose content is compared.
+    pub chain: Chain,
+    /// What it is compared to.
+    pub operand: Operand,
 }
 
 impl Cond {

@@ -13,7 +13,7 @@ mod program;
 mod statement;
 
 pub use chain::{Chain, MAX_NAMES};
-pub use condition::{Cond, Test};
+pub use condition::{Comparison, Cond, Test};
 pub use exit::Exit;
 pub use laws::{programs_are_taken, programs_have_their_limits};
 pub use name::{DIGITS, NAMES, Name};

@@ -3,8 +3,6 @@
 
 mod laws;
 mod region;
-#[cfg(test)]
-mod tests;
 
 pub use laws::regions_have_their_limit;
 pub use region::Region;

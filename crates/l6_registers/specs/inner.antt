@@ -2,5 +2,4 @@ pub mod Input
 pub mod Registers
 pub mod Definitions
 pub mod Fields
-pub mod Condition
 pub mod Upcoming

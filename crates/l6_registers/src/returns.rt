@@ -39,8 +39,7 @@ impl<S: Places> Registers<S> {
             Exit::Done => self.done(),
             Exit::Fail => self.fail(),
         };
-        // a look at a field, which tells the prover what is true of them all
-        let _ = &self.limits;
+        self.recall();
         result
     }
 
@@ -96,7 +95,7 @@ impl<S: Places> Registers<S> {
                 fail,
             });
         }
-        let _ = &self.limits;
+        self.recall();
     }
 
     /// Takes off the latest return for which a call waits, as the exit DONE does. Where none waits,
@@ -112,7 +111,7 @@ impl<S: Places> Registers<S> {
         ensures held { AreHeld S.rule self.new }
     {
         let latest = self.saved.returns.pop();
-        let _ = &self.limits;
+        self.recall();
         latest
     }
 }

@@ -14,7 +14,9 @@ use Rattle.l6_steps.specs.Locus.{content, index_of, locus}
 use Rattle.l6_steps.specs.Row.{row}
 use Rattle.l6_steps.specs.State.{World, State, Memory, Setting, start}
 use Rattle.l6_prog.specs.declared.condition.Cond.TheVariants.{Always, IfNotAll}
-use Rattle.l6_prog.specs.declared.condition.Test.TheVariants.{Equal, Greater}
+use Rattle.l6_prog.specs.declared.condition.Comparison.{Comparison}
+use Rattle.l6_prog.specs.declared.condition.Comparison.TheVariants.{Equal, Greater}
+use Rattle.l6_prog.specs.declared.condition.Test.{Test}
 use Rattle.l6_prog.specs.declared.exit.Exit.TheVariants.{Next, Done, Fail}
 use Rattle.l6_prog.specs.Statement.{Parts, plain_done}
 use Rattle.l6_steps.specs.declared.halt.Halt.TheVariants as halts
@@ -43,15 +45,19 @@ at_action statement action count returns = record start {
   count = count;
 }
 
+-- the test that compares the content of a chain to 0
+abbrev pub to_zero : Comparison → List ℕ → Test
+to_zero comparison chain = record { comparison = comparison; chain = chain; operand = Number 0 }
+
 -- the program that begins with IFNALL (A,E,0)(A,G,0)(AN,E,0)
 abbrev pub not_all_world : World
 not_all_world =
     small_world (record {
       condition = IfNotAll;
       tests =
-          Equal (name_a ∷ []) (Number 0)
-          ∷ Greater (name_a ∷ []) (Number 0)
-          ∷ Equal (name_a ∷ name_n ∷ []) (Number 0)
+          to_zero Equal (name_a ∷ [])
+          ∷ to_zero Greater (name_a ∷ [])
+          ∷ to_zero Equal (name_a ∷ name_n ∷ [])
           ∷ [];
       operations = [];
       exit = Next;

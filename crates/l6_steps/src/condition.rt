@@ -1,9 +1,9 @@
-//! What decides a condition.
+//! What tests compare, and what decides a condition.
 
 ghost use Rattle.std.specs.Prelude.{◌≡◌};
-ghost use Rattle.l6_steps.specs.Condition.{stop_of};
+ghost use Rattle.l6_steps.specs.Condition.{compares, stop_of};
 
-use l6_prog::Cond;
+use l6_prog::{Comparison, Cond};
 
 /// What decides a condition before all its tests are taken. Where no test does, the answer is the
 /// opposite one.
@@ -13,6 +13,21 @@ pub struct Stop {
     pub outcome: bool,
     /// The condition's answer then.
     pub answer: bool,
+}
+
+/// Whether the content of a chain compares so to the value of an operand.
+#[inline(always)]
+pub fn compares(comparison: Comparison, content: u64, value: u64) -> bool
+    ensures { result ≡ compares comparison content value }
+{
+    match comparison {
+        Comparison::Equal => content == value,
+        Comparison::NotEqual => content != value,
+        Comparison::Greater => content > value,
+        Comparison::Less => content < value,
+        Comparison::AllOnes => content & value == value,
+        Comparison::AllZeros => content & value == 0,
+    }
 }
 
 /// The stop of a condition. A statement without one needs none.

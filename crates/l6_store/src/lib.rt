@@ -3,8 +3,6 @@
 
 mod arena;
 mod buddy;
-#[cfg(test)]
-mod buddy_tests;
 mod fault;
 mod laws;
 mod link;
@@ -13,8 +11,6 @@ mod piece;
 mod places;
 mod scan_store;
 mod tag;
-#[cfg(test)]
-mod tests;
 
 pub use buddy::Buddy;
 pub use fault::StoreFault;

@@ -5,6 +5,10 @@ use Rattle.std.specs.Prelude.{ℕ, ◌^◌}
 abbrev pub word_bits : ℕ
 word_bits = 36
 
+-- how many octal digits there are to choose from, 0 to 7
+abbrev pub octal_digit_count : ℕ
+octal_digit_count = 8
+
 -- how many octal digits a word is written with
 abbrev pub word_octals : ℕ
 word_octals = 12

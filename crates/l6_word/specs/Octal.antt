@@ -4,12 +4,13 @@ use Rattle.std.specs.Int.{is_in_range}
 use Rattle.std.specs.List.{list_all}
 use Rattle.std.specs.Str.{byte}
 use Rattle.std.specs.Str.Parse.{digits_value}
-use Rattle.l6_word.specs.Numerals.{word_bits, word_octals}
+use Rattle.l6_word.specs.Numerals.{octal_digit_count, word_bits, word_octals}
 
--- the last digits of a number to the base 8, so many of them, as text
+-- the last octal digits of a number, so many of them, as text
 abbrev pub octal_digits : ℕ → ℕ → List ℕ
 octal_digits zero number = []
-octal_digits (suc more) number = octal_digits more (number / 8) ++ (byte "0" + number % 8) ∷ []
+octal_digits (suc more) number =
+    octal_digits more (number / octal_digit_count) ++ (byte "0" + number % octal_digit_count) ∷ []
 
 -- the digits of a word, also those that are 0
 unfoldable pub octal12 : ℕ → List ℕ
@@ -27,4 +28,4 @@ is_octal12 text = length text == word_octals && list_all is_octal_digit text
 abbrev pub DigitsTellWords : Type 0
 DigitsTellWords =
     (word : ℕ) → word < 2 ^ word_bits →
-    (is_octal12 (octal12 word) ≡ true) × (digits_value 8 (octal12 word) ≡ word)
+    (is_octal12 (octal12 word) ≡ true) × (digits_value octal_digit_count (octal12 word) ≡ word)

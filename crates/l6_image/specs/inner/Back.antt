@@ -5,7 +5,8 @@ use Rattle.l6_word.specs.Numerals.{word_bits}
 use Rattle.l6_prog.specs.Chain.{is_chain}
 use Rattle.l6_prog.specs.PrintText.{is_print_text}
 use Rattle.l6_prog.specs.declared.condition.Test.{Test}
-use Rattle.l6_prog.specs.declared.condition.Test.TheVariants.{Equal, NotEqual, Greater, Less, AllOnes, AllZeros}
+use Rattle.l6_prog.specs.declared.condition.Comparison.{Comparison}
+use Rattle.l6_prog.specs.declared.condition.Comparison.TheVariants.{Equal, NotEqual, Greater, Less, AllOnes, AllZeros}
 use Rattle.l6_prog.specs.declared.operand.Operand.{Operand}
 use Rattle.l6_prog.specs.declared.operand.Operand.TheVariants.{Chain, Number}
 use Rattle.l6_prog.specs.declared.operation.Op.{Op}
@@ -123,16 +124,24 @@ print_text_of row = do
   codes ← text_in row.first
   Some (PrintText codes)
 
+-- the comparison of a test's code
+abbrev pub comparison_of : ℕ → Option Comparison
+comparison_of code =
+    if code == 1 then Some Equal
+    else if code == 2 then Some NotEqual
+    else if code == 3 then Some Greater
+    else if code == 4 then Some Less
+    else if code == 5 then Some AllOnes
+    else if code == 6 then Some AllZeros
+    else None
+
 -- the test of a row
 unfoldable pub test_of : Row → Option Test
-test_of row =
-    if row.code == 1 then of_two Equal row
-    else if row.code == 2 then of_two NotEqual row
-    else if row.code == 3 then of_two Greater row
-    else if row.code == 4 then of_two Less row
-    else if row.code == 5 then of_two AllOnes row
-    else if row.code == 6 then of_two AllZeros row
-    else None
+test_of row = do
+  comparison ← comparison_of row.code
+  c ← chain_in row.first
+  v ← operand_in row.second
+  Some (record { comparison = comparison; chain = c; operand = v })
 
 -- the operation of a row
 unfoldable pub operation_of : Row → Option (Op ℕ)

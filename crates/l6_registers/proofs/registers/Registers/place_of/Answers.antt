@@ -1,13 +1,11 @@
-use Rattle.std.proofs.Common.{subst, arith}
-use Rattle.l6_registers.specs.inner.Registers.{AreHeld, Held}
+use Rattle.std.proofs.Common.{arith}
 use Rattle.l6_registers.proofs.Windows.{live_with, near}
 use Rattle.l6_registers.proofs.registers.Registers.place_of.Goals as goal
 
 -- the word lies in a block, and so in the store
 pub overflow_add-result : goal.overflow_add-result
 overflow_add-result g c =
-    let held : AreHeld g.S.Places.rule c.args.self.now =
-    subst (λ (h : Held). AreHeld g.S.Places.rule h) c.self.view_is c.self.invariant.are_held in
+    let held = c.recall.ensures.held in
     let blocks = c.args.self.now.memory.blocks in
     let index = c.args.window.word in
     let live = live_with blocks c.args.place index c.requires in

@@ -1,6 +1,6 @@
 //! Images worked out by hand, by the tables of the format.
 
-use crate::{LoadFault, load, statement_words, text_of, words_of};
+use l6_image::{LoadFault, load, statement_words, text_of, words_of};
 use std::test::Fail;
 
 /// The image of ` (A,E,5)(A,PD)`.

@@ -1,6 +1,6 @@
 //! Decks with their faults, and the labels of a deck, worked out by hand.
 
-use crate::{AsmFault, assemble};
+use l6_asm::{AsmFault, assemble};
 use std::test::Fail;
 
 #[test]

@@ -1,6 +1,6 @@
 //! Decks with the spans of their groups, worked out by hand.
 
-use crate::{Parts, read_deck};
+use l6_card::{Parts, read_deck};
 use std::test::Fail;
 
 #[test]

@@ -3,7 +3,7 @@
 ghost use Rattle.std.specs.Prelude.{◌≡◌, ◌<◌, ◌≤◌};
 ghost use Rattle.l6_word.specs.Numerals.{largest_level};
 
-use crate::{Level, MAX_UNITS, Place, Places, ScanStore, StoreFault};
+use l6_store::{Level, MAX_UNITS, Place, Places, ScanStore, StoreFault};
 use l6_word::{LARGEST_LEVEL, UNIT_SIZE, Word};
 use std::alloc::{AllocError, Global};
 use std::test::Fail;

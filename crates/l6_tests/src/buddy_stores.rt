@@ -3,7 +3,7 @@
 ghost use Rattle.std.specs.Prelude.{◌≡◌, IfSome};
 ghost use Rattle.l6_store.specs.Blocks.{IsLive};
 
-use crate::{Buddy, Level, MAX_UNITS, Place, Places, StoreFault};
+use l6_store::{Buddy, Level, MAX_UNITS, Place, Places, StoreFault};
 use l6_word::{LARGEST_LEVEL, UNIT_SIZE, Word};
 use std::alloc::{AllocError, Global};
 use std::test::Fail;

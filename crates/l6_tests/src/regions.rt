@@ -1,6 +1,6 @@
 //! A region and its copy share no word.
 
-use crate::Region;
+use l6_raw::Region;
 use std::test::Fail;
 
 #[test]

@@ -1,0 +1,16 @@
+//! Tests of the libraries' calls: tables of values that were worked out by hand or come from a plain
+//! model. They stand in a crate of their own, since a crate that has tests is proved twice.
+#![tactic(auto)]
+
+#[cfg(test)]
+mod assemblies;
+#[cfg(test)]
+mod buddy_stores;
+#[cfg(test)]
+mod decks;
+#[cfg(test)]
+mod images;
+#[cfg(test)]
+mod regions;
+#[cfg(test)]
+mod scan_stores;

@@ -2,8 +2,8 @@
 
 use l6_machine::Machine;
 use l6_prog::{
-    Chain, Cond, Exit, MAX_STATEMENTS, Name, Op, Operand, PrintText, ProgFault, Program, Statement,
-    Test,
+    Chain, Comparison, Cond, Exit, MAX_STATEMENTS, Name, Op, Operand, PrintText, ProgFault,
+    Program, Statement, Test,
 };
 use l6_run::{Host, Options, Part, RunFault, printout, run_deck};
 use l6_steps::Limits;
@@ -21,6 +21,15 @@ fn bug() -> Result<Chain, Fail> {
 /// A number as an operand.
 fn number(value: u64) -> Operand {
     Operand::Number(Word::wrapping(value))
+}
+
+/// A test of the bug A.
+fn test(comparison: Comparison, value: u64) -> Result<Test, Fail> {
+    Ok(Test {
+        comparison,
+        chain: bug()?,
+        operand: number(value),
+    })
 }
 
 /// A statement without a condition.
@@ -100,7 +109,7 @@ fn programs_have_limits(rt: HostRuntime) -> Result<(), Fail> {
         let mut tests = Vec::new(alloc);
         let mut operations = Vec::new(alloc);
         for _ in 0..count {
-            tests.push(Test::Equal(bug()?, number(0)))?;
+            tests.push(test(Comparison::Equal, 0)?)?;
             operations.push(Op::PrintLine)?;
         }
         let tested = Statement::new(Cond::IfAll, tests, Vec::new(alloc), Exit::Next);
@@ -127,7 +136,7 @@ fn a_program_of_everything_is_copied(rt: HostRuntime) -> Result<(), Fail> {
         Op::Call(1, Some(0)),
         Op::PrintText(text),
     ]?;
-    let tests = vec![in alloc; Test::Greater(bug()?, number(7))]?;
+    let tests = vec![in alloc; test(Comparison::Greater, 7)?]?;
     let everything = Statement::new(Cond::Not, tests, operations, Exit::Label(1));
     let statements = vec![in alloc; everything, Statement::plain_done(alloc)]?;
     let program = Program::new(statements)?.duplicate(alloc)?;

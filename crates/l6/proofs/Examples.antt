@@ -6,6 +6,7 @@ use Rattle.std.specs.Fmt.{digits}
 use Rattle.l6_store.specs.Blocks.{Blocks}
 use Rattle.l6_store.specs.Laws.{ScanChooses}
 use Rattle.l6_store.specs.Open.{Choice, FitsStore}
+use Rattle.l6_store.specs.Scan.{scan_rule}
 use Rattle.l6_prog.specs.Numerals.{letter_count}
 use Rattle.l6_prog.specs.declared.operand.Operand.TheVariants.{Number}
 use Rattle.l6_prog.specs.declared.operation.Op.TheVariants.{Set, PrintDecimal}
@@ -112,9 +113,10 @@ earlier =
 abbrev final : State
 final = state_of 5 (codes "5") 1 1 6 (Some Done)
 
--- for each level the lowest open place, of a store without blocks
+-- for each level the lowest open place, of a store without blocks: this run gets no block, so any
+-- choice that fits is the run's
 abbrev choice : Choice
-choice = store_rule.pick world.setting.units map.empty []
+choice = scan_rule.pick world.setting.units map.empty []
 
 -- each state is a step from the one before, since both compute to the same
 stepped : ScanChooses → (old : State) → old.memory.blocks ≡ map.empty → is_last world old ≡ false →

@@ -6,6 +6,7 @@ pub mod Transfer
 pub mod Options
 pub mod Printout
 pub mod Prints
+pub mod Runs
 pub mod Serves
 pub mod Laws
 pub mod inner

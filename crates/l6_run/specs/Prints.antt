@@ -7,7 +7,7 @@ use Rattle.l6_asm.specs.AssemblyFault.{assembly_fault}
 use Rattle.l6_asm.specs.Assembled.{Assembled}
 use Rattle.l6_asm.specs.Spells.{Spells, IsUnspelled}
 use Rattle.l6_store.specs.Rule.{Rule}
-use Rattle.l6_store.specs.Scan.{scan_rule}
+use Rattle.l6_store.specs.Buddy.{buddy_rule}
 use Rattle.l6_steps.specs.Moment.{EndsBy}
 use Rattle.l6_steps.specs.Numerals.{most_input}
 use Rattle.l6_steps.specs.Run.{EndsIn}
@@ -30,9 +30,9 @@ world_under options input program = record {
   };
 }
 
--- the rule by which the store of a run picks its places: the lowest open one
+-- the rule by which the store of a run picks its places: the buddy system's
 abbrev pub store_rule : Rule
-store_rule = scan_rule
+store_rule = buddy_rule
 
 -- a whole run of the world, which is the one under the rule, ends in a state with this ending and
 -- this printout

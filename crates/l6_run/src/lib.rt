@@ -7,6 +7,7 @@ mod fault;
 mod laws;
 mod options;
 mod printing;
+mod runner;
 mod running;
 mod transfer;
 
@@ -16,5 +17,6 @@ pub use fault::{MAX_JOB_BYTES, Part, RunFault};
 pub use laws::{jobs_have_their_limit, printouts_are_determined};
 pub use options::Options;
 pub use printing::{ending_line, ending_of, printout};
+pub use runner::run;
 pub use running::run_deck;
 pub use transfer::{read_part, write_text};

@@ -21,7 +21,7 @@ use l6_card::MAX_DECK_BYTES;
 use l6_machine::{Machine, MachineFault};
 use l6_prog::Program;
 use l6_steps::{Limits, MAX_INPUT};
-use l6_store::{Places, ScanStore, StoreFault};
+use l6_store::{Buddy, Places, StoreFault};
 use std::alloc::Global;
 
 /// Runs a deck with an input, and writes the printout. Answers how the run has ended.
@@ -66,7 +66,7 @@ fn printout_of(
     ensures refuses { IfErr result (IsNoRun deck.now input.now) }
 {
     let program = assemble(alloc, deck)?.into_program();
-    let store = match ScanStore::new(alloc, options.units()) {
+    let store = match Buddy::new(alloc, options.units()) {
         Ok(store) => store,
         Err(StoreFault::NoMemory) => return Err(RunFault::NoMemory),
         Err(StoreFault::BadUnits) => unreachable!(),

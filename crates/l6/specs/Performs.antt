@@ -1,5 +1,5 @@
 -- What becomes of a job.
-use Rattle.std.specs.Prelude.{◌≡◌, List, [], ℕ, Option, Result, Ok, Err}
+use Rattle.std.specs.Prelude.{◌≡◌, List, ℕ, Option, Result, Ok, Err}
 use Rattle.l6_run.specs.Device.{Health, NoTrouble}
 use Rattle.l6_run.specs.Options.{OptionValues}
 use Rattle.l6_run.specs.Prints.{Prints, RefusesDeck}
@@ -8,18 +8,20 @@ use Rattle.l6_run.specs.Transfer.{GivesPart, GivesTooMuch, ReaderFaredAt}
 use Rattle.l6_run.specs.declared.fault.Part.TheVariants.{Job}
 use Rattle.l6_run.specs.declared.fault.RunFault.{RunFault}
 use Rattle.l6_run.specs.declared.fault.RunFault.TheVariants.{TooLong, Read, NoMemory}
+use Rattle.l6.specs.Parts.{head_of, input_of}
 use Rattle.l6.specs.declared.job.Outcome.{Outcome}
 use Rattle.l6.specs.declared.job.Outcome.TheVariants.{Ran}
 use Rattle.l6.specs.declared.job.Verb.{Verb}
 use Rattle.l6.specs.declared.job.Verb.TheVariants.{Run}
 
--- what a verb answers to a job, and with which text; the job is a deck, and the input is empty
+-- what a verb answers to a job, and with which text: the head of the job is a deck
 abbrev pub Answers : Verb → OptionValues → List ℕ → Outcome → List ℕ → Type 0
-Answers Run options job (Ran ending) text = Prints options job [] ending text
+Answers Run options job (Ran ending) text =
+    Prints options (head_of job) (input_of job) ending text
 
 -- why a job is refused
 abbrev pub Refuses : Verb → List ℕ → RunFault → Type 0
-Refuses Run job fault = RefusesDeck job [] fault
+Refuses Run job fault = RefusesDeck (head_of job) (input_of job) fault
 
 -- the reader gave a whole job, and this became of it
 pub record PerformsJob (verb : Verb) (options : OptionValues)

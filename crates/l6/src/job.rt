@@ -6,13 +6,14 @@ ghost use Rattle.l6_run.specs.Serves.{IsUnwritten, Serves, WriterFared};
 ghost use Rattle.l6_run.specs.Transfer.{GivesAtMost};
 ghost use Rattle.l6.specs.Performs.{Answers, Performs, ReaderFared, Refuses};
 
+use crate::parts::parts_of;
 use l6_run::{Ending, Options, Part, RunFault, Sink, Source, read_part, run_deck};
 use std::alloc::Global;
 
 /// What is to be done with a job.
 #[derive(Clone, Copy, Debug, PartialEq, Eq, Hash)]
 pub enum Verb {
-    /// The job is a deck, which is run.
+    /// The head of the job is a deck, which is run with the input of the job.
     Run,
 }
 
@@ -23,7 +24,7 @@ pub enum Outcome {
     Ran(Ending),
 }
 
-/// Reads a job whole, does with it what the verb says, and writes the answer. The job is a deck.
+/// Reads a job whole, does with its parts what the verb says, and writes the answer.
 ///
 /// # Errors
 ///
@@ -62,7 +63,11 @@ fn serve<W: Sink>(
     ensures unwritten { IsUnwritten result → writer.new ≡ writer.old }
     ensures fared { WriterFared (W.health writer.old) (W.health writer.new) result }
 {
+    let parts = parts_of(job);
     match verb {
-        Verb::Run => Ok(Outcome::Ran(run_deck(alloc, options, job, &[], writer)?)),
+        Verb::Run => {
+            let ending = run_deck(alloc, options, parts.head, parts.input, writer)?;
+            Ok(Outcome::Ran(ending))
+        }
     }
 }

@@ -2,6 +2,7 @@
 #![tactic(auto)]
 
 mod job;
+mod parts;
 mod status;
 #[cfg(test)]
 mod tests;

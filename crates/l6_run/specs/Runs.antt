@@ -1,12 +1,11 @@
 -- What becomes of a deck and an input that two readers give.
-use Rattle.std.specs.Prelude.{◌≡◌, ℕ, List, Option, Result, Ok, Err}
+use Rattle.std.specs.Prelude.{ℕ, List, Option, Result, Err}
 use Rattle.l6_run.specs.Device.{Health, NoTrouble, OneTrouble}
 use Rattle.l6_run.specs.Options.{OptionValues}
 use Rattle.l6_run.specs.Prints.{Prints, RefusesDeck}
 use Rattle.l6_run.specs.Serves.{Serves}
 use Rattle.l6_run.specs.Transfer.{GivesPart, GivesTooMuch}
 use Rattle.l6_run.specs.declared.ending.Ending.{Ending}
-use Rattle.l6_run.specs.declared.fault.Part.{Part}
 use Rattle.l6_run.specs.declared.fault.Part.TheVariants.{Deck, Input}
 use Rattle.l6_run.specs.declared.fault.RunFault.{RunFault}
 use Rattle.l6_run.specs.declared.fault.RunFault.TheVariants.{TooLong, Read, NoMemory}

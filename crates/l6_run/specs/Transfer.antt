@@ -1,5 +1,5 @@
 -- What the reading of a part and the writing of a text do to a device.
-use Rattle.std.specs.Prelude.{Option, ◌≡◌, ℕ, ◌+◌, ◌-◌, ◌^◌, ◌<◌, ◌≤◌, min, List, length, take}
+use Rattle.std.specs.Prelude.{Option, ◌≡◌, ℕ, ◌+◌, ◌<◌, ◌≤◌, min, List, length, take}
 use Rattle.std.specs.Io.KnownBytes.{Appends, Consumes, IsAtEnd}
 use Rattle.l6_run.specs.Device.{Health, NoTrouble, OneTrouble}
 use Rattle.l6_run.specs.Fault.{limit_of}

@@ -1,0 +1,10 @@
+use Rattle.std.proofs.Common.{length}
+use Rattle.l6.proofs.Marks.{Keeps}
+use Rattle.l6.proofs.parts.halves.Given as goal
+
+-- the lines before the rest are no marks
+abbrev pub invariant-loop-rest : goal.invariant-loop-rest
+invariant-loop-rest l = Keeps l.fn.word l.fn.text l.rest
+
+abbrev pub decreases-loop-rest : goal.decreases-loop-rest
+decreases-loop-rest l = length l.rest

@@ -1,0 +1,97 @@
+//! The parts of a job, by the lines that mark them.
+
+ghost use Rattle.std.specs.Prelude.{◌≡◌, ◌<◌, map, length};
+ghost use Rattle.std.specs.List.{list_all};
+ghost use Rattle.std.specs.Str.{bytes_eq};
+ghost use Rattle.l6_word.specs.Code.{character_of};
+ghost use Rattle.l6_group.specs.Character as character;
+ghost use Rattle.l6.specs.Parts as spec;
+ghost use Rattle.l6.specs.inner.Lines.{BeginsWithLine};
+
+use l6_group::is_blank;
+use l6_word::{character_of, split_at_mark, without_return};
+
+/// The word of the line that marks an input.
+const INPUT_MARK: &[u8] = b"$INPUT";
+
+/// The parts of a job.
+#[derive(Clone, Copy, Debug, PartialEq, Eq)]
+pub struct Parts<'a> {
+    /// What stands before the mark of the input: a deck.
+    pub head: &'a [u8],
+    /// What stands behind it.
+    pub input: &'a [u8],
+}
+
+/// The parts of a job. A part that no mark begins is empty.
+pub fn parts_of(job: &[u8]) -> Parts<'_>
+    ensures head { result.head.now ≡ spec.head_of job.now }
+    ensures input { result.input.now ≡ spec.input_of job.now }
+{
+    let (head, input) = halves(INPUT_MARK, job);
+    Parts { head, input }
+}
+
+/// The text before its first line that is the mark of this word, and the text behind that line.
+fn halves<'a>(word: &[u8], text: &'a [u8]) -> (&'a [u8], &'a [u8])
+    ensures before { result.0.now ≡ (spec.halves word.now (spec.whole_lines text.now)).before }
+    ensures behind { result.1.now ≡ (spec.halves word.now (spec.whole_lines text.now)).behind }
+{
+    let mut rest = text;
+    while !rest.is_empty() {
+        let (line, behind) = line_and_rest(rest);
+        if reads_as(word, without_return(line)) {
+            return (&text[..text.len() - rest.len()], behind);
+        }
+        rest = behind;
+    }
+    (text, &[])
+}
+
+/// The first line of a text that has one, without its line feed, and the text behind it.
+fn line_and_rest(text: &[u8]) -> (&[u8], &[u8])
+    requires { 0 < length text.now }
+    ensures line { BeginsWithLine text.now result.0.now result.1.now }
+    ensures shorter { length result.1.now < length text.now }
+{
+    if let Some(parts) = split_at_mark(text, b'\n') {
+        return parts;
+    }
+    (text, &[])
+}
+
+/// Whether the characters of a line are those of the word, with nothing but blanks behind them.
+fn reads_as(word: &[u8], line: &[u8]) -> bool
+    ensures { result ≡ spec.reads_as word.now line.now }
+{
+    match line.split_at_checked(word.len()) {
+        Some((front, behind)) => are_characters(front, word) && are_blank(behind),
+        None => false,
+    }
+}
+
+/// Whether bytes are read as these characters.
+fn are_characters(bytes: &[u8], characters: &[u8]) -> bool
+    ensures { result ≡ bytes_eq (map character_of bytes.now) characters.now }
+{
+    let mut rest = bytes;
+    let mut others = characters;
+    while let Some((character, more)) = others.split_first() {
+        let Some((byte, behind)) = rest.split_first() else {
+            return false;
+        };
+        if character_of(*byte) != *character {
+            return false;
+        }
+        rest = behind;
+        others = more;
+    }
+    rest.is_empty()
+}
+
+/// Whether each byte is read as a blank.
+fn are_blank(bytes: &[u8]) -> bool
+    ensures { result ≡ list_all character.is_blank bytes.now }
+{
+    bytes.iter().all(|byte| is_blank(*byte))
+}

@@ -12,6 +12,7 @@ A case is a line of JSON:
     stdin           what standard input gives
     stdout, stderr  what must go out; nothing if left out
     status          the exit status
+    refused         true where each request for memory is refused in turn
     memory          the group of cases that make equally many requests for memory, if it is in one:
                     such cases are alike but for how many steps are made and how much is printed
 
@@ -22,12 +23,15 @@ digits for each # of it.
 import json
 import os
 import pathlib
+import resource
 import subprocess
 import sys
 import tempfile
+from dataclasses import dataclass
 
 HERE = pathlib.Path(__file__).parent
 SECONDS = 20  # for one run of the program
+ROOM = 48 << 20  # bytes of addresses that the program has
 MOST_REQUESTS = 1_000  # for memory, of the job of which each is refused in turn
 
 
@@ -50,9 +54,15 @@ def answer(stdout=b"", stderr=b"", status=0):
     return {"stdout": stdout, "stderr": stderr, "status": status}
 
 
+def has_little_room():
+    """Leaves this process few addresses, so that memory that is asked for in vain is refused."""
+    resource.setrlimit(resource.RLIMIT_AS, (ROOM, ROOM))
+
+
 def answer_of(command, **options):
-    """The answer of a command, which is killed where it takes too long."""
-    options = {"stdout": subprocess.PIPE, "stderr": subprocess.PIPE, **options}
+    """The answer of a command, which has little room, and is killed where it takes too long."""
+    pipes = {"stdout": subprocess.PIPE, "stderr": subprocess.PIPE}
+    options = {**pipes, "preexec_fn": has_little_room, **options}
     try:
         done = subprocess.run(command, timeout=SECONDS, **options)
     except subprocess.TimeoutExpired:
@@ -71,7 +81,17 @@ class Case:
         self.want = answer(
             text_of(case.get("stdout", "")), text_of(case.get("stderr", "")), case["status"]
         )
+        self.refused = case.get("refused", False)
         self.memory = case.get("memory")
+
+
+@dataclass(frozen=True)
+class Requests:
+    """What the shim of refuse.c tells of a command."""
+
+    made: int  # requests for memory
+    was_refused: bool  # whether the one to refuse was met
+    kept: int  # blocks that were given and not given back
 
 
 class Shim:
@@ -85,9 +105,8 @@ class Shim:
         subprocess.run([*compiler, "-o", self.library, source, "-ldl"], check=True)
 
     def run(self, command, stdin, refused=0):
-        """The command's answer, how many requests it made, and whether that to refuse was met.
+        """The command's answer and its requests, None if it was killed or ran without the shim.
 
-        A command that was killed, or that ran without the shim, has no count, but None.
         Standard input is a file, so that each run reads it in the same pieces.
         """
         environment = {
@@ -101,9 +120,9 @@ class Shim:
             file.seek(0)
             come = answer_of(command, env=environment, stdin=file)
         if not self.report.exists():
-            return come, None, True
-        requests, was_refused = self.report.read_text().split()
-        return come, int(requests), was_refused == "refused"
+            return come, None
+        made, was_refused, kept = self.report.read_text().split()
+        return come, Requests(int(made), was_refused == "refused", int(kept))
 
 
 def failing_devices(program):
@@ -131,13 +150,14 @@ def refused_memory(program, shim, case):
 
     The first wrong answer is the last, since a program that hangs would hang each time.
     """
-    want = answer(stderr=b"l6: out of memory\n", status=5)
+    want = {**answer(stderr=b"l6: out of memory\n", status=5), "kept": 0}
     for request in range(1, MOST_REQUESTS + 1):
-        come, _, was_refused = shim.run([program, *case.args], case.stdin, request)
-        if not was_refused:
-            yield "memory for every request", case.want, come
+        come, requests = shim.run([program, *case.args], case.stdin, request)
+        come = {**come, "kept": requests and requests.kept}
+        if requests and not requests.was_refused:
+            yield f"memory for every request: {case.name}", {**case.want, "kept": 0}, come
             return
-        yield f"request {request} for memory refused", want, come
+        yield f"request {request} for memory refused: {case.name}", want, come
         if come != want:
             return
     yield "refused memory", "an end of the requests", f"more than {MOST_REQUESTS}"
@@ -152,9 +172,11 @@ def memory_of_steps(program, shim, cases):
     for case in cases:
         if case.memory is None:
             continue
-        come, requests, _ = shim.run([program, *case.args], case.stdin)
-        want = {**case.want, "requests": groups.setdefault(case.memory, requests)}
-        yield f"requests for memory: {case.name}", want, {**come, "requests": requests}
+        come, requests = shim.run([program, *case.args], case.stdin)
+        made = requests and requests.made
+        want = {**case.want, "requests": groups.setdefault(case.memory, made), "kept": 0}
+        come = {**come, "requests": made, "kept": requests and requests.kept}
+        yield f"requests for memory: {case.name}", want, come
 
 
 def trials(program, cases):
@@ -165,12 +187,14 @@ def trials(program, cases):
     yield from failing_devices(program)
     with tempfile.TemporaryDirectory() as folder:
         shim = Shim(folder)
-        _, requests, _ = shim.run([program, *cases[0].args], cases[0].stdin)
+        _, requests = shim.run([program, *cases[0].args], cases[0].stdin)
         if requests is None:
             come = "no report: it was not loaded, or the program was killed"
             yield "the shim of refuse.c", "a report", come
             return
-        yield from refused_memory(program, shim, cases[0])
+        for case in cases:
+            if case.refused:
+                yield from refused_memory(program, shim, case)
         yield from memory_of_steps(program, shim, cases)
 
 

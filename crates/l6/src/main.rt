@@ -1,6 +1,7 @@
-//! The program `l6`: it runs the deck that standard input gives, and prints what the run prints.
+//! The program `l6`: it does with the job that standard input gives what its words say.
 #![tactic(auto)]
 
+mod arguments;
 mod job;
 mod parts;
 mod status;
@@ -8,22 +9,41 @@ mod status;
 mod tests;
 mod worked;
 
-use job::{Verb, perform};
-use l6_run::{Host, Options};
+use arguments::{Request, WordsFault, request_of};
+use job::perform;
+use l6_run::Host;
+use std::env;
 use std::process::ExitCode;
 
 fn main(rt: HostRuntime) -> ExitCode {
+    match request(&rt) {
+        Ok(request) => ExitCode::from(answer(&rt, request)),
+        Err(fault) => {
+            let _ = eprint!(rt; "{fault}");
+            ExitCode::from(status::status_of_words(&fault))
+        }
+    }
+}
+
+/// What the words of the command line ask for.
+fn request(rt: &HostRuntime) -> Result<Request, WordsFault> {
+    let words: Vec<String> = env::args(rt)?.collect(rt.alloc())?;
+    request_of(rt.alloc(), words.as_slice())
+}
+
+/// Does with the job what was asked for, and answers the exit status.
+fn answer(rt: &HostRuntime, request: Request) -> u8 {
     let mut reader = Host::new(rt.stdin());
     let mut writer = Host::new(rt.stdout());
     let result = perform(
         rt.alloc(),
-        Verb::Run,
-        Options::default(),
+        request.verb,
+        request.options,
         &mut reader,
         &mut writer,
     );
     if let Err(fault) = &result {
         let _ = eprintln!(rt; "l6: {fault}");
     }
-    ExitCode::from(status::status(&result))
+    status::status(&result)
 }

@@ -3,6 +3,7 @@
 ghost use Rattle.std.specs.Prelude.{◌≡◌};
 ghost use Rattle.l6.specs.Status.{status_of};
 
+use crate::arguments::WordsFault;
 use crate::job::Outcome;
 use l6_asm::AsmFault;
 use l6_run::{Ending, RunFault};
@@ -32,5 +33,14 @@ pub fn status(answer: &Result<Outcome, RunFault>) -> u8
             | RunFault::Write(_)
             | RunFault::NoMemory,
         ) => 5,
+    }
+}
+
+/// The exit status where the words of the command line ask for nothing that can be done: 5 where
+/// memory was refused, and else 64.
+pub fn status_of_words(fault: &WordsFault) -> u8 {
+    match fault {
+        WordsFault::NoMemory => 5,
+        WordsFault::Usage(_) | WordsFault::NotText => 64,
     }
 }

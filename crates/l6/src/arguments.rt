@@ -1,0 +1,147 @@
+//! The words of the command line, read with `clap`. What they mean is tested, and not proved.
+
+use crate::job::Verb;
+use clap::error::ErrorKind;
+use clap::{Arg, ArgMatches, Command, value_parser};
+use l6_run::Options;
+use std::alloc::{AllocError, Global};
+use std::io;
+use thiserror::Error;
+
+const ABOUT: &str =
+    "Runs programs of L6, Bell Labs' Low-Level Linked List Language (Knowlton, 1966)";
+
+const RUN_ABOUT: &str = "Runs the deck that standard input gives, and prints what the run prints";
+
+/// What stands behind the options in each help.
+const MANUAL: &str = "\
+Standard input is one job: a deck of cards and, behind a line $INPUT, the input of its program.
+Column 1 of a card is blank, or begins a label; then come groups such as (A,E,5).
+
+Example:
+  printf ' (A,E,5)(A,PD)\\n' | l6 run
+
+Exit status:
+  0   the run ended by DONE
+  1   the run ended by FAIL
+  2   the run trapped
+  3   the run was stopped at its limit of steps
+  4   the job was refused: a fault of the deck, or too long
+  5   memory was refused, or reading or writing failed
+  64  these words were wrong, or asked for help";
+
+/// What the words ask for.
+#[derive(Clone, Copy, Debug, PartialEq, Eq)]
+pub struct Request {
+    /// What is to be done with the job.
+    pub verb: Verb,
+    /// What the user chose for it.
+    pub options: Options,
+}
+
+/// Why words ask for nothing that can be done.
+#[derive(Debug, Drop, Error)]
+pub enum WordsFault {
+    /// They are wrong, or ask for help: the text that `clap` has for that.
+    #[error("{0}")]
+    Usage(clap::Error),
+    /// One of them is not UTF-8.
+    #[error("l6: a word is not UTF-8\n")]
+    NotText,
+    /// Memory ran out.
+    #[error("l6: out of memory\n")]
+    NoMemory,
+}
+
+impl From<clap::Error> for WordsFault {
+    fn from(error: clap::Error) -> Self {
+        match error.kind() {
+            ErrorKind::OutOfMemory => WordsFault::NoMemory,
+            _ => WordsFault::Usage(error),
+        }
+    }
+}
+
+impl From<AllocError> for WordsFault {
+    fn from(_error: AllocError) -> Self {
+        WordsFault::NoMemory
+    }
+}
+
+/// The fault of words that could not be had.
+impl From<io::Error> for WordsFault {
+    fn from(error: io::Error) -> Self {
+        match error.kind() {
+            io::ErrorKind::OutOfMemory => WordsFault::NoMemory,
+            _ => WordsFault::NotText,
+        }
+    }
+}
+
+/// What these words ask for. The first one is the program's name.
+///
+/// # Errors
+///
+/// Why they ask for nothing that can be done.
+pub fn request_of(alloc: Global, words: &[String]) -> Result<Request, WordsFault> {
+    let mut command = program(alloc)?;
+    let matches = command.try_get_matches_from_mut(words)?;
+    let request = match matches.subcommand() {
+        Some(("run", chosen)) => requested(Verb::Run, chosen),
+        _ => None,
+    };
+    match request {
+        Some(request) => Ok(request),
+        None => Err(
+            command
+                .error(ErrorKind::MissingSubcommand, "no subcommand")?
+                .into(),
+        ),
+    }
+}
+
+/// The command line of the program.
+fn program<'a>(alloc: Global) -> Result<Command<'a>, AllocError> {
+    let run = with_options(Command::new(alloc, "run").about(RUN_ABOUT), alloc)?;
+    Command::new(alloc, "l6")
+        .about(ABOUT)
+        .after_help(MANUAL)
+        .subcommand_required(true)
+        .subcommand(run)
+}
+
+/// A command with the options of a run.
+fn with_options<'a>(command: Command<'a>, alloc: Global) -> Result<Command<'a>, AllocError> {
+    let store = Arg::new(alloc, "store")
+        .long("store")
+        .value_name("M")
+        .help("Units of 128 words that the store has, 1 to 2047")
+        .value_parser(value_parser!(u32).range(1..=2047))
+        .default_value("64");
+    let steps = Arg::new(alloc, "steps")
+        .long("steps")
+        .value_name("N")
+        .help("Steps that the run may make, 0 to 1000000000")
+        .value_parser(value_parser!(u64).range(0..=1_000_000_000))
+        .default_value("1000000");
+    let output = Arg::new(alloc, "output")
+        .long("output")
+        .value_name("N")
+        .help("Bytes that the run may print, 0 to 16777216")
+        .value_parser(value_parser!(u32).range(0..=16_777_216))
+        .default_value("1048576");
+    command
+        .after_help(MANUAL)
+        .arg(store)?
+        .arg(steps)?
+        .arg(output)
+}
+
+/// The request for the verb with what was chosen for it, if that is in range.
+fn requested(verb: Verb, chosen: &ArgMatches<'_>) -> Option<Request> {
+    let units = chosen.get_one::<u32>("store")?;
+    let steps = chosen.get_one::<u64>("steps")?;
+    let output = chosen.get_one::<usize>("output")?;
+    let options = Options::new(units, steps, output)?;
+    Some(Request { verb, options })
+}

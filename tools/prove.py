@@ -110,7 +110,7 @@ def proved(crate: Crate, jobs: int, commands: Commands) -> Ended:
     with room_of(crate) as folder:
         verb = "run" if crate.is_program else "lib"
         try:
-            ended = commands.run(["rt", verb, "--jobs", str(jobs)], folder)
+            ended = commands.run(["rt", verb, "--jobs", str(jobs), *words_of(crate)], folder)
         finally:
             bring_back(crate, folder, [KEPT])
         if ended.status == 0:
@@ -119,6 +119,12 @@ def proved(crate: Crate, jobs: int, commands: Commands) -> Ended:
     if ended.status == 0 and sources_sum(crate) == before:
         (crate.folder / STAMP).write_text(f"{before} {made_sum(crate)}\n", "utf-8")
     return ended
+
+
+def words_of(crate: Crate) -> list[str]:
+    """The words behind which a program that was built is run once, by its file args."""
+    words = crate.folder / "args"
+    return ["--", *words.read_text("utf-8").splitlines()] if words.is_file() else []
 
 
 def is_proved(crate: Crate) -> bool:

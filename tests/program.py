@@ -10,7 +10,7 @@ A case is a line of JSON:
     name            what it shows
     args            the program's words, a list; ["run"] if left out
     stdin           what standard input gives
-    stdout, stderr  what must go out; nothing if left out
+    stdout, stderr  what must go out; nothing if left out; a null stderr stands for any text but none
     status          the exit status
     refused         true where each request for memory is refused in turn
     memory          the group of cases that make equally many requests for memory, if it is in one:
@@ -79,8 +79,9 @@ class Case:
         self.args = case.get("args", ["run"])
         self.stdin = text_of(case.get("stdin", ""))
         self.want = answer(
-            text_of(case.get("stdout", "")), text_of(case.get("stderr", "")), case["status"]
+            text_of(case.get("stdout", "")), text_of(case.get("stderr", "") or ""), case["status"]
         )
+        self.has_free_text = case.get("stderr", "") is None
         self.refused = case.get("refused", False)
         self.memory = case.get("memory")
 
@@ -142,21 +143,26 @@ def failing_devices(program):
         yield "a bad deck with a full standard error", answer(status=4), come
     come = answer_of(["sh", "-c", 'exec "$0" run 2>&-', program], input=b" (A,Q,1)\n")
     yield "a bad deck with a closed standard error", answer(status=4), come
+    want = answer(stderr=b"l6: a word is not UTF-8\n", status=64)
+    yield "a word that is not UTF-8", want, answer_of([program, "run", b"\xff"], input=b"")
     os.close(folder)
 
 
 def refused_memory(program, shim, case):
     """The trials on a case with the first, the second and each further request for memory refused.
 
-    The first wrong answer is the last, since a program that hangs would hang each time.
+    Where a request was not needed, as for a nicer text, the answer may be the case's own. The first
+    wrong answer is the last, since a program that hangs would hang each time.
     """
-    want = {**answer(stderr=b"l6: out of memory\n", status=5), "kept": 0}
+    whole = {**case.want, "kept": 0}
+    refusal = {**answer(stderr=b"l6: out of memory\n", status=5), "kept": 0}
     for request in range(1, MOST_REQUESTS + 1):
         come, requests = shim.run([program, *case.args], case.stdin, request)
         come = {**come, "kept": requests and requests.kept}
         if requests and not requests.was_refused:
-            yield f"memory for every request: {case.name}", {**case.want, "kept": 0}, come
+            yield f"memory for every request: {case.name}", whole, come
             return
+        want = whole if come == whole else refusal
         yield f"request {request} for memory refused: {case.name}", want, come
         if come != want:
             return
@@ -183,6 +189,8 @@ def trials(program, cases):
     """All trials."""
     for case in cases:
         come = answer_of([program, *case.args], input=case.stdin)
+        if case.has_free_text:
+            case.want["stderr"] = come["stderr"] or b"(some text)"
         yield case.name, case.want, come
     yield from failing_devices(program)
     with tempfile.TemporaryDirectory() as folder:

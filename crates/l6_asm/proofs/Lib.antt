@@ -3,3 +3,5 @@ pub mod Labels
 pub mod Programs
 pub mod Settling
 pub mod Examples
+pub mod Blanks
+pub mod StatementLines

@@ -1,7 +1,9 @@
+pub mod Numerals
 pub mod AssemblyFault
 pub mod Assembled
 pub mod Labels
 pub mod Resolution
 pub mod Spells
+pub mod Listing
 pub mod Worked
 pub mod inner

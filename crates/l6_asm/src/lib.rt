@@ -6,6 +6,8 @@ mod assembly;
 mod fault;
 mod label;
 mod laws;
+mod line;
+mod listings;
 mod resolution;
 mod worked;
 
@@ -13,4 +15,5 @@ pub use assembler::assemble;
 pub use assembly::{Assembly, Labels};
 pub use fault::AsmFault;
 pub use laws::spelling_is_settled;
+pub use listings::listing;
 pub use worked::{missing_is_refused, twice_is_refused};

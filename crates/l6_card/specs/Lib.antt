@@ -1,5 +1,6 @@
 pub mod Numerals
 pub mod Card
+pub mod Role
 pub mod Items
 pub mod Statement
 pub mod Spans

@@ -4,7 +4,7 @@ ghost use Rattle.std.specs.Prelude.{◌≡◌, ◌+◌, ◌≤◌, ◌++◌, len
 ghost use Rattle.std.specs.List.{list_all};
 ghost use Rattle.l6_group.specs.Character as spec;
 ghost use Rattle.l6_card.specs.Card.{card_of, columns_of, run_of, behind_run};
-ghost use Rattle.l6_card.specs.Numerals.{most_deck_bytes};
+ghost use Rattle.l6_card.specs.Numerals.{card_width, most_deck_bytes};
 ghost use Rattle.l6_card.specs.inner.Kinds.{card_seen, KindEndsBy};
 
 use crate::limits::CARD_WIDTH;
@@ -38,15 +38,17 @@ pub(crate) enum Kind<'a> {
 
 /// The columns of a line that count: the first 72, once a carriage return at the line's end is off.
 #[tactic(auto, unfolding(crate::specs::Numerals::card_width))]
-pub(crate) fn columns_of(line: &[u8]) -> &[u8]
-    ensures { result.now ≡ columns_of line.now }
+pub fn columns_of(line: &[u8]) -> &[u8]
+    ensures value { result.now ≡ columns_of line.now }
+    ensures count { length result.now ≤ card_width }
 {
     first_bytes(without_return(line), CARD_WIDTH)
 }
 
 /// So many bytes of a line, from its front.
 fn first_bytes(line: &[u8], count: usize) -> &[u8]
-    ensures { result.now ≡ take count line.now }
+    ensures value { result.now ≡ take count line.now }
+    ensures count { length result.now ≤ count }
 {
     if line.len() > count {
         &line[..count]

@@ -10,9 +10,11 @@ mod item;
 mod laws;
 mod limits;
 mod reader;
+mod role;
 mod span;
 mod worked;
 
+pub use card::columns_of;
 pub use cards::{Cards, Parts, Placed, PlacedLabel, Written};
 pub use deck::read_deck;
 pub use fault::CardFault;
@@ -21,5 +23,6 @@ pub use laws::{
     reading_is_settled, standing_items_begin_statements, whole_items_say_statements,
 };
 pub use limits::MAX_DECK_BYTES;
+pub use role::{Role, role_of};
 pub use span::Span;
 pub use worked::{half_is_refused, loop_is_read};

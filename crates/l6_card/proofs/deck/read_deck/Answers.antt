@@ -18,7 +18,7 @@ returns-in_err-take_card-clause-fault c =
     record {
       line = c.in-Some.line.now;
       lines = c.in-Some.ensures.lines;
-      same = c.columns_of.ensures;
+      same = c.columns_of.ensures.value;
     } in
     rw (p.1, p.2)
     (refused c.args.deck.now c.loop-line.rest.now c.columns_of.result.now c.in-Some.behind.now
@@ -47,7 +47,7 @@ loop-line-preserved c =
     record {
       line = c.in-Some.line.now;
       lines = c.in-Some.ensures.lines;
-      same = c.columns_of.ensures;
+      same = c.columns_of.ensures.value;
     } in
     let fewer = ap bytes_in c.in-Some.ensures.lines in
     record {

@@ -1,0 +1,133 @@
+//! The lines of a listing.
+
+ghost use Rattle.std.specs.Prelude.{◌≡◌, ◌≤◌, ◌<◌, ◌^◌, ℕ, ◌++◌, true, length, map, take, drop, codes, decimal, OnOk};
+ghost use Rattle.std.specs.List.{list_all, flat_map};
+ghost use Rattle.l6_image.specs.Row.{is_word};
+ghost use Rattle.l6_asm.specs.Listing as spec;
+
+use itoa::Buffer;
+use l6_group::Label;
+use l6_word::{Word, char_of, input_code, octal12};
+use std::alloc::AllocError;
+
+/// In how many places the number of a card stands.
+const CARD_PLACES: usize = 7;
+/// In how many places the number of a statement stands.
+const STATEMENT_PLACES: usize = 5;
+/// In how many places a label stands.
+const LABEL_PLACES: usize = 6;
+/// How many blanks stand in front of a word.
+const WORD_MARGIN: usize = 15;
+
+/// Adds the line of a card: its number, that of the statement which begins on it, and its columns.
+pub(crate) fn push_card(
+    text: &mut Vec<u8>,
+    card: Option<usize>,
+    statement: Option<usize>,
+    columns: &[u8],
+) -> Result<(), AllocError>
+    ensures { OnOk result
+        (text.new.items ≡ text.old.items ++ spec.card_line card statement columns.now) }
+{
+    let start = text.len();
+    push_number(text, CARD_PLACES, card)?;
+    push_blanks(text, 1)?;
+    push_number(text, STATEMENT_PLACES, statement)?;
+    push_blanks(text, 2)?;
+    push_columns(text, columns)?;
+    drop_last_blanks(text, start);
+    text.extend_from_slice(b"\n")
+}
+
+/// Adds the lines of words. The caller owes that they are words.
+pub(crate) fn push_words(text: &mut Vec<u8>, words: &[u64]) -> Result<(), AllocError>
+    requires { list_all is_word words.now ≡ true }
+    ensures { OnOk result (text.new.items ≡ text.old.items ++ flat_map spec.word_line words.now) }
+{
+    for word in words {
+        push_word(text, Word::from_value(*word))?;
+    }
+    Ok(())
+}
+
+/// Adds the line of a word.
+fn push_word(text: &mut Vec<u8>, word: Word) -> Result<(), AllocError>
+    ensures { OnOk result (text.new.items ≡ text.old.items ++ spec.word_line word) }
+{
+    text.extend_from_slice(&[b' '; WORD_MARGIN])?;
+    text.extend_from_slice(&octal12(word))?;
+    text.extend_from_slice(b"\n")
+}
+
+/// Adds the line of a label and of the number of its statement.
+pub(crate) fn push_label(text: &mut Vec<u8>, label: &Label, number: u16) -> Result<(), AllocError>
+    ensures { OnOk result
+        (text.new.items ≡ text.old.items ++ spec.label_line (label.now, number)) }
+{
+    let characters = label.characters();
+    text.extend_from_slice(characters)?;
+    push_blanks(text, LABEL_PLACES.saturating_sub(characters.len()))?;
+    push_blanks(text, 1)?;
+    push_number(text, STATEMENT_PLACES, Some(usize::from(number)))?;
+    text.extend_from_slice(b"\n")
+}
+
+/// Adds a number at the right end of so many places, or blanks where there is none.
+fn push_number(text: &mut Vec<u8>, places: usize, number: Option<usize>) -> Result<(), AllocError>
+    ensures { OnOk result (text.new.items ≡ text.old.items ++ spec.number_in places number) }
+{
+    match number {
+        None => push_blanks(text, places),
+        Some(number) => {
+            let mut buffer = Buffer::new();
+            let digits = buffer.format(number).as_bytes();
+            push_blanks(text, places.saturating_sub(digits.len()))?;
+            text.extend_from_slice(digits)
+        }
+    }
+}
+
+/// Adds so many blanks.
+fn push_blanks(text: &mut Vec<u8>, count: usize) -> Result<(), AllocError>
+    ensures { OnOk result (text.new.items ≡ text.old.items ++ spec.blanks count) }
+{
+    for _ in 0..count {
+        text.push(b' ')?;
+    }
+    Ok(())
+}
+
+/// Adds what columns show.
+fn push_columns(text: &mut Vec<u8>, columns: &[u8]) -> Result<(), AllocError>
+    ensures { OnOk result (text.new.items ≡ text.old.items ++ map spec.shown columns.now) }
+{
+    for column in columns {
+        text.push(char_of(input_code(*column)))?;
+    }
+    Ok(())
+}
+
+/// Drops the blanks at the end of a text, back to a place in it.
+fn drop_last_blanks(text: &mut Vec<u8>, start: usize)
+    requires { start ≤ length text.old.items }
+    ensures { text.new.items
+        ≡ take start text.old.items ++ spec.without_last_blanks (drop start text.old.items) }
+{
+    let (front, line) = text.split_at(start);
+    let end = front.len() + without_last_blanks(line).len();
+    text.truncate(end);
+}
+
+/// A line without the blanks at its end.
+fn without_last_blanks(line: &[u8]) -> &[u8]
+    ensures { result.now ≡ spec.without_last_blanks line.now }
+{
+    let mut rest = line;
+    while let Some((last, front)) = rest.split_last() {
+        if *last != b' ' {
+            return rest;
+        }
+        rest = front;
+    }
+    rest
+}

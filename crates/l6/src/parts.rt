@@ -1,14 +1,12 @@
 //! The parts of a job, by the lines that mark them.
 
 ghost use Rattle.std.specs.Prelude.{◌≡◌, ◌<◌, map, length};
-ghost use Rattle.std.specs.List.{list_all};
 ghost use Rattle.std.specs.Str.{bytes_eq};
 ghost use Rattle.l6_word.specs.Code.{character_of};
-ghost use Rattle.l6_group.specs.Character as character;
 ghost use Rattle.l6.specs.Parts as spec;
 ghost use Rattle.l6.specs.inner.Lines.{BeginsWithLine};
 
-use l6_group::is_blank;
+use l6_group::are_blank;
 use l6_word::{character_of, split_at_mark, without_return};
 
 /// The word of the line that marks an input.
@@ -87,11 +85,4 @@ fn are_characters(bytes: &[u8], characters: &[u8]) -> bool
         others = more;
     }
     rest.is_empty()
-}
-
-/// Whether each byte is read as a blank.
-fn are_blank(bytes: &[u8]) -> bool
-    ensures { result ≡ list_all character.is_blank bytes.now }
-{
-    bytes.iter().all(|byte| is_blank(*byte))
 }

@@ -1,14 +1,13 @@
 //! Cards.
 
 ghost use Rattle.std.specs.Prelude.{◌≡◌, ◌+◌, ◌≤◌, ◌++◌, length, take};
-ghost use Rattle.std.specs.List.{list_all};
 ghost use Rattle.l6_group.specs.Character as spec;
 ghost use Rattle.l6_card.specs.Card.{card_of, columns_of, run_of, behind_run};
 ghost use Rattle.l6_card.specs.Numerals.{card_width, most_deck_bytes};
 ghost use Rattle.l6_card.specs.inner.Kinds.{card_seen, KindEndsBy};
 
 use crate::limits::CARD_WIDTH;
-use l6_group::{is_blank, is_letter};
+use l6_group::{are_blank, is_blank, is_letter};
 use l6_word::without_return;
 
 /// What stands on a card behind its column 1 or its label.
@@ -112,16 +111,4 @@ fn is_alphanumeric(byte: u8) -> bool
     ensures { result ≡ spec.is_letter_or_digit byte }
 {
     matches!(byte, b'A'..=b'Z' | b'a'..=b'z' | b'0'..=b'9')
-}
-
-/// Whether each column is a blank.
-fn are_blank(columns: &[u8]) -> bool
-    ensures { result ≡ list_all spec.is_blank columns.now }
-{
-    for column in columns {
-        if !is_blank(*column) {
-            return false;
-        }
-    }
-    true
 }

@@ -99,7 +99,7 @@ pub(crate) fn nothing_given(element: &[u8]) -> Option<()>
 }
 
 /// Whether each byte is read as a blank.
-fn are_blank(bytes: &[u8]) -> bool
+pub fn are_blank(bytes: &[u8]) -> bool
     ensures { result ≡ list_all spec.is_blank bytes.now }
 {
     for byte in bytes {

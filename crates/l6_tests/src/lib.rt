@@ -7,7 +7,11 @@ mod assemblies;
 #[cfg(test)]
 mod buddy_stores;
 #[cfg(test)]
+mod copies;
+#[cfg(test)]
 mod decks;
+#[cfg(test)]
+mod faults;
 #[cfg(test)]
 mod images;
 #[cfg(test)]

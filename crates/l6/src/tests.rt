@@ -6,6 +6,7 @@ mod faults;
 mod hosts;
 mod limits;
 mod programs;
+mod scripts;
 mod stores;
 mod transfers;
 

@@ -91,7 +91,7 @@ impl<T> Host<T> {
 
     // Notes down the device's error, and answers which trouble it is. An interruption that the
     // count has no room for is a failure.
-    fn note(&mut self, error: io::Error) -> Trouble
+    pub(crate) fn note(&mut self, error: io::Error) -> Trouble
         ensures device { device_of self.new ≡ device_of self.old }
         ensures which { (result ≡ Trouble.Interrupted)
             ↔ ((error_kind error ≡ ErrorKind.Interrupted)

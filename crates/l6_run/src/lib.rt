@@ -9,6 +9,7 @@ mod options;
 mod printing;
 mod runner;
 mod running;
+mod script;
 mod transfer;
 
 pub use device::{Host, Sink, Source, Trouble};
@@ -19,4 +20,5 @@ pub use options::Options;
 pub use printing::{ending_line, ending_of, printout};
 pub use runner::run;
 pub use running::run_deck;
+pub use script::Script;
 pub use transfer::{read_part, write_text};

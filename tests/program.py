@@ -1,9 +1,10 @@
 #!/usr/bin/env python3
-"""Runs the built program on the cases of cases.jsonl, on devices that fail, with memory refused.
+"""Runs the built program on cases.jsonl and examples/, on devices that fail, with memory refused.
 
 program.py PROGRAM prints each difference, and last 'N passed, M failed'.
 
-What must come was worked out by hand from docs/language.md, and never taken from the program.
+What must come was worked out by hand from docs/language.md, and never taken from the program. Beside
+each deck of examples/ stands its printout.
 
 A case is a line of JSON:
 
@@ -29,7 +30,9 @@ import sys
 import tempfile
 from dataclasses import dataclass
 
-HERE = pathlib.Path(__file__).parent
+HERE = pathlib.Path(__file__).resolve().parent
+EXAMPLES = HERE.parent / "examples"
+TUTORIAL = HERE.parent / "docs" / "tutorial.md"
 SECONDS = 20  # for one run of the program
 ROOM = 48 << 20  # bytes of addresses that the program has
 MOST_REQUESTS = 1_000  # for memory, of the job of which each is refused in turn
@@ -126,6 +129,17 @@ class Shim:
         return come, Requests(int(made), was_refused == "refused", int(kept))
 
 
+def examples(program):
+    """The trials on the decks of examples/, which end by DONE, and that the tutorial shows them."""
+    tutorial = TUTORIAL.read_bytes()
+    for deck in sorted(EXAMPLES.glob("*.deck")):
+        job, printout = deck.read_bytes(), deck.with_suffix(".printout").read_bytes()
+        come = answer_of([program, "run"], input=job)
+        yield f"the example {deck.stem}", answer(printout), come
+        blocks = b"```text\n%b```\n\nIt prints:\n\n```text\n%b```\n" % (job, printout)
+        yield f"the example {deck.stem} in the tutorial", True, blocks in tutorial
+
+
 def failing_devices(program):
     """The trials on a full device as output, on a folder as input, and without standard error.
 
@@ -192,6 +206,7 @@ def trials(program, cases):
         if case.has_free_text:
             case.want["stderr"] = come["stderr"] or b"(some text)"
         yield case.name, case.want, come
+    yield from examples(program)
     yield from failing_devices(program)
     with tempfile.TemporaryDirectory() as folder:
         shim = Shim(folder)

@@ -1,7 +1,8 @@
 #!/usr/bin/env python3
 """Looks that no code makes up a want of memory, which no clause can say.
 
-A want of memory comes from an allocation, or is handed on. So in crates/*/src, tests left out,
+A want of memory comes from an allocation, or is handed on. So in crates/*/src, tests and the crate of
+tests left out,
 AllocError stands in types alone, and the variant NoMemory of an enum alone
 
 - where the enum is declared,
@@ -21,6 +22,7 @@ import sys
 from collections.abc import Iterator
 from pathlib import Path
 
+TESTS = "l6_tests"  # the crate of tests
 CRATES = Path(__file__).resolve().parent.parent / "crates"
 WORD = re.compile(r"\b(?:AllocError|NoMemory)\b")
 # What is not run, in the order in which it begins: comments, texts, ghost items and clauses.
@@ -76,7 +78,8 @@ def may_stand(code: str, word: re.Match[str]) -> bool:
 def sources() -> Iterator[Path]:
     """The files of code, tests left out."""
     for file in sorted(CRATES.glob("*/src/**/*.rt")):
-        if "tests" not in file.with_suffix("").parts:
+        own = file.with_suffix("").relative_to(CRATES).parts
+        if own[0] != TESTS and "tests" not in own:
             yield file
 
 

@@ -1,9 +1,12 @@
 //! What `Host` makes of its device: each call is one call of the device, and each answer is the
 //! device's own.
 
+ghost use Rattle.std.specs.Prelude.{◌≤◌, IfOk};
+
 use super::device::Device;
 use l6_run::{Host, Sink, Source, Trouble};
-use std::io::ErrorKind;
+use std::io;
+use std::io::{ErrorKind, Read, Write};
 use std::test::Fail;
 
 /// How many bytes are moved at a time: more than 1 MiB.
@@ -43,4 +46,69 @@ fn a_host_answers_as_its_device(rt: HostRuntime) -> Result<(), Fail> {
         assert_eq!(rt; device.bytes.len(), text.len());
     }
     Ok(())
+}
+
+/// A device that has trouble 22 times: 20 interruptions, a failure, and an interruption behind it. Its
+/// later calls move a byte, where one is asked for.
+#[derive(Drop)]
+struct Troubled {
+    calls: usize,
+}
+
+/// The error of the call of this number, counted from 0.
+fn error_of(call: usize) -> Option<ErrorKind> {
+    match call {
+        20 => Some(ErrorKind::Other),
+        0..=21 => Some(ErrorKind::Interrupted),
+        _ => None,
+    }
+}
+
+impl Troubled {
+    fn moved(&mut self, asked: usize) -> io::Result<usize>
+        ensures { IfOk result (λ moved. moved ≤ asked) }
+    {
+        let call = self.calls;
+        self.calls = call.saturating_add(1);
+        match error_of(call) {
+            Some(kind) => Err(io::Error::from(kind)),
+            None => Ok(asked.min(1)),
+        }
+    }
+}
+
+impl Read for Troubled {
+    fn read(&mut self, buffer: &mut [u8]) -> io::Result<usize> {
+        self.moved(buffer.len())
+    }
+}
+
+impl Write for Troubled {
+    fn write(&mut self, bytes: &[u8]) -> io::Result<usize> {
+        self.moved(bytes.len())
+    }
+
+    fn flush(&mut self) -> io::Result<()> {
+        Ok(())
+    }
+}
+
+#[test]
+fn a_host_tells_each_trouble_of_many(rt: HostRuntime) {
+    let mut reader = Host::new(Troubled { calls: 0 });
+    let mut writer = Host::new(Troubled { calls: 0 });
+    for call in 0..22 {
+        let want = match call {
+            20 => Err(Trouble::Failed),
+            _ => Err(Trouble::Interrupted),
+        };
+        assert_eq!(rt; reader.read(&mut [0; 2]), want);
+        assert_eq!(rt; writer.write(b"ab"), want);
+    }
+    assert_eq!(rt; reader.read(&mut [0; 2]), Ok(1));
+    assert_eq!(rt; reader.read(&mut []), Ok(0));
+    assert_eq!(rt; writer.write(b""), Ok(0));
+    assert_eq!(rt; writer.write(b"ab"), Ok(1));
+    assert_eq!(rt; reader.into_inner().calls, 24);
+    assert_eq!(rt; writer.into_inner().calls, 24);
 }

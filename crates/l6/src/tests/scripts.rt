@@ -7,7 +7,9 @@ use std::test::Fail;
 
 /// A deck of 18 bytes that takes a character and prints it, its input, and its printout of 24 bytes.
 const DECK: &[u8] = b" (A,IN,1)(A,PR,1)\n";
+
 const INPUT: &[u8] = b"x\n";
+
 const PRINTOUT: &[u8] = b"X\n== DONE AFTER 6 STEPS\n";
 
 /// How often a device is interrupted, and from which call on it fails.
@@ -37,16 +39,44 @@ fn runs_have_the_troubles_of_their_devices(rt: HostRuntime) {
     let done = Ok(Ending::Done);
     let deck = Err(RunFault::Read(Part::Deck));
     let input = Err(RunFault::Read(Part::Input));
-    let rows: [(Troubles, Troubles, Troubles, Result<Ending, RunFault>, usize, [u64; 3]); 9] = [
+    let rows: [(
+        Troubles,
+        Troubles,
+        Troubles,
+        Result<Ending, RunFault>,
+        usize,
+        [u64; 3],
+    ); 9] = [
         (NONE, NONE, NONE, done, 24, [19, 3, 24]),
         ((0, Some(0)), NONE, NONE, deck, 0, [1, 0, 0]),
         ((0, Some(18)), NONE, NONE, deck, 0, [19, 0, 0]),
         ((1, None), NONE, NONE, deck, 0, [1, 0, 0]),
         (NONE, (0, Some(2)), NONE, input, 0, [19, 3, 0]),
         (NONE, (1, None), NONE, input, 0, [19, 1, 0]),
-        (NONE, NONE, (0, Some(0)), Err(RunFault::Write(0)), 0, [19, 3, 1]),
-        (NONE, NONE, (0, Some(23)), Err(RunFault::Write(23)), 23, [19, 3, 24]),
-        (NONE, NONE, (1, None), Err(RunFault::Write(0)), 0, [19, 3, 1]),
+        (
+            NONE,
+            NONE,
+            (0, Some(0)),
+            Err(RunFault::Write(0)),
+            0,
+            [19, 3, 1],
+        ),
+        (
+            NONE,
+            NONE,
+            (0, Some(23)),
+            Err(RunFault::Write(23)),
+            23,
+            [19, 3, 24],
+        ),
+        (
+            NONE,
+            NONE,
+            (1, None),
+            Err(RunFault::Write(0)),
+            0,
+            [19, 3, 1],
+        ),
     ];
     for (deck, input, writer, result, written, calls) in rows {
         let come = ran(rt.alloc(), deck, input, writer);

@@ -11,6 +11,8 @@ mod decks;
 #[cfg(test)]
 mod images;
 #[cfg(test)]
+mod listings;
+#[cfg(test)]
 mod regions;
 #[cfg(test)]
 mod scan_stores;

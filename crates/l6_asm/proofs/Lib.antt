@@ -6,3 +6,4 @@ pub mod Examples
 pub mod Blanks
 pub mod Columns
 pub mod StatementLines
+pub mod Listed

@@ -4,4 +4,6 @@ pub mod Programs
 pub mod Settling
 pub mod Examples
 pub mod Blanks
+pub mod Columns
 pub mod StatementLines
+pub mod Listed

@@ -1,5 +1,5 @@
 -- Listings: the cards of a deck, the words of each statement behind its last card, and the labels.
-use Rattle.std.specs.Prelude.{ℕ, ◌+◌, ◌-◌, ◌==◌, Bool, true, false, not, List, [], ◌∷◌, ◌++◌, length, map, replicate, slice_get, codes, decimal, Option, Some, None, if◌then◌else◌}
+use Rattle.std.specs.Prelude.{◌≡◌, ℕ, ◌+◌, ◌-◌, ◌==◌, Bool, true, false, not, List, [], ◌∷◌, ◌++◌, length, map, replicate, slice_get, codes, decimal, Option, Some, None, if◌then◌else◌}
 use Rattle.std.specs.List.{list_all, flat_map}
 use Rattle.std.specs.Str.{byte}
 use Rattle.l6_word.specs.Code.{input_code, char_of}
@@ -13,6 +13,7 @@ use Rattle.l6_card.specs.declared.role.Role.TheVariants.{Skipped, First, Further
 use Rattle.l6_card.specs.Card.{columns_of}
 use Rattle.l6_card.specs.Role.{role_of}
 use Rattle.l6_asm.specs.Assembled.{Assembled}
+use Rattle.l6_asm.specs.Spells.{Spells}
 use Rattle.l6_asm.specs.Numerals.{card_places, statement_places, label_places, word_margin}
 
 -- so many blanks
@@ -119,3 +120,16 @@ unfoldable pub listing_of : List ℕ → Assembled → List ℕ
 listing_of deck assembly =
     cards_listed assembly.program 1 0 (lines_of deck) ++ added_listed assembly.program
     ++ codes "LABELS\n" ++ flat_map label_line assembly.labels
+
+-- how many statements are over behind the cards of these lines, where so many are over before them
+abbrev pub over_behind : ℕ → List (List ℕ) → ℕ
+over_behind over [] = over
+over_behind over (line ∷ lines) =
+    over_behind (if is_last (role_of line) (goes_on lines) then over + 1 else over) lines
+
+-- in the listing of a deck each statement of the program that it spells has its number and its words:
+-- behind the cards all statements are over but one, the last, which is added
+abbrev pub EachIsListed : Type 0
+EachIsListed =
+    (deck : List ℕ) (assembly : Assembled) → Spells deck assembly →
+    over_behind 0 (lines_of deck) + 1 ≡ length assembly.program

@@ -1,5 +1,6 @@
-//! The law of spelling.
+//! The laws of spelling and of listings.
 
+ghost use Rattle.l6_asm.specs.Listing.{EachIsListed};
 ghost use Rattle.l6_asm.specs.Spells.{SpellsOrFails, NeverBoth, SpellsInOneWay};
 
 /// Each deck spells a program or has a fault, never both, and at most one program.
@@ -7,4 +8,10 @@ pub fn spelling_is_settled()
     ensures either { SpellsOrFails }
     ensures never_both { NeverBoth }
     ensures one_way { SpellsInOneWay }
+{}
+
+/// The listing of a deck has the words of each statement of the program that the deck spells, behind
+/// the statement's cards: when these are over, so are all statements but the one that is added.
+pub fn each_statement_is_listed()
+    ensures { EachIsListed }
 {}

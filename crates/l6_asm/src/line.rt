@@ -7,7 +7,7 @@ ghost use Rattle.l6_asm.specs.Listing as spec;
 
 use itoa::Buffer;
 use l6_group::Label;
-use l6_word::{Word, char_of, input_code, octal12};
+use l6_word::{OCTALS, Word, char_of, input_code, octal12};
 use std::alloc::AllocError;
 
 /// In how many places the number of a card stands.
@@ -54,9 +54,10 @@ pub(crate) fn push_words(text: &mut Vec<u8>, words: &[u64]) -> Result<(), AllocE
 fn push_word(text: &mut Vec<u8>, word: Word) -> Result<(), AllocError>
     ensures { OnOk result (text.new.items ≡ text.old.items ++ spec.word_line word) }
 {
-    text.extend_from_slice(&[b' '; WORD_MARGIN])?;
-    text.extend_from_slice(&octal12(word))?;
-    text.extend_from_slice(b"\n")
+    let mut line = [b' '; WORD_MARGIN + OCTALS + 1];
+    line[WORD_MARGIN..WORD_MARGIN + OCTALS].copy_from_slice(&octal12(word));
+    line[WORD_MARGIN + OCTALS] = b'\n';
+    text.extend_from_slice(&line)
 }
 
 /// Adds the line of a label and of the number of its statement.
@@ -101,10 +102,19 @@ fn push_blanks(text: &mut Vec<u8>, count: usize) -> Result<(), AllocError>
 fn push_columns(text: &mut Vec<u8>, columns: &[u8]) -> Result<(), AllocError>
     ensures { OnOk result (text.new.items ≡ text.old.items ++ map spec.shown columns.now) }
 {
-    for column in columns {
-        text.push(char_of(input_code(*column)))?;
-    }
+    let start = text.len();
+    text.extend_from_slice(columns)?;
+    show(&mut text[start..]);
     Ok(())
+}
+
+/// Puts in the place of each column what it shows.
+fn show(columns: &mut [u8])
+    ensures { columns.new ≡ map spec.shown columns.old }
+{
+    for column in columns {
+        *column = char_of(input_code(*column));
+    }
 }
 
 /// Drops the blanks at the end of a text, back to a place in it.

@@ -8,3 +8,6 @@ pub mod Rows
 pub mod Landing
 pub mod Maps
 pub mod Actions
+pub mod Levels
+pub mod Loci
+pub mod Bounds

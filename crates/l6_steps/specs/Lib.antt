@@ -14,6 +14,7 @@ pub mod Step
 pub mod Run
 pub mod Moment
 pub mod Taking
+pub mod Bounds
 pub mod Laws
 pub mod Standing
 pub mod Worked

@@ -2,7 +2,7 @@
 //! language.
 
 ghost use Rattle.std.specs.Prelude.{◌≡◌, ◌+◌, ◌%◌, min, max};
-ghost use Rattle.l6_steps.specs.Laws.{DifferencesAddUp, EndsInOneState, EndsUnderEachRule, GoesBitByBit, OnesBitByBit, RulesRunBySteps, TurnsEachBit, ZerosBitByBit};
+ghost use Rattle.l6_steps.specs.Laws.{DifferencesAddUp, EndsInOneState, EndsUnderEachRule, GoesBitByBit, OnesBitByBit, RulesRunBySteps, RunsStayWithinBounds, TurnsEachBit, ZerosBitByBit};
 ghost use Rattle.l6_steps.specs.Numerals.{most_input, most_output, most_steps};
 
 use crate::calculation::Calculation;
@@ -29,6 +29,13 @@ pub fn runs_are_determined()
     ensures one_end { EndsInOneState }
     ensures by_steps { RulesRunBySteps }
     ensures each_rule { EndsUnderEachRule }
+{}
+
+/// Each state that a run comes to is within its bounds, whatever open places its blocks are given:
+/// what bugs hold, what blocks hold and what is saved are words, each block lies in the store and shares
+/// no word with another, and each definition is a window of a word.
+pub fn runs_stay_within_bounds()
+    ensures { RunsStayWithinBounds }
 {}
 
 /// The tests of bits look at each bit: those that are one in the operand are one in the content, or

@@ -32,7 +32,7 @@ none_listed level =
 none_is_listed : (level place : ℕ) → IsListed (replicate (suc largest_level) []) level place → ⊥
 none_is_listed level place is = has_none place (ap (has place) (sym (none_listed level)) ∙ is)
 
-no_fits : (units : ℕ) → Fits units map.empty
+pub no_fits : (units : ℕ) → Fits units map.empty
 no_fits units = record {
   each = λ place words is.
       absurd (let none : Some words ≡ None = sym is ∙ map.get-empty nat_cmp place in (cc));

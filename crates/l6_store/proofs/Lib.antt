@@ -25,3 +25,4 @@ pub mod Fresh
 pub mod Sized
 pub mod Loops
 pub mod Stores
+pub mod Fitting

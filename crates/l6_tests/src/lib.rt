@@ -15,6 +15,8 @@ mod faults;
 #[cfg(test)]
 mod images;
 #[cfg(test)]
+mod listings;
+#[cfg(test)]
 mod regions;
 #[cfg(test)]
 mod scan_stores;

@@ -22,7 +22,7 @@ lacks-append mark (first ∷ rest) behind lacking =
     let parts = lacks-cons mark first (rest ++ behind) lacking in
     rw parts.0 (lacks-append mark rest behind parts.1)
 
-lines_of-front : (front behind : List ℕ) →
+pub lines_of-front : (front behind : List ℕ) →
     lacks (byte "\n") front ≡ true →
     lines_of (front ++ byte "\n" ∷ behind) ≡ front ∷ lines_of behind
 lines_of-front [] behind lacking = refl

@@ -1,3 +1,4 @@
 pub mod Cuts
+pub mod Inputs
 pub mod Masks
 pub mod Octals

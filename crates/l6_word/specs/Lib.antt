@@ -6,3 +6,4 @@ pub mod Split
 pub mod Window
 pub mod Octal
 pub mod Input
+pub mod Laws

@@ -1,6 +1,7 @@
-//! That the numbers of the code are those of the language, and that digits tell words.
+//! That the numbers of the code are those of the language, and laws of digits, codes and inputs.
 
 ghost use Rattle.std.specs.Prelude.{◌≡◌};
+ghost use Rattle.l6_word.specs.Laws.{CodesAreReadAgain, LineByLine, NoneOfNone, WholeLinesAsTheyStand};
 ghost use Rattle.l6_word.specs.Numerals.{word_bits, word_octals, largest_level, unit_size};
 ghost use Rattle.l6_word.specs.Octal.{DigitsTellWords};
 
@@ -23,4 +24,17 @@ pub fn digits_tell_words()
 pub fn units_have_their_size()
     ensures level { LARGEST_LEVEL ≡ largest_level }
     ensures size { UNIT_SIZE ≡ unit_size }
+{}
+
+/// The characters of an input are those of its lines, one behind another: an empty one has none, and a
+/// line of 80 characters is taken as it stands.
+pub fn inputs_are_their_lines()
+    ensures none { NoneOfNone }
+    ensures lines { LineByLine }
+    ensures whole { WholeLinesAsTheyStand }
+{}
+
+/// The character that has a code is read as that code.
+pub fn codes_are_read_again()
+    ensures { CodesAreReadAgain }
 {}

@@ -11,7 +11,10 @@ mod window;
 mod word;
 
 pub use code::{char_of, character_of, code_of, input_code};
-pub use laws::{digits_tell_words, units_have_their_size, words_have_their_bits};
+pub use laws::{
+    codes_are_read_again, digits_tell_words, inputs_are_their_lines, units_have_their_size,
+    words_have_their_bits,
+};
 pub use line::{first_line, without_return};
 pub use octal::{OCTALS, octal12, read_octal12};
 pub use split::split_at_mark;

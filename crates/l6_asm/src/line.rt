@@ -4,6 +4,7 @@ ghost use Rattle.std.specs.Prelude.{◌≡◌, ◌≤◌, ◌<◌, ◌^◌, ℕ,
 ghost use Rattle.std.specs.List.{list_all, flat_map};
 ghost use Rattle.l6_image.specs.Row.{is_word};
 ghost use Rattle.l6_asm.specs.Listing as spec;
+ghost use Rattle.l6_asm.specs.Numerals.{word_margin};
 
 use itoa::Buffer;
 use l6_group::Label;
@@ -73,8 +74,10 @@ pub(crate) fn push_label(text: &mut Vec<u8>, label: &Label, number: u16) -> Resu
     text.extend_from_slice(b"\n")
 }
 
-/// Adds a number at the right end of so many places, or blanks where there is none.
+/// Adds a number at the right end of so many places, or blanks where there is none. There are at most
+/// as many places as blanks in front of a word.
 fn push_number(text: &mut Vec<u8>, places: usize, number: Option<usize>) -> Result<(), AllocError>
+    requires { places ≤ word_margin }
     ensures { OnOk result (text.new.items ≡ text.old.items ++ spec.number_in places number) }
 {
     match number {
@@ -88,14 +91,12 @@ fn push_number(text: &mut Vec<u8>, places: usize, number: Option<usize>) -> Resu
     }
 }
 
-/// Adds so many blanks.
+/// Adds so many blanks, at most those in front of a word.
 fn push_blanks(text: &mut Vec<u8>, count: usize) -> Result<(), AllocError>
+    requires { count ≤ word_margin }
     ensures { OnOk result (text.new.items ≡ text.old.items ++ spec.blanks count) }
 {
-    for _ in 0..count {
-        text.push(b' ')?;
-    }
-    Ok(())
+    text.extend_from_slice(&[b' '; WORD_MARGIN][..count])
 }
 
 /// Adds what columns show.

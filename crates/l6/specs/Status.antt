@@ -4,6 +4,8 @@ use Rattle.l6_run.specs.declared.ending.Ending.TheVariants.{Done, Fail, Trap, Li
 use Rattle.l6_run.specs.declared.fault.RunFault.{RunFault}
 use Rattle.l6_run.specs.declared.fault.RunFault.TheVariants.{TooLong, Asm, Read, Write, NoMemory}
 use Rattle.l6_asm.specs.declared.fault.AsmFault.TheVariants as asm
+use Rattle.l6.specs.declared.arguments.WordsFault.{WordsFault}
+use Rattle.l6.specs.declared.arguments.WordsFault.TheVariants as words
 use Rattle.l6.specs.declared.job.Outcome.{Outcome}
 use Rattle.l6.specs.declared.job.Outcome.TheVariants.{Ran}
 
@@ -20,3 +22,8 @@ status_of (Err (Asm fault)) = 4
 status_of (Err (Read part)) = 5
 status_of (Err (Write count)) = 5
 status_of (Err NoMemory) = 5
+
+-- the exit status where the words of the command line ask for nothing that can be done
+abbrev pub status_of_words : WordsFault → ℕ
+status_of_words words.NoMemory = 5
+status_of_words fault = 64

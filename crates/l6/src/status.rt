@@ -1,7 +1,7 @@
 //! Exit statuses.
 
 ghost use Rattle.std.specs.Prelude.{◌≡◌};
-ghost use Rattle.l6.specs.Status.{status_of};
+ghost use Rattle.l6.specs.Status as spec;
 
 use crate::arguments::WordsFault;
 use crate::job::Outcome;
@@ -11,7 +11,7 @@ use l6_run::{Ending, RunFault};
 /// The exit status of the program: 0 after DONE, 1 after FAIL, 2 after a trap, 3 at the limit of
 /// steps, 4 where the job was refused, and 5 where memory or a device failed.
 pub fn status(answer: &Result<Outcome, RunFault>) -> u8
-    ensures { result ≡ status_of answer.now }
+    ensures { result ≡ spec.status_of answer.now }
 {
     match answer {
         Ok(Outcome::Ran(Ending::Done)) => 0,
@@ -38,7 +38,9 @@ pub fn status(answer: &Result<Outcome, RunFault>) -> u8
 
 /// The exit status where the words of the command line ask for nothing that can be done: 5 where
 /// memory was refused, and else 64.
-pub fn status_of_words(fault: &WordsFault) -> u8 {
+pub fn status_of_words(fault: &WordsFault) -> u8
+    ensures { result ≡ spec.status_of_words fault.now }
+{
     match fault {
         WordsFault::NoMemory => 5,
         WordsFault::Usage(_) | WordsFault::NotText => 64,

@@ -15,9 +15,11 @@ returns-in_err-operation c =
 pub loop-preserved : goal.loop-preserved
 loop-preserved c =
     let now = c.loop in
-    let pushed : c.push.new.self.items ≡ now.operations.items ++ c.in_ok-operation.operation ∷ [] = search rules in
-    ap (λ xs. with_front xs (many operation_at (c.args.count - (now.counter + 1)) c.in_ok-operation.behind.now))
-    pushed
-    ∙ goes_on operation_at now.operations.items c.args.count now.counter now.rest.now c.in_ok-operation.operation
-    c.in_ok-operation.behind.now c.args.words.now c.loop-test.true c.in_ok-operation.ensures
+    let pushed : c.push.new.self.items ≡ now.operations.items ++ c.in_ok-operation.operation ∷ [] =
+    search rules in
+    let more = c.args.count - (now.counter + 1) in
+    ap (λ xs. with_front xs (many operation_at more c.in_ok-operation.behind.now)) pushed
+    ∙ goes_on operation_at now.operations.items c.args.count now.counter now.rest.now
+    c.in_ok-operation.operation c.in_ok-operation.behind.now
+    c.args.words.now c.loop-test.true c.in_ok-operation.ensures
     now.invariant

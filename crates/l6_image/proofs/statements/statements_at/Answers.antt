@@ -15,9 +15,11 @@ returns-in_err-statement c =
 pub loop-preserved : goal.loop-preserved
 loop-preserved c =
     let now = c.loop in
-    let pushed : c.push.new.self.items ≡ now.statements.items ++ c.in_ok-statement.statement ∷ [] = search rules in
-    ap (λ xs. with_front xs (many statement_at (c.args.count - (now.counter + 1)) c.in_ok-statement.behind.now))
-    pushed
-    ∙ goes_on statement_at now.statements.items c.args.count now.counter now.rest.now c.in_ok-statement.statement
-    c.in_ok-statement.behind.now c.args.words.now c.loop-test.true c.in_ok-statement.ensures
+    let pushed : c.push.new.self.items ≡ now.statements.items ++ c.in_ok-statement.statement ∷ [] =
+    search rules in
+    let more = c.args.count - (now.counter + 1) in
+    ap (λ xs. with_front xs (many statement_at more c.in_ok-statement.behind.now)) pushed
+    ∙ goes_on statement_at now.statements.items c.args.count now.counter now.rest.now
+    c.in_ok-statement.statement c.in_ok-statement.behind.now
+    c.args.words.now c.loop-test.true c.in_ok-statement.ensures
     now.invariant

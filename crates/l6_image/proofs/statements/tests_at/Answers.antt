@@ -15,9 +15,11 @@ returns-in_err-test c =
 pub loop-preserved : goal.loop-preserved
 loop-preserved c =
     let now = c.loop in
-    let pushed : c.push.new.self.items ≡ now.tests.items ++ c.in_ok-test.test ∷ [] = search rules in
-    ap (λ xs. with_front xs (many test_at (c.args.count - (now.counter + 1)) c.in_ok-test.behind.now))
-    pushed
-    ∙ goes_on test_at now.tests.items c.args.count now.counter now.rest.now c.in_ok-test.test
-    c.in_ok-test.behind.now c.args.words.now c.loop-test.true c.in_ok-test.ensures
+    let pushed : c.push.new.self.items ≡ now.tests.items ++ c.in_ok-test.test ∷ [] =
+    search rules in
+    let more = c.args.count - (now.counter + 1) in
+    ap (λ xs. with_front xs (many test_at more c.in_ok-test.behind.now)) pushed
+    ∙ goes_on test_at now.tests.items c.args.count now.counter now.rest.now
+    c.in_ok-test.test c.in_ok-test.behind.now
+    c.args.words.now c.loop-test.true c.in_ok-test.ensures
     now.invariant

@@ -87,8 +87,9 @@ class Report:
         return "; ".join(line[:200] for line in told[:3])
 
     def _verdict(self) -> str | None:
-        found = REACHED_PROVER.search(self.text)
-        return found and found["proved"]
+        # (the last line tells of the crate, those before it of crates that it uses)
+        found = REACHED_PROVER.findall(self.text)
+        return found[-1] if found else None
 
     def _open_goals(self) -> list[tuple[str, int]]:
         return [(it["file"], int(it["line"])) for it in OPEN_GOAL.finditer(self.text)]

@@ -1,10 +1,10 @@
 #!/usr/bin/env python3
 """Tries the edits that the prover must refuse, many in one check.
 
-The edits of a crate are the files NAME.edit in its folders must-fail/ and edits/. Those of different
-functions are tried together, in a copy of the crate and over what its own check has kept. An edit is
-refused where its own function is, for goals of its own. What is not refused so is tried again:
-without the edits of the functions that it calls, and then alone, where it is refused if the crate is.
+The edits of a crate are the files NAME.edit in its folder edits/. Those of different functions are
+tried together, in a copy of the crate and over what its own check has kept. An edit is refused where
+its own function is, for goals of its own. What is not refused so is tried again: without the edits of
+the functions that it calls, and then alone, where it is refused if the crate is.
 
 Each edit that is not refused has a line that says why, and each crate one that says what its checks
 took. The last line is 'N passed, M failed'. Standard error tells of each check as it ends.
@@ -32,7 +32,7 @@ from lanes import ALL_MEMORY, Lanes, processors
 from prove import prove
 from rooms import room_of
 
-FOLDERS = ("must-fail", "edits")
+FOLDER = "edits"
 
 
 @dataclass
@@ -67,8 +67,7 @@ class Bench:
     def try_all(self) -> tuple[str, list[str]]:
         """Tries all edits; answers a line that says what that took, and one for each that failed."""
         start = time.monotonic()
-        for trial in self.trials:
-            self._find_functions(trial)
+        self.read_all()
         together = [trial for trial in self.trials if trial.turns_functions]
         tried = []
         while len(together) != len(tried):  # all, and then those alone that call another edited one
@@ -82,6 +81,12 @@ class Bench:
             f" {time.monotonic() - start:.0f} s, {self.processor_seconds:.0f} s of processor time"
         )
         return summary, [f"{name}/{it.edit.name}: {it.failure}" for it in self.trials if it.failure]
+
+    def read_all(self) -> list[str]:
+        """Finds what each edit turns; answers a line for each that cannot be applied."""
+        for trial in self.trials:
+            self._find_functions(trial)
+        return [f"{self.crate.name}/{it.edit.name}: {it.failure}" for it in self.trials if it.failure]
 
     def _side_by_side(self, call, values: list) -> list:
         """Calls a method for each value, in threads; the lanes decide how many really run."""
@@ -167,7 +172,7 @@ def put_together(trials: list[Trial]) -> list[list[Trial]]:
 
 def trials_of(crate: Crate, word: str) -> list[Trial]:
     """The edits of a crate whose names have a word."""
-    files = (file for it in FOLDERS for file in sorted((crate.folder / it).glob("*.edit")))
+    files = sorted((crate.folder / FOLDER).glob("*.edit"))
     return [Trial(Edit(file)) for file in files if word in file.stem]
 
 
@@ -176,6 +181,7 @@ def main() -> int:
     parser = argparse.ArgumentParser(description=__doc__.split("\n", 1)[0])
     parser.add_argument("crates", nargs="*", metavar="CRATE", help="only the edits of these crates")
     parser.add_argument("--only", default="", metavar="WORD", help="only edits with this in their name")
+    parser.add_argument("--texts", action="store_true", help="only look that each old text stands once")
     parser.add_argument("--jobs", type=int, default=processors(), help="how many checks at a time")
     options = parser.parse_args()
     known = read_crates()
@@ -183,9 +189,17 @@ def main() -> int:
     lanes, commands = Lanes(options.jobs), Commands()
     benches = [Bench(it, trials_of(it, options.only), lanes, commands) for it in chosen]
     benches = sorted((it for it in benches if it.trials), key=lambda it: -it.crate.lines)
+    if options.texts:
+        failures = [failure for it in benches for failure in it.read_all()]
+        print(*failures, sep="\n", end="\n" if failures else "")
+        return count(sum(len(it.trials) for it in benches) - len(failures), failures)
     well = prove([it.crate for it in benches], options.jobs, commands)
     failures = list(tried(benches, commands)) if well else ["a crate is not proved"]
-    passed = sum(trial.is_refused for bench in benches for trial in bench.trials)
+    return count(sum(it.is_refused for bench in benches for it in bench.trials), failures)
+
+
+def count(passed: int, failures: list[str]) -> int:
+    """Prints the last line, and answers the exit status."""
     print(f"{passed} passed, {len(failures)} failed")
     return 1 if failures else 0
 

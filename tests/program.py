@@ -4,7 +4,7 @@
 program.py PROGRAM prints each difference, and last 'N passed, M failed'.
 
 What must come was worked out by hand from docs/language.md, and never taken from the program. Beside
-each deck of examples/ stands its printout.
+each deck of examples/ stands its printout, and beside each session its transcript.
 
 A case is a line of JSON:
 
@@ -13,7 +13,8 @@ A case is a line of JSON:
     stdin           what standard input gives
     stdout, stderr  what must go out; nothing if left out; a null stderr stands for any text but none
     status          the exit status
-    refused         true where each request for memory is refused in turn
+    refused         true where each request for memory is refused in turn; then a debugger's stdout is a
+                    list of its answers
     memory          the group of cases that make equally many requests for memory, if it is in one:
                     such cases are alike but for how many steps are made and how much is printed
 
@@ -24,17 +25,22 @@ digits for each # of it.
 import json
 import os
 import pathlib
+import re
 import resource
 import subprocess
 import sys
 import tempfile
 from dataclasses import dataclass
 
+from largest_jobs import debug_job, run_job
+
 HERE = pathlib.Path(__file__).resolve().parent
 EXAMPLES = HERE.parent / "examples"
 TUTORIAL = HERE.parent / "docs" / "tutorial.md"
+MANUAL = HERE.parent / "docs" / "debugger.md"  # of the debugger
 SECONDS = 20  # for one run of the program
 ROOM = 48 << 20  # bytes of addresses that the program has
+MOST_REPEATS = 1_000  # of what was interrupted
 MOST_REQUESTS = 1_000  # for memory, of the job of which each is refused in turn
 
 
@@ -74,19 +80,30 @@ def answer_of(command, **options):
 
 
 class Case:
-    """A line of cases.jsonl."""
+    """A line of cases.jsonl. Long texts are made where they are asked for, and are not kept."""
 
     def __init__(self, line):
         case = json.loads(line)
+        self._case = case
         self.name = case["name"]
         self.args = case.get("args", ["run"])
-        self.stdin = text_of(case.get("stdin", ""))
-        self.want = answer(
-            text_of(case.get("stdout", "")), text_of(case.get("stderr", "") or ""), case["status"]
-        )
         self.has_free_text = case.get("stderr", "") is None
         self.refused = case.get("refused", False)
+        answers = case.get("stdout", "") if self.args[:1] == ["debug"] else []
+        self.begun = [text_of(answers[:count]) for count in range(len(answers) or 1)]
         self.memory = case.get("memory")
+
+    @property
+    def stdin(self):
+        """What standard input gives."""
+        return text_of(self._case.get("stdin", ""))
+
+    @property
+    def want(self):
+        """The answer that must come; the free text of one that has it is told as none."""
+        case = self._case
+        stderr = case.get("stderr", "") or ""
+        return answer(text_of(case.get("stdout", "")), text_of(stderr), case["status"])
 
 
 @dataclass(frozen=True)
@@ -98,15 +115,20 @@ class Requests:
     kept: int  # blocks that were given and not given back
 
 
+def library_of(name, folder):
+    """Builds the shim of this name, which is loaded before a program."""
+    library = f"{folder}/{name}.so"
+    compiler = ["cc", "-O2", "-shared", "-fPIC"]
+    subprocess.run([*compiler, "-o", library, HERE / f"{name}.c", "-ldl"], check=True)
+    return library
+
+
 class Shim:
     """The shim of refuse.c, which counts requests for memory and refuses one."""
 
     def __init__(self, folder):
-        self.library = f"{folder}/refuse.so"
+        self.library = library_of("refuse", folder)
         self.report = pathlib.Path(folder, "report")
-        source = HERE / "refuse.c"
-        compiler = ["cc", "-O2", "-shared", "-fPIC"]
-        subprocess.run([*compiler, "-o", self.library, source, "-ldl"], check=True)
 
     def run(self, command, stdin, refused=0):
         """The command's answer and its requests, None if it was killed or ran without the shim.
@@ -130,7 +152,10 @@ class Shim:
 
 
 def examples(program):
-    """The trials on the decks of examples/, which end by DONE, and that the tutorial shows them."""
+    """The trials on the decks of examples/, which end by DONE, and that the tutorial shows them.
+
+    The image of each deck, with the deck's input behind it, prints what the deck prints.
+    """
     tutorial = TUTORIAL.read_bytes()
     for deck in sorted(EXAMPLES.glob("*.deck")):
         job, printout = deck.read_bytes(), deck.with_suffix(".printout").read_bytes()
@@ -138,10 +163,85 @@ def examples(program):
         yield f"the example {deck.stem}", answer(printout), come
         blocks = b"```text\n%b```\n\nIt prints:\n\n```text\n%b```\n" % (job, printout)
         yield f"the example {deck.stem} in the tutorial", True, blocks in tutorial
+        image = answer_of([program, "asm"], input=job)["stdout"]
+        mark, behind = job.partition(b"$INPUT\n")[1:]
+        come = answer_of([program, "load"], input=image + mark + behind)
+        yield f"the image of the example {deck.stem}", answer(printout), come
+    for listing in sorted(EXAMPLES.glob("*.listing")):
+        text = listing.read_bytes()
+        come = answer_of([program, "list"], input=listing.with_suffix(".deck").read_bytes())
+        yield f"the listing of the example {listing.stem}", answer(text), come
+        yield f"the listing of {listing.stem} in the tutorial", True, b"```text\n%b```\n" % text in tutorial
+
+
+def sessions(program):
+    """The trials on the sessions of examples/, and that the debugger's manual shows them.
+
+    The manual shows a session in blocks, each command in front of its answer.
+    """
+    manual = MANUAL.read_text("ascii")
+    blocks = re.findall(r"^```text\n(.*?)^```$", manual, re.DOTALL | re.MULTILINE)
+    for session in sorted(EXAMPLES.glob("*.session")):
+        job, transcript = session.read_bytes(), session.with_suffix(".transcript").read_bytes()
+        come = answer_of([program, "debug"], input=job)
+        yield f"the session {session.stem}", answer(transcript), come
+        deck, commands = job.decode("ascii").split("$COMMANDS\n")
+        left = commands.splitlines()
+        answers = ""
+        for line in "".join(blocks[blocks.index(deck) + 1:]).splitlines(keepends=True):
+            if left and line == left[0] + "\n":
+                left.pop(0)
+            else:
+                answers += line
+        shown = left, answers.encode("ascii")
+        yield f"the session {session.stem} in the manual", ([], transcript), shown
+
+
+def large_stores(program):
+    """The trials on a ring of 100,000 blocks, and on a largest store of which each word is a block.
+
+    Sixteen checkpoints of such a store take more room than the other trials have.
+    """
+    deck = b" (0,DN,18,35)(A,GT,1)(B,E,A)\nL IF (C,L,99999) THEN (A,GT,1,AN)(C,A,1) L\n (BN,E,A)(C,E,0)\n"
+    drawn = ["== DONE AFTER 400008 STEPS", "A -> 101023", "B -> 1024"]
+    for place in range(1_024, 101_024):
+        drawn += [f"BLOCK {place} SIZE 1", f"  N -> {place - 1 if place > 1_024 else 101_023}"]
+    want = answer("\n".join([*drawn, "100000 BLOCKS\n"]).encode("ascii"))
+    command = [program, "debug", "--store", "255"]
+    yield "a large ring", want, answer_of(command, input=deck + b"$COMMANDS\ngo\ndraw\n", preexec_fn=None)
+    deck = b" (0,DN,18,35)\nL (A,GT,1,AN,END) L\nEND (B,E,0)\n"
+    drawn = ["== DONE AFTER 783370 STEPS", "A -> 262143", "BLOCK 1024 SIZE 1"]
+    mapped = ["1024 BLOCK 1"]
+    for place in range(1_025, 262_144):
+        drawn += [f"BLOCK {place} SIZE 1", f"  N -> {place - 1}"]
+        mapped += [f"{place} BLOCK 1"]
+    lines = [*drawn, "261120 BLOCKS", *mapped, "261120 WORDS USED 0 FREE\n"]
+    want = answer("\n".join(lines).encode("ascii"))
+    job = deck + b"$COMMANDS\ngo\ndraw\nstore\n"
+    yield "a full store", want, answer_of(command, input=job, preexec_fn=None)
+
+
+def cut_images(program):
+    """The trials on an image that is cut to each number of bytes: what is left ends in a line, or not."""
+    image = b"542651554721 000000000002 000000000007 000020000000 013077000000 127777777777 "
+    image = (image + b"000000000005 312077000000 127777777777 000002000000 ").replace(b" ", b"\n")
+    for count in range(len(image)):
+        line, rest = divmod(count, 13)
+        why = b"l6: line %d: not a word\n" % (line + 1) if rest else b"l6: not an image\n"
+        come = answer_of([program, "load"], input=image[:count])
+        yield f"an image cut to {count} bytes", answer(stderr=why, status=4), come
+
+
+def largest(program):
+    """The trials on the largest job of all, which has as much room as there is."""
+    for job, status in ((run_job(), 2), (debug_job(), 0)):
+        words, stdin, stdout = job
+        come = answer_of([program, *words], input=stdin, preexec_fn=None)
+        yield f"the largest job: {words[0]}", answer(stdout, status=status), come
 
 
 def failing_devices(program):
-    """The trials on a full device as output, on a folder as input, and without standard error.
+    """The trials on a full device, a folder and a closed pipe, and without standard error.
 
     A trial is a name, what must come, and what comes.
     """
@@ -160,23 +260,54 @@ def failing_devices(program):
     want = answer(stderr=b"l6: a word is not UTF-8\n", status=64)
     yield "a word that is not UTF-8", want, answer_of([program, "run", b"\xff"], input=b"")
     os.close(folder)
+    source, sink = os.pipe()
+    os.close(source)
+    want = answer(stderr=b"l6: write failed after 0 bytes\n", status=5)
+    yield "a closed pipe as output", want, answer_of([program, "run"], input=b"", stdout=sink)
+    os.close(sink)
+
+
+def interrupted_devices(program, folder):
+    """The trials on devices that are interrupted: 1,000 times as input, and 1,000 times as output.
+
+    One time more is a failure.
+    """
+    library = library_of("interrupt", folder)
+    printed = answer(b"5\n== DONE AFTER 6 STEPS\n")
+    unread = answer(stderr=b"l6: read failed\n", status=5)
+    unwritten = answer(stderr=b"l6: write failed after 0 bytes\n", status=5)
+    for reads, writes, want in [
+        (1, 1, printed),
+        (MOST_REPEATS, MOST_REPEATS, printed),
+        (MOST_REPEATS + 1, 0, unread),
+        (MOST_REPEATS, MOST_REPEATS + 1, unwritten),
+        (0, MOST_REPEATS + 1, unwritten),
+    ]:
+        environment = {
+            "LD_PRELOAD": library,
+            "INTERRUPT_READS": str(reads),
+            "INTERRUPT_WRITES": str(writes),
+        }
+        come = answer_of([program, "run"], input=b" (A,E,5)(A,PD)\n", env=environment)
+        yield f"{reads} interrupted reads and {writes} interrupted writes", want, come
 
 
 def refused_memory(program, shim, case):
     """The trials on a case with the first, the second and each further request for memory refused.
 
-    Where a request was not needed, as for a nicer text, the answer may be the case's own. The first
-    wrong answer is the last, since a program that hangs would hang each time.
+    Where a request was not needed, as for a nicer text, the answer may be the case's own. A debugger's
+    first answers may have gone out, each whole. The first wrong answer is the last, since a program
+    that hangs would hang each time.
     """
     whole = {**case.want, "kept": 0}
-    refusal = {**answer(stderr=b"l6: out of memory\n", status=5), "kept": 0}
+    refusals = [{**answer(begun, b"l6: out of memory\n", 5), "kept": 0} for begun in case.begun]
     for request in range(1, MOST_REQUESTS + 1):
         come, requests = shim.run([program, *case.args], case.stdin, request)
         come = {**come, "kept": requests and requests.kept}
         if requests and not requests.was_refused:
             yield f"memory for every request: {case.name}", whole, come
             return
-        want = whole if come == whole else refusal
+        want = come if come in [whole, *refusals] else refusals[0]
         yield f"request {request} for memory refused: {case.name}", want, come
         if come != want:
             return
@@ -202,13 +333,18 @@ def memory_of_steps(program, shim, cases):
 def trials(program, cases):
     """All trials."""
     for case in cases:
-        come = answer_of([program, *case.args], input=case.stdin)
+        come, want = answer_of([program, *case.args], input=case.stdin), case.want
         if case.has_free_text:
-            case.want["stderr"] = come["stderr"] or b"(some text)"
-        yield case.name, case.want, come
+            want["stderr"] = come["stderr"] or b"(some text)"
+        yield case.name, want, come
     yield from examples(program)
+    yield from sessions(program)
+    yield from large_stores(program)
+    yield from cut_images(program)
+    yield from largest(program)
     yield from failing_devices(program)
     with tempfile.TemporaryDirectory() as folder:
+        yield from interrupted_devices(program, folder)
         shim = Shim(folder)
         _, requests = shim.run([program, *cases[0].args], cases[0].stdin)
         if requests is None:

@@ -55,3 +55,14 @@ head_of job = (halves input_mark (whole_lines job)).before
 
 abbrev pub input_of : List ℕ → List ℕ
 input_of job = (halves input_mark (whole_lines job)).behind
+
+-- the mark of commands, which stands in the head of a job for the debugger
+abbrev pub commands_mark : List ℕ
+commands_mark = codes "$COMMANDS"
+
+-- the deck in such a head, which stands before that mark, and the commands, which stand behind it
+abbrev pub deck_of : List ℕ → List ℕ
+deck_of head = (halves commands_mark (whole_lines head)).before
+
+abbrev pub commands_of : List ℕ → List ℕ
+commands_of head = (halves commands_mark (whole_lines head)).behind

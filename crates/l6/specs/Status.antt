@@ -2,16 +2,19 @@
 use Rattle.std.specs.Prelude.{ℕ, Result, Ok, Err}
 use Rattle.l6_run.specs.declared.ending.Ending.TheVariants.{Done, Fail, Trap, Limit}
 use Rattle.l6_run.specs.declared.fault.RunFault.{RunFault}
-use Rattle.l6_run.specs.declared.fault.RunFault.TheVariants.{TooLong, Asm, Read, Write, NoMemory}
+use Rattle.l6_run.specs.declared.fault.RunFault.TheVariants.{TooLong, Asm, Load, Read, Write, NoMemory}
 use Rattle.l6_asm.specs.declared.fault.AsmFault.TheVariants as asm
+use Rattle.l6_image.specs.declared.fault.LoadFault.TheVariants as load
 use Rattle.l6.specs.declared.arguments.WordsFault.{WordsFault}
 use Rattle.l6.specs.declared.arguments.WordsFault.TheVariants as words
 use Rattle.l6.specs.declared.job.Outcome.{Outcome}
-use Rattle.l6.specs.declared.job.Outcome.TheVariants.{Ran}
+use Rattle.l6.specs.declared.job.Outcome.TheVariants.{Ran, Written}
 
--- the exit status of the program: of a run that ended by DONE or by FAIL, trapped, or was
--- stopped at its limit; of a job that was refused; and where memory or a device failed
+-- the exit status of the program: of a text that was written; of a run that ended by DONE or by
+-- FAIL, trapped, or was stopped at its limit; of a job that was refused; and where memory or a
+-- device failed
 abbrev pub status_of : Result Outcome RunFault → ℕ
+status_of (Ok Written) = 0
 status_of (Ok (Ran Done)) = 0
 status_of (Ok (Ran Fail)) = 1
 status_of (Ok (Ran (Trap trap))) = 2
@@ -19,6 +22,8 @@ status_of (Ok (Ran Limit)) = 3
 status_of (Err (TooLong part)) = 4
 status_of (Err (Asm asm.NoMemory)) = 5
 status_of (Err (Asm fault)) = 4
+status_of (Err (Load load.NoMemory)) = 5
+status_of (Err (Load fault)) = 4
 status_of (Err (Read part)) = 5
 status_of (Err (Write count)) = 5
 status_of (Err NoMemory) = 5

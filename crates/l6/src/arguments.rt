@@ -11,22 +11,35 @@ use thiserror::Error;
 const ABOUT: &str =
     "Runs programs of L6, Bell Labs' Low-Level Linked List Language (Knowlton, 1966)";
 
+const ASM_ABOUT: &str = "Writes the image of the deck that standard input gives";
+
+const LIST_ABOUT: &str = "Writes the listing of the deck that standard input gives";
+
 const RUN_ABOUT: &str = "Runs the deck that standard input gives, and prints what the run prints";
+
+const LOAD_ABOUT: &str = "Runs the image that standard input gives, as `run` runs its deck";
+
+const DEBUG_ABOUT: &str =
+    "Shows the run of the deck that standard input gives, forward and back, as commands ask for";
 
 /// What stands behind the options in each help.
 const MANUAL: &str = "\
 Standard input is one job: a deck of cards and, behind a line $INPUT, the input of its program.
-Column 1 of a card is blank, or begins a label; then come groups such as (A,E,5).
+Column 1 of a card is blank, or begins a label; then come groups such as (A,E,5). For `load` the
+image that `asm` wrote stands where the deck does. For `debug` commands stand behind the deck, from
+a line $COMMANDS on and before the line $INPUT.
 
-Example:
+Examples:
   printf ' (A,E,5)(A,PD)\\n' | l6 run
+  printf ' (A,E,5)(A,PD)\\n' | l6 asm | l6 load
+  printf ' (A,E,5)(A,PD)\\n$COMMANDS\\nstep 2\\nshow\\n' | l6 debug
 
 Exit status:
-  0   the run ended by DONE
+  0   the run ended by DONE, or an image, a listing or a debugger's answers were written
   1   the run ended by FAIL
   2   the run trapped
   3   the run was stopped at its limit of steps
-  4   the job was refused: a fault of the deck, or too long
+  4   the job was refused: a fault of the deck or the image, or too long
   5   memory was refused, or reading or writing failed
   64  these words were wrong, or asked for help";
 
@@ -87,7 +100,11 @@ pub fn request_of(alloc: Global, words: &[String]) -> Result<Request, WordsFault
     let mut command = program(alloc)?;
     let matches = command.try_get_matches_from_mut(words)?;
     let request = match matches.subcommand() {
+        Some(("asm", _)) => Some(without_options(Verb::Asm)),
+        Some(("list", _)) => Some(without_options(Verb::List)),
         Some(("run", chosen)) => requested(Verb::Run, chosen),
+        Some(("load", chosen)) => requested(Verb::Load, chosen),
+        Some(("debug", chosen)) => requested(Verb::Debug, chosen),
         _ => None,
     };
     match request {
@@ -102,12 +119,24 @@ pub fn request_of(alloc: Global, words: &[String]) -> Result<Request, WordsFault
 
 /// The command line of the program.
 fn program<'a>(alloc: Global) -> Result<Command<'a>, AllocError> {
+    let asm = Command::new(alloc, "asm")
+        .about(ASM_ABOUT)
+        .after_help(MANUAL);
+    let list = Command::new(alloc, "list")
+        .about(LIST_ABOUT)
+        .after_help(MANUAL);
     let run = with_options(Command::new(alloc, "run").about(RUN_ABOUT), alloc)?;
+    let load = with_options(Command::new(alloc, "load").about(LOAD_ABOUT), alloc)?;
+    let debug = with_options(Command::new(alloc, "debug").about(DEBUG_ABOUT), alloc)?;
     Command::new(alloc, "l6")
         .about(ABOUT)
         .after_help(MANUAL)
         .subcommand_required(true)
-        .subcommand(run)
+        .subcommand(asm)?
+        .subcommand(list)?
+        .subcommand(run)?
+        .subcommand(load)?
+        .subcommand(debug)
 }
 
 /// A command with the options of a run.
@@ -115,9 +144,9 @@ fn with_options<'a>(command: Command<'a>, alloc: Global) -> Result<Command<'a>, 
     let store = Arg::new(alloc, "store")
         .long("store")
         .value_name("M")
-        .help("Units of 128 words that the store has, 1 to 2047")
-        .value_parser(value_parser!(u32).range(1..=2047))
-        .default_value("64");
+        .help("Units of 1024 words that the store has, 1 to 255")
+        .value_parser(value_parser!(u32).range(1..=255))
+        .default_value("8");
     let steps = Arg::new(alloc, "steps")
         .long("steps")
         .value_name("N")
@@ -135,6 +164,14 @@ fn with_options<'a>(command: Command<'a>, alloc: Global) -> Result<Command<'a>, 
         .arg(store)?
         .arg(steps)?
         .arg(output)
+}
+
+/// The request for a verb for which nothing can be chosen.
+fn without_options(verb: Verb) -> Request {
+    Request {
+        verb,
+        options: Options::default(),
+    }
 }
 
 /// The request for the verb with what was chosen for it, if that is in range.

@@ -1,25 +1,41 @@
 //! One job, from the reader to the writer.
 
-ghost use Rattle.std.specs.Prelude.{◌≡◌, ◌+◌};
+ghost use Rattle.std.specs.Prelude.{◌≡◌, ◌+◌, [], ◌∷◌};
 ghost use Rattle.l6_run.specs.Numerals.{most_job_bytes};
-ghost use Rattle.l6_run.specs.Serves.{IsUnwritten, Serves, WriterFared};
+ghost use Rattle.l6_run.specs.Patience.{Fared, FaredWith, lent_reader, lent_writer};
 ghost use Rattle.l6_run.specs.Transfer.{GivesAtMost};
-ghost use Rattle.l6.specs.Performs.{Answers, Performs, ReaderFared, Refuses};
+ghost use Rattle.l6_run.specs.declared.fault.Part.TheVariants.{Job};
+ghost use Rattle.l6.specs.Performs.{Becomes, IsUnwrittenBy, Performs};
 
-use crate::parts::parts_of;
-use l6_run::{Ending, Options, Part, RunFault, Sink, Source, read_part, run_deck};
+use crate::parts::{parts_of, session_of};
+use l6_debug::debug_deck;
+use l6_run::{
+    Ending, Options, Part, Patience, RunFault, Sink, Source, read_part, run_deck, run_image_text,
+    write_deck_image, write_deck_listing,
+};
 use std::alloc::Global;
 
 /// What is to be done with a job.
 #[derive(Clone, Copy, Debug, PartialEq, Eq, Hash)]
 pub enum Verb {
+    /// The head of the job is a deck, of which the image is written.
+    Asm,
+    /// The head of the job is a deck, of which the listing is written.
+    List,
     /// The head of the job is a deck, which is run with the input of the job.
     Run,
+    /// The head of the job is the text of an image, which is run with the input of the job.
+    Load,
+    /// The head of the job is a deck with commands, which are obeyed with the run of the deck with the
+    /// input of the job.
+    Debug,
 }
 
 /// What was done with a job.
 #[derive(Clone, Copy, Debug, PartialEq, Eq, Hash)]
 pub enum Outcome {
+    /// A text was written, and nothing was run.
+    Written,
     /// A run was made, ended so, and was printed.
     Ran(Ending),
 }
@@ -28,7 +44,8 @@ pub enum Outcome {
 ///
 /// # Errors
 ///
-/// Why the job was not done. Nothing went out then, unless it is a `Write`.
+/// Why the job was not done. Nothing went out then, unless it is a `Write`, or memory ran out in a
+/// session: then the first answers went out, each whole.
 pub fn perform<R: Source, W: Sink>(
     alloc: Global,
     verb: Verb,
@@ -39,15 +56,18 @@ pub fn perform<R: Source, W: Sink>(
     // What the reader gave, and what went out for it.
     ensures done { Performs verb options (R.left reader.old) (R.left reader.new)
         (W.taken writer.old) (W.taken writer.new) result }
-    ensures unwritten { IsUnwritten result → writer.new ≡ writer.old }
+    ensures unwritten { IsUnwrittenBy verb result → writer.new ≡ writer.old }
     ensures at_most { GivesAtMost (most_job_bytes + 1) (R.left reader.old) (R.left reader.new) }
 
-    // How the devices fared.
-    ensures reader_fared { ReaderFared (R.health reader.old) (R.health reader.new) result }
-    ensures writer_fared { WriterFared (W.health writer.old) (W.health writer.new) result }
+    // How the devices fared: the reading and what is then done count for themselves.
+    ensures reader_fared { Fared
+        (lent_reader Job (R.health reader.old) (R.health reader.new) result ∷ []) }
+    ensures writer_fared { Fared
+        (lent_writer (W.health writer.old) (W.health writer.new) result ∷ []) }
 {
-    let job = read_part(alloc, reader, Part::Job)?;
-    serve(alloc, verb, options, job.as_slice(), writer)
+    let job = read_part(alloc, reader, Part::Job, &mut Patience::new())?;
+    let mut patience = Patience::new();
+    serve(alloc, verb, options, job.as_slice(), writer, &mut patience)
 }
 
 /// Does with a job what the verb says, and writes the answer.
@@ -57,17 +77,43 @@ fn serve<W: Sink>(
     options: Options,
     job: &[u8],
     writer: &mut W,
+    patience: &mut Patience,
 ) -> Result<Outcome, RunFault>
-    ensures done { Serves (Answers verb options job.now) (Refuses verb job.now)
-        (W.taken writer.old) (W.taken writer.new) result }
-    ensures unwritten { IsUnwritten result → writer.new ≡ writer.old }
-    ensures fared { WriterFared (W.health writer.old) (W.health writer.new) result }
+    ensures done { Becomes verb options job.now (W.taken writer.old) (W.taken writer.new) result }
+    ensures unwritten { IsUnwrittenBy verb result → writer.new ≡ writer.old }
+    ensures fared { FaredWith (lent_writer (W.health writer.old) (W.health writer.new) result ∷ [])
+        patience.old patience.new }
 {
     let parts = parts_of(job);
     match verb {
+        Verb::Asm => {
+            write_deck_image(alloc, parts.head, writer, patience)?;
+            Ok(Outcome::Written)
+        }
+        Verb::List => {
+            write_deck_listing(alloc, parts.head, writer, patience)?;
+            Ok(Outcome::Written)
+        }
         Verb::Run => {
-            let ending = run_deck(alloc, options, parts.head, parts.input, writer)?;
+            let ending = run_deck(alloc, options, parts.head, parts.input, writer, patience)?;
             Ok(Outcome::Ran(ending))
+        }
+        Verb::Load => {
+            let ending = run_image_text(alloc, options, parts.head, parts.input, writer, patience)?;
+            Ok(Outcome::Ran(ending))
+        }
+        Verb::Debug => {
+            let session = session_of(parts.head);
+            debug_deck(
+                alloc,
+                options,
+                session.deck,
+                parts.input,
+                session.commands,
+                writer,
+                patience,
+            )?;
+            Ok(Outcome::Written)
         }
     }
 }

@@ -12,10 +12,13 @@ use l6_word::{character_of, split_at_mark, without_return};
 /// The word of the line that marks an input.
 const INPUT_MARK: &[u8] = b"$INPUT";
 
+/// The word of the line that marks commands.
+const COMMANDS_MARK: &[u8] = b"$COMMANDS";
+
 /// The parts of a job.
 #[derive(Clone, Copy, Debug, PartialEq, Eq)]
 pub struct Parts<'a> {
-    /// What stands before the mark of the input: a deck.
+    /// What stands before the mark of the input: a deck, or an image, or a deck with commands.
     pub head: &'a [u8],
     /// What stands behind it.
     pub input: &'a [u8],
@@ -28,6 +31,24 @@ pub fn parts_of(job: &[u8]) -> Parts<'_>
 {
     let (head, input) = halves(INPUT_MARK, job);
     Parts { head, input }
+}
+
+/// The parts of a head that is a deck with commands.
+#[derive(Clone, Copy, Debug, PartialEq, Eq)]
+pub struct Session<'a> {
+    /// What stands before the mark of the commands.
+    pub deck: &'a [u8],
+    /// What stands behind it.
+    pub commands: &'a [u8],
+}
+
+/// The deck and the commands of a head. A part that no mark begins is empty.
+pub fn session_of(head: &[u8]) -> Session<'_>
+    ensures deck { result.deck.now ≡ spec.deck_of head.now }
+    ensures commands { result.commands.now ≡ spec.commands_of head.now }
+{
+    let (deck, commands) = halves(COMMANDS_MARK, head);
+    Session { deck, commands }
 }
 
 /// The text before its first line that is the mark of this word, and the text behind that line.

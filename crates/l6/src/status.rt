@@ -6,15 +6,16 @@ ghost use Rattle.l6.specs.Status as spec;
 use crate::arguments::WordsFault;
 use crate::job::Outcome;
 use l6_asm::AsmFault;
+use l6_image::LoadFault;
 use l6_run::{Ending, RunFault};
 
-/// The exit status of the program: 0 after DONE, 1 after FAIL, 2 after a trap, 3 at the limit of
-/// steps, 4 where the job was refused, and 5 where memory or a device failed.
+/// The exit status of the program: 0 after DONE or where a text was written, 1 after FAIL, 2 after a
+/// trap, 3 at the limit of steps, 4 where the job was refused, and 5 where memory or a device failed.
 pub fn status(answer: &Result<Outcome, RunFault>) -> u8
     ensures { result ≡ spec.status_of answer.now }
 {
     match answer {
-        Ok(Outcome::Ran(Ending::Done)) => 0,
+        Ok(Outcome::Written | Outcome::Ran(Ending::Done)) => 0,
         Ok(Outcome::Ran(Ending::Fail)) => 1,
         Ok(Outcome::Ran(Ending::Trap(_))) => 2,
         Ok(Outcome::Ran(Ending::Limit)) => 3,
@@ -25,10 +26,12 @@ pub fn status(answer: &Result<Outcome, RunFault>) -> u8
                 | AsmFault::Limit(_)
                 | AsmFault::TwiceLabelled(_)
                 | AsmFault::NoLabel(_),
-            ),
+            )
+            | RunFault::Load(LoadFault::NotWords(_) | LoadFault::NotAnImage),
         ) => 4,
         Err(
             RunFault::Asm(AsmFault::NoMemory)
+            | RunFault::Load(LoadFault::NoMemory)
             | RunFault::Read(_)
             | RunFault::Write(_)
             | RunFault::NoMemory,

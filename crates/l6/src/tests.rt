@@ -5,8 +5,10 @@ mod device;
 mod faults;
 mod hosts;
 mod limits;
+mod patience;
 mod programs;
 mod scripts;
+mod sessions;
 mod stores;
 mod transfers;
 

@@ -15,6 +15,7 @@ mod word;
 pub use element::{are_blank, is_blank, is_letter};
 pub use label::{Label, MAX_LABEL_CHARACTERS, label_of};
 pub use laws::labels_have_their_limit;
+pub use number::decimal_of;
 pub use operation::operation_of;
 pub use spelling::{Spelling, spelled};
 pub use test::test_of;

@@ -19,7 +19,7 @@ const CODES: u64 = 64;
 const MAX_TEXT_CHARACTERS: usize = 6;
 
 /// The decimal number that an element writes, below 2^36.
-pub(crate) fn decimal_of(element: &[u8]) -> Option<Word>
+pub fn decimal_of(element: &[u8]) -> Option<Word>
     ensures { result ≡ spec.decimal_of element.now }
 {
     number_of(DIGITS, element)

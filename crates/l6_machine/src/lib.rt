@@ -1,11 +1,13 @@
 //! The machine: it runs a program, a step at a time.
 #![tactic(auto)]
 
+mod decimal;
 mod finding;
 mod machine;
 mod performing;
 mod progress;
 mod returning;
 
+pub use decimal::push_decimal;
 pub use l6_registers::Depths;
 pub use machine::{Machine, MachineFault};

@@ -1,9 +1,9 @@
 //! The machine.
 
-ghost use Rattle.std.specs.Prelude.{◌≡◌, ◌≤◌, ◌<◌, ◌^◌, ◌+◌, ◌↔◌, true, false, IfOk, IfErr, OnOk, IsErrOf, slice_index, slice_index_or, length, All, None, Some};
+ghost use Rattle.std.specs.Prelude.{◌≡◌, ◌≤◌, ◌<◌, ◌^◌, ◌+◌, ◌-◌, ◌↔◌, true, false, IfOk, IfErr, OnOk, IsErrOf, slice_index, slice_index_or, length, All, None, Some};
 ghost use Rattle.l6_word.specs.Input.{characters_of};
 ghost use Rattle.l6_word.specs.Numerals.{word_bits};
-ghost use Rattle.l6_prog.specs.Numerals.{first_letter, name_count};
+ghost use Rattle.l6_prog.specs.Numerals.{first_letter, letter_count, name_count};
 ghost use Rattle.l6_store.specs.Blocks.{Fits};
 ghost use Rattle.l6_store.specs.Store.{fresh};
 ghost use Rattle.l6_steps.specs.Limits.{are_allowed};
@@ -13,6 +13,7 @@ ghost use Rattle.l6_steps.specs.State.{is_at_limit, is_last};
 ghost use Rattle.l6_steps.specs.Locus.{index_of};
 ghost use Rattle.l6_steps.specs.Step.{Step, answer};
 ghost use Rattle.l6_steps.specs.Run.{EndsIn, IsReached};
+ghost use Rattle.l6_machine.specs.Counting.{number_of};
 
 use crate::progress::Progress;
 use l6_instructions::Code;
@@ -206,12 +207,78 @@ impl<S: Places> Machine<S> {
         self.progress.run(&self.code, &mut self.registers);
     }
 
+    /// Makes steps until the run has ended, is at its limit or has counted as many as this. Answers
+    /// how many steps were made, the one that traps among them.
+    pub fn run_to(&mut self, count: u64) -> u64
+        ensures stops { is_last self.new.world self.new.moment.state ≡ false →
+            count ≤ self.new.moment.state.count }
+        ensures ran { number_of self.new.moment.state
+            ≡ number_of self.old.moment.state + result }
+        ensures few { result ≤ count - self.old.moment.state.count }
+        ensures numbered { IsNumbered S.rule self.new.world self.new.moment }
+        ensures world { self.new.world ≡ self.old.world }
+    {
+        self.progress.run_to(&self.code, &mut self.registers, count)
+    }
+
+    /// Goes back to the state before the first step. The store has its first order again, too, and
+    /// nothing of the input is taken.
+    pub fn reset(&mut self)
+        ensures start { self.new.moment ≡ first_moment S.rule self.new.world }
+        ensures world { self.new.world ≡ self.old.world }
+        ensures reached { IsReached self.new.world self.new.moment.state }
+    {
+        self.registers.reset();
+        self.progress = Progress {
+            place: self.code.place(Position::start_of(0)),
+            count: 0,
+            ending: None,
+        };
+    }
+
+    /// The same machine once more, at the same moment of the same run, with a store of its own. All
+    /// that its run needs is taken from memory here.
+    pub fn duplicate(&self, alloc: Global) -> Result<Self, AllocError>
+    where
+        S: Drop,
+        ensures { IfOk result (λ copy. copy ≡ self.now) }
+    {
+        Ok(Machine {
+            code: self.code.duplicate(alloc)?,
+            registers: self.registers.copy(alloc)?,
+            progress: self.progress,
+        })
+    }
+
+    /// The program.
+    pub fn program(&self) -> &Program
+        ensures { result.now ≡ self.now.world.program }
+    {
+        self.code.program()
+    }
+
+    /// How far the run may go.
+    pub fn limits(&self) -> Limits
+        ensures value { result ≡ self.now.world.setting.limits }
+        ensures allowed { are_allowed result ≡ true }
+    {
+        self.registers.limits()
+    }
+
     /// What the bug of a letter holds. The caller owes a letter (`Name::is_letter`).
     pub fn bug(&self, name: Name) -> Word
         requires { first_letter ≤ name }
         ensures { result ≡ slice_index self.now.moment.state.memory.bugs (index_of name) }
     {
         self.registers.bug(name)
+    }
+
+    /// What the bugs hold, A to Z.
+    pub fn bugs(&self) -> &[Word]
+        ensures value { result.now ≡ self.now.moment.state.memory.bugs }
+        ensures count { length result.now ≡ letter_count }
+    {
+        self.registers.bugs()
     }
 
     /// How many contents and definitions are saved, and for how many returns calls wait: each at
@@ -288,6 +355,13 @@ impl<S: Places> Machine<S> {
         ensures { result ≡ self.now.moment.state.ending }
     {
         self.progress.ending
+    }
+
+    /// Whether the run has ended or is at its limit, and so goes no further.
+    pub fn is_last(&self) -> bool
+        ensures { result ≡ is_last self.now.world self.now.moment.state }
+    {
+        self.ending().is_some() || self.at_limit()
     }
 
     /// Whether the run has not ended, and has counted as many steps as it may.

@@ -1,1 +1,5 @@
 pub mod Overwriting
+pub mod Rows
+pub mod Rooms
+pub mod Fields
+pub mod Glances

@@ -2,6 +2,7 @@
 #![tactic(auto)]
 
 mod laws;
+mod memory;
 mod region;
 
 pub use laws::regions_have_their_limit;

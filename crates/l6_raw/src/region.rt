@@ -1,29 +1,48 @@
 //! The region: a list of words, as others see it.
 
-ghost use Rattle.std.specs.Prelude.{◌≡◌, ◌+◌, ◌<◌, ◌≤◌, ◌^◌, ◌⊎◌, length, replicate, slice_index, slice_range, slice_set, IfOk};
+ghost use Rattle.std.specs.Prelude.{◌≡◌, ◌+◌, ◌<◌, ◌≤◌, ◌^◌, ◌⊎◌, ◌++◌, length, replicate, slice_index, slice_range, slice_set, IfOk};
 ghost use Rattle.l6_raw.specs.Numerals.{most_words, word_bits};
 ghost use Rattle.l6_raw.specs.Words.{AreWords, overwritten};
 
+use crate::memory::{Memory, Title};
 use std::alloc::{AllocError, Global};
 use std::marker::Model;
 
-/// So many words in one piece of memory, 1 to `MOST_WORDS`. A word is below 2^36.
-#[derive(Drop)]
+/// So many words in one piece of raw memory, 1 to `MOST_WORDS`. A word is below 2^36.
 pub struct Region {
-    words: Vec<u64>,
+    memory: Memory,
+    title: Title<Global>,
+    alloc: Global,
 }
 
 impl Model for Region {
-    ghost use Rattle.std.specs.Prelude.{List, ℕ, length, ◌≤◌};
+    ghost use Rattle.std.specs.Prelude.{List, ℕ, length, ◌≡◌, ◌≤◌};
     ghost use Rattle.l6_raw.specs.Numerals.{most_words};
     ghost use Rattle.l6_raw.specs.Words.{AreWords};
 
     ghost Value = { List ℕ };
 
-    ghost view = { λ region. region.words.items };
+    ghost view = { λ region. region.memory.words };
 
-    ghost invariant = { λ region. (length region.words.items ≤ most_words)
-        × AreWords region.words.items };
+    // all of the room is written, and the title is that of this memory
+    ghost invariant = { λ region. (region.memory.room ≡ length region.memory.words)
+        × (region.title.start ≡ region.memory.start)
+        × (region.title.room ≡ region.memory.room)
+        × (region.title.alloc ≡ region.alloc)
+        × (length region.memory.words ≤ most_words)
+        × AreWords region.memory.words };
+}
+
+/// Its memory is given back, once: `Memory` and `Title` can be neither copied nor forgotten.
+impl Drop for Region {
+    fn drop(self) {
+        let Region {
+            memory,
+            title,
+            alloc,
+        } = self;
+        memory.free(title, &alloc);
+    }
 }
 
 impl Region {
@@ -39,8 +58,12 @@ impl Region {
         requires most { count ≤ most_words }
         ensures { IfOk result (λ region. region ≡ replicate count 0) }
     {
+        let (mut memory, title) = Memory::take(&alloc, count)?;
+        append_zeros(&mut memory, count);
         Ok(Region {
-            words: vec![in alloc; 0; count]?,
+            memory,
+            title,
+            alloc,
         })
     }
 
@@ -50,7 +73,7 @@ impl Region {
         ensures value { result ≡ slice_index self.now index }
         ensures word { result < 2 ^ word_bits }
     {
-        self.words[index]
+        self.memory.words()[index]
     }
 
     /// Puts a word at an index.
@@ -59,7 +82,7 @@ impl Region {
         requires word { word < 2 ^ word_bits }
         ensures { self.new ≡ slice_set self.old index word }
     {
-        self.words[index] = word;
+        self.memory.write(index, word);
     }
 
     /// So many words from an index on, lent and not copied.
@@ -68,7 +91,7 @@ impl Region {
         ensures value { result.now ≡ slice_range self.now index (index + count) }
         ensures words { AreWords result.now }
     {
-        &self.words[index..index + count]
+        &self.memory.words()[index..index + count]
     }
 
     /// Makes so many words from an index on 0.
@@ -76,7 +99,7 @@ impl Region {
         requires { index + count ≤ length self.old }
         ensures { self.new ≡ overwritten self.old index (replicate count 0) }
     {
-        clear(&mut self.words, index, count);
+        clear(&mut self.memory, index, count);
     }
 
     /// Copies so many words from one index on to another on. The two ranges are apart.
@@ -86,23 +109,72 @@ impl Region {
         requires apart { (from + count ≤ to) ⊎ (to + count ≤ from) }
         ensures { self.new ≡ overwritten self.old to (slice_range self.old from (from + count)) }
     {
-        self.words.copy_within(from..from + count, to);
+        copy(&mut self.memory, from, to, count);
     }
 
     /// The same words once more, in memory of their own.
     pub fn duplicate(&self, alloc: Global) -> Result<Self, AllocError>
         ensures { IfOk result (λ region. region ≡ self.now) }
     {
+        let words = self.memory.words();
+        let (mut memory, title) = Memory::take(&alloc, words.len())?;
+        append_words(&mut memory, words);
         Ok(Region {
-            words: self.words.to_vec(alloc)?,
+            memory,
+            title,
+            alloc,
         })
     }
 }
 
-/// Makes so many words from an index on 0.
-fn clear(words: &mut [u64], index: usize, count: usize)
-    requires { index + count ≤ length words.old }
-    ensures { words.new ≡ overwritten words.old index (replicate count 0) }
+/// Writes so many zeros more.
+fn append_zeros(memory: &mut Memory, count: usize)
+    requires { length memory.old.words + count ≤ memory.old.room }
+    ensures words { memory.new.words ≡ memory.old.words ++ replicate count 0 }
+    ensures room { memory.new.room ≡ memory.old.room }
+    ensures start { memory.new.start ≡ memory.old.start }
 {
-    words[index..index + count].fill(0);
+    for _ in 0..count {
+        memory.append(0);
+    }
+}
+
+/// Writes these words more.
+fn append_words(memory: &mut Memory, words: &[u64])
+    requires { length memory.old.words + length words.now ≤ memory.old.room }
+    ensures words { memory.new.words ≡ memory.old.words ++ words.now }
+    ensures room { memory.new.room ≡ memory.old.room }
+    ensures start { memory.new.start ≡ memory.old.start }
+{
+    for &word in words {
+        memory.append(word);
+    }
+}
+
+/// Makes so many words from an index on 0.
+fn clear(memory: &mut Memory, index: usize, count: usize)
+    requires { index + count ≤ length memory.old.words }
+    ensures words { memory.new.words ≡ overwritten memory.old.words index (replicate count 0) }
+    ensures room { memory.new.room ≡ memory.old.room }
+    ensures start { memory.new.start ≡ memory.old.start }
+{
+    for done in 0..count {
+        memory.write(index + done, 0);
+    }
+}
+
+/// Copies so many words from one index on to another on. The two ranges are apart.
+fn copy(memory: &mut Memory, from: usize, to: usize, count: usize)
+    requires source { from + count ≤ length memory.old.words }
+    requires target { to + count ≤ length memory.old.words }
+    requires apart { (from + count ≤ to) ⊎ (to + count ≤ from) }
+    ensures words { memory.new.words
+        ≡ overwritten memory.old.words to (slice_range memory.old.words from (from + count)) }
+    ensures room { memory.new.room ≡ memory.old.room }
+    ensures start { memory.new.start ≡ memory.old.start }
+{
+    for done in 0..count {
+        let word = memory.words()[from + done];
+        memory.write(to + done, word);
+    }
 }

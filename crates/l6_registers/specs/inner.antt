@@ -1,5 +1,6 @@
 pub mod Input
 pub mod Registers
+pub mod Exchanging
 pub mod Definitions
 pub mod Fields
 pub mod Upcoming

@@ -71,6 +71,28 @@ impl Input {
         })
     }
 
+    /// The same input once more, of which as many characters are taken.
+    pub(crate) fn duplicate(&self, alloc: Global) -> Result<Self, AllocError>
+        ensures { IfOk result (λ copy. copy ≡ self.now) }
+    {
+        Ok(Input {
+            codes: Vec::from_slice(alloc, self.codes.as_slice())?,
+            count: self.count,
+            taken: self.taken,
+            place: self.place,
+            column: self.column,
+        })
+    }
+
+    /// Gives all characters back, so that none is taken.
+    pub(crate) fn rewind(&mut self)
+        ensures { self.new ≡ record self.old { taken = 0 } }
+    {
+        self.taken = 0;
+        self.place = 0;
+        self.column = 0;
+    }
+
     /// How many characters are taken.
     pub(crate) fn taken(&self) -> usize
         ensures { result ≡ self.now.taken }

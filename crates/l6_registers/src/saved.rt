@@ -42,6 +42,30 @@ impl Saved {
         })
     }
 
+    /// The same once more, with as much room.
+    pub(crate) fn duplicate(&self, alloc: Global) -> Result<Self, AllocError>
+        ensures contents { IfOk result (λ copy. copy.contents ≡ self.now.contents) }
+        ensures definitions { IfOk result (λ copy. copy.definitions ≡ self.now.definitions) }
+        ensures returns { IfOk result (λ copy. copy.returns ≡ self.now.returns) }
+    {
+        Ok(Saved {
+            contents: self.contents.duplicate(alloc)?,
+            definitions: self.definitions.duplicate(alloc)?,
+            returns: self.returns.duplicate(alloc)?,
+        })
+    }
+
+    /// Gives up all that is saved.
+    pub(crate) fn clear(&mut self)
+        ensures contents { self.new.contents ≡ [] }
+        ensures definitions { self.new.definitions ≡ [] }
+        ensures returns { self.new.returns ≡ [] }
+    {
+        self.contents.clear();
+        self.definitions.clear();
+        self.returns.clear();
+    }
+
     /// How much is saved.
     pub(crate) fn depths(&self) -> Depths
         ensures contents { result.contents ≡ length self.now.contents }

@@ -40,6 +40,22 @@ impl<T: Copy> Stack<T> {
         })
     }
 
+    /// A stack with the same entries, and room for as many.
+    pub(crate) fn duplicate(&self, alloc: Global) -> Result<Self, AllocError>
+        ensures { IfOk result (λ copy. copy ≡ self.now) }
+    {
+        let mut entries = Vec::with_capacity(alloc, MAX_ENTRIES)?;
+        entries.extend_from_slice(self.entries.as_slice())?;
+        Ok(Stack { entries })
+    }
+
+    /// Takes off all entries.
+    pub(crate) fn clear(&mut self)
+        ensures { self.new ≡ [] }
+    {
+        self.entries.clear();
+    }
+
     /// How many entries it has, at most 1,024.
     pub(crate) fn len(&self) -> usize
         ensures value { result ≡ length self.now }

@@ -1,2 +1,4 @@
+pub mod Faring
 pub mod Transfers
 pub mod Printouts
+pub mod Servings

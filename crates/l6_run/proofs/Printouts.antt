@@ -1,13 +1,17 @@
--- A deck has one printout.
-use Rattle.std.proofs.Common.{◌≡◌, ap, sym, subst, ◌∙◌}
+-- A deck has one printout, which is that of its image, too.
+use Rattle.std.proofs.Common.{◌≡◌, ℕ, List, ap, sym, subst, ◌∙◌}
+use Rattle.l6_prog.specs.Statement.{Parts}
+use Rattle.l6_image.specs.Load.{TextsTellPrograms}
 use Rattle.l6_asm.specs.Assembled.{Assembled}
 use Rattle.l6_asm.specs.Spells.{SpellsInOneWay}
 use Rattle.l6_steps.specs.Laws.{EndsInOneState}
 use Rattle.l6_steps.specs.Moment.{EndsBy}
 use Rattle.l6_steps.specs.State.{State}
-use Rattle.l6_run.specs.Laws.{PrintsInOneWay}
+use Rattle.l6_run.specs.Laws.{ImagesPrintAsDecks, PrintsInOneWay}
 use Rattle.l6_run.specs.Printout.{ending_of, printout}
-use Rattle.l6_run.specs.Prints.{store_rule, world_under}
+use Rattle.l6_run.specs.Prints.{Prints, PrintsLoaded, RunPrints, store_rule, world_under}
+use Rattle.l6_run.specs.Options.{OptionValues}
+use Rattle.l6_run.specs.declared.ending.Ending.{Ending}
 
 pub prints-one : SpellsInOneWay → EndsInOneState → PrintsInOneWay
 prints-one one_way one_end options deck input ending ending' text text' prints prints' =
@@ -22,3 +26,35 @@ prints-one one_way one_end options deck input ending ending' text text' prints p
       prints.run.ended ∙ ap (λ (s : State). ending_of s.ending) finals ∙ sym prints'.run.ended,
       prints.run.printed ∙ ap printout finals ∙ sym prints'.run.printed,
     )
+
+-- the run of a program prints what that of the same program does
+printed_by : (options : OptionValues) (input : List ℕ) (ending : Ending) (text : List ℕ)
+    (one other : List Parts) → one ≡ other →
+    RunPrints store_rule (world_under options input one) ending text →
+    RunPrints store_rule (world_under options input other) ending text
+printed_by options input ending text one other same prints =
+    subst (λ (program : List Parts).
+    RunPrints store_rule (world_under options input program) ending text) same prints
+
+pub prints-as_deck : SpellsInOneWay → TextsTellPrograms → ImagesPrintAsDecks
+prints-as_deck one_way tell options deck image input ending text written small = (
+  λ (prints : Prints options deck input ending text). record {
+    fits = small;
+    input_fits = prints.input_fits;
+    program = written.assembly.program;
+    known = written.known;
+    loaded = written.written;
+    run = printed_by options input ending text prints.assembly.program written.assembly.program
+        (ap (λ (a : Assembled). a.program)
+        (one_way deck written.assembly prints.assembly written.spelled prints.spelled)) prints.run;
+  },
+  λ (prints : PrintsLoaded options image input ending text). record {
+    fits = written.fits;
+    input_fits = prints.input_fits;
+    assembly = written.assembly;
+    spelled = written.spelled;
+    run = printed_by options input ending text prints.program written.assembly.program
+        (tell prints.program written.assembly.program prints.known written.known
+        (sym prints.loaded ∙ written.written)) prints.run;
+  },
+)

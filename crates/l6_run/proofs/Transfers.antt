@@ -1,53 +1,22 @@
 -- Lemmas on the troubles of a device, on what a reader gave, and on what a writer took.
-use Rattle.std.proofs.Common.{◌≡◌, ◌≢◌, ℕ, ◌+◌, ◌-◌, ◌<◌, ◌≤◌, Bool, List, ◌++◌, length, take, drop, arith, sym, ◌∙◌, ap, subst, Option, Ok, length-append, length-drop, take_all, cond, ltb}
-use Rattle.std.specs.Prelude.{◌&&◌}
+use Rattle.std.proofs.Common.{◌≡◌, ℕ, ◌+◌, ◌-◌, ◌≤◌, List, ◌++◌, length, take, drop, arith, sym, ◌∙◌, ap, subst, Option, length-append, length-drop, take_all}
 use Rattle.std.proofs.Math.Seq.{take-add}
 use Rattle.std.proofs.lemmas.List.{take-append-le}
-use Rattle.std.proofs.lemmas.Bool.{ne_eqb, lt-ltb}
 use Rattle.std.specs.Io.KnownBytes.{Appends, Consumes}
 use Rattle.std.proofs.KnownBytes.{Appends-trans, Consumes-trans}
-use Rattle.l6_run.specs.Device.{Health, NoTrouble, OneTrouble, after_trouble, after_write}
 use Rattle.l6_run.specs.Fault.{limit_of}
-use Rattle.l6_run.specs.Transfer.{EndsReading, GivesAtMost, GivesPart, ReaderFaredAt}
+use Rattle.l6_run.specs.Transfer.{EndsReading, GivesAtMost, GivesPart}
 use Rattle.l6_run.specs.inner.Transfer.{GivesMore, IsReadFault}
-use Rattle.l6_run.specs.declared.device.Trouble.TheVariants.{Failed}
 use Rattle.l6_run.specs.declared.fault.Part.{Part}
 use Rattle.l6_run.specs.declared.fault.RunFault.{RunFault}
-use Rattle.l6_run.specs.declared.fault.RunFault.TheVariants.{TooLong, Asm, Read, Write, NoMemory}
-
--- no trouble, and then one
-pub OneTrouble-after : (first second third : Health) →
-    NoTrouble first second → OneTrouble second third → OneTrouble first third
-OneTrouble-after first second third quiet trouble =
-    subst (λ (old : Health). OneTrouble old third) quiet trouble
-
--- a writer that took none of some bytes has failed
-pub OneTrouble-none_taken : (old new : Health) (count : ℕ) (bytes : List ℕ) →
-    count ≡ 0 → 0 < length bytes → new ≡ after_write old bytes (Ok count) → OneTrouble old new
-OneTrouble-none_taken old new count bytes none some is =
-    let taken : after_write old bytes (Ok count) ≡ after_trouble old Failed =
-    ap (λ (n : ℕ). after_write old bytes (Ok n)) none
-    ∙ ap (λ (b : Bool). cond b (after_trouble old Failed) old) (lt-ltb 0 (length bytes) some) in
-    (Failed, is ∙ taken)
-
--- a writer that took some bytes has not failed by it
-pub after_write-some : (old : Health) (count : ℕ) (bytes : List ℕ) →
-    count ≢ 0 → after_write old bytes (Ok count) ≡ old
-after_write-some old count bytes some =
-    ap (λ (b : Bool). cond (b && ltb 0 (length bytes)) (after_trouble old Failed) old)
-    (ne_eqb count 0 some)
-
--- a fault of a later read, where no read before it had trouble
-pub ReaderFaredAt-after : (first second third : Health) (fault : RunFault) →
-    NoTrouble first second → ReaderFaredAt second third fault → ReaderFaredAt first third fault
-ReaderFaredAt-after first second third fault quiet fared =
-    subst (λ (old : Health). ReaderFaredAt old third fault) quiet fared
+use Rattle.l6_run.specs.declared.fault.RunFault.TheVariants.{TooLong, Asm, Load, Read, Write, NoMemory}
 
 -- a fault of one read ends the reading of the part
 pub EndsReading-read_fault : (part : Part) (old new : Option (List ℕ)) (fault : RunFault) →
     IsReadFault part fault → EndsReading part old new fault
 EndsReading-read_fault part old new (TooLong _) p = absurd p
 EndsReading-read_fault part old new (Asm _) p = absurd p
+EndsReading-read_fault part old new (Load _) p = absurd p
 EndsReading-read_fault part old new (Read _) p = p
 EndsReading-read_fault part old new (Write _) p = absurd p
 EndsReading-read_fault part old new NoMemory p = tt

@@ -1,5 +1,5 @@
 -- What a device remembers of its troubles.
-use Rattle.std.specs.Prelude.{◌≡◌, ℕ, ◌+◌, Bool, true, ◌&&◌, ◌==◌, nat_lt, List, length, Result, Ok, Err, if◌then◌else◌}
+use Rattle.std.specs.Prelude.{ℕ, ◌+◌, Bool, true, ◌&&◌, ◌==◌, nat_lt, List, length, Result, Ok, Err, if◌then◌else◌}
 use Rattle.l6_run.specs.declared.device.Trouble.{Trouble}
 use Rattle.l6_run.specs.declared.device.Trouble.TheVariants.{Interrupted, Failed}
 
@@ -23,11 +23,3 @@ abbrev pub after_write : Health → List ℕ → Result ℕ Trouble → Health
 after_write old bytes (Ok count) =
     if count == 0 && nat_lt 0 (length bytes) then after_trouble old Failed else old
 after_write old bytes (Err trouble) = after_trouble old trouble
-
--- the device had no trouble in between
-abbrev pub NoTrouble : Health → Health → Type 0
-NoTrouble old new = new ≡ old
-
--- the device had one trouble in between: it was interrupted once, or it failed
-abbrev pub OneTrouble : Health → Health → Type 0
-OneTrouble old new = (trouble : Trouble) × (new ≡ after_trouble old trouble)

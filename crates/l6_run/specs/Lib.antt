@@ -2,10 +2,12 @@ pub mod Numerals
 pub mod Device
 pub mod Host
 pub mod Fault
+pub mod Patience
 pub mod Transfer
 pub mod Options
 pub mod Printout
 pub mod Prints
+pub mod Texts
 pub mod Runs
 pub mod Serves
 pub mod Laws

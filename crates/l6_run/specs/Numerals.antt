@@ -5,13 +5,21 @@ use Rattle.std.specs.Prelude.{ℕ, ◌-◌, ◌^◌}
 abbrev pub most_job_bytes : ℕ
 most_job_bytes = 16777216
 
+-- how many bytes the debugger's commands may have
+abbrev pub most_command_bytes : ℕ
+most_command_bytes = 1048576
+
 -- how many bytes of an answer are counted that went out before its writer failed: a count stops there
 abbrev pub most_counted : ℕ
 most_counted = 2 ^ 64 - 1
 
+-- how many reads and writes a call repeats that were interrupted
+abbrev pub most_repeats : ℕ
+most_repeats = 1000
+
 -- what a user has who chooses nothing: so many units, steps, and bytes of output
 abbrev pub default_units : ℕ
-default_units = 64
+default_units = 8
 
 abbrev pub default_steps : ℕ
 default_steps = 1000000

@@ -1,4 +1,4 @@
--- What the run of a deck prints.
+-- What the run of a deck prints, and that of an image.
 use Rattle.std.specs.Prelude.{◌≡◌, ℕ, ◌<◌, ◌≤◌, List, length, IsSomeAnd}
 use Rattle.l6_word.specs.Input.{characters_of}
 use Rattle.l6_prog.specs.Statement.{Parts}
@@ -6,6 +6,12 @@ use Rattle.l6_card.specs.Numerals.{most_deck_bytes}
 use Rattle.l6_asm.specs.AssemblyFault.{assembly_fault}
 use Rattle.l6_asm.specs.Assembled.{Assembled}
 use Rattle.l6_asm.specs.Spells.{Spells, IsUnspelled}
+use Rattle.l6_image.specs.Image.{HasImage}
+use Rattle.l6_image.specs.Load.{Tells}
+use Rattle.l6_image.specs.Numerals.{most_bytes}
+use Rattle.l6_image.specs.Text.{text_of}
+use Rattle.l6_image.specs.declared.fault.LoadFault.{LoadFault}
+use Rattle.l6_image.specs.declared.fault.LoadFault.TheVariants as load
 use Rattle.l6_store.specs.Rule.{Rule}
 use Rattle.l6_store.specs.Buddy.{buddy_rule}
 use Rattle.l6_steps.specs.Moment.{EndsBy}
@@ -13,9 +19,9 @@ use Rattle.l6_steps.specs.Numerals.{most_input}
 use Rattle.l6_steps.specs.Run.{EndsIn}
 use Rattle.l6_steps.specs.State.{State, World}
 use Rattle.l6_run.specs.declared.ending.Ending.{Ending}
-use Rattle.l6_run.specs.declared.fault.Part.TheVariants.{Deck, Input}
+use Rattle.l6_run.specs.declared.fault.Part.TheVariants.{Deck, Image, Input}
 use Rattle.l6_run.specs.declared.fault.RunFault.{RunFault}
-use Rattle.l6_run.specs.declared.fault.RunFault.TheVariants.{TooLong, Asm}
+use Rattle.l6_run.specs.declared.fault.RunFault.TheVariants.{TooLong, Asm, Load}
 use Rattle.l6_run.specs.Options.{OptionValues}
 use Rattle.l6_run.specs.Printout.{ending_of, printout}
 
@@ -63,3 +69,29 @@ RefusesDeck deck input (Asm fault) =
     (length deck ≤ most_deck_bytes) × (length input ≤ most_input)
     × IsSomeAnd (assembly_fault fault) (IsUnspelled deck)
 RefusesDeck deck input other = ⊥
+
+-- the image of this text is run with the input under these options, the run ends so, and this is its
+-- printout: both are no longer than they may be, the text is that of a program's image, and so the
+-- run of the program prints, under the store's rule
+pub record PrintsLoaded (options : OptionValues) (image input : List ℕ) (ending : Ending)
+    (text : List ℕ) : Type 0 where
+  pub fits : length image ≤ most_bytes
+  pub input_fits : length input ≤ most_input
+  pub program : List Parts
+  pub known : HasImage program
+  pub loaded : image ≡ text_of program
+  pub run : RunPrints store_rule (world_under options input program) ending text
+
+-- why a text is no image, which no want of memory says
+abbrev pub IsNoImage : List ℕ → LoadFault → Type 0
+IsNoImage text load.NoMemory = ⊥
+IsNoImage text fault = Tells text fault
+
+-- why an image is not run: its text or its input is too long, or the text is that of no image
+abbrev pub RefusesImage : List ℕ → List ℕ → RunFault → Type 0
+RefusesImage image input (TooLong Image) = most_bytes < length image
+RefusesImage image input (TooLong Input) =
+    (length image ≤ most_bytes) × (most_input < length input)
+RefusesImage image input (Load fault) =
+    (length image ≤ most_bytes) × (length input ≤ most_input) × IsNoImage image fault
+RefusesImage image input other = ⊥

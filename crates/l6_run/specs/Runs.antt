@@ -1,61 +1,58 @@
--- What becomes of a deck and an input that two readers give.
-use Rattle.std.specs.Prelude.{ℕ, List, Option, Result, Err}
-use Rattle.l6_run.specs.Device.{Health, NoTrouble, OneTrouble}
+-- What becomes of calls that read the parts of a job from readers, the one whole before the next.
+use Rattle.std.specs.Prelude.{ℕ, ◌≡◌, ◌⊎◌, List, Option, Result, Ok, Err}
 use Rattle.l6_run.specs.Options.{OptionValues}
-use Rattle.l6_run.specs.Prints.{Prints, RefusesDeck}
+use Rattle.l6_run.specs.Prints.{Prints, PrintsLoaded, RefusesDeck, RefusesImage}
 use Rattle.l6_run.specs.Serves.{Serves}
-use Rattle.l6_run.specs.Transfer.{GivesPart, GivesTooMuch}
+use Rattle.l6_run.specs.Texts.{RefusesCards}
+use Rattle.l6_run.specs.Transfer.{EndsReading, GivesPart}
 use Rattle.l6_run.specs.declared.ending.Ending.{Ending}
-use Rattle.l6_run.specs.declared.fault.Part.TheVariants.{Deck, Input}
+use Rattle.l6_run.specs.declared.fault.Part.{Part}
+use Rattle.l6_run.specs.declared.fault.Part.TheVariants.{Deck, Image, Input}
 use Rattle.l6_run.specs.declared.fault.RunFault.{RunFault}
-use Rattle.l6_run.specs.declared.fault.RunFault.TheVariants.{TooLong, Read, NoMemory}
+use Rattle.l6_run.specs.declared.fault.RunFault.TheVariants.{TooLong, Read}
 
--- the readers gave a whole deck and a whole input, and this became of them
-pub record RunsBoth (options : OptionValues)
-    (deck deck' input input' taken taken' : Option (List ℕ))
-    (result : Result Ending RunFault) : Type 0 where
-  pub cards : List ℕ
-  pub cards_given : GivesPart Deck deck deck' cards
-  pub lines : List ℕ
-  pub lines_given : GivesPart Input input input' lines
-  pub served : Serves (Prints options cards lines) (RefusesDeck cards lines) taken taken' result
+-- the call ended since the part was not read whole, and nothing went out
+abbrev pub EndsAtPart : {Outcome : Type 0} → Part → Option (List ℕ) → Option (List ℕ) →
+    Option (List ℕ) → Option (List ℕ) → Result Outcome RunFault → Type 0
+EndsAtPart part old new taken taken' (Ok outcome) = ⊥
+EndsAtPart part old new taken taken' (Err fault) = EndsReading part old new fault × (taken' ≡ taken)
 
--- the reader of the deck gave a whole one, and the reader of the input one byte more than it may have
-pub record InputTooLong (deck deck' input input' : Option (List ℕ)) : Type 0 where
-  pub cards : List ℕ
-  pub cards_given : GivesPart Deck deck deck' cards
-  pub past : GivesTooMuch Input input input'
+-- the reader gave a whole part, of which this became; or the call ended there
+abbrev pub Reads : {Outcome : Type 0} → Part → Option (List ℕ) → Option (List ℕ) →
+    Option (List ℕ) → Option (List ℕ) → (List ℕ → Type 0) → Result Outcome RunFault → Type 0
+Reads part old new taken taken' Becomes result =
+    ((bytes : List ℕ) × GivesPart part old new bytes × Becomes bytes)
+    ⊎ EndsAtPart part old new taken taken' result
 
--- what became of a run: what the reader of the deck gave, what that of the input gave, and what went
--- out for it
+-- what became of a run of a deck: what the reader of the deck gave, what that of the input gave, and
+-- what went out for it
 abbrev pub Runs : OptionValues → Option (List ℕ) → Option (List ℕ) → Option (List ℕ) →
     Option (List ℕ) → Option (List ℕ) → Option (List ℕ) → Result Ending RunFault → Type 0
-Runs options deck deck' input input' taken taken' (Err (TooLong Deck)) =
-    GivesTooMuch Deck deck deck'
-Runs options deck deck' input input' taken taken' (Err (TooLong Input)) =
-    InputTooLong deck deck' input input'
-Runs options deck deck' input input' taken taken' (Err (Read Deck)) = Unit {0}
-Runs options deck deck' input input' taken taken' (Err (Read Input)) =
-    (cards : List ℕ) × GivesPart Deck deck deck' cards
-Runs options deck deck' input input' taken taken' (Err (Read part)) = ⊥
-Runs options deck deck' input input' taken taken' (Err NoMemory) = Unit {0}
 Runs options deck deck' input input' taken taken' result =
-    RunsBoth options deck deck' input input' taken taken' result
+    Reads Deck deck deck' taken taken' (λ cards.
+    Reads Input input input' taken taken' (λ characters.
+    Serves (Prints options cards characters) (RefusesDeck cards characters) taken taken' result)
+    result) result
 
--- the deck was not read whole, for more came than it may have or its reader had trouble
-abbrev pub IsOfDeck : Result Ending RunFault → Type 0
-IsOfDeck (Err (TooLong Deck)) = Unit {0}
-IsOfDeck (Err (Read Deck)) = Unit {0}
-IsOfDeck result = ⊥
+-- what became of a run of an image: what the reader of the image gave, what that of the input gave, and
+-- what went out for it
+abbrev pub RunsImage : OptionValues → Option (List ℕ) → Option (List ℕ) → Option (List ℕ) →
+    Option (List ℕ) → Option (List ℕ) → Option (List ℕ) → Result Ending RunFault → Type 0
+RunsImage options image image' input input' taken taken' result =
+    Reads Image image image' taken taken' (λ lines.
+    Reads Input input input' taken taken' (λ characters.
+    Serves (PrintsLoaded options lines characters) (RefusesImage lines characters)
+    taken taken' result) result) result
 
--- how the reader of the deck fared: a `Read` of the deck is its one trouble, and at any other answer it
--- had none
-abbrev pub DeckFared : Health → Health → Result Ending RunFault → Type 0
-DeckFared old new (Err (Read Deck)) = OneTrouble old new
-DeckFared old new result = NoTrouble old new
+-- what became of a deck of which a text was to be written: what its reader gave, and what went out for it
+abbrev pub WritesText : (List ℕ → List ℕ → Type 0) → Option (List ℕ) → Option (List ℕ) →
+    Option (List ℕ) → Option (List ℕ) → Result (Unit {0}) RunFault → Type 0
+WritesText Writes deck deck' taken taken' result =
+    Reads Deck deck deck' taken taken' (λ cards.
+    Serves (λ _ text. Writes cards text) (RefusesCards cards) taken taken' result) result
 
--- how the reader of the input fared: a `Read` of the input is its one trouble, and at any other answer
--- it had none
-abbrev pub InputFared : Health → Health → Result Ending RunFault → Type 0
-InputFared old new (Err (Read Input)) = OneTrouble old new
-InputFared old new result = NoTrouble old new
+-- the part was not read whole, for more came than it may have or its reader had trouble
+abbrev pub IsOfPart : {Outcome : Type 0} → Part → Result Outcome RunFault → Type 0
+IsOfPart part (Err (TooLong which)) = which ≡ part
+IsOfPart part (Err (Read which)) = which ≡ part
+IsOfPart part result = ⊥

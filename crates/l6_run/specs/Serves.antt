@@ -1,7 +1,6 @@
 -- What becomes of a call that answers with a text: the frame of all of them.
 use Rattle.std.specs.Prelude.{ℕ, ◌<◌, List, length, take, Option, Result, Ok, Err}
 use Rattle.std.specs.Io.KnownBytes.{Appends}
-use Rattle.l6_run.specs.Device.{Health, NoTrouble, OneTrouble}
 use Rattle.l6_run.specs.declared.fault.RunFault.{RunFault}
 use Rattle.l6_run.specs.declared.fault.RunFault.TheVariants.{Write, NoMemory}
 
@@ -37,8 +36,3 @@ abbrev pub IsUnwritten : {Outcome : Type 0} → Result Outcome RunFault → Type
 IsUnwritten (Ok outcome) = ⊥
 IsUnwritten (Err (Write n)) = ⊥
 IsUnwritten (Err fault) = Unit {0}
-
--- how the writer fared: a `Write` is its one trouble, and at any other answer it had none
-abbrev pub WriterFared : {Outcome : Type 0} → Health → Health → Result Outcome RunFault → Type 0
-WriterFared old new (Err (Write n)) = OneTrouble old new
-WriterFared old new result = NoTrouble old new

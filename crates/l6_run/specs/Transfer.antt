@@ -1,7 +1,6 @@
 -- What the reading of a part and the writing of a text do to a device.
 use Rattle.std.specs.Prelude.{Option, ◌≡◌, ℕ, ◌+◌, ◌<◌, ◌≤◌, min, List, length, take}
 use Rattle.std.specs.Io.KnownBytes.{Appends, Consumes, IsAtEnd}
-use Rattle.l6_run.specs.Device.{Health, NoTrouble, OneTrouble}
 use Rattle.l6_run.specs.Fault.{limit_of}
 use Rattle.l6_run.specs.Numerals.{most_counted}
 use Rattle.l6_run.specs.declared.fault.Part.{Part}
@@ -45,8 +44,3 @@ pub record TakesFront (text : List ℕ) (before n : ℕ) (old new : Option (List
 abbrev pub EndsWriting : List ℕ → ℕ → Option (List ℕ) → Option (List ℕ) → RunFault → Type 0
 EndsWriting text before old new (Write n) = TakesFront text before n old new
 EndsWriting text before old new other = ⊥
-
--- how the reader fared at a fault: `Read` is its one trouble, and at any other fault it had none
-abbrev pub ReaderFaredAt : Health → Health → RunFault → Type 0
-ReaderFaredAt old new (Read part) = OneTrouble old new
-ReaderFaredAt old new other = NoTrouble old new

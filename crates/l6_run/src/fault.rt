@@ -1,12 +1,13 @@
 //! The parts of a job, and why a job is not done.
 
 ghost use Rattle.std.specs.Prelude.{◌≡◌, ◌≤◌, Some};
-ghost use Rattle.l6_run.specs.Fault.{limit_of, part_text, run_fault};
+ghost use Rattle.l6_run.specs.Fault.{limit_of, part_text, unassembled, unloaded};
 ghost use Rattle.l6_run.specs.Numerals.{most_job_bytes};
 ghost use Rattle.l6_run.specs.declared.fault.RunFault.TheVariants.{NoMemory};
 
 use l6_asm::AsmFault;
 use l6_card::MAX_DECK_BYTES;
+use l6_image::{LoadFault, MAX_BYTES};
 use l6_steps::MAX_INPUT;
 use std::alloc::AllocError;
 use std::fmt;
@@ -15,13 +16,20 @@ use thiserror::Error;
 /// The most bytes that a job may have.
 pub const MAX_JOB_BYTES: usize = 16_777_216;
 
+/// The most bytes that the debugger's commands may have.
+pub const MAX_COMMAND_BYTES: usize = 1_048_576;
+
 /// A part of a job.
 #[derive(Clone, Copy, Debug, PartialEq, Eq)]
 pub enum Part {
     /// The cards that spell a program.
     Deck,
+    /// The text of a program's image.
+    Image,
     /// The characters that the program reads.
     Input,
+    /// The commands of the debugger.
+    Commands,
     /// The whole job.
     Job,
 }
@@ -34,7 +42,9 @@ impl Part {
     {
         match self {
             Part::Deck => MAX_DECK_BYTES,
+            Part::Image => MAX_BYTES,
             Part::Input => MAX_INPUT,
+            Part::Commands => MAX_COMMAND_BYTES,
             Part::Job => MAX_JOB_BYTES,
         }
     }
@@ -46,7 +56,9 @@ impl fmt::Display for Part {
     fn fmt<W: fmt::Write>(&self, f: &mut fmt::Formatter<W>) -> fmt::Result {
         f.write_str(match self {
             Part::Deck => "deck",
+            Part::Image => "image",
             Part::Input => "input",
+            Part::Commands => "commands",
             Part::Job => "job",
         })
     }
@@ -61,6 +73,9 @@ pub enum RunFault {
     /// The deck spells no program.
     #[error(transparent)]
     Asm(AsmFault),
+    /// The text is not that of an image.
+    #[error(transparent)]
+    Load(LoadFault),
     /// The part's reader had trouble.
     #[error("read failed")]
     Read(Part),
@@ -81,7 +96,7 @@ impl From<AllocError> for RunFault {
 }
 
 impl From<AsmFault> for RunFault {
-    ghost from_gives = { λ asm fault. fault ≡ run_fault asm };
+    ghost from_gives = { λ asm fault. fault ≡ unassembled asm };
 
     fn from(fault: AsmFault) -> Self {
         match fault {
@@ -90,6 +105,17 @@ impl From<AsmFault> for RunFault {
             | AsmFault::Limit(_)
             | AsmFault::TwiceLabelled(_)
             | AsmFault::NoLabel(_) => RunFault::Asm(fault),
+        }
+    }
+}
+
+impl From<LoadFault> for RunFault {
+    ghost from_gives = { λ load fault. fault ≡ unloaded load };
+
+    fn from(fault: LoadFault) -> Self {
+        match fault {
+            LoadFault::NoMemory => RunFault::NoMemory,
+            LoadFault::NotWords(_) | LoadFault::NotAnImage => RunFault::Load(fault),
         }
     }
 }

@@ -5,20 +5,32 @@ mod device;
 mod ending;
 mod fault;
 mod laws;
+mod loaded;
 mod options;
+mod patience;
 mod printing;
+mod repeating;
 mod runner;
 mod running;
 mod script;
+mod texts;
 mod transfer;
+mod writer;
 
 pub use device::{Host, Sink, Source, Trouble};
 pub use ending::Ending;
-pub use fault::{MAX_JOB_BYTES, Part, RunFault};
-pub use laws::{jobs_have_their_limit, printouts_are_determined};
+pub use fault::{MAX_COMMAND_BYTES, MAX_JOB_BYTES, Part, RunFault};
+pub use laws::{
+    commands_have_their_limit, images_print_as_decks, jobs_have_their_limit,
+    printouts_are_determined, repeats_have_their_limit,
+};
+pub use loaded::run_image_text;
 pub use options::Options;
-pub use printing::{ending_line, ending_of, printout};
-pub use runner::run;
+pub use patience::{MAX_REPEATS, Patience};
+pub use printing::{ending_line, ending_of, printout, push_whole_lines};
+pub use runner::{run, run_image};
 pub use running::run_deck;
 pub use script::Script;
+pub use texts::{write_deck_image, write_deck_listing};
 pub use transfer::{read_part, write_text};
+pub use writer::{write_image, write_listing};

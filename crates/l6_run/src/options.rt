@@ -32,7 +32,7 @@ impl Model for Options {
 impl Options {
     ghost use Rattle.l6_run.specs.Options.{is_in_range, option_values};
 
-    /// The options, or `None` out of range: a store of 1 to 2,047 units, 0 to 1,000,000,000 steps,
+    /// The options, or `None` out of range: a store of 1 to 255 units, 0 to 1,000,000,000 steps,
     /// and 0 to 16,777,216 bytes of output.
     pub fn new(units: u32, steps: u64, output: usize) -> Option<Self>
         ensures valid { IsSome result ↔ (is_in_range (option_values units steps output) ≡ true) }
@@ -46,7 +46,7 @@ impl Options {
         }
     }
 
-    /// How many units of 128 words the store has, 1 to 2,047.
+    /// How many units of 1,024 words the store has, 1 to 255.
     pub fn units(self) -> u32
         ensures value { result ≡ self.units }
         ensures some { 1 ≤ result }
@@ -78,7 +78,7 @@ impl Options {
     }
 }
 
-/// A store of 64 units, 1,000,000 steps, and 1,048,576 bytes of output.
+/// A store of 8 units, 1,000,000 steps, and 1,048,576 bytes of output.
 impl Default for Options {
     ghost use Rattle.std.specs.Prelude.{◌≡◌};
     ghost use Rattle.l6_run.specs.Options.{default_options};
@@ -87,7 +87,7 @@ impl Default for Options {
 
     fn default() -> Self {
         Options {
-            units: 64,
+            units: 8,
             limits: Limits {
                 steps: 1_000_000,
                 output: 1_048_576,

@@ -2,11 +2,10 @@
 
 ghost use Rattle.std.specs.Prelude.{◌≡◌, ◌++◌, true, OnOk, IfOk, ◌-◌, length, slice_get};
 ghost use Rattle.l6_steps.specs.State.{is_last};
-ghost use Rattle.l6_run.specs.Printout.{ending_of, ending_text, ending_line, printout, lacks_line_feed};
+ghost use Rattle.l6_run.specs.Printout.{ending_of, ending_text, ending_line, printout, lacks_line_feed, missing_line_feed};
 
 use crate::ending::Ending;
-use itoa::{Buffer, Integer};
-use l6_machine::Machine;
+use l6_machine::{Machine, push_decimal};
 use l6_steps::{Halt, Position, Trap};
 use l6_store::Places;
 use std::alloc::{AllocError, Global};
@@ -46,13 +45,22 @@ pub fn printout<S: Places>(alloc: Global, machine: &Machine<S>) -> Result<Vec<u8
     let output = machine.output();
     let line = ending_line(alloc, machine)?;
     let mut text = Vec::with_capacity(alloc, output.len() + line.len() + 2)?;
+    push_whole_lines(&mut text, output)?;
+    text.extend_from_slice(line.as_slice())?;
+    text.push(b'\n')?;
+    Ok(text)
+}
+
+/// Adds an output, and the line feed that it lacks.
+pub fn push_whole_lines(text: &mut Vec<u8>, output: &[u8]) -> Result<(), AllocError>
+    ensures { OnOk result
+        (text.new.items ≡ text.old.items ++ (output.now ++ missing_line_feed output.now)) }
+{
     text.extend_from_slice(output)?;
     if lacks_line_feed(output) {
         text.push(b'\n')?;
     }
-    text.extend_from_slice(line.as_slice())?;
-    text.push(b'\n')?;
-    Ok(text)
+    Ok(())
 }
 
 /// Whether a text has a last byte that is no line feed.
@@ -89,11 +97,4 @@ fn push_trap(line: &mut Vec<u8>, trap: Trap, at: Position) -> Result<(), AllocEr
     push_decimal(line, at.statement)?;
     line.push(b'.')?;
     push_decimal(line, at.action)
-}
-
-/// Adds a number in decimal.
-fn push_decimal<I: Integer>(line: &mut Vec<u8>, number: I) -> Result<(), AllocError>
-    ensures { OnOk result (line.new.items ≡ line.old.items ++ I.text number) }
-{
-    line.extend_from_slice(Buffer::new().format(number).as_bytes())
 }

@@ -1,16 +1,21 @@
-//! Runs of a deck and an input that readers give.
+//! Runs of a deck or an image, and of an input, that readers give.
 
-ghost use Rattle.std.specs.Prelude.{◌≡◌, ◌+◌};
+ghost use Rattle.std.specs.Prelude.{◌≡◌, ◌+◌, [], ◌∷◌};
 ghost use Rattle.l6_card.specs.Numerals.{most_deck_bytes};
+ghost use Rattle.l6_image.specs.Numerals.{most_bytes};
 ghost use Rattle.l6_steps.specs.Numerals.{most_input};
-ghost use Rattle.l6_run.specs.Runs.{DeckFared, InputFared, IsOfDeck, Runs};
-ghost use Rattle.l6_run.specs.Serves.{IsUnwritten, WriterFared};
+ghost use Rattle.l6_run.specs.Patience.{Fared, lent_reader, lent_writer};
+ghost use Rattle.l6_run.specs.Runs.{IsOfPart, Runs, RunsImage};
+ghost use Rattle.l6_run.specs.Serves.{IsUnwritten};
 ghost use Rattle.l6_run.specs.Transfer.{GivesAtMost};
+ghost use Rattle.l6_run.specs.declared.fault.Part.TheVariants.{Deck, Image, Input};
 
 use crate::device::{Sink, Source};
 use crate::ending::Ending;
 use crate::fault::{Part, RunFault};
+use crate::loaded::run_image_text;
 use crate::options::Options;
+use crate::patience::Patience;
 use crate::running::run_deck;
 use crate::transfer::read_part;
 use std::alloc::Global;
@@ -33,16 +38,66 @@ pub fn run<D: Source, I: Source, W: Sink>(
     ensures done { Runs options (D.left deck.old) (D.left deck.new)
         (I.left input.old) (I.left input.new) (W.taken writer.old) (W.taken writer.new) result }
     ensures unwritten { IsUnwritten result → writer.new ≡ writer.old }
-    ensures unasked { IsOfDeck result → input.new ≡ input.old }
+    ensures unasked { IsOfPart Deck result → input.new ≡ input.old }
     ensures deck_at_most { GivesAtMost (most_deck_bytes + 1) (D.left deck.old) (D.left deck.new) }
     ensures input_at_most { GivesAtMost (most_input + 1) (I.left input.old) (I.left input.new) }
 
     // How the devices fared.
-    ensures deck_fared { DeckFared (D.health deck.old) (D.health deck.new) result }
-    ensures input_fared { InputFared (I.health input.old) (I.health input.new) result }
-    ensures writer_fared { WriterFared (W.health writer.old) (W.health writer.new) result }
+    ensures fared { Fared (
+        lent_reader Deck (D.health deck.old) (D.health deck.new) result ∷
+        lent_reader Input (I.health input.old) (I.health input.new) result ∷
+        lent_writer (W.health writer.old) (W.health writer.new) result ∷ []) }
 {
-    let cards = read_part(alloc, deck, Part::Deck)?;
-    let lines = read_part(alloc, input, Part::Input)?;
-    run_deck(alloc, options, cards.as_slice(), lines.as_slice(), writer)
+    let mut patience = Patience::new();
+    let cards = read_part(alloc, deck, Part::Deck, &mut patience)?;
+    let lines = read_part(alloc, input, Part::Input, &mut patience)?;
+    run_deck(
+        alloc,
+        options,
+        cards.as_slice(),
+        lines.as_slice(),
+        writer,
+        &mut patience,
+    )
+}
+
+/// Reads an image's text whole and then an input whole, runs the image with the input, and writes
+/// the printout. Answers how the run has ended.
+///
+/// # Errors
+///
+/// Why no run was made, or not all of its printout went out. Nothing went out then, unless it is a
+/// `Write`.
+pub fn run_image<D: Source, I: Source, W: Sink>(
+    alloc: Global,
+    image: &mut D,
+    input: &mut I,
+    writer: &mut W,
+    options: Options,
+) -> Result<Ending, RunFault>
+    // What the readers gave, and what went out for it.
+    ensures done { RunsImage options (D.left image.old) (D.left image.new)
+        (I.left input.old) (I.left input.new) (W.taken writer.old) (W.taken writer.new) result }
+    ensures unwritten { IsUnwritten result → writer.new ≡ writer.old }
+    ensures unasked { IsOfPart Image result → input.new ≡ input.old }
+    ensures image_at_most { GivesAtMost (most_bytes + 1) (D.left image.old) (D.left image.new) }
+    ensures input_at_most { GivesAtMost (most_input + 1) (I.left input.old) (I.left input.new) }
+
+    // How the devices fared.
+    ensures fared { Fared (
+        lent_reader Image (D.health image.old) (D.health image.new) result ∷
+        lent_reader Input (I.health input.old) (I.health input.new) result ∷
+        lent_writer (W.health writer.old) (W.health writer.new) result ∷ []) }
+{
+    let mut patience = Patience::new();
+    let text = read_part(alloc, image, Part::Image, &mut patience)?;
+    let given = read_part(alloc, input, Part::Input, &mut patience)?;
+    run_image_text(
+        alloc,
+        options,
+        text.as_slice(),
+        given.as_slice(),
+        writer,
+        &mut patience,
+    )
 }

@@ -1,19 +1,21 @@
 //! The run of a deck.
 
-ghost use Rattle.std.specs.Prelude.{◌≡◌, ◌≤◌, length, true, IfOk, IfErr};
+ghost use Rattle.std.specs.Prelude.{◌≡◌, ◌≤◌, length, [], ◌∷◌, true, IfOk, IfErr};
 ghost use Rattle.l6_word.specs.Input.{characters_of};
 ghost use Rattle.l6_card.specs.Numerals.{most_deck_bytes};
 ghost use Rattle.l6_store.specs.Store.{fresh};
 ghost use Rattle.l6_steps.specs.Limits.{are_allowed};
 ghost use Rattle.l6_steps.specs.Numerals.{most_input};
-ghost use Rattle.l6_run.specs.Prints.{Prints, RefusesDeck, RunPrints};
-ghost use Rattle.l6_run.specs.inner.Running.{IsNoRun};
-ghost use Rattle.l6_run.specs.Serves.{IsUnwritten, Serves, WriterFared};
+ghost use Rattle.l6_run.specs.Prints.{Prints, RefusesDeck, RunPrints, store_rule, world_under};
+ghost use Rattle.l6_run.specs.inner.Running.{HasNoText};
+ghost use Rattle.l6_run.specs.Patience.{FaredWith, lent_writer};
+ghost use Rattle.l6_run.specs.Serves.{IsUnwritten, Serves};
 
 use crate::device::Sink;
 use crate::ending::Ending;
 use crate::fault::{Part, RunFault};
 use crate::options::Options;
+use crate::patience::Patience;
 use crate::printing::{ending_of, printout};
 use crate::transfer::write_text;
 use l6_asm::assemble;
@@ -35,11 +37,13 @@ pub fn run_deck<W: Sink>(
     deck: &[u8],
     input: &[u8],
     writer: &mut W,
+    patience: &mut Patience,
 ) -> Result<Ending, RunFault>
     ensures done { Serves (Prints options deck.now input.now) (RefusesDeck deck.now input.now)
         (W.taken writer.old) (W.taken writer.new) result }
     ensures unwritten { IsUnwritten result → writer.new ≡ writer.old }
-    ensures fared { WriterFared (W.health writer.old) (W.health writer.new) result }
+    ensures fared { FaredWith (lent_writer (W.health writer.old) (W.health writer.new) result ∷ [])
+        patience.old patience.new }
 {
     if deck.len() > MAX_DECK_BYTES {
         return Err(RunFault::TooLong(Part::Deck));
@@ -48,7 +52,7 @@ pub fn run_deck<W: Sink>(
         return Err(RunFault::TooLong(Part::Input));
     }
     let (ending, text) = printout_of(alloc, options, deck, input)?;
-    write_text(writer, text.as_slice(), 0)?;
+    write_text(writer, text.as_slice(), 0, patience)?;
     Ok(ending)
 }
 
@@ -63,9 +67,24 @@ fn printout_of(
     requires input { length input.now ≤ most_input }
     ensures prints { IfOk result
         (λ found. Prints options deck.now input.now found.0 found.1.items) }
-    ensures refuses { IfErr result (IsNoRun deck.now input.now) }
+    ensures refuses { IfErr result (HasNoText (RefusesDeck deck.now input.now)) }
 {
     let program = assemble(alloc, deck)?.into_program();
+    printout_under(alloc, options, program, input)
+}
+
+/// How the run of a program under these options ends, and what it prints.
+pub(crate) fn printout_under(
+    alloc: Global,
+    options: Options,
+    program: Program,
+    input: &[u8],
+) -> Result<(Ending, Vec<u8>), RunFault>
+    requires input { length input.now ≤ most_input }
+    ensures prints { IfOk result (λ found. RunPrints store_rule
+        (world_under options input.now program) found.0 found.1.items) }
+    ensures refuses { IfErr result (λ fault. fault ≡ RunFault.NoMemory) }
+{
     let store = match Buddy::new(alloc, options.units()) {
         Ok(store) => store,
         Err(StoreFault::NoMemory) => return Err(RunFault::NoMemory),

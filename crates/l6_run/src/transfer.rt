@@ -1,15 +1,17 @@
 //! Reading a whole part of a job, and writing a whole text.
 
-ghost use Rattle.std.specs.Prelude.{◌≡◌, ◌+◌, ◌-◌, ◌^◌, ◌<◌, ◌≤◌, min, length, vec_len, MatchResult, OnOk, IfOk, IfErr};
+ghost use Rattle.std.specs.Prelude.{◌≡◌, ◌+◌, ◌-◌, ◌^◌, ◌<◌, ◌≤◌, min, length, vec_len, [], ◌∷◌, MatchResult, OnOk, IfOk, IfErr};
 ghost use Rattle.std.specs.Io.KnownBytes.{Appends};
 ghost use Rattle.l6_run.specs.Fault.{limit_of};
 ghost use Rattle.l6_run.specs.Numerals.{most_counted};
-ghost use Rattle.l6_run.specs.Device.{NoTrouble, OneTrouble};
-ghost use Rattle.l6_run.specs.Transfer.{EndsReading, EndsWriting, GivesAtMost, GivesPart, ReaderFaredAt};
+ghost use Rattle.l6_run.specs.Patience.{FaredWith, lent_reader, lent_writer};
+ghost use Rattle.l6_run.specs.Transfer.{EndsReading, EndsWriting, GivesAtMost, GivesPart};
 ghost use Rattle.l6_run.specs.inner.Transfer.{GivesMore, IsReadFault};
 
 use crate::device::{Sink, Source};
 use crate::fault::{Part, RunFault};
+use crate::patience::Patience;
+use crate::repeating::{read_patiently, write_patiently};
 use std::alloc::Global;
 
 /// The most bytes that one read asks for.
@@ -19,9 +21,14 @@ const CHUNK: usize = 65_536;
 ///
 /// # Errors
 ///
-/// `TooLong` where more came than the part may have, `Read` at the reader's first trouble, and
-/// `NoMemory`.
-pub fn read_part<R: Source>(alloc: Global, reader: &mut R, part: Part) -> Result<Vec<u8>, RunFault>
+/// `TooLong` where more came than the part may have, `Read` where the reader has failed or was
+/// interrupted once more than is repeated, and `NoMemory`.
+pub fn read_part<R: Source>(
+    alloc: Global,
+    reader: &mut R,
+    part: Part,
+    patience: &mut Patience,
+) -> Result<Vec<u8>, RunFault>
     // What came, and why it ended.
     ensures bytes { MatchResult result
         (λ bytes. GivesPart part (R.left reader.old) (R.left reader.new) bytes.items)
@@ -29,14 +36,13 @@ pub fn read_part<R: Source>(alloc: Global, reader: &mut R, part: Part) -> Result
     ensures at_most { GivesAtMost (limit_of part + 1) (R.left reader.old) (R.left reader.new) }
 
     // How the reader fared.
-    ensures fared { MatchResult result
-        (λ _. NoTrouble (R.health reader.old) (R.health reader.new))
-        (ReaderFaredAt (R.health reader.old) (R.health reader.new)) }
+    ensures fared { FaredWith (lent_reader part (R.health reader.old) (R.health reader.new) result ∷ [])
+        patience.old patience.new }
 {
     let mut chunk = vec![in alloc; 0; CHUNK]?;
     let mut bytes = Vec::new(alloc);
     while bytes.len() <= part.limit() {
-        let count = read_more(reader, part, chunk.as_mut_slice(), &mut bytes)?;
+        let count = read_more(reader, part, chunk.as_mut_slice(), &mut bytes, patience)?;
         if count == 0 {
             return Ok(bytes);
         }
@@ -51,6 +57,7 @@ fn read_more<R: Source>(
     part: Part,
     chunk: &mut [u8],
     bytes: &mut Vec<u8>,
+    patience: &mut Patience,
 ) -> Result<usize, RunFault>
     requires room { 0 < length chunk.old }
     requires within { vec_len bytes.old ≤ limit_of part }
@@ -60,12 +67,11 @@ fn read_more<R: Source>(
     ensures err { IfErr result (IsReadFault part) }
     ensures at_most { GivesAtMost (limit_of part + 1 - vec_len bytes.old)
         (R.left reader.old) (R.left reader.new) }
-    ensures fared { MatchResult result
-        (λ _. NoTrouble (R.health reader.old) (R.health reader.new))
-        (ReaderFaredAt (R.health reader.old) (R.health reader.new)) }
+    ensures fared { FaredWith (lent_reader part (R.health reader.old) (R.health reader.new) result ∷ [])
+        patience.old patience.new }
 {
     let room = chunk.len().min(part.limit() + 1 - bytes.len());
-    match reader.read(&mut chunk[..room]) {
+    match read_patiently(reader, &mut chunk[..room], patience) {
         Ok(count) => {
             bytes.extend_from_slice(&chunk[..count])?;
             Ok(count)
@@ -78,23 +84,28 @@ fn read_more<R: Source>(
 ///
 /// # Errors
 ///
-/// `Write` at the writer's first trouble, with how many bytes of the answer went out.
-pub fn write_text<W: Sink>(writer: &mut W, text: &[u8], before: u64) -> Result<(), RunFault>
+/// `Write` where the writer has failed or was interrupted once more than is repeated, with how many
+/// bytes of the answer went out.
+pub fn write_text<W: Sink>(
+    writer: &mut W,
+    text: &[u8],
+    before: u64,
+    patience: &mut Patience,
+) -> Result<(), RunFault>
     // What went out.
     ensures ok { OnOk result (Appends (W.taken writer.old) (W.taken writer.new) text.now) }
     ensures err { IfErr result
         (EndsWriting text.now before (W.taken writer.old) (W.taken writer.new)) }
-    ensures empty { length text.now ≡ 0 → writer.new ≡ writer.old }
+    ensures empty { length text.now ≡ 0
+        → (writer.new ≡ writer.old) × (patience.new ≡ patience.old) }
 
     // How the writer fared.
-    ensures fared { MatchResult result
-        (λ _. NoTrouble (W.health writer.old) (W.health writer.new))
-        (λ _. OneTrouble (W.health writer.old) (W.health writer.new)) }
+    ensures fared { FaredWith (lent_writer (W.health writer.old) (W.health writer.new) result ∷ [])
+        patience.old patience.new }
 {
     let mut count = 0;
     while count < text.len() {
-        match writer.write(&text[count..]) {
-            Ok(0) => return Err(write_fault(before, count)),
+        match write_patiently(writer, &text[count..], patience) {
             Ok(more) => count += more,
             Err(_) => return Err(write_fault(before, count)),
         }

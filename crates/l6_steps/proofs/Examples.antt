@@ -37,30 +37,30 @@ abbrev six : Window
 six = record { word = 1; first = 30; last = 35 }
 
 abbrev one : Blocks
-one = map.insert map.empty 128 (130 ∷ 0 ∷ [])
+one = map.insert map.empty 1024 (1026 ∷ 0 ∷ [])
 
-apart : ◌≢◌ {A = ℕ} 128 130
+apart : ◌≢◌ {A = ℕ} 1024 1026
 apart same = absurd (omega (arith, same))
 
-first_there : map.get linked.blocks 128 ≡ Some (130 ∷ 0 ∷ [])
+first_there : map.get linked.blocks 1024 ≡ Some (1026 ∷ 0 ∷ [])
 first_there =
-    get-insert_other one 130 (0 ∷ 71 ∷ []) 128 apart
-    ∙ get-insert_same map.empty 128 (130 ∷ 0 ∷ [])
+    get-insert_other one 1026 (0 ∷ 71 ∷ []) 1024 apart
+    ∙ get-insert_same map.empty 1024 (1026 ∷ 0 ∷ [])
 
-second_there : map.get linked.blocks 130 ≡ Some (0 ∷ 71 ∷ [])
-second_there = get-insert_same one 130 (0 ∷ 71 ∷ [])
+second_there : map.get linked.blocks 1026 ≡ Some (0 ∷ 71 ∷ [])
+second_there = get-insert_same one 1026 (0 ∷ 71 ∷ [])
 
 -- what XN holds
-pointer : content linked (Field 128 low) ≡ 130
+pointer : content linked (Field 1024 low) ≡ 1026
 pointer = ap (λ found. take low (slice_index_or (unwrap_or found []) 0 0)) first_there
 
 pub chain-leads : ChainLeads
 chain-leads = (
   ap (λ at. at >>= λ next. follow linked next (name_v ∷ []))
-      (field_by linked name_n 128 low (130 ∷ 0 ∷ []) refl first_there refl)
+      (field_by linked name_n 1024 low (1026 ∷ 0 ∷ []) refl first_there refl)
       ∙ ap (λ q. field_at linked name_v q >>= λ next. Ok next) pointer
       ∙ ap (λ at. at >>= λ next. Ok next)
-      (field_by linked name_v 130 six (0 ∷ 71 ∷ []) refl second_there refl),
+      (field_by linked name_v 1026 six (0 ∷ 71 ∷ []) refl second_there refl),
   ap (λ found. take six (slice_index_or (unwrap_or found []) 1 0)) second_there,
 )
 
@@ -68,13 +68,13 @@ abbrev high : Window
 high = record { word = 1; first = 18; last = 35 }
 
 -- no block begins at a place whose block was freed
-gone : map.get freed_still.blocks 128 ≡ None
-gone = get-remove_same stacked.blocks 128
+gone : map.get freed_still.blocks 1024 ≡ None
+gone = get-remove_same stacked.blocks 1024
 
-freed_field : field_at freed_still name_n 128 ≡ Err NotABlock
+freed_field : field_at freed_still name_n 1024 ≡ Err NotABlock
 freed_field =
     ap (λ found. ok_or found NotABlock >>= λ ws.
-    if nat_lt 1 (length ws) then Ok (Field 128 high) else Err WordOutsideBlock) gone
+    if nat_lt 1 (length ws) then Ok (Field 1024 high) else Err WordOutsideBlock) gone
 
 pub use-after_free_traps : UseAfterFreeTraps
 use-after_free_traps setting choice =
@@ -88,26 +88,26 @@ level_of_three = refl
 
 -- the memory once the block stands and X points to it
 abbrev got : Memory
-got = new_block stacked (replicate (2 ^ 2) 0) (Bug name_x) 132
+got = new_block stacked (replicate (2 ^ 2) 0) (Bug name_x) 1028
 
-got_there : map.get got.blocks 132 ≡ Some (0 ∷ 0 ∷ 0 ∷ 0 ∷ [])
-got_there = get-insert_same stacked.blocks 132 (0 ∷ 0 ∷ 0 ∷ 0 ∷ [])
+got_there : map.get got.blocks 1028 ≡ Some (0 ∷ 0 ∷ 0 ∷ 0 ∷ [])
+got_there = get-insert_same stacked.blocks 1028 (0 ∷ 0 ∷ 0 ∷ 0 ∷ [])
 
-got_field : locus got (name_x ∷ name_n ∷ []) ≡ Ok (Field 132 high)
+got_field : locus got (name_x ∷ name_n ∷ []) ≡ Ok (Field 1028 high)
 got_field =
     ap (λ at. at >>= λ next. follow got next [])
-    (field_by got name_n 132 high (0 ∷ 0 ∷ 0 ∷ 0 ∷ []) refl got_there refl)
+    (field_by got name_n 1028 high (0 ∷ 0 ∷ 0 ∷ 0 ∷ []) refl got_there refl)
 
-kept : assign got (Field 132 high) 128 ≡ record stacked {
-  bugs = just_x 132;
-  blocks = map.insert stacked.blocks 132 (0 ∷ 128 ∷ 0 ∷ 0 ∷ []);
+kept : assign got (Field 1028 high) 1024 ≡ record stacked {
+  bugs = just_x 1028;
+  blocks = map.insert stacked.blocks 1028 (0 ∷ 1024 ∷ 0 ∷ 0 ∷ []);
 }
 kept =
     ap (λ found. record got {
-      blocks = map.insert got.blocks 132 (put_into (unwrap_or found []) high 128);
+      blocks = map.insert got.blocks 1028 (put_into (unwrap_or found []) high 1024);
     }) got_there
-    ∙ ap (λ b. record stacked { bugs = just_x 132; blocks = b })
-    (insert_twice stacked.blocks 132 (0 ∷ 0 ∷ 0 ∷ 0 ∷ []) (0 ∷ 128 ∷ 0 ∷ 0 ∷ []))
+    ∙ ap (λ b. record stacked { bugs = just_x 1028; blocks = b })
+    (insert_twice stacked.blocks 1028 (0 ∷ 0 ∷ 0 ∷ 0 ∷ []) (0 ∷ 1024 ∷ 0 ∷ 0 ∷ []))
 
 pub get-keeps_the_old : GetKeepsTheOld
 get-keeps_the_old setting choice picks =
@@ -116,6 +116,6 @@ get-keeps_the_old setting choice picks =
     (λ level. level >>= λ k. with_place (choice k) None stacked (get k (Bug name_x) other stacked))
     level_of_three
     ∙ ap (λ found. with_place found None stacked (get 2 (Bug name_x) other stacked)) picks
-    ∙ ap (λ at. (at >>= λ l. Ok (assign got l 128)) >>= λ after.
+    ∙ ap (λ at. (at >>= λ l. Ok (assign got l 1024)) >>= λ after.
     Ok (record { memory = after; jump = Onward; effect = took 2 })) got_field
     ∙ ap (λ after. Ok (record { memory = after; jump = Onward; effect = took 2 })) kept

@@ -1,5 +1,6 @@
 pub mod Run
 pub mod Numbered
+pub mod Lasting
 pub mod Taking
 mod Examples
 pub mod Calculations

@@ -13,6 +13,7 @@ pub mod Row
 pub mod Step
 pub mod Run
 pub mod Moment
+pub mod Numbering
 pub mod Taking
 pub mod Bounds
 pub mod Laws

@@ -142,39 +142,39 @@ defined window =
     (slice_set (replicate name_count None) name_n (Some window)) name_v
     (Some (record { word = 1; first = 30; last = 35 }))
 
--- two blocks of two words, at 128 and at 130; X points to the first, and N, its word 0 from bit 18
+-- two blocks of two words, at 1024 and at 1026; X points to the first, and N, its word 0 from bit 18
 -- on, to the second
 abbrev pub linked : Memory
 linked = record start.memory {
-  bugs = just_x 128;
+  bugs = just_x 1024;
   definitions = defined (record { word = 0; first = 18; last = 35 });
-  blocks = map.insert (map.insert map.empty 128 (130 ∷ 0 ∷ [])) 130 (0 ∷ 71 ∷ []);
+  blocks = map.insert (map.insert map.empty 1024 (1026 ∷ 0 ∷ [])) 1026 (0 ∷ 71 ∷ []);
 }
 
--- there the chain XNV leads to the last six bits of word 1 of the block at 130: 71 is 64 + 7
+-- there the chain XNV leads to the last six bits of word 1 of the block at 1026: 71 is 64 + 7
 abbrev pub ChainLeads : Type 0
 ChainLeads =
-    let at = Field 130 (record { word = 1; first = 30; last = 35 }) in
+    let at = Field 1026 (record { word = 1; first = 30; last = 35 }) in
     (locus linked (name_x ∷ name_n ∷ name_v ∷ []) ≡ Ok at) × (content linked at ≡ 7)
 
--- a block of four zeros at 128, to which X points; N is word 1 from bit 18 on
+-- a block of four zeros at 1024, to which X points; N is word 1 from bit 18 on
 abbrev pub stacked : Memory
 stacked = record start.memory {
-  bugs = just_x 128;
+  bugs = just_x 1024;
   definitions = defined (record { word = 1; first = 18; last = 35 });
-  blocks = map.insert map.empty 128 (0 ∷ 0 ∷ 0 ∷ 0 ∷ []);
+  blocks = map.insert map.empty 1024 (0 ∷ 0 ∷ 0 ∷ 0 ∷ []);
 }
 
--- (X,GT,3,XN): where a block of level 2 is given the place 132, X becomes 132, and XN, which is now
--- a field of the new block, becomes 128
+-- (X,GT,3,XN): where a block of level 2 is given the place 1028, X becomes 1028, and XN, which is now
+-- a field of the new block, becomes 1024
 abbrev pub GetKeepsTheOld : Type 0
 GetKeepsTheOld =
-    (setting : Setting) (choice : Choice) → choice 2 ≡ Some 132 →
+    (setting : Setting) (choice : Choice) → choice 2 ≡ Some 1028 →
     row setting choice (Get (name_x ∷ []) (Number 3) (Some (name_x ∷ name_n ∷ [])) None) stacked
     ≡ Ok (record {
       memory = record stacked {
-        bugs = just_x 132;
-        blocks = map.insert stacked.blocks 132 (0 ∷ 128 ∷ 0 ∷ 0 ∷ []);
+        bugs = just_x 1028;
+        blocks = map.insert stacked.blocks 1028 (0 ∷ 1024 ∷ 0 ∷ 0 ∷ []);
       };
       jump = Onward;
       effect = took 2;
@@ -182,7 +182,7 @@ GetKeepsTheOld =
 
 -- the same block once it is freed, though X still points there
 abbrev pub freed_still : Memory
-freed_still = record stacked { blocks = map.remove stacked.blocks 128 }
+freed_still = record stacked { blocks = map.remove stacked.blocks 1024 }
 
 -- (XN,E,5) traps then
 abbrev pub UseAfterFreeTraps : Type 0

@@ -2,7 +2,7 @@
 //! language.
 
 ghost use Rattle.std.specs.Prelude.{◌≡◌, ◌+◌, ◌%◌, min, max};
-ghost use Rattle.l6_steps.specs.Laws.{DifferencesAddUp, EndsInOneState, EndsUnderEachRule, GoesBitByBit, OnesBitByBit, RulesRunBySteps, RunsStayWithinBounds, TurnsEachBit, ZerosBitByBit};
+ghost use Rattle.l6_steps.specs.Laws.{DifferencesAddUp, EndsInOneState, EndsUnderEachRule, GoesBitByBit, HasALastState, OnesBitByBit, RulesRunBySteps, RunsStayWithinBounds, TurnsEachBit, ZerosBitByBit};
 ghost use Rattle.l6_steps.specs.Numerals.{most_input, most_output, most_steps};
 
 use crate::calculation::Calculation;
@@ -29,6 +29,12 @@ pub fn runs_are_determined()
     ensures one_end { EndsInOneState }
     ensures by_steps { RulesRunBySteps }
     ensures each_rule { EndsUnderEachRule }
+{}
+
+/// The run of a world under a rule of choice has a last state, of a number that is at most the limit of
+/// its steps.
+pub fn runs_have_a_last_state()
+    ensures { HasALastState }
 {}
 
 /// Each state that a run comes to is within its bounds, whatever open places its blocks are given:

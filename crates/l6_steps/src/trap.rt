@@ -11,11 +11,11 @@ pub enum Trap {
     NotABlock,
     /// A field's word lies outside the block that a chain has come to.
     WordOutsideBlock,
-    /// A definition has a word past 127, a bit past 35, or a first bit behind its last.
+    /// A definition has a word past 1,023, a bit past 35, or a first bit behind its last.
     BadDefinition,
     /// A division by 0.
     ZeroDivisor,
-    /// A block of no word, or of more than 128.
+    /// A block of no word, or of more than 1,024.
     BadSize,
     /// No place is open for a block, and no label is given for that.
     StoreFull,

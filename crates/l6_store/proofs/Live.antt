@@ -1,9 +1,11 @@
 -- What callers may conclude of a block that begins at a place.
 use Rattle.std.proofs.Common.{◌≡◌, ℕ, ◌+◌, ◌^◌, ◌<◌, ◌≤◌, List, [], length, Option, Some, None, refl, ap, ◌∙◌, arith}
+use Rattle.std.proofs.Math.Nat.{pow-le-pow_right}
 use Rattle.std.proofs.lemmas.Nat.{pow_pos}
 use Rattle.std.specs.List.{slice_get}
 use Rattle.std.specs.Option.{IsSome, option_map, unwrap_or}
 use Rattle.std.specs.FinMap as map
+use Rattle.l6_word.specs.Numerals.{largest_level, unit_size}
 use Rattle.l6_store.specs.Blocks.{Blocks, Fits, IsLive, LiesIn, block_at, end_of}
 
 some_of : (found : Option (List ℕ)) → IsSome found → found ≡ Some (unwrap_or found [])
@@ -52,3 +54,17 @@ pub no_word_past : (units : ℕ) (blocks : Blocks) → Fits units blocks → (pl
 no_word_past units blocks fits place index past =
     ap (λ (found : Option (List ℕ)). slice_get (unwrap_or found []) index)
     (none_past_by units blocks fits place past (map.get blocks place) refl)
+
+-- a block has no more words than the largest
+few_by : (units : ℕ) (blocks : Blocks) → Fits units blocks → (place : ℕ) (found : Option (List ℕ))
+    → map.get blocks place ≡ found → length (unwrap_or found []) ≤ unit_size
+few_by units blocks fits place None is = omega arith
+few_by units blocks fits place (Some words) is =
+    let block = fits.each place words is in
+    let small : 2 ^ block.level ≤ unit_size
+    = pow-le-pow_right (omega arith) block.stands.small in
+    omega (arith, block.size, small)
+
+pub few_words : (units : ℕ) (blocks : Blocks) → Fits units blocks → (place : ℕ)
+    → length (block_at blocks place) ≤ unit_size
+few_words units blocks fits place = few_by units blocks fits place (map.get blocks place) refl

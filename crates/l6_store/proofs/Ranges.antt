@@ -1,15 +1,9 @@
 -- Parts of a list of words: so many from a place on.
 use Rattle.std.proofs.Common.{◌≡◌, ◌≢◌, ℕ, ◌+◌, ◌-◌, ◌<◌, ◌≤◌, List, length, get_or, set, drop, slice_range, replicate, ap, sym, ◌∙◌, arith, inl, inr}
-use Rattle.std.proofs.lemmas.List.{length-take-le, length-drop, get_or-take, get_or-drop, get_or-replicate, length-replicate, get_or-set_same, get_or-set_other, length-set}
+use Rattle.std.proofs.lemmas.List.{get_or-take, get_or-drop, get_or-replicate, length-replicate, get_or-set_same, get_or-set_other, length-set}
 use Rattle.std.proofs.lemmas.Bool.{cases_eq}
 use Rattle.std.proofs.lemmas.Grind.{same_number_lists}
-
-pub length-range : (words : List ℕ) (place size : ℕ) → place + size ≤ length words
-    → length (slice_range words place (place + size)) ≡ size
-length-range words place size within =
-    let counts : place + size - place ≡ size = omega arith in
-    length-take-le (place + size - place) (drop place words)
-    (omega (arith, length-drop place words)) ∙ counts
+pub use Rattle.l6_raw.proofs.Overwriting.{length-range}
 
 pub index-range : (words : List ℕ) (place size k : ℕ) → k < size
     → get_or (slice_range words place (place + size)) k 0 ≡ get_or words (place + k) 0

@@ -36,6 +36,8 @@ impl Model for Buddy {
 
     ghost coded = { buddy_code };
 
+    ghost use Rattle.std.specs.Prelude.{◌≤◌};
+    ghost use Rattle.l6_word.specs.Numerals.{largest_level};
     ghost use Rattle.l6_store.specs.Tiles.{Tiles};
     ghost use Rattle.l6_store.specs.inner.Layout.{IsSoundLayout};
 
@@ -51,11 +53,12 @@ impl Model for Buddy {
     } };
 
     ghost invariant = { λ b. IsSoundLayout b.arena
-        × Tiles b.arena.units b.arena.blocks b.arena.order };
+        × Tiles b.arena.units b.arena.blocks b.arena.order
+        × (b.moves ≤ largest_level) };
 }
 
 impl Buddy {
-    /// A store without blocks. `BadUnits` exactly for no unit or more than 2,047, before any
+    /// A store without blocks. `BadUnits` exactly for no unit or more than 255, before any
     /// growth.
     pub fn new(alloc: Global, units: u32) -> Result<Self, StoreFault>
         ensures fresh { IfOk result (λ buddy. buddy.store ≡ fresh buddy_rule units) }
@@ -141,6 +144,10 @@ impl Places for Buddy {
 
     fn block(&self, place: Place) -> &[u64] {
         self.arena.block(place)
+    }
+
+    fn moves(&self) -> u32 {
+        self.moves
     }
 
     fn duplicate(&self, alloc: Global) -> Result<Self, AllocError> {

@@ -9,7 +9,7 @@ pub enum StoreFault {
     /// A growth was refused.
     #[error("out of memory")]
     NoMemory,
-    /// No unit, or more than 2,047.
+    /// No unit, or more than 255.
     #[error("units out of range")]
     BadUnits,
 }

@@ -113,6 +113,12 @@ pub trait Places: Sized {
         ensures value { result.now ≡ block_at (store self.now).blocks place }
         ensures words { All (λ word. word < 2 ^ word_bits) result.now };
 
+    /// How often the last get halved a piece of the store, or the last free joined two: 0 before any,
+    /// after a refused get, and by a rule that does neither.
+    fn moves(&self) -> u32
+        ensures value { result ≡ (store self.now).moves }
+        ensures few { result ≤ largest_level };
+
     /// The same store once more, with the same order and moves.
     fn duplicate(&self, alloc: Global) -> Result<Self, AllocError>
         ensures same { IfOk result (λ copy. store copy ≡ store self.now) }

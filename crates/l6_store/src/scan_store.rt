@@ -14,7 +14,7 @@ use std::alloc::{AllocError, Global};
 use std::marker::Model;
 
 /// The most units that a store may have.
-pub const MAX_UNITS: u32 = 2047;
+pub const MAX_UNITS: u32 = 255;
 
 /// A store that looks through its places for the lowest open one. Each other call but `reset` and
 /// `duplicate` goes straight to its block.
@@ -48,7 +48,7 @@ impl Model for ScanStore {
 }
 
 impl ScanStore {
-    /// A store without blocks. `BadUnits` exactly for no unit or more than 2,047, before any
+    /// A store without blocks. `BadUnits` exactly for no unit or more than 255, before any
     /// growth.
     pub fn new(alloc: Global, units: u32) -> Result<Self, StoreFault>
         ensures fresh { IfOk result (λ store. store ≡ fresh scan_rule units) }
@@ -132,6 +132,11 @@ impl Places for ScanStore {
         let place = place as usize;
         let level = level_at(&self.tags, place).unwrap();
         &self.words[place..place + size_of(level)]
+    }
+
+    fn moves(&self) -> u32 {
+        let _units = self.units;
+        0
     }
 
     fn duplicate(&self, alloc: Global) -> Result<Self, AllocError> {

@@ -8,12 +8,13 @@ use l6_word::{LARGEST_LEVEL, UNIT_SIZE, Word};
 use std::alloc::{AllocError, Global};
 use std::test::Fail;
 
-/// What a buddy store should hold: for each level the free pieces in their order, and the level of
-/// the block that begins at each place.
+/// What a buddy store should hold: for each level the free pieces in their order, the level of the
+/// block that begins at each place, and how many pieces the last call halved or joined.
 #[derive(Drop)]
 struct Plain {
     free: Vec<Vec<usize>>,
     blocks: Vec<Option<Level>>,
+    moves: u32,
 }
 
 impl Plain {
@@ -33,7 +34,11 @@ impl Plain {
             }
         }
         free.push(whole)?;
-        Ok(Plain { free, blocks })
+        Ok(Plain {
+            free,
+            blocks,
+            moves: 0,
+        })
     }
 
     /// Puts a free piece in front of its level's list.
@@ -47,6 +52,7 @@ impl Plain {
     /// The place that a get gives, if it gives one.
     fn get(&mut self, level: Level) -> Result<Option<usize>, AllocError> {
         let wanted = usize::from(level);
+        self.moves = 0;
         let Some(found) = (wanted..self.free.len()).find(|found| self
             .free
             .get(*found)
@@ -62,6 +68,7 @@ impl Plain {
         let place = places.remove(0);
         for half in (wanted..found).rev() {
             self.put(half, place.saturating_add(size_of(half)))?;
+            self.moves = self.moves.saturating_add(1);
         }
         if let Some(block) = self.blocks.get_mut(place) {
             *block = Some(level);
@@ -79,6 +86,7 @@ impl Plain {
         }
         let mut piece = place;
         let mut level = usize::from(level);
+        self.moves = 0;
         for _ in level..usize::from(LARGEST_LEVEL) {
             let buddy = piece ^ size_of(level);
             let Some(places) = self.free.get_mut(level) else {
@@ -92,6 +100,7 @@ impl Plain {
             }
             piece = piece.min(buddy);
             level = level.saturating_add(1);
+            self.moves = self.moves.saturating_add(1);
         }
         self.put(level, piece)
     }
@@ -113,9 +122,11 @@ fn size_of(level: usize) -> usize {
         .unwrap_or(0)
 }
 
-/// Whether a store has a block just where the model has one, and of its level.
+/// Whether a store has the moves of the model, and a block just where that has one, of its level.
 fn agrees(store: &Buddy, plain: &Plain) -> bool {
-    (0..).zip(plain.blocks.iter()).all(|(place, level)| store.live(Word::wrapping(place)) == *level)
+    let mut blocks = (0..).zip(plain.blocks.iter());
+    store.moves() == plain.moves
+        && blocks.all(|(place, level)| store.live(Word::wrapping(place)) == *level)
 }
 
 /// A fixed sequence of numbers below 32,768.
@@ -141,10 +152,7 @@ fn call(store: &mut Buddy, plain: &mut Plain, number: usize) -> Result<bool, All
     }
     if let Some(place) = plain.chosen(number / 16) {
         plain.free(place)?;
-        let Some(place) = found(store, place) else {
-            return Ok(false);
-        };
-        store.free(place);
+        return Ok(freed(store, place));
     }
     Ok(true)
 }
@@ -167,6 +175,15 @@ fn found(store: &Buddy, place: usize) -> Option<Place>
     Some(place)
 }
 
+/// Frees the block at a place, and says whether there was one.
+fn freed(store: &mut Buddy, place: usize) -> bool {
+    let Some(place) = found(store, place) else {
+        return false;
+    };
+    store.free(place);
+    true
+}
+
 #[test]
 fn a_buddy_store_agrees_with_the_model(rt: HostRuntime) -> Result<(), Fail> {
     for units in [1, 3] {
@@ -186,9 +203,7 @@ fn a_buddy_store_agrees_with_the_model(rt: HostRuntime) -> Result<(), Fail> {
         for _ in 0..plain.blocks.len() {
             if let Some(place) = plain.chosen(0) {
                 plain.free(place)?;
-                if let Some(place) = found(&store, place) {
-                    store.free(place);
-                }
+                assert!(rt; freed(&mut store, place) && agrees(&store, &plain));
             }
         }
         assert!(rt; agrees(&store, &plain));
@@ -201,7 +216,27 @@ fn a_buddy_store_agrees_with_the_model(rt: HostRuntime) -> Result<(), Fail> {
 }
 
 #[test]
-fn a_buddy_store_has_1_to_2047_units(rt: HostRuntime) -> Result<(), Fail> {
+fn moves_are_those_of_the_last_get_or_free(rt: HostRuntime) -> Result<(), Fail> {
+    let mut store = Buddy::new(rt.alloc(), 1)?;
+    assert_eq!(rt; store.moves(), 0);
+    assert_eq!(rt; (store.get(0), store.moves()), (Some(1024), 10));
+    assert_eq!(rt; store.duplicate(rt.alloc())?.moves(), 10);
+    assert_eq!(rt; (store.get(0), store.moves()), (Some(1025), 0));
+    assert_eq!(rt; (freed(&mut store, 1025), store.moves()), (true, 0));
+    assert_eq!(rt; (freed(&mut store, 1024), store.moves()), (true, 10));
+    assert_eq!(rt; (store.get(LARGEST_LEVEL), store.moves()), (Some(1024), 0));
+    assert_eq!(rt; (store.get(0), store.moves()), (None, 0));
+    store.reset();
+    assert_eq!(rt; (store.get(3), store.moves()), (Some(1024), 7));
+    assert_eq!(rt; (store.get(LARGEST_LEVEL), store.moves()), (None, 0));
+    assert_eq!(rt; (freed(&mut store, 1024), store.moves()), (true, 7));
+    store.reset();
+    assert_eq!(rt; store.moves(), 0);
+    Ok(())
+}
+
+#[test]
+fn a_buddy_store_has_1_to_255_units(rt: HostRuntime) -> Result<(), Fail> {
     for units in [0, MAX_UNITS + 1, u32::MAX] {
         assert_eq!(rt;
             Buddy::new(rt.alloc(), units).err(),

@@ -78,3 +78,22 @@ fn other_texts_are_refused(rt: HostRuntime) -> Result<(), Fail> {
     }
     Ok(())
 }
+
+/// Each text that differs from an image in one bit, and each that is cut short.
+#[test]
+fn altered_images_are_refused_or_others(rt: HostRuntime) -> Result<(), Fail> {
+    for index in 0..FIVE.len() {
+        assert!(rt; load(rt.alloc(), &FIVE[..index]).is_err());
+        for bit in [1, 2, 4, 8, 16, 32, 64, 128] {
+            let mut altered = Vec::from_slice(rt.alloc(), FIVE)?;
+            altered[index] ^= bit;
+            if let Ok(program) = load(rt.alloc(), &altered) {
+                assert_eq!(rt;
+                    text_of(rt.alloc(), &program)?.as_slice(),
+                    altered.as_slice()
+                );
+            }
+        }
+    }
+    Ok(())
+}

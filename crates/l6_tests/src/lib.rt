@@ -11,7 +11,11 @@ mod copies;
 #[cfg(test)]
 mod decks;
 #[cfg(test)]
+mod drawings;
+#[cfg(test)]
 mod faults;
+#[cfg(test)]
+mod histories;
 #[cfg(test)]
 mod images;
 #[cfg(test)]

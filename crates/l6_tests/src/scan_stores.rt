@@ -93,8 +93,11 @@ fn word_of(place: Place) -> Word
     Word::wrapping(u64::from(place))
 }
 
-/// Whether a store's blocks are those of the ledger, with their words.
+/// Whether a store's blocks are those of the ledger, with their words, and it has made no moves.
 fn agrees<S: Places>(store: &S, ledger: &Ledger) -> bool {
+    if store.moves() != 0 {
+        return false;
+    }
     for (place, word) in (0..).zip(ledger.words.iter()) {
         let at = place_of(place);
         let level = store.live(word_of(at));
@@ -202,11 +205,11 @@ impl Numbers {
 
 /// Makes one call, which the number chooses, and says whether store and ledger agree on it.
 fn call<S: Places>(store: &mut S, ledger: &mut Ledger, number: usize) -> bool {
-    let choice = number / 16;
-    match number % 16 {
-        level @ 0..=7 => get(store, ledger, level as Level),
-        8..=10 => free(store, ledger, choice),
-        11..=13 => write(store, ledger, choice),
+    let choice = number / 32;
+    match number % 32 {
+        level @ 0..=10 => get(store, ledger, level as Level),
+        11..=17 => free(store, ledger, choice),
+        18..=24 => write(store, ledger, choice),
         _ => copy(store, ledger, choice),
     }
 }
@@ -241,7 +244,7 @@ fn empty<S: Places>(store: &mut S, ledger: &mut Ledger, numbers: &mut Numbers) -
 
 #[test]
 fn a_store_agrees_with_the_ledger(rt: HostRuntime) -> Result<(), Fail> {
-    for (units, calls) in [(1, 1_000), (3, 1_000), (64, 1_000)] {
+    for (units, calls) in [(1, 1_000), (3, 1_000), (8, 1_000)] {
         let mut store = ScanStore::new(rt.alloc(), units)?;
         let mut ledger = Ledger::new(rt.alloc(), units)?;
         let mut numbers = Numbers { last: 1 };
@@ -277,7 +280,7 @@ fn a_store_agrees_with_the_ledger(rt: HostRuntime) -> Result<(), Fail> {
 }
 
 #[test]
-fn a_store_has_1_to_2047_units(rt: HostRuntime) -> Result<(), Fail> {
+fn a_store_has_1_to_255_units(rt: HostRuntime) -> Result<(), Fail> {
     for units in [0, MAX_UNITS + 1, u32::MAX] {
         assert_eq!(rt;
             ScanStore::new(rt.alloc(), units).err(),
@@ -292,8 +295,8 @@ fn a_store_has_1_to_2047_units(rt: HostRuntime) -> Result<(), Fail> {
 
 #[test]
 fn the_largest_store_is_filled_with_words(rt: HostRuntime) -> Result<(), Fail> {
-    let mut store = ScanStore::new(rt.alloc(), 2047)?;
-    for place in 128..262_144 {
+    let mut store = ScanStore::new(rt.alloc(), 255)?;
+    for place in 1_024..262_144 {
         assert_eq!(rt; store.get(0), Some(place));
     }
     assert_eq!(rt; store.get(0), None);

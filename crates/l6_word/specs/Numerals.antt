@@ -15,7 +15,7 @@ word_octals = 12
 
 -- the level of the largest block: a block of level k has 2^k words
 abbrev pub largest_level : ℕ
-largest_level = 7
+largest_level = 10
 
 -- how many words the largest block has; the store is made of units of this size
 abbrev pub unit_size : ℕ

@@ -35,7 +35,7 @@ impl Model for Window {
 
 impl Window {
     /// The window on these bits of a word, or `None` where the largest block has no such word (from
-    /// 128 on), a word has no such bit (from 36 on), or the first bit comes after the last.
+    /// 1,024 on), a word has no such bit (from 36 on), or the first bit comes after the last.
     pub fn new(word: u16, first: u8, last: u8) -> Option<Self>
         ensures valid { IsSome result
             ↔ IsTrue (is_window (record { word = word; first = first; last = last })) }
@@ -49,7 +49,7 @@ impl Window {
         }
     }
 
-    /// The index of the word in its block, below 128.
+    /// The index of the word in its block, below 1,024.
     pub fn word(self) -> u16
         ensures value { result ≡ self.word }
         ensures range { result < unit_size }

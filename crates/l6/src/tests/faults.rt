@@ -1,6 +1,7 @@
 //! The texts of faults.
 
 use l6_asm::AsmFault;
+use l6_image::LoadFault;
 use l6_machine::MachineFault;
 use l6_prog::ProgFault;
 use l6_run::{Part, RunFault};
@@ -10,6 +11,7 @@ use std::test::Fail;
 fn faults_are_told(rt: HostRuntime) -> Result<(), Fail> {
     for (fault, text) in [
         (RunFault::TooLong(Part::Deck), "deck too long"),
+        (RunFault::TooLong(Part::Image), "image too long"),
         (RunFault::TooLong(Part::Input), "input too long"),
         (RunFault::TooLong(Part::Job), "job too long"),
         (RunFault::Asm(AsmFault::Form(3)), "card 3: no reading"),
@@ -20,6 +22,9 @@ fn faults_are_told(rt: HostRuntime) -> Result<(), Fail> {
         ),
         (RunFault::Asm(AsmFault::NoLabel(9)), "card 9: no such label"),
         (RunFault::Asm(AsmFault::NoMemory), "out of memory"),
+        (RunFault::Load(LoadFault::NotWords(6)), "line 6: not a word"),
+        (RunFault::Load(LoadFault::NotAnImage), "not an image"),
+        (RunFault::Load(LoadFault::NoMemory), "out of memory"),
         (RunFault::Read(Part::Job), "read failed"),
         (RunFault::Write(80), "write failed after 80 bytes"),
         (RunFault::NoMemory, "out of memory"),

@@ -27,7 +27,7 @@ fn limits_have_their_ranges(rt: HostRuntime) -> Result<(), Fail> {
             assert!(rt; machine.definition(Name::default()).is_none());
         }
         assert_eq!(rt; machine.err(), fault);
-        for (units, is_allowed) in [(0, false), (1, true), (2_047, true), (2_048, false)] {
+        for (units, is_allowed) in [(0, false), (1, true), (255, true), (256, false)] {
             let options = Options::new(units, steps, output);
             assert_eq!(rt; options.is_some(), is_allowed && fault.is_none());
         }

@@ -5,7 +5,7 @@ use l6_prog::{
     Chain, Comparison, Cond, Exit, MAX_STATEMENTS, Name, Op, Operand, PrintText, ProgFault,
     Program, Statement, Test,
 };
-use l6_run::{Host, Options, Part, RunFault, printout, run_deck};
+use l6_run::{Host, Options, Part, Patience, RunFault, printout, run_deck};
 use l6_steps::Limits;
 use l6_store::ScanStore;
 use l6_word::Word;
@@ -189,7 +189,14 @@ fn programs_read_their_input(rt: HostRuntime) -> Result<(), Fail> {
     ];
     for (deck, input, text) in rows {
         let mut writer = Host::new(Vec::new(rt.alloc()));
-        let result = run_deck(rt.alloc(), Options::default(), deck, input, &mut writer);
+        let result = run_deck(
+            rt.alloc(),
+            Options::default(),
+            deck,
+            input,
+            &mut writer,
+            &mut Patience::new(),
+        );
         assert!(rt; result.is_ok());
         assert_eq!(rt; writer.into_inner().as_slice(), text);
     }
@@ -205,6 +212,7 @@ fn programs_read_their_input(rt: HostRuntime) -> Result<(), Fail> {
             b" (PL)",
             input.as_slice(),
             &mut writer,
+            &mut Patience::new(),
         );
         assert_eq!(rt; result.err(), fault);
     }

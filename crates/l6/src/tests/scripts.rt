@@ -50,9 +50,9 @@ fn runs_have_the_troubles_of_their_devices(rt: HostRuntime) {
         (NONE, NONE, NONE, done, 24, [19, 3, 24]),
         ((0, Some(0)), NONE, NONE, deck, 0, [1, 0, 0]),
         ((0, Some(18)), NONE, NONE, deck, 0, [19, 0, 0]),
-        ((1, None), NONE, NONE, deck, 0, [1, 0, 0]),
+        ((1, None), NONE, NONE, done, 24, [20, 3, 24]),
         (NONE, (0, Some(2)), NONE, input, 0, [19, 3, 0]),
-        (NONE, (1, None), NONE, input, 0, [19, 1, 0]),
+        (NONE, (1, None), NONE, done, 24, [19, 4, 24]),
         (
             NONE,
             NONE,
@@ -69,14 +69,7 @@ fn runs_have_the_troubles_of_their_devices(rt: HostRuntime) {
             23,
             [19, 3, 24],
         ),
-        (
-            NONE,
-            NONE,
-            (1, None),
-            Err(RunFault::Write(0)),
-            0,
-            [19, 3, 1],
-        ),
+        (NONE, NONE, (1, None), done, 24, [19, 3, 25]),
     ];
     for (deck, input, writer, result, written, calls) in rows {
         let come = ran(rt.alloc(), deck, input, writer);

@@ -9,20 +9,20 @@ use std::test::Fail;
 fn one_unit_is_soon_full(rt: HostRuntime) -> Result<(), Fail> {
     let rows: [(&[u8], Ending, &[u8]); 3] = [
         (
-            b" (A,GT,128)(B,GT,1)\n",
+            b" (A,GT,1024)(B,GT,1)\n",
             Ending::Trap(Trap::StoreFull),
             b"== TRAP 7 STORE FULL AT 0.2 AFTER 2 STEPS\n",
         ),
         (
-            b" (A,GT,128)(B,GT,1,,FULL)\nFULL (B,PD)\n",
+            b" (A,GT,1024)(B,GT,1,,FULL)\nFULL (B,PD)\n",
             Ending::Done,
             b"0\n== DONE AFTER 8 STEPS\n",
         ),
-        // the first get of 64 is refused: 64 words are free, but from no multiple of 64 on
+        // the first get of 512 is refused: 512 words are free, but from no multiple of 512 on
         (
-            b" (A,GT,32)(B,GT,32)(C,GT,32)(D,GT,32)\n (B,FR)(C,FR)(E,GT,64,,NO)\nNO (D,FR)(E,GT,64)(E,PD)\n",
+            b" (A,GT,256)(B,GT,256)(C,GT,256)(D,GT,256)\n (B,FR)(C,FR)(E,GT,512,,NO)\nNO (D,FR)(E,GT,512)(E,PD)\n",
             Ending::Done,
-            b"192\n== DONE AFTER 17 STEPS\n",
+            b"1536\n== DONE AFTER 17 STEPS\n",
         ),
     ];
     for (deck, ending, text) in rows {

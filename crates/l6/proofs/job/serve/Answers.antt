@@ -1,9 +1,74 @@
+use Rattle.std.proofs.Common.{ap, ◌∙◌}
 use Rattle.std.proofs.lemmas.Result.{err_from_is_err_and}
-use Rattle.l6.proofs.Serving.{run_refused}
+use Rattle.l6.specs.Parts.{commands_of, deck_of}
+use Rattle.l6.proofs.Serving.{debug_refused, image_refused, load_refused, run_refused}
 use Rattle.l6.proofs.job.serve.Goals as goal
 
-pub returns-in_err-ending-clause-done : goal.returns-in_err-ending-clause-done
-returns-in_err-ending-clause-done g c =
+pub returns-in_err-write_deck_image-in-Asm-clause-done :
+    goal.returns-in_err-write_deck_image-in-Asm-clause-done
+returns-in_err-write_deck_image-in-Asm-clause-done g c =
     let p = err_from_is_err_and c.from_residual.result c.from_residual.ensures.1 in
-    rw (p.1, p.2) (run_refused _ _ c.args.job.now _ _ _ _ _ c.parts_of-parts.ensures.head
-    c.parts_of-parts.ensures.input c.in_err-ending.ensures.done)
+    rw (p.1, p.2) (image_refused _ _ c.args.job.now _ _ _ _ c.in-Asm.is
+    c.parts_of-parts.ensures.head c.in_err-write_deck_image-in-Asm.ensures.done)
+
+pub returns-in_err-ending-in-Run-clause-done : goal.returns-in_err-ending-in-Run-clause-done
+returns-in_err-ending-in-Run-clause-done g c =
+    let p = err_from_is_err_and c.from_residual-in_err-ending-in-Run.result
+    c.from_residual-in_err-ending-in-Run.ensures.1 in
+    rw (p.1, p.2) (run_refused _ _ c.args.job.now _ _ _ _ _ c.in-Run.is
+    c.parts_of-parts.ensures.head c.parts_of-parts.ensures.input
+    c.in_err-ending-in-Run.ensures.done)
+
+pub returns-in_err-ending-in-Load-clause-done : goal.returns-in_err-ending-in-Load-clause-done
+returns-in_err-ending-in-Load-clause-done g c =
+    let p = err_from_is_err_and c.from_residual-in_err-ending-in-Load.result
+    c.from_residual-in_err-ending-in-Load.ensures.1 in
+    rw (p.1, p.2) (load_refused _ _ c.args.job.now _ _ _ _ _ c.in-Load.is
+    c.parts_of-parts.ensures.head c.parts_of-parts.ensures.input
+    c.in_err-ending-in-Load.ensures.done)
+
+pub returns-in_err-debug_deck-in-Debug-clause-done :
+    goal.returns-in_err-debug_deck-in-Debug-clause-done
+returns-in_err-debug_deck-in-Debug-clause-done g c =
+    let p = err_from_is_err_and c.from_residual-in_err-debug_deck-in-Debug.result
+    c.from_residual-in_err-debug_deck-in-Debug.ensures.1 in
+    rw (p.1, p.2) (debug_refused _ _ c.args.job.now _ _ _ _ _ _ c.in-Debug.is
+    (c.session_of-session.ensures.deck ∙ ap deck_of c.parts_of-parts.ensures.head)
+    c.parts_of-parts.ensures.input
+    (c.session_of-session.ensures.commands ∙ ap commands_of c.parts_of-parts.ensures.head)
+    c.in_err-debug_deck-in-Debug.ensures.done)
+
+pub returns-in_err-write_deck_image-in-Asm-clause-fared :
+    goal.returns-in_err-write_deck_image-in-Asm-clause-fared
+returns-in_err-write_deck_image-in-Asm-clause-fared g c =
+    let p = err_from_is_err_and c.from_residual.result
+    c.from_residual.ensures.1 in
+    rw (p.1, p.2) (c.in_err-write_deck_image-in-Asm.ensures.fared)
+
+pub returns-in_err-write_deck_listing-in-List-clause-fared :
+    goal.returns-in_err-write_deck_listing-in-List-clause-fared
+returns-in_err-write_deck_listing-in-List-clause-fared g c =
+    let p = err_from_is_err_and c.from_residual-in_err-write_deck_listing-in-List.result
+    c.from_residual-in_err-write_deck_listing-in-List.ensures.1 in
+    rw (p.1, p.2) (c.in_err-write_deck_listing-in-List.ensures.fared)
+
+pub returns-in_err-ending-in-Run-clause-fared :
+    goal.returns-in_err-ending-in-Run-clause-fared
+returns-in_err-ending-in-Run-clause-fared g c =
+    let p = err_from_is_err_and c.from_residual-in_err-ending-in-Run.result
+    c.from_residual-in_err-ending-in-Run.ensures.1 in
+    rw (p.1, p.2) (c.in_err-ending-in-Run.ensures.fared)
+
+pub returns-in_err-ending-in-Load-clause-fared :
+    goal.returns-in_err-ending-in-Load-clause-fared
+returns-in_err-ending-in-Load-clause-fared g c =
+    let p = err_from_is_err_and c.from_residual-in_err-ending-in-Load.result
+    c.from_residual-in_err-ending-in-Load.ensures.1 in
+    rw (p.1, p.2) (c.in_err-ending-in-Load.ensures.fared)
+
+pub returns-in_err-debug_deck-in-Debug-clause-fared :
+    goal.returns-in_err-debug_deck-in-Debug-clause-fared
+returns-in_err-debug_deck-in-Debug-clause-fared g c =
+    let p = err_from_is_err_and c.from_residual-in_err-debug_deck-in-Debug.result
+    c.from_residual-in_err-debug_deck-in-Debug.ensures.1 in
+    rw (p.1, p.2) (c.in_err-debug_deck-in-Debug.ensures.fared)

@@ -8,7 +8,7 @@ pub returns-in_ok-extend_from_slice-in-Ok-clause-ok :
 returns-in_ok-extend_from_slice-in-Ok-clause-ok g c =
     let read = c.in-Ok.ensures in
     record {
-      more = take c.in-Ok.count c.read.new.buffer;
+      more = take c.in-Ok.count c.read_patiently.new.buffer;
       given = read.bytes.0;
       appended
           = appended-front _ _ _ _ _ read.bound.0 c.in_ok-extend_from_slice-in-Ok.ensures.items;
@@ -17,7 +17,7 @@ returns-in_ok-extend_from_slice-in-Ok-clause-ok g c =
           λ none. read.bytes.1 none
           (omega (
             arith,
-            c.read.auto.buffer,
+            c.read_patiently.auto.buffer,
             length-take c.min-room.result c.args.chunk.now,
             c.requires.room,
           ));

@@ -1,15 +1,16 @@
 -- What the reads before gave, and then this one.
-use Rattle.std.proofs.Common.{arith, refl, rules, ◌∙◌}
+use Rattle.std.proofs.Common.{arith, refl, inl, rules}
 use Rattle.std.proofs.KnownBytes.{Consumes-nil}
 use Rattle.std.proofs.lemmas.Result.{err_from_is_err_and}
-use Rattle.l6_run.proofs.Transfers.{Consumes-more, EndsReading-read_fault, GivesAtMost-after, GivesPart-at_end, ReaderFaredAt-after}
+use Rattle.l6_run.proofs.Faring.{fared-then, repeats-none, repeats-untold}
+use Rattle.l6_run.proofs.Transfers.{Consumes-more, EndsReading-read_fault, GivesAtMost-after, GivesPart-at_end}
 use Rattle.l6_run.proofs.transfer.read_part.Goals as goal
 
 pub loop-reader-init : goal.loop-reader-init
 loop-reader-init g c = record {
   given = rw c.new-bytes.ensures.items (Consumes-nil _);
   within = omega (arith, c.new-bytes.ensures.len);
-  quiet = refl;
+  repeated = repeats-none _ _;
   room = refl;
 }
 
@@ -19,7 +20,8 @@ loop-reader-preserved g c =
     record {
       given = Consumes-more _ _ _ _ _ _ so_far.given c.in_ok-count.ensures.ok;
       within = c.in_ok-count.ensures.within;
-      quiet = c.in_ok-count.ensures.fared ∙ so_far.quiet;
+      repeated = repeats-untold _ _ _ _
+          (fared-then _ _ _ _ _ _ _ so_far.repeated c.in_ok-count.ensures.fared);
       room = so_far.room;
     }
 
@@ -42,7 +44,7 @@ returns-in_err-count-clause-fared g c =
     err_from_is_err_and c.from_residual-in_err-count.result
     c.from_residual-in_err-count.ensures.1 in
     rw (p.1, p.2)
-    (ReaderFaredAt-after _ _ _ _ c.loop-reader.invariant.quiet c.in_err-count.ensures.fared)
+    (fared-then _ _ _ _ _ _ _ c.loop-reader.invariant.repeated c.in_err-count.ensures.fared)
 
 pub returns-then-count-eq0-clause-bytes : goal.returns-then-count-eq0-clause-bytes
 returns-then-count-eq0-clause-bytes g c =
@@ -57,7 +59,7 @@ returns-then-count-eq0-clause-at_most g c =
 
 pub returns-then-count-eq0-clause-fared : goal.returns-then-count-eq0-clause-fared
 returns-then-count-eq0-clause-fared g c =
-    c.in_ok-count.ensures.fared ∙ c.loop-reader.invariant.quiet
+    fared-then _ _ _ _ _ _ _ c.loop-reader.invariant.repeated c.in_ok-count.ensures.fared
 
 pub returns-clause-bytes : goal.returns-clause-bytes
 returns-clause-bytes g c =
@@ -80,4 +82,4 @@ returns-clause-at_most g c =
     }
 
 pub returns-clause-fared : goal.returns-clause-fared
-returns-clause-fared g c = c.loop-reader.invariant.quiet
+returns-clause-fared g c = inl c.loop-reader.invariant.repeated

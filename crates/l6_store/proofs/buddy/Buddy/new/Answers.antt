@@ -1,3 +1,4 @@
+use Rattle.std.proofs.Common.{arith}
 use Rattle.std.specs.FinMap as map
 use Rattle.l6_store.specs.Buddy.{first_order}
 use Rattle.l6_store.specs.Tiles.{Tiles}
@@ -13,7 +14,7 @@ tiled c =
     c.in_ok-new.ensures.blocks c.in_ok-new.ensures.order (new_tiled c.args.units)
 
 pub invariant_of-result : goal.invariant_of-result
-invariant_of-result c = (c.in_ok-new.ensures.sound, tiled c)
+invariant_of-result c = (c.in_ok-new.ensures.sound, tiled c, omega arith)
 
 pub returns-clause-sound : goal.returns-clause-sound
 returns-clause-sound c = sound_store c.in_ok-new.field-0 0 c.in_ok-new.ensures.sound (tiled c)

@@ -25,7 +25,7 @@ tiled c =
     size c.self.invariant.1)
 
 pub invariant_of-self : goal.invariant_of-self
-invariant_of-self c = (c.copy.ensures.sound, tiled c)
+invariant_of-self c = (c.copy.ensures.sound, tiled c, c.self.invariant.2)
 
 pub returns-clause-sound : goal.returns-clause-sound
 returns-clause-sound c =

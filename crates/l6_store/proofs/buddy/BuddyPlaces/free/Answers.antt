@@ -1,4 +1,4 @@
-use Rattle.std.proofs.Common.{◌-◌, sym, ap, ◌∙◌, subst}
+use Rattle.std.proofs.Common.{◌-◌, sym, ap, ◌∙◌, subst, arith}
 use Rattle.l6_store.specs.BuddyStore.{BuddyStore}
 use Rattle.std.specs.FinMap as map
 use Rattle.l6_store.specs.Blocks.{IsLive}
@@ -6,6 +6,7 @@ use Rattle.l6_store.specs.Buddy.{buddy_rule, level_at, piece_freed, put_back}
 use Rattle.l6_store.specs.Store.{after_free}
 use Rattle.l6_store.specs.Tiles.{Tiles}
 use Rattle.l6_store.proofs.Stores.{closed_hand, freed_filled, freed_moves, freed_order, sound_store, store_is}
+use Rattle.l6_store.proofs.Steps.{moves_few_freed}
 use Rattle.l6_store.proofs.buddy.BuddyPlaces.free.Goals as goal
 
 live : (c : goal.After-join-arg-1) → IsLive c.self.inside.arena.blocks c.args.place
@@ -32,7 +33,9 @@ tiled c =
     c.join-self-inside.ensures.blocks c.join-self-inside.ensures.order
 
 pub invariant_of-self : goal.invariant_of-self
-invariant_of-self c = (c.join-self-inside.ensures.sound, tiled c)
+invariant_of-self c =
+    let few = moves_few_freed c.close-level.new.self.order c.close-level.result c.args.place in
+    (c.join-self-inside.ensures.sound, tiled c, omega (arith, c.join-self-inside.ensures.moves, few))
 
 pub returns-clause-after : goal.returns-clause-after
 returns-clause-after c =

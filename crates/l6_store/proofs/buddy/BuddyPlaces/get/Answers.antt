@@ -1,4 +1,4 @@
-use Rattle.std.proofs.Common.{◌≡◌, ℕ, ◌^◌, Option, Some, None, sym, subst}
+use Rattle.std.proofs.Common.{◌≡◌, ℕ, ◌^◌, Option, Some, None, sym, subst, arith}
 use Rattle.l6_store.specs.BuddyStore.{BuddyStore}
 use Rattle.l6_store.specs.Open.{IsAnswer}
 use Rattle.l6_store.specs.Buddy.{first_or, level_found, listed}
@@ -100,7 +100,10 @@ tiled c =
     c.open.new.self c.open.ensures.units c.open.ensures.blocks c.open.ensures.order
 
 pub invariant_of-self-2 : goal.invariant_of-self-2
-invariant_of-self-2 c = (c.open.ensures.sound, tiled c)
+invariant_of-self-2 c =
+    let facts = found_facts c.self.inside.arena.order c.args.level c.in_ok-found.found
+    c.in_ok-found.ensures in
+    (c.open.ensures.sound, tiled c, omega (arith, c.halve-self-inside.ensures.moves, facts.1))
 
 -- the place picked answer_thens, by the level that was found
 answer_then : (c : goal.After-open) → (found : Option ℕ)

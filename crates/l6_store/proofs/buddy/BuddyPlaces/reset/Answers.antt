@@ -1,3 +1,4 @@
+use Rattle.std.proofs.Common.{arith}
 use Rattle.std.specs.FinMap as map
 use Rattle.l6_store.specs.Buddy.{first_order}
 use Rattle.l6_store.specs.Tiles.{Tiles}
@@ -13,7 +14,7 @@ tiled c =
     c.reset.ensures.blocks c.reset.ensures.order (new_tiled c.self.inside.arena.units)
 
 pub invariant_of-self : goal.invariant_of-self
-invariant_of-self c = (c.reset.ensures.sound, tiled c)
+invariant_of-self c = (c.reset.ensures.sound, tiled c, omega arith)
 
 pub returns-clause-sound : goal.returns-clause-sound
 returns-clause-sound c = sound_store c.reset.new.self 0 c.reset.ensures.sound (tiled c)

@@ -55,7 +55,7 @@ after_by layout moves now view new place word units blocks order =
     layout.order moves moves units (blocks found) order refl)
 
 pub invariant_of-self : goal.invariant_of-self
-invariant_of-self c = (c.write.ensures.sound, tiled c)
+invariant_of-self c = (c.write.ensures.sound, tiled c, c.self.invariant.2)
 
 pub returns-clause-after : goal.returns-clause-after
 returns-clause-after c =

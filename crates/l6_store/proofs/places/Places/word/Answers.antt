@@ -3,7 +3,7 @@ use Rattle.std.proofs.lemmas.Option.{slice_get_past, slice_get_read}
 use Rattle.std.specs.List.{slice_get}
 use Rattle.l6_word.specs.Numerals.{unit_size}
 use Rattle.l6_store.specs.Blocks.{block_at, end_of}
-use Rattle.l6_store.proofs.Live.{no_word_past}
+use Rattle.l6_store.proofs.Live.{few_words, no_word_past}
 use Rattle.l6_store.proofs.places.Places.word.Goals as goal
 
 pub returns-then-end-get-clause-value : goal.returns-then-end-get-clause-value
@@ -35,3 +35,21 @@ returns-clause-value g c =
     c.in_ok-word.word.now refl (omega (arith, c.in_ok-word.ensures.lookup, c.from-3.ensures))
     (c.in_ok-word.ensures.lookup.3.1 c.in_ok-word.word.now
     ∙ ap (λ (i : ℕ). get_or c.block.result.now i c.in_ok-word.word.now) c.from-3.ensures))
+
+pub returns-clause-near : goal.returns-clause-near
+returns-clause-near g c =
+    let store = g.Self.Places.store c.args.self.now in
+    let product : c.from.result * c.from-2.result ≡ c.from.result * unit_size
+    = ap (λ (n : ℕ). c.from.result * n) c.from-2.ensures in
+    let words : length c.block.result.now ≡ length (block_at store.blocks c.args.start)
+    = ap (λ (ws : List ℕ). length ws)
+    (c.block.ensures.value ∙ ap (block_at store.blocks) c.get-2.ensures.value) in (
+      omega (arith, product, c.units.ensures.value, c.units.ensures.sound.most, c.get.ensures.value),
+      omega (
+        arith,
+        words,
+        few_words store.units store.blocks c.units.ensures.sound.fits c.args.start,
+        c.in_ok-word.ensures.lookup,
+        c.from-3.ensures,
+      ),
+    )

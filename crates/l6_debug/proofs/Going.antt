@@ -1,0 +1,208 @@
+-- How answers go out, one after another.
+use Rattle.std.proofs.Common.{◌≡◌, false, if◌then◌else◌, ℕ, ◌+◌, List, [], ◌∷◌, ◌++◌, length, take, Option, None, Some, Err, refl, sym, ap, ◌∙◌, subst, arith, append_assoc, length-append}
+use Rattle.std.specs.Prelude.{min}
+use Rattle.std.specs.List.{concat}
+use Rattle.std.specs.Io.KnownBytes.{Appends}
+use Rattle.std.proofs.KnownBytes.{Appends-trans}
+use Rattle.std.proofs.lemmas.List.{append-nil, take-append-le}
+use Rattle.std.proofs.Math.Seq.{take-append-add}
+use Rattle.l6_run.specs.Numerals.{most_counted}
+use Rattle.l6_run.specs.declared.fault.RunFault.{RunFault}
+use Rattle.l6_run.specs.declared.fault.RunFault.TheVariants.{TooLong, Asm, Load, Read, Write, NoMemory}
+use Rattle.l6_word.specs.Lines.{lines_of}
+use Rattle.l6_store.specs.Rule.{Rule}
+use Rattle.l6_steps.specs.State.{World}
+use Rattle.l6_debug.specs.declared.command.Reading.{Reading}
+use Rattle.l6_debug.specs.declared.command.Reading.TheVariants.{Quit}
+use Rattle.l6_debug.specs.Command.{reading_of}
+use Rattle.l6_debug.specs.Session.{Session}
+use Rattle.l6_debug.specs.Transcript.{answered, answers_from, is_quit, moved}
+use Rattle.l6_debug.specs.Serving.{GoOut, TakesAnswers}
+use Rattle.l6_debug.specs.inner.Sitting.{HaveGoneOut}
+
+-- answers of two lists, joined
+concat-both : (one other : List (List ℕ)) → concat (one ++ other) ≡ concat one ++ concat other
+concat-both [] other = refl
+concat-both (first ∷ one) other =
+    ap (λ text. first ++ text) (concat-both one other)
+    ∙ sym (append_assoc first (concat one) (concat other))
+
+length-both : (one other : List (List ℕ)) → length (one ++ other) ≡ length one + length other
+length-both [] other = omega arith
+length-both (first ∷ one) other = omega (arith, length-both one other)
+
+-- nothing has gone out yet
+pub nothing-out : (taken : Option (List ℕ)) → Appends taken taken []
+nothing-out None = tt
+nothing-out (Some bytes) = sym (append-nil bytes)
+
+pub gone-none : (all : List (List ℕ)) (taken : Option (List ℕ)) → HaveGoneOut all all taken taken 0
+gone-none all taken = record {
+  gone = [];
+  are = refl;
+  out = nothing-out taken;
+  counted = refl;
+}
+
+-- and so no answer
+pub no-answer : (all : List (List ℕ)) (taken : Option (List ℕ)) → TakesAnswers all taken taken
+no-answer all taken = record { count = 0; within = omega arith; out = nothing-out taken }
+
+-- more answers go out
+pub gone-more : (all now rest : List (List ℕ)) (old mid new : Option (List ℕ)) (sent sent' : ℕ) →
+    HaveGoneOut all (now ++ rest) old mid sent → Appends mid new (concat now) →
+    sent' ≡ min (sent + length (concat now)) most_counted →
+    HaveGoneOut all rest old new sent'
+gone-more all now rest old mid new sent sent' before out counted =
+    let joined = concat-both before.gone now in
+    record {
+      gone = before.gone ++ now;
+      are = before.are ∙ sym (append_assoc before.gone now rest);
+      out = subst (Appends old new) (sym joined)
+          (Appends-trans old mid new (concat before.gone) (concat now) before.out out);
+      counted = omega (
+        arith,
+        counted,
+        before.counted,
+        ap length joined,
+        length-append (concat before.gone) (concat now),
+      );
+    }
+
+-- all have gone out
+all-gone : (one : List (List ℕ)) → one ++ [] ≡ one
+all-gone [] = refl
+all-gone (first ∷ one) = ap (λ rest. first ∷ rest) (all-gone one)
+
+pub gone-all : (all : List (List ℕ)) (old new : Option (List ℕ)) (sent : ℕ) →
+    HaveGoneOut all [] old new sent → Appends old new (concat all)
+gone-all all old new sent gone =
+    subst (Appends old new) (ap concat (sym (gone.are ∙ all-gone gone.gone))) gone.out
+
+-- a fault while answers go out is one of all answers
+pub gone-fault : (T U : Type 0) (all now rest : List (List ℕ)) (old mid new : Option (List ℕ))
+    (sent : ℕ) (fault : RunFault) →
+    HaveGoneOut all (now ++ rest) old mid sent →
+    GoOut {Outcome = T} now sent mid new (Err fault) →
+    GoOut {Outcome = U} all 0 old new (Err fault)
+gone-fault T U all now rest old mid new sent (TooLong part) gone out = absurd out
+gone-fault T U all now rest old mid new sent (Asm part) gone out = absurd out
+gone-fault T U all now rest old mid new sent (Load part) gone out = absurd out
+gone-fault T U all now rest old mid new sent (Read part) gone out = absurd out
+gone-fault T U all now rest old mid new sent (Write n) gone out =
+    let front = concat gone.gone in
+    let behind = concat now ++ concat rest in
+    let whole : concat all ≡ front ++ behind =
+    ap concat gone.are ∙ concat-both gone.gone (now ++ rest)
+    ∙ ap (λ text. front ++ text) (concat-both now rest) in
+    let text : take out.count (concat now) ≡ take out.count behind =
+    sym (take-append-le out.count (concat now) (concat rest) (omega (arith, out.short))) in
+    record {
+      count = length front + out.count;
+      short = omega (
+        arith,
+        out.short,
+        ap length whole,
+        length-append front behind,
+        length-append (concat now) (concat rest),
+      );
+      front = subst (Appends old new)
+          (ap (λ more. front ++ more) text ∙ sym (take-append-add front behind out.count)
+          ∙ ap (take (length front + out.count)) (sym whole))
+          (Appends-trans old mid new front (take out.count (concat now)) gone.out out.front);
+      counted = omega (arith, out.counted, gone.counted);
+    }
+gone-fault T U all now rest old mid new sent NoMemory gone out =
+    let whole = gone.are in
+    let text : take out.count now ≡ take out.count (now ++ rest) =
+    sym (take-append-le out.count now rest out.within) in
+    record {
+      count = length gone.gone + out.count;
+      within = omega (
+        arith,
+        out.within,
+        ap length whole,
+        length-both gone.gone (now ++ rest),
+        length-both now rest,
+      );
+      out = subst (Appends old new)
+          (sym (concat-both gone.gone (take out.count now))
+          ∙ ap concat (ap (λ more. gone.gone ++ more) text
+          ∙ sym (take-append-add gone.gone (now ++ rest) out.count)
+          ∙ ap (take (length gone.gone + out.count)) (sym whole)))
+          (Appends-trans old mid new (concat gone.gone) (concat (take out.count now)) gone.out
+          out.out);
+    }
+
+-- a line that quits has no answer, and none follows
+pub from-quit : (rule : Rule) (world : World) (session : Session) (line : List ℕ)
+    (lines : List (List ℕ)) → reading_of line ≡ Quit →
+    answers_from rule world session (line ∷ lines) ≡ []
+from-quit rule world session line lines is =
+    ap (λ r. answered rule world session r
+    ++ (if is_quit r then [] else answers_from rule world (moved rule world session r) lines)) is
+
+-- another one has its answer, in front of those that follow
+pub from-line : (rule : Rule) (world : World) (session : Session) (line : List ℕ)
+    (lines : List (List ℕ)) (reading : Reading) → reading_of line ≡ reading →
+    is_quit reading ≡ false →
+    answers_from rule world session (line ∷ lines)
+    ≡ answered rule world session reading
+    ++ answers_from rule world (moved rule world session reading) lines
+from-line rule world session line lines reading is other =
+    ap (λ r. answered rule world session r
+    ++ (if is_quit r then [] else answers_from rule world (moved rule world session r) lines)) is
+    ∙ ap (λ b. answered rule world session reading
+    ++ (if b then [] else answers_from rule world (moved rule world session reading) lines)) other
+
+-- what is left of the answers begins with that to the next line
+line-opened : (rule : Rule) (world same : World) (session : Session) (rest line behind : List ℕ)
+    (reading : Reading) (all : List (List ℕ)) (old mid : Option (List ℕ)) (sent : ℕ) →
+    same ≡ world → lines_of rest ≡ line ∷ lines_of behind → reading ≡ reading_of line →
+    is_quit reading ≡ false →
+    HaveGoneOut all (answers_from rule world session (lines_of rest)) old mid sent →
+    HaveGoneOut all
+    (answered rule same session reading
+    ++ answers_from rule world (moved rule same session reading) (lines_of behind)) old mid sent
+line-opened rule world same session rest line behind reading all old mid sent is lines read other
+    gone =
+    subst (λ r. HaveGoneOut all r old mid sent)
+    (ap (answers_from rule world session) lines
+    ∙ from-line rule world session line (lines_of behind) reading (sym read) other
+    ∙ ap (λ w. answered rule w session reading
+    ++ answers_from rule world (moved rule w session reading) (lines_of behind)) (sym is)) gone
+
+pub line-gone : (rule : Rule) (world same : World) (session next : Session)
+    (rest line behind : List ℕ) (reading : Reading) (all : List (List ℕ))
+    (old mid new : Option (List ℕ)) (sent sent' : ℕ) →
+    same ≡ world → lines_of rest ≡ line ∷ lines_of behind → reading ≡ reading_of line →
+    is_quit reading ≡ false → next ≡ moved rule same session reading →
+    HaveGoneOut all (answers_from rule world session (lines_of rest)) old mid sent →
+    Appends mid new (concat (answered rule same session reading)) →
+    sent' ≡ min (sent + length (concat (answered rule same session reading))) most_counted →
+    HaveGoneOut all (answers_from rule world next (lines_of behind)) old new sent'
+line-gone rule world same session next rest line behind reading all old mid new sent sent' is lines
+    read other moves gone out counted =
+    subst (λ s. HaveGoneOut all (answers_from rule world s (lines_of behind)) old new sent')
+    (sym moves)
+    (gone-more all (answered rule same session reading)
+    (answers_from rule world (moved rule same session reading) (lines_of behind)) old mid new sent
+    sent'
+    (line-opened rule world same session rest line behind reading all old mid sent is lines read
+    other gone) out counted)
+
+pub line-fault : (T U : Type 0) (rule : Rule) (world same : World) (session : Session)
+    (rest line behind : List ℕ) (reading : Reading) (all : List (List ℕ))
+    (old mid new : Option (List ℕ)) (sent : ℕ) (fault : RunFault) →
+    same ≡ world → lines_of rest ≡ line ∷ lines_of behind → reading ≡ reading_of line →
+    is_quit reading ≡ false →
+    HaveGoneOut all (answers_from rule world session (lines_of rest)) old mid sent →
+    GoOut {Outcome = T} (answered rule same session reading) sent mid new (Err fault) →
+    GoOut {Outcome = U} all 0 old new (Err fault)
+line-fault T U rule world same session rest line behind reading all old mid new sent fault is lines
+    read other gone out =
+    gone-fault T U all (answered rule same session reading)
+    (answers_from rule world (moved rule same session reading) (lines_of behind)) old mid new sent
+    fault
+    (line-opened rule world same session rest line behind reading all old mid sent is lines read
+    other gone) out

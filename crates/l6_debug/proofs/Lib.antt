@@ -1,0 +1,7 @@
+pub mod Visits
+pub mod Stopping
+pub mod Going
+pub mod Rings
+pub mod Lines
+pub mod Words
+pub mod Sessions

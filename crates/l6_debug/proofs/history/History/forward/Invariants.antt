@@ -1,0 +1,13 @@
+use Rattle.std.proofs.Common.{◌≡◌, ◌+◌, ◌-◌, ◌≤◌}
+use Rattle.l6_debug.proofs.history.History.forward.Given as goal
+
+-- the state is on the way, and the states on it are counted
+abbrev pub invariant-loop-alloc : goal.invariant-loop-alloc
+invariant-loop-alloc g l = record {
+  world : l.self.world ≡ l.fn.self.world;
+  on : l.self.number ≤ l.number;
+  counted : l.fn.self.number + l.ran ≡ l.self.number;
+}
+
+abbrev pub decreases-loop-alloc : goal.decreases-loop-alloc
+decreases-loop-alloc g l = l.number - l.self.number

@@ -1,0 +1,9 @@
+pub mod Numerals
+pub mod Command
+pub mod History
+pub mod Session
+pub mod Answer
+pub mod Transcript
+pub mod Serving
+pub mod Worked
+pub mod inner

@@ -1,0 +1,17 @@
+-- The numbers of the debugger.
+use Rattle.std.specs.Prelude.{ℕ}
+
+-- the greatest number that a command may give
+abbrev pub most_number : ℕ
+most_number = 1000000000
+
+-- in how many places the number of a word stands
+abbrev pub index_places : ℕ
+index_places = 4
+
+-- how many checkpoints a history keeps at most, and of how many states one is tried at one
+abbrev pub most_kept : ℕ
+most_kept = 16
+
+abbrev pub stride : ℕ
+stride = 4096

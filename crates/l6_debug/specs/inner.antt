@@ -1,0 +1,3 @@
+pub mod Visit
+pub mod Ring
+pub mod Sitting

@@ -1,0 +1,114 @@
+//! How the lines of commands are obeyed, and their answers written.
+
+ghost use Rattle.std.specs.Prelude.{◌≡◌, ◌+◌, min, length, [], ◌∷◌, IfOk};
+ghost use Rattle.std.specs.List.{concat};
+ghost use Rattle.l6_word.specs.Lines.{lines_of};
+ghost use Rattle.l6_run.specs.Numerals.{most_counted};
+ghost use Rattle.l6_run.specs.Patience.{FaredWith, lent_writer};
+ghost use Rattle.l6_debug.specs.Serving.{GoOut};
+ghost use Rattle.l6_debug.specs.Transcript.{answered, answers_from, is_quit, moved};
+
+use crate::command::Reading;
+use crate::debugger::Debugger;
+use crate::reading::reading_of;
+use crate::showing::push_answer;
+use l6_run::{Patience, RunFault, Sink, write_text};
+use l6_store::Places;
+use l6_word::first_line;
+use std::alloc::{AllocError, Global};
+
+/// Obeys the lines of commands, one after another, up to one that ends the session. Each answer is
+/// written before the next command is obeyed.
+pub(crate) fn obey_all<S: Places, W: Sink>(
+    alloc: Global,
+    debugger: &mut Debugger<S>,
+    commands: &[u8],
+    writer: &mut W,
+    patience: &mut Patience,
+) -> Result<(), RunFault>
+where
+    S: Drop,
+    ensures answers { let session = debugger.old.session in
+        GoOut (answers_from S.rule debugger.old.world session (lines_of commands.now)) 0
+        (W.taken writer.old) (W.taken writer.new) result }
+    ensures fared { FaredWith (lent_writer (W.health writer.old) (W.health writer.new) result ∷ [])
+        patience.old patience.new }
+{
+    let mut sent = 0;
+    let mut rest = commands;
+    while let Some((line, behind)) = first_line(rest) {
+        let reading = reading_of(line);
+        if is_quit(reading) {
+            return Ok(());
+        }
+        match obey(alloc, debugger, reading, sent, writer, patience) {
+            Ok(more) => sent = more,
+            Err(fault) => return Err(fault),
+        }
+        rest = behind;
+    }
+    Ok(())
+}
+
+/// Whether a line ends the session.
+fn is_quit(reading: Reading) -> bool
+    ensures { result ≡ is_quit reading }
+{
+    match reading {
+        Reading::Quit => true,
+        Reading::Skipped | Reading::Wrong | Reading::Asked(_) => false,
+    }
+}
+
+/// Obeys a line, and writes the answer, if there is one. Answers how many bytes have gone out, where
+/// as many went out before as is said.
+fn obey<S: Places, W: Sink>(
+    alloc: Global,
+    debugger: &mut Debugger<S>,
+    reading: Reading,
+    before: u64,
+    writer: &mut W,
+    patience: &mut Patience,
+) -> Result<u64, RunFault>
+where
+    S: Drop,
+    ensures world { debugger.new.world ≡ debugger.old.world }
+    ensures session { debugger.new.session
+        ≡ moved S.rule debugger.old.world debugger.old.session reading }
+    ensures answers { GoOut (answered S.rule debugger.old.world debugger.old.session reading) before
+        (W.taken writer.old) (W.taken writer.new) result }
+    ensures counted { let answers = answered S.rule debugger.old.world debugger.old.session reading in
+        IfOk result (λ sent. sent ≡ min (before + length (concat answers)) most_counted) }
+    ensures fared { FaredWith (lent_writer (W.health writer.old) (W.health writer.new) result ∷ [])
+        patience.old patience.new }
+{
+    let text = answer_to(alloc, debugger, reading)?;
+    write_text(writer, text.as_slice(), before, patience)?;
+    Ok(before.saturating_add(text.len() as u64))
+}
+
+/// Goes where a line leads, and answers what is to be written for it.
+fn answer_to<S: Places>(
+    alloc: Global,
+    debugger: &mut Debugger<S>,
+    reading: Reading,
+) -> Result<Vec<u8>, AllocError>
+where
+    S: Drop,
+    ensures world { debugger.new.world ≡ debugger.old.world }
+    ensures session { debugger.new.session
+        ≡ moved S.rule debugger.old.world debugger.old.session reading }
+    ensures text { let answers = answered S.rule debugger.old.world debugger.old.session reading in
+        IfOk result (λ text. text.items ≡ concat answers) }
+{
+    let mut text = Vec::new(alloc);
+    match reading {
+        Reading::Skipped | Reading::Quit => {}
+        Reading::Wrong => text.extend_from_slice(b"?? NOT A COMMAND\n")?,
+        Reading::Asked(command) => {
+            debugger.obey(alloc, command);
+            push_answer(alloc, &mut text, debugger.machine(), command)?;
+        }
+    }
+    Ok(text)
+}

@@ -1,0 +1,13 @@
+//! Worked examples of the definitions: theorems about them alone, of lines read by hand.
+
+ghost use Rattle.l6_debug.specs.Worked.{OthersAreWrong, WordsStandApart};
+
+/// Words stand between blanks and tabs, and their letters are of either case.
+pub fn words_stand_apart()
+    ensures { WordsStandApart }
+{}
+
+/// What has no line in a table is no command.
+pub fn others_are_wrong()
+    ensures { OthersAreWrong }
+{}

@@ -1,0 +1,24 @@
+-- The places that are kept are those that are reached.
+use Rattle.std.proofs.Common.{◌≡◌, ℕ, Bool, false, List, ap, ◌∙◌, sym, subst, get_or}
+use Rattle.std.proofs.lemmas.List.Elements.{filter_agree}
+use Rattle.std.specs.List.{filter}
+use Rattle.std.specs.FinMap as places
+use Rattle.l6_steps.specs.State.{Memory}
+use Rattle.l6_draw.specs.Reach.{AreReached, is_reached, reached_places}
+use Rattle.l6_draw.proofs.Reaching.{are_reached}
+
+pub kept_is : (memory : Memory) (found kept : List ℕ) (marks : List Bool)
+    → found ≡ places.keys memory.blocks
+    → ((place : ℕ) → get_or marks place false ≡ is_reached memory place)
+    → kept ≡ filter (λ place. get_or marks place false) found → kept ≡ reached_places memory
+kept_is memory found kept marks all told is =
+    is ∙ filter_agree (λ place. get_or marks place false) (is_reached memory) told found
+    ∙ ap (filter (is_reached memory)) all
+
+pub kept_are_reached : (memory : Memory) (found kept : List ℕ) (marks : List Bool)
+    → found ≡ places.keys memory.blocks
+    → ((place : ℕ) → get_or marks place false ≡ is_reached memory place)
+    → kept ≡ filter (λ place. get_or marks place false) found → AreReached memory kept
+kept_are_reached memory found kept marks all told is =
+    subst (λ (reached : List ℕ). AreReached memory reached)
+    (sym (kept_is memory found kept marks all told is)) (are_reached memory)

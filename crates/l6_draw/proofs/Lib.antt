@@ -1,0 +1,12 @@
+pub mod Members
+pub mod Keys
+pub mod Counting
+pub mod Reaching
+pub mod Walking
+pub mod Letters
+pub mod Meeting
+pub mod Scanning
+pub mod Kept
+pub mod Summing
+pub mod Lines
+pub mod Stretches

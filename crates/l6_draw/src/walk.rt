@@ -1,0 +1,134 @@
+//! The walk over what is reached.
+
+ghost use Rattle.std.specs.Prelude.{◌≡◌, ℕ, ◌<◌, ◌≤◌, ◌++◌, ◌↔◌, false, [], length, replicate, slice_index_or, option_to_list, ◌^◌, IfOk, IsSome, IsTrue, OnOk};
+ghost use Rattle.l6_draw.specs.Reach.{held_by_bugs, held_in, is_reached};
+ghost use Rattle.l6_draw.specs.inner.Walk.{Walk as State, all_met, is_new, met};
+
+use crate::blocks::{bug, end_of, held_by, words_at};
+use l6_machine::Machine;
+use l6_prog::{DIGITS, NAMES};
+use l6_store::{Place, Places};
+use l6_word::Word;
+use std::alloc::{AllocError, Global};
+use std::marker::Model;
+
+/// Which places are marked, and at which of them the walk has still to look.
+#[derive(Drop)]
+struct Walk {
+    // by the number of the place
+    marks: Vec<bool>,
+    waiting: Vec<Place>,
+}
+
+impl Model for Walk {
+    ghost use Rattle.std.specs.Prelude.{◌≤◌, ◌^◌, length};
+    ghost use Rattle.std.specs.Coded.{codes};
+    ghost use Rattle.l6_draw.specs.inner.Walk.{Walk as State};
+
+    ghost Value = { State };
+
+    ghost coded = { Prim.hlevel (codes) };
+
+    ghost view = { λ walk. record { marks = walk.marks.items; waiting = walk.waiting.items } };
+
+    ghost invariant = { λ walk. length walk.marks.items ≤ 2 ^ 32 };
+}
+
+impl Walk {
+    /// None of the places before this one is marked yet, and there is room for so many blocks.
+    fn new(alloc: Global, end: Place, blocks: usize) -> Result<Self, AllocError>
+        ensures { IfOk result (λ walk. walk ≡ record { marks = replicate end false; waiting = [] }) }
+    {
+        Ok(Walk {
+            marks: vec![in alloc; false; end as usize]?,
+            waiting: Vec::with_capacity(alloc, blocks)?,
+        })
+    }
+
+    /// Whether a block begins at the place of this number, and it has no mark yet.
+    fn is_new<S: Places>(&self, store: &S, number: Word) -> bool
+        ensures value { result ≡ is_new (S.store store.now).blocks self.now.marks number }
+        ensures within { IsTrue result → number < length self.now.marks }
+        ensures place { IsTrue result → number < 2 ^ 32 }
+    {
+        let index = number.get() as usize;
+        index < self.marks.len() && !self.marks[index] && store.live(number).is_some()
+    }
+
+    /// Marks the place of this number if it is new.
+    #[tactic(auto, unfolding(crate::specs::inner::Walk::met))]
+    fn meet<S: Places>(&mut self, store: &S, number: Word) -> Result<(), AllocError>
+        ensures { OnOk result (self.new ≡ met (S.store store.now).blocks number self.old) }
+    {
+        if self.is_new(store, number) {
+            self.marks[number.get() as usize] = true;
+            self.waiting.push(number.get() as Place)?;
+        }
+        Ok(())
+    }
+
+    /// Meets what the bugs hold.
+    fn meet_bugs<S: Places>(&mut self, machine: &Machine<S>) -> Result<(), AllocError>
+        ensures { let memory = machine.now.moment.state.memory in
+            OnOk result (self.new ≡ all_met memory.blocks (held_by_bugs memory) self.old) }
+    {
+        for letter in DIGITS..NAMES {
+            self.meet(machine.store(), bug(machine, letter))?;
+        }
+        Ok(())
+    }
+
+    /// Meets what the fields hold in the block at a place.
+    fn meet_fields<S: Places>(
+        &mut self,
+        machine: &Machine<S>,
+        place: Place,
+    ) -> Result<(), AllocError>
+        ensures { let memory = machine.now.moment.state.memory in
+            OnOk result (self.new ≡ all_met memory.blocks (held_in memory place) self.old) }
+    {
+        let words = words_at(machine.store(), place);
+        for field in machine.definitions() {
+            if let Some(number) = held_by(words, *field) {
+                self.meet(machine.store(), number)?;
+            }
+        }
+        Ok(())
+    }
+
+    /// Takes a place at which the walk has still to look, if there is one.
+    fn next(&mut self) -> Option<Place>
+        ensures marks { self.new.marks ≡ self.old.marks }
+        ensures waiting { self.old.waiting ≡ self.new.waiting ++ option_to_list result }
+        ensures none { IsSome result ↔ (0 < length self.old.waiting) }
+    {
+        self.waiting.pop()
+    }
+}
+
+/// For each place whether it is reached, in a store with so many blocks.
+pub(crate) fn marks<S: Places>(
+    alloc: Global,
+    machine: &Machine<S>,
+    blocks: usize,
+) -> Result<Vec<bool>, AllocError>
+    ensures { IfOk result (λ marks. (place : ℕ) → slice_index_or marks.items place false
+        ≡ is_reached machine.now.moment.state.memory place) }
+{
+    let mut walk = Walk::new(alloc, end_of(machine.store().units()), blocks)?;
+    walk.meet_bugs(machine)?;
+    while let Some(place) = walk.next() {
+        walk.meet_fields(machine, place)?;
+    }
+    Ok(walk.marks)
+}
+
+/// Whether a place is marked.
+pub(crate) fn is_marked(marks: &[bool], place: Place) -> bool
+    ensures { result ≡ slice_index_or marks.now place false }
+{
+    match marks.get(place as usize) {
+        Some(mark) => *mark,
+        None => false,
+    }
+}

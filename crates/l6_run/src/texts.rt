@@ -1,0 +1,87 @@
+//! What is written of a deck that is not run: its image, and its listing.
+
+ghost use Rattle.std.specs.Prelude.{◌≡◌, ◌≤◌, length, [], ◌∷◌, IfOk, IfErr};
+ghost use Rattle.l6_card.specs.Numerals.{most_deck_bytes};
+ghost use Rattle.l6_run.specs.Patience.{FaredWith, lent_writer};
+ghost use Rattle.l6_run.specs.Serves.{IsUnwritten, Serves};
+ghost use Rattle.l6_run.specs.Texts.{RefusesCards, WritesImage, WritesListing};
+ghost use Rattle.l6_run.specs.inner.Running.{HasNoText};
+
+use crate::device::Sink;
+use crate::fault::{Part, RunFault};
+use crate::patience::Patience;
+use crate::transfer::write_text;
+use l6_asm::{assemble, listing};
+use l6_card::MAX_DECK_BYTES;
+use l6_image::text_of;
+use std::alloc::Global;
+
+/// Writes the text of a deck's image.
+///
+/// # Errors
+///
+/// Why the deck has none. Nothing went out then, unless it is a `Write`.
+pub fn write_deck_image<W: Sink>(
+    alloc: Global,
+    deck: &[u8],
+    writer: &mut W,
+    patience: &mut Patience,
+) -> Result<(), RunFault>
+    ensures done { Serves (λ _ text. WritesImage deck.now text) (RefusesCards deck.now)
+        (W.taken writer.old) (W.taken writer.new) result }
+    ensures unwritten { IsUnwritten result → writer.new ≡ writer.old }
+    ensures fared { FaredWith (lent_writer (W.health writer.old) (W.health writer.new) result ∷ [])
+        patience.old patience.new }
+{
+    if deck.len() > MAX_DECK_BYTES {
+        return Err(RunFault::TooLong(Part::Deck));
+    }
+    let text = image_of(alloc, deck)?;
+    write_text(writer, text.as_slice(), 0, patience)
+}
+
+/// The text of a deck's image.
+fn image_of(alloc: Global, deck: &[u8]) -> Result<Vec<u8>, RunFault>
+    requires { length deck.now ≤ most_deck_bytes }
+    ensures image { IfOk result (λ text. WritesImage deck.now text.items) }
+    ensures refuses { IfErr result (HasNoText (RefusesCards deck.now)) }
+{
+    let assembly = assemble(alloc, deck)?;
+    let text = text_of(alloc, assembly.program())?;
+    Ok(text)
+}
+
+/// Writes the listing of a deck.
+///
+/// # Errors
+///
+/// Why the deck has none. Nothing went out then, unless it is a `Write`.
+pub fn write_deck_listing<W: Sink>(
+    alloc: Global,
+    deck: &[u8],
+    writer: &mut W,
+    patience: &mut Patience,
+) -> Result<(), RunFault>
+    ensures done { Serves (λ _ text. WritesListing deck.now text) (RefusesCards deck.now)
+        (W.taken writer.old) (W.taken writer.new) result }
+    ensures unwritten { IsUnwritten result → writer.new ≡ writer.old }
+    ensures fared { FaredWith (lent_writer (W.health writer.old) (W.health writer.new) result ∷ [])
+        patience.old patience.new }
+{
+    if deck.len() > MAX_DECK_BYTES {
+        return Err(RunFault::TooLong(Part::Deck));
+    }
+    let text = listing_of(alloc, deck)?;
+    write_text(writer, text.as_slice(), 0, patience)
+}
+
+/// The listing of a deck.
+fn listing_of(alloc: Global, deck: &[u8]) -> Result<Vec<u8>, RunFault>
+    requires { length deck.now ≤ most_deck_bytes }
+    ensures listing { IfOk result (λ text. WritesListing deck.now text.items) }
+    ensures refuses { IfErr result (HasNoText (RefusesCards deck.now)) }
+{
+    let assembly = assemble(alloc, deck)?;
+    let text = listing(alloc, &assembly, deck)?;
+    Ok(text)
+}

@@ -1,0 +1,69 @@
+//! The image and the listing of a deck that a reader gives.
+
+ghost use Rattle.std.specs.Prelude.{◌≡◌, ◌+◌, [], ◌∷◌};
+ghost use Rattle.l6_card.specs.Numerals.{most_deck_bytes};
+ghost use Rattle.l6_run.specs.Patience.{Fared, lent_reader, lent_writer};
+ghost use Rattle.l6_run.specs.Runs.{WritesText};
+ghost use Rattle.l6_run.specs.Serves.{IsUnwritten};
+ghost use Rattle.l6_run.specs.Texts.{WritesImage, WritesListing};
+ghost use Rattle.l6_run.specs.Transfer.{GivesAtMost};
+ghost use Rattle.l6_run.specs.declared.fault.Part.TheVariants.{Deck};
+
+use crate::device::{Sink, Source};
+use crate::fault::{Part, RunFault};
+use crate::patience::Patience;
+use crate::texts::{write_deck_image, write_deck_listing};
+use crate::transfer::read_part;
+use std::alloc::Global;
+
+/// Reads a deck whole, and writes the text of its image.
+///
+/// # Errors
+///
+/// Why the deck has none, or not all of it went out. Nothing went out then, unless it is a `Write`.
+pub fn write_image<D: Source, W: Sink>(
+    alloc: Global,
+    deck: &mut D,
+    writer: &mut W,
+) -> Result<(), RunFault>
+    // What the reader gave, and what went out for it.
+    ensures done { WritesText WritesImage (D.left deck.old) (D.left deck.new)
+        (W.taken writer.old) (W.taken writer.new) result }
+    ensures unwritten { IsUnwritten result → writer.new ≡ writer.old }
+    ensures at_most { GivesAtMost (most_deck_bytes + 1) (D.left deck.old) (D.left deck.new) }
+
+    // How the devices fared.
+    ensures fared { Fared (
+        lent_reader Deck (D.health deck.old) (D.health deck.new) result ∷
+        lent_writer (W.health writer.old) (W.health writer.new) result ∷ []) }
+{
+    let mut patience = Patience::new();
+    let cards = read_part(alloc, deck, Part::Deck, &mut patience)?;
+    write_deck_image(alloc, cards.as_slice(), writer, &mut patience)
+}
+
+/// Reads a deck whole, and writes its listing.
+///
+/// # Errors
+///
+/// Why the deck has none, or not all of it went out. Nothing went out then, unless it is a `Write`.
+pub fn write_listing<D: Source, W: Sink>(
+    alloc: Global,
+    deck: &mut D,
+    writer: &mut W,
+) -> Result<(), RunFault>
+    // What the reader gave, and what went out for it.
+    ensures done { WritesText WritesListing (D.left deck.old) (D.left deck.new)
+        (W.taken writer.old) (W.taken writer.new) result }
+    ensures unwritten { IsUnwritten result → writer.new ≡ writer.old }
+    ensures at_most { GivesAtMost (most_deck_bytes + 1) (D.left deck.old) (D.left deck.new) }
+
+    // How the devices fared.
+    ensures fared { Fared (
+        lent_reader Deck (D.health deck.old) (D.health deck.new) result ∷
+        lent_writer (W.health writer.old) (W.health writer.new) result ∷ []) }
+{
+    let mut patience = Patience::new();
+    let cards = read_part(alloc, deck, Part::Deck, &mut patience)?;
+    write_deck_listing(alloc, cards.as_slice(), writer, &mut patience)
+}

@@ -1,0 +1,50 @@
+//! How many states a history runs through, and which it keeps, where there is memory for all. The states
+//! themselves are shown by sessions of the built program, in `tests/`.
+
+use l6_asm::assemble;
+use l6_debug::History;
+use l6_machine::Machine;
+use l6_steps::Limits;
+use l6_store::Buddy;
+use std::alloc::Global;
+use std::test::Fail;
+
+/// A statement that is followed by itself, a condition and an exit each time.
+const LOOP: &[u8] = b"L L\n";
+
+/// Limits that the run of the tests does not come to.
+const LIMITS: Limits = Limits {
+    steps: 100_000,
+    output: 0,
+};
+
+/// The history of the loop, at its start.
+fn history(alloc: Global) -> Result<History<Buddy>, Fail> {
+    let program = assemble(alloc, LOOP)?.into_program();
+    let store = Buddy::new(alloc, 1)?;
+    let machine = Machine::with_program(alloc, program, &[], store, LIMITS)?;
+    Ok(History::new(alloc, machine))
+}
+
+#[test]
+fn states_are_come_to_from_the_nearest_checkpoint(rt: HostRuntime) -> Result<(), Fail> {
+    let mut history = history(rt.alloc())?;
+    assert_eq!(rt; history.to(rt.alloc(), 10_000), 10_000);
+    assert_eq!(rt; history.to(rt.alloc(), 9_999), 1_807);
+    assert_eq!(rt; history.number(), 9_999);
+    assert_eq!(rt; history.kept(4_096), true);
+    assert_eq!(rt; history.kept(4_095), false);
+    assert_eq!(rt; history.to(rt.alloc(), 8_192), 0);
+    assert_eq!(rt; history.to(rt.alloc(), 8_191), 4_095);
+    Ok(())
+}
+
+#[test]
+fn the_oldest_checkpoint_gives_way(rt: HostRuntime) -> Result<(), Fail> {
+    let mut history = history(rt.alloc())?;
+    assert_eq!(rt; history.to(rt.alloc(), 69_632), 69_632);
+    assert_eq!(rt; history.kept(4_096), false);
+    assert_eq!(rt; history.kept(8_192), true);
+    assert_eq!(rt; history.to(rt.alloc(), 8_191), 8_191);
+    Ok(())
+}

@@ -1,0 +1,59 @@
+"""The largest job of all: each of its parts is as large as it may be, and so is all that it makes.
+
+Its deck has 1 MiB and 4,094 statements. It saves 1,024 contents and as many definitions, and makes
+1,024 calls that do not return. Then it takes characters from an input of 1 MiB, and prints 16 MiB.
+"""
+MOST = 1 << 20  # bytes of a deck, of an input and of commands
+OUTPUT = 1 << 24  # bytes that may be printed
+STATEMENTS = 4_094
+DEPTH = 1_024  # of each pushdown, and how many calls may wait
+
+TAKES = STATEMENTS - 6  # statements that take six characters each
+SHORT, LONG = b"=" * 16, b"ABCDEFGHIJKLMNOPQRSTUVWXYZ0123456789ABCDEFGHIJKLMNOPQRSTUVWX"
+PRINTS = OUTPUT // len(LONG)  # of the long text, which leave room for the short one
+WORDS = ["--steps", "1000000000", "--output", str(OUTPUT)]
+
+# A condition, each operation and each exit is a step; of those rounds that go on with a call, the exit
+# of the condition and that of the call are none. The last condition is a step, and the print that traps
+# is not.
+ROUND = 5 + 1 + 2
+STEPS = ROUND * (DEPTH - 1) + 5 + 2 + 2 + 3 * TAKES + 3 + 3 * PRINTS + 1
+ENDING = f"== TRAP 14 OUTPUT FULL AT {STATEMENTS - 1}.1 AFTER {STEPS} STEPS\n".encode("ascii")
+
+
+def deck() -> bytes:
+    """The deck, which a comment fills."""
+    cards = b"R (S,FC,A)(S,FD,N)(A,A,1)\n IF (A,E,1024) THEN OUT\n (R,DO)\nOUT (X,DO)\nX (B,IN,6)\n"
+    cards += b" (B,IN,6)\n" * (TAKES - 1) + b" (%b,PH)\nY (%b,PH) Y\n" % (SHORT, LONG)
+    return cards + b"*" * (MOST - len(cards) - 1) + b"\n"
+
+
+def characters() -> bytes:
+    """The input: lines of 80 characters."""
+    return (b"ABCDEFGHIJ" * 8 + b"\n") * (MOST // 81) + b"A" * (MOST % 81)
+
+
+def run_job() -> tuple[list[str], bytes, bytes]:
+    """The program's words, the job and the printout of a run."""
+    return ["run", *WORDS], deck() + b"$INPUT\n" + characters(), output() + b"\n" + ENDING
+
+
+def output() -> bytes:
+    """All that is printed."""
+    return SHORT + LONG * PRINTS
+
+
+def debug_job() -> tuple[list[str], bytes, bytes]:
+    """The program's words, the job and the transcript of a session with as many commands as may be."""
+    stays = (MOST - len("go\nshow\nout\n")) // len("step 0\n")
+    commands = b"go\n" + b"step 0\n" * stays + b"show\nout\n"
+    commands += b"\n" * (MOST - len(commands))
+    taken = 6 * TAKES
+    last = "".join("ABCDEFGHIJ"[at % 80 % 10] for at in range(taken - 6, taken))
+    value = sum((ord(character) - 32) << 6 * power for power, character in enumerate(reversed(last)))
+    shown = f"A {DEPTH:012o} {DEPTH}\nB {value:012o} {value}\n"
+    shown += f"CONTENTS {DEPTH} DEFINITIONS {DEPTH} RETURNS {DEPTH} INPUT {taken} OUTPUT {OUTPUT}\n"
+    shown += f"OUTPUT {OUTPUT} BYTES\n"
+    transcript = ENDING * (1 + stays + 1) + shown.encode("ascii") + output() + b"\n"
+    job = deck() + b"$COMMANDS\n" + commands + b"$INPUT\n" + characters()
+    return ["debug", *WORDS], job, transcript

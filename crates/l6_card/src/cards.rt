@@ -96,7 +96,7 @@ impl Written {
     }
 }
 
-/// What a deck says: its statements in order, at most 4,094.
+/// What a deck says: its statements in order, at most 65,534.
 #[derive(Debug, Drop)]
 pub struct Cards {
     statements: Vec<Written>,

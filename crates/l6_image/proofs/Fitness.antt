@@ -16,12 +16,15 @@ use Rattle.l6_image.specs.Bits.{item, six}
 use Rattle.l6_image.specs.Numerals.{no_name}
 use Rattle.l6_image.specs.Row.{Slot, absent, chain, number, text, Row, sixes, slot_words, row_head, row_words, is_name, is_word, is_slot, is_row}
 use Rattle.l6_image.specs.Table.{row_of, row_of_test}
-use Rattle.l6_image.specs.Image.{header, test_words, operation_words, statement_words, body, words_of, HasImage, target_count, has_values}
+use Rattle.l6_image.specs.Image.{header, test_words, operation_words, words_in_statement, body, words_in, HasImage, has_values}
+use Rattle.l6_image.specs.Version.{mark, most_in}
+use Rattle.l6_image.specs.declared.version.Version.{Version}
+use Rattle.l6_image.specs.declared.version.Version.TheVariants.{One, Two}
 use Rattle.l6_image.proofs.Packing.{packed-below}
 use Rattle.l6_image.proofs.Slots.{item-below, name-small, code-small, text-known, length-sixes}
 use Rattle.l6_image.proofs.Found.{Known, head_fields, head_fit}
 use Rattle.l6_image.proofs.Knowing.{Each, KnownStatement, known_program, known_parts, KnownOperation, known_test, known_operation, known_statement}
-use Rattle.l6_image.proofs.Programs.{header_fields, header_fit}
+use Rattle.l6_image.proofs.Programs.{header_fields, header_fit, most-below}
 
 -- these are words, and at most so many
 pub record Fine (most : ℕ) (these : List ℕ) : Type 0 where
@@ -123,58 +126,69 @@ fine-slot (text codes) known =
       count = omega (arith, length-sixes codes, is.few);
     })
 
-fine-row : (row : Row) → Known row → Fine most_of_row (row_words row)
-fine-row row known =
-    let a = slot_words row.first in
-    let b = slot_words row.second in
-    let c = slot_words row.third in
-    fine-cons (most_of_slot + most_of_slot + most_of_slot) (row_head row) (a ++ b ++ c)
-    (packed-below (head_fields row) (head_fit row known))
-    (fine-append (most_of_slot + most_of_slot) most_of_slot (a ++ b) c
-    (fine-append most_of_slot most_of_slot a b (fine-slot row.first known.first)
-    (fine-slot row.second known.second))
-    (fine-slot row.third known.third))
+mark_words : (version : Version) → is_word (mark version) ≡ true
+mark_words One = refl
+mark_words Two = refl
 
-fine-test : (test : Test) → is_row (row_of_test test) ≡ true → Fine most_of_row (test_words test)
-fine-test test known = fine-row (row_of_test test) (known_test test known)
+module _ (version : Version) where
+  fine-row : (row : Row) → Known version row → Fine most_of_row (row_words version row)
+  fine-row row known =
+      let a = slot_words row.first in
+      let b = slot_words row.second in
+      let c = slot_words row.third in
+      fine-cons (most_of_slot + most_of_slot + most_of_slot) (row_head version row) (a ++ b ++ c)
+      (packed-below (head_fields version row) (head_fit version row known))
+      (fine-append (most_of_slot + most_of_slot) most_of_slot (a ++ b) c
+      (fine-append most_of_slot most_of_slot a b (fine-slot row.first known.first)
+      (fine-slot row.second known.second))
+      (fine-slot row.third known.third))
 
-fine-operation : (operation : Op ℕ) → KnownOperation operation →
-    Fine most_of_row (operation_words operation)
-fine-operation operation known =
-    fine-row (row_of operation) (known_operation operation known.values known.targets)
+  fine-test : (test : Test) → is_row (row_of_test test) ≡ true → Fine most_of_row (test_words version test)
+  fine-test test known = fine-row (row_of_test test) (known_test version test known)
 
-pub fine-statement : (s : Parts) → KnownStatement s → Fine most_of_statement (statement_words s)
-fine-statement s known =
-    let parts = known_parts s known in
-    let tests = fine-flat_map (λ test. is_row (row_of_test test) ≡ true) test_words most_of_row
-    fine-test s.tests parts.tests in
-    let operations = fine-flat_map KnownOperation operation_words most_of_row fine-operation
-    s.operations parts.operations in
-    let all = flat_map test_words s.tests ++ flat_map operation_words s.operations in
-    fine-more (1 + (length s.tests * most_of_row + length s.operations * most_of_row))
-    most_of_statement (header s ∷ all) (omega (arith, known.tests, known.operations))
-    (fine-cons (length s.tests * most_of_row + length s.operations * most_of_row) (header s) all
-    (packed-below (header_fields s) (header_fit s known))
-    (fine-append (length s.tests * most_of_row) (length s.operations * most_of_row)
-    (flat_map test_words s.tests) (flat_map operation_words s.operations) tests operations))
+  fine-operation : (operation : Op ℕ) → KnownOperation version operation →
+      Fine most_of_row (operation_words version operation)
+  fine-operation operation known =
+      fine-row (row_of operation) (known_operation version operation known.values known.targets)
 
--- the words of a program are words
-pub words_of-words : (program : List Parts) → HasImage program →
-    list_all is_word (words_of program) ≡ true
-unfolding words_of
-words_of-words program has =
-    let known = known_program program has in
-    let fine = fine-flat_map KnownStatement statement_words most_of_statement fine-statement
-    program known.each in
-    rw (
-      is_word-below (length program) (omega (arith, known.count)),
-      is_word-below (length (body program)) (omega (arith, known.count, fine.count)),
-      fine.words,
-    ) refl
+  pub fine-statement : (s : Parts) → KnownStatement version s → Fine most_of_statement (words_in_statement version s)
+  fine-statement s known =
+      let parts = known_parts version s known in
+      let tests = fine-flat_map (λ test. is_row (row_of_test test) ≡ true) (test_words version) most_of_row
+      fine-test s.tests parts.tests in
+      let operations = fine-flat_map (KnownOperation version) (operation_words version) most_of_row fine-operation
+      s.operations parts.operations in
+      let all = flat_map (test_words version) s.tests ++ flat_map (operation_words version) s.operations in
+      fine-more (1 + (length s.tests * most_of_row + length s.operations * most_of_row))
+      most_of_statement (header s ∷ all) (omega (arith, known.tests, known.operations))
+      (fine-cons (length s.tests * most_of_row + length s.operations * most_of_row) (header s) all
+      (packed-below (header_fields s) (header_fit version s known))
+      (fine-append (length s.tests * most_of_row) (length s.operations * most_of_row)
+      (flat_map (test_words version) s.tests) (flat_map (operation_words version) s.operations) tests operations))
 
--- so are those of a statement whose targets can be told apart
-pub statement_words-words : (s : Parts) → fits s ≡ true → has_values s ≡ true →
-    list_all (is_below target_count) (targets_of s) ≡ true →
-    list_all is_word (statement_words s) ≡ true
-statement_words-words s fit values targets =
-    (fine-statement s (known_statement s fit values targets)).words
+  -- the mark is a word
+  mark-word : is_word (mark version) ≡ true
+  mark-word = mark_words version
+
+  -- the words of a program are words
+  pub words_in-words : (program : List Parts) → HasImage version program →
+      list_all is_word (words_in version program) ≡ true
+  unfolding words_in
+  words_in-words program has =
+      let known = known_program version program has in
+      let fine = fine-flat_map (KnownStatement version) (words_in_statement version) most_of_statement fine-statement
+      program known.each in
+      rw (
+        mark-word,
+        is_word-below (length program) (omega (arith, known.count, most-below version)),
+        is_word-below (length (body version program))
+            (omega (arith, known.count, fine.count, most-below version)),
+        fine.words,
+      ) refl
+
+  -- so are those of a statement whose targets can be told apart
+  pub statement_words-words : (s : Parts) → fits s ≡ true → has_values s ≡ true →
+      list_all (is_below (most_in version)) (targets_of s) ≡ true →
+      list_all is_word (words_in_statement version s) ≡ true
+  statement_words-words s fit values targets =
+      (fine-statement s (known_statement version s fit values targets)).words

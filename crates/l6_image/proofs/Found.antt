@@ -1,8 +1,8 @@
 -- Rows are found again in their words, and tests and operations in their rows.
-use Rattle.std.proofs.Common.{◌≡◌, ℕ, ◌/◌, ◌%◌, ◌^◌, ◌<◌, List, [], ◌∷◌, ◌++◌, get_or, true, Option, Some, None, refl, ap, ◌∙◌, arith, append_assoc}
+use Rattle.std.proofs.Common.{◌≡◌, ℕ, ◌-◌, ◌/◌, ◌%◌, ◌^◌, ◌<◌, List, [], ◌∷◌, ◌++◌, suc, get_or, nat_eq, true, false, Option, Some, None, refl, ap, ◌∙◌, arith, append_assoc}
 use Rattle.std.specs.Prelude.{◌&&◌, unwrap_or, option_to_list}
 use Rattle.std.specs.List.{list_all}
-use Rattle.std.proofs.lemmas.Bool.{and_parts, ltb-true, lt-ltb}
+use Rattle.std.proofs.lemmas.Bool.{and_parts, ltb-true, lt-ltb, ne_eqb}
 use Rattle.l6_prog.specs.declared.condition.Test.{Test}
 use Rattle.l6_prog.specs.declared.condition.Comparison.{Comparison}
 use Rattle.l6_prog.specs.declared.condition.Comparison.TheVariants.{Equal, NotEqual, Greater, Less, AllOnes, AllZeros}
@@ -15,7 +15,9 @@ use Rattle.l6_prog.specs.Chain.{is_chain}
 use Rattle.l6_prog.specs.Target.{is_below, targets_of_operation}
 use Rattle.l6_image.specs.Numerals.{no_name}
 use Rattle.l6_image.specs.Bits.{Field, bits}
-use Rattle.l6_image.specs.Version.{flag, label_fields}
+use Rattle.l6_image.specs.Version.{label_number, most_in}
+use Rattle.l6_image.specs.declared.version.Version.{Version}
+use Rattle.l6_image.specs.declared.version.Version.TheVariants.{One, Two}
 use Rattle.l6_image.specs.Row.{Slot, absent, chain, number, text, Row, row, kind, slot_words, row_head, row_words, is_name, is_slot, is_field, is_row}
 use Rattle.l6_image.specs.Table.{operand, operand_if_given, chain_if_given, code_of_comparison, row_of, row_of_test}
 use Rattle.l6_image.specs.inner.Fields.{name_if, label_in}
@@ -25,13 +27,13 @@ use Rattle.l6_image.proofs.Packing.{AllFit, unpacked, unpacked-packed, values}
 use Rattle.l6_image.proofs.Slots.{slot-again}
 
 -- what is known of a row of a program
-pub record Known (row : Row) : Type 0 where
+pub record Known (version : Version) (row : Row) : Type 0 where
   pub code : row.code < 2 ^ 6
   pub first : is_slot row.first ≡ true
   pub second : is_slot row.second ≡ true
   pub third : is_slot row.third ≡ true
   pub field : is_field row.field ≡ true
-  pub label : unwrap_or row.label 0 < 2 ^ 12
+  pub label : unwrap_or row.label 0 < most_in version
 
 -- the parts of a row that are known
 record Parts (row : Row) : Type 0 where
@@ -51,9 +53,9 @@ parts_of row known =
     let one = and_parts a b two.0 in
     record { first = one.0; second = one.1; third = two.1; field = three.1 }
 
-pub known_row : (row : Row) → row.code < 2 ^ 6 → unwrap_or row.label 0 < 2 ^ 12 →
-    is_row row ≡ true → Known row
-known_row row code label known =
+pub known_row : (version : Version) (row : Row) → row.code < 2 ^ 6 →
+    unwrap_or row.label 0 < most_in version → is_row row ≡ true → Known version row
+known_row version row code label known =
     let is = parts_of row known in
     record {
       code = code;
@@ -64,7 +66,7 @@ known_row row code label known =
       label = label;
     }
 
--- the number of a kind has two bits, that of a name six, and the flag one
+-- the number of a kind has two bits, that of a name six
 pub kind-below : (slot : Slot) → kind slot < 2 ^ 2
 kind-below absent = omega arith
 kind-below (chain names) = omega arith
@@ -75,18 +77,23 @@ pub field-below : (field : Option ℕ) → is_field field ≡ true → unwrap_or
 field-below None known = omega arith
 field-below (Some name) known = omega (arith, ltb-true name name_count known)
 
-pub flag-below : (label : Option ℕ) → flag label < 2 ^ 1
-flag-below None = omega arith
-flag-below (Some label) = omega arith
+-- and that of a label eighteen
+pub label-below : (version : Version) (label : Option ℕ) → unwrap_or label 0 < most_in version →
+    label_number version label < 2 ^ 18
+label-below version None below = omega arith
+label-below One (Some label) below = omega (arith, below)
+label-below Two (Some label) below = omega (arith, below)
 
 -- the fields of a row's first word, which have room for what they hold
-abbrev pub head_fields : Row → List Field
-head_fields row =
+abbrev pub head_fields : Version → Row → List Field
+head_fields version row =
     bits 6 row.code ∷ bits 2 (kind row.first) ∷ bits 2 (kind row.second)
-    ∷ bits 2 (kind row.third) ∷ bits 6 (unwrap_or row.field no_name) ∷ label_fields row.label
+    ∷ bits 2 (kind row.third) ∷ bits 6 (unwrap_or row.field no_name)
+    ∷ bits 18 (label_number version row.label) ∷ []
 
-pub head_fit : (row : Row) → Known row → AllFit (head_fields row)
-head_fit row known = (
+pub head_fit : (version : Version) (row : Row) → Known version row →
+    AllFit (head_fields version row)
+head_fit version row known = (
   known.code,
   (
     kind-below row.first,
@@ -96,13 +103,7 @@ head_fit row known = (
         kind-below row.third,
         (
           field-below row.field known.field,
-          (
-            omega arith,
-            (
-              flag-below row.label,
-              (known.label, tt),
-            ),
-          ),
+          (label-below version row.label known.label, tt),
         ),
       ),
     ),
@@ -116,28 +117,43 @@ name_if-again None known = refl
 name_if-again (Some name) known = rw known refl
 
 -- a label is found again in its bits
-label_in-again : (word : ℕ) (label : Option ℕ) → word / 2 ^ 12 % 2 ≡ flag label →
-    word % 2 ^ 12 ≡ unwrap_or label 0 → label_in word ≡ label
-label_in-again word None flagged is = rw flagged refl
-label_in-again word (Some label) flagged is = rw (flagged, is) refl
+label_in-again : (version : Version) (word : ℕ) (label : Option ℕ) →
+    unwrap_or label 0 < most_in version → word % 2 ^ 18 ≡ label_number version label →
+    label_in version word ≡ label
+label_in-again One word None below is =
+    let flagged : word / 2 ^ 12 % 2 ≡ 0 = omega (arith, is) in
+    rw flagged refl
+label_in-again One word (Some label) below is =
+    let flagged : word / 2 ^ 12 % 2 ≡ 1 = omega (arith, is, below) in
+    let told : word % 2 ^ 12 ≡ label = omega (arith, is, below) in
+    rw (flagged, told) refl
+label_in-again Two word None below is =
+    let told : word % 2 ^ 16 ≡ 0 = omega (arith, is) in
+    rw told refl
+label_in-again Two word (Some label) below is =
+    let told : word % 2 ^ 16 ≡ suc label = omega (arith, is, below) in
+    let some : nat_eq (word % 2 ^ 16) 0 ≡ false =
+    ne_eqb (word % 2 ^ 16) 0 (λ none. absurd (omega (arith, told, none))) in
+    let less : word % 2 ^ 16 - 1 ≡ label = omega (arith, told) in
+    rw (some, less) refl
 
 -- a row is found again in words that begin with one that has its fields
-row_at-again : (row : Row) (head : ℕ) (rest : List ℕ) → Known row →
-    unpacked (6 ∷ 2 ∷ 2 ∷ 2 ∷ 6 ∷ 5 ∷ 1 ∷ 12 ∷ []) head ≡ values (head_fields row) →
-    row_at (head ∷ slot_words row.first ++ (slot_words row.second ++ (slot_words row.third ++ rest)))
+row_at-again : (version : Version) (row : Row) (head : ℕ) (rest : List ℕ) →
+    Known version row →
+    unpacked (6 ∷ 2 ∷ 2 ∷ 2 ∷ 6 ∷ 18 ∷ []) head ≡ values (head_fields version row) →
+    row_at version (head ∷ slot_words row.first ++ (slot_words row.second ++ (slot_words row.third ++ rest)))
     ≡ Some (row, rest)
 unfolding row_at
-row_at-again row head rest known is =
+row_at-again version row head rest known is =
     let at = λ (place : ℕ). ap (λ (xs : List ℕ). get_or xs place 0) is in
     let code : head / 2 ^ 30 % 64 ≡ row.code = at 0 in
     let first : head / 2 ^ 28 % 4 ≡ kind row.first = at 1 in
     let second : head / 2 ^ 26 % 4 ≡ kind row.second = at 2 in
     let third : head / 2 ^ 24 % 4 ≡ kind row.third = at 3 in
     let field : head / 2 ^ 18 % 64 ≡ unwrap_or row.field no_name = at 4 in
-    let flagged : head / 2 ^ 12 % 2 ≡ flag row.label = at 6 in
     let whole : head ≡ head / 1 = omega arith in
-    let labelled : head % 2 ^ 12 ≡ unwrap_or row.label 0 =
-    ap (λ n. n % 2 ^ 12) whole ∙ at 7 in
+    let labelled : head % 2 ^ 18 ≡ label_number version row.label =
+    ap (λ n. n % 2 ^ 18) whole ∙ at 5 in
     rw (
       first,
       slot-again row.first (slot_words row.second ++ (slot_words row.third ++ rest))
@@ -149,21 +165,21 @@ row_at-again row head rest known is =
       code,
       field,
       name_if-again row.field known.field,
-      label_in-again head row.label flagged labelled,
+      label_in-again version head row.label known.label labelled,
     ) refl
 
 -- a row is found again in its words, and what follows them
-pub row-again : (row : Row) (rest : List ℕ) → Known row →
-    row_at (row_words row ++ rest) ≡ Some (row, rest)
-row-again row rest known =
+pub row-again : (version : Version) (row : Row) (rest : List ℕ) → Known version row →
+    row_at version (row_words version row ++ rest) ≡ Some (row, rest)
+row-again version row rest known =
     let a = slot_words row.first in
     let b = slot_words row.second in
     let c = slot_words row.third in
     let regrouped : (a ++ b ++ c) ++ rest ≡ a ++ (b ++ (c ++ rest)) =
     append_assoc (a ++ b) c rest ∙ append_assoc a b (c ++ rest) in
-    ap (λ xs. row_at (row_head row ∷ xs)) regrouped
-    ∙ row_at-again row (row_head row) rest known
-    (unpacked-packed (head_fields row) (head_fit row known))
+    ap (λ xs. row_at version (row_head version row ∷ xs)) regrouped
+    ∙ row_at-again version row (row_head version row) rest known
+    (unpacked-packed (head_fields version row) (head_fit version row known))
 
 -- operands are found again in their slots
 chain-again : (names : List ℕ) → is_slot (chain names) ≡ true → chain_in (chain names) ≡ Some names

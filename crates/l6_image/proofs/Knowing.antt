@@ -19,7 +19,10 @@ use Rattle.l6_prog.proofs.Programs.{takes_just_programs}
 use Rattle.l6_prog.proofs.Targets.{list_all-flat_map}
 use Rattle.l6_image.specs.Row.{is_row}
 use Rattle.l6_image.specs.Table.{code_of_comparison, row_of, row_of_test}
-use Rattle.l6_image.specs.Image.{exit_target, target_count, has_values, HasImage}
+use Rattle.l6_image.specs.Image.{exit_target, has_values, HasImage}
+use Rattle.l6_image.specs.Version.{most_in}
+use Rattle.l6_image.specs.declared.version.Version.{Version}
+use Rattle.l6_image.specs.declared.version.Version.TheVariants.{One, Two}
 use Rattle.l6_image.proofs.Found.{Known, known_row}
 
 -- so it is with each of a list
@@ -44,188 +47,192 @@ below-more end later (target ∷ targets) more each =
     let below : target < later = omega (arith, ltb-true target end parts.0, more) in
     rw (lt-ltb target later below, below-more end later targets more parts.1) refl
 
--- what is known of a statement of a program
-pub record KnownStatement (s : Parts) : Type 0 where
-  pub tests : length s.tests ≤ most_tests
-  pub operations : length s.operations ≤ most_operations
-  pub values : has_values s ≡ true
-  pub targets : list_all (is_below target_count) (targets_of s) ≡ true
+-- a program of each version may have a statement
+some-most : (version : Version) → 0 < most_in version
+some-most One = omega arith
+some-most Two = omega arith
 
-pub known_statement : (s : Parts) → fits s ≡ true → has_values s ≡ true →
-    list_all (is_below target_count) (targets_of s) ≡ true → KnownStatement s
-known_statement s fit values targets =
-    let tests = nat_le (length s.tests) most_tests in
-    let operations = nat_le (length s.operations) most_operations in
-    let parts = and_parts tests operations fit in
-    record {
-      tests = leb-true (length s.tests) most_tests parts.0;
-      operations = leb-true (length s.operations) most_operations parts.1;
-      values = values;
-      targets = targets;
-    }
+module _ (version : Version) where
+  -- what is known of a statement of a program
+  pub record KnownStatement (s : Parts) : Type 0 where
+    pub tests : length s.tests ≤ most_tests
+    pub operations : length s.operations ≤ most_operations
+    pub values : has_values s ≡ true
+    pub targets : list_all (is_below (most_in version)) (targets_of s) ≡ true
 
-known_statements : (program : List Parts) → list_all fits program ≡ true →
-    list_all has_values program ≡ true →
-    list_all (λ s. list_all (is_below target_count) (targets_of s)) program ≡ true →
-    Each KnownStatement program
-known_statements [] fit values targets = tt
-known_statements (s ∷ program) fit values targets =
-    let below = λ (s : Parts). list_all (is_below target_count) (targets_of s) in
-    let a = and_parts (fits s) (list_all fits program) fit in
-    let b = and_parts (has_values s) (list_all has_values program) values in
-    let c = and_parts (below s) (list_all below program) targets in
-    (known_statement s a.0 b.0 c.0, known_statements program a.1 b.1 c.1)
+  pub known_statement : (s : Parts) → fits s ≡ true → has_values s ≡ true →
+      list_all (is_below (most_in version)) (targets_of s) ≡ true → KnownStatement s
+  known_statement s fit values targets =
+      let tests = nat_le (length s.tests) most_tests in
+      let operations = nat_le (length s.operations) most_operations in
+      let parts = and_parts tests operations fit in
+      record {
+        tests = leb-true (length s.tests) most_tests parts.0;
+        operations = leb-true (length s.operations) most_operations parts.1;
+        values = values;
+        targets = targets;
+      }
 
--- what is known of a program
-pub record KnownProgram (program : List Parts) : Type 0 where
-  pub count : length program ≤ most_statements
-  pub each : Each KnownStatement program
+  known_statements : (program : List Parts) → list_all fits program ≡ true →
+      list_all has_values program ≡ true →
+      list_all (λ s. list_all (is_below (most_in version)) (targets_of s)) program ≡ true →
+      Each KnownStatement program
+  known_statements [] fit values targets = tt
+  known_statements (s ∷ program) fit values targets =
+      let below = λ (s : Parts). list_all (is_below (most_in version)) (targets_of s) in
+      let a = and_parts (fits s) (list_all fits program) fit in
+      let b = and_parts (has_values s) (list_all has_values program) values in
+      let c = and_parts (below s) (list_all below program) targets in
+      (known_statement s a.0 b.0 c.0, known_statements program a.1 b.1 c.1)
 
-pub known_program : (program : List Parts) → HasImage program → KnownProgram program
-known_program program has =
-    let is = (takes_just_programs program).0 has.taken in
-    let few = nat_le (length program) most_statements in
-    let parts = and_parts few (list_all fits program) is.limits in
-    let count : length program ≤ most_statements =
-    leb-true (length program) most_statements parts.0 in
-    let below : list_all (is_below target_count) (flat_map targets_of program) ≡ true =
-    below-more (length program) target_count (flat_map targets_of program)
-    (omega (arith, count)) is.targets in
-    record {
-      count = count;
-      each = known_statements program parts.1 has.values
-          (sym (list_all-flat_map (is_below target_count) targets_of program) ∙ below);
-    }
+  -- what is known of a program
+  pub record KnownProgram (program : List Parts) : Type 0 where
+    pub count : length program ≤ most_in version
+    pub each : Each KnownStatement program
 
--- a label is below an end, or there is none
-label-below : (label : Option ℕ) →
-    list_all (is_below target_count) (option_to_list label) ≡ true →
-    unwrap_or label 0 < target_count
-label-below None each = omega arith
-label-below (Some label) each =
-    ltb-true label target_count (and_parts (is_below target_count label) true each).0
+  pub known_program : (program : List Parts) → HasImage version program → KnownProgram program
+  known_program program has =
+      let is = (takes_just_programs program).0 has.taken in
+      let few = nat_le (length program) most_statements in
+      let parts = and_parts few (list_all fits program) is.limits in
+      let below : list_all (is_below (most_in version)) (flat_map targets_of program) ≡ true =
+      below-more (length program) (most_in version) (flat_map targets_of program)
+      has.few is.targets in
+      record {
+        count = has.few;
+        each = known_statements program parts.1 has.values
+            (sym (list_all-flat_map (is_below (most_in version)) targets_of program) ∙ below);
+      }
 
--- the code of a test has six bits
-code-below : (comparison : Comparison) → code_of_comparison comparison < 2 ^ 6
-code-below Equal = omega arith
-code-below NotEqual = omega arith
-code-below Greater = omega arith
-code-below Less = omega arith
-code-below AllOnes = omega arith
-code-below AllZeros = omega arith
+  -- a label is below an end, or there is none
+  label-below : (label : Option ℕ) →
+      list_all (is_below (most_in version)) (option_to_list label) ≡ true →
+      unwrap_or label 0 < (most_in version)
+  label-below None each = some-most version
+  label-below (Some label) each =
+      ltb-true label (most_in version) (and_parts (is_below (most_in version) label) true each).0
 
--- the row of a test is known
-pub known_test : (test : Test) → is_row (row_of_test test) ≡ true → Known (row_of_test test)
-known_test test known =
-    known_row (row_of_test test) (code-below test.comparison) (omega arith) known
+  -- the code of a test has six bits
+  code-below : (comparison : Comparison) → code_of_comparison comparison < 2 ^ 6
+  code-below Equal = omega arith
+  code-below NotEqual = omega arith
+  code-below Greater = omega arith
+  code-below Less = omega arith
+  code-below AllOnes = omega arith
+  code-below AllZeros = omega arith
 
--- so is that of an operation
-pub known_operation : (operation : Op ℕ) → is_row (row_of operation) ≡ true →
-    list_all (is_below target_count) (targets_of_operation operation) ≡ true →
-    Known (row_of operation)
-known_operation (Set c v) known _ =
-    known_row (row_of (Set c v)) (omega arith) (omega arith) known
-known_operation (Add c v) known _ =
-    known_row (row_of (Add c v)) (omega arith) (omega arith) known
-known_operation (Subtract c v) known _ =
-    known_row (row_of (Subtract c v)) (omega arith) (omega arith) known
-known_operation (Multiply c v) known _ =
-    known_row (row_of (Multiply c v)) (omega arith) (omega arith) known
-known_operation (Divide c v) known _ =
-    known_row (row_of (Divide c v)) (omega arith) (omega arith) known
-known_operation (Remainder c v) known _ =
-    known_row (row_of (Remainder c v)) (omega arith) (omega arith) known
-known_operation (And c v) known _ =
-    known_row (row_of (And c v)) (omega arith) (omega arith) known
-known_operation (Or c v) known _ =
-    known_row (row_of (Or c v)) (omega arith) (omega arith) known
-known_operation (ExclusiveOr c v) known _ =
-    known_row (row_of (ExclusiveOr c v)) (omega arith) (omega arith) known
-known_operation (Complement c v) known _ =
-    known_row (row_of (Complement c v)) (omega arith) (omega arith) known
-known_operation (ShiftLeft c v) known _ =
-    known_row (row_of (ShiftLeft c v)) (omega arith) (omega arith) known
-known_operation (ShiftRight c v) known _ =
-    known_row (row_of (ShiftRight c v)) (omega arith) (omega arith) known
-known_operation (Exchange c d) known _ =
-    known_row (row_of (Exchange c d)) (omega arith) (omega arith) known
-known_operation (Define f w a z) known _ =
-    known_row (row_of (Define f w a z)) (omega arith) (omega arith) known
-known_operation (SaveContent c) known _ =
-    known_row (row_of (SaveContent c)) (omega arith) (omega arith) known
-known_operation (RestoreContent c) known _ =
-    known_row (row_of (RestoreContent c)) (omega arith) (omega arith) known
-known_operation (SaveDefinition f) known _ =
-    known_row (row_of (SaveDefinition f)) (omega arith) (omega arith) known
-known_operation (RestoreDefinition f) known _ =
-    known_row (row_of (RestoreDefinition f)) (omega arith) (omega arith) known
-known_operation (Get c v d label) known below =
-    known_row (row_of (Get c v d label)) (omega arith) (label-below label below) known
-known_operation (Duplicate c v label) known below =
-    known_row (row_of (Duplicate c v label)) (omega arith) (label-below label below) known
-known_operation (Free c v) known _ =
-    known_row (row_of (Free c v)) (omega arith) (omega arith) known
-known_operation (Call called fail) known below =
-    let others = (and_parts (is_below target_count called)
-    (list_all (is_below target_count) (option_to_list fail)) below).1 in
-    known_row (row_of (Call called fail)) (omega arith) (label-below fail others) known
-known_operation (Input c v label) known below =
-    known_row (row_of (Input c v label)) (omega arith) (label-below label below) known
-known_operation (PrintCharacters c v) known _ =
-    known_row (row_of (PrintCharacters c v)) (omega arith) (omega arith) known
-known_operation (PrintDecimal c) known _ =
-    known_row (row_of (PrintDecimal c)) (omega arith) (omega arith) known
-known_operation (PrintOctal c) known _ =
-    known_row (row_of (PrintOctal c)) (omega arith) (omega arith) known
-known_operation (PrintText codes) known _ =
-    known_row (row_of (PrintText codes)) (omega arith) (omega arith) known
-known_operation PrintLine known _ =
-    known_row (row_of PrintLine) (omega arith) (omega arith) known
+  -- the row of a test is known
+  pub known_test : (test : Test) → is_row (row_of_test test) ≡ true → Known version (row_of_test test)
+  known_test test known =
+      known_row version (row_of_test test) (code-below test.comparison) (some-most version) known
 
--- what is known of an operation of a program
-pub record KnownOperation (operation : Op ℕ) : Type 0 where
-  pub values : is_row (row_of operation) ≡ true
-  pub targets : list_all (is_below target_count) (targets_of_operation operation) ≡ true
+  -- so is that of an operation
+  pub known_operation : (operation : Op ℕ) → is_row (row_of operation) ≡ true →
+      list_all (is_below (most_in version)) (targets_of_operation operation) ≡ true →
+      Known version (row_of operation)
+  known_operation (Set c v) known _ =
+      known_row version (row_of (Set c v)) (omega arith) (some-most version) known
+  known_operation (Add c v) known _ =
+      known_row version (row_of (Add c v)) (omega arith) (some-most version) known
+  known_operation (Subtract c v) known _ =
+      known_row version (row_of (Subtract c v)) (omega arith) (some-most version) known
+  known_operation (Multiply c v) known _ =
+      known_row version (row_of (Multiply c v)) (omega arith) (some-most version) known
+  known_operation (Divide c v) known _ =
+      known_row version (row_of (Divide c v)) (omega arith) (some-most version) known
+  known_operation (Remainder c v) known _ =
+      known_row version (row_of (Remainder c v)) (omega arith) (some-most version) known
+  known_operation (And c v) known _ =
+      known_row version (row_of (And c v)) (omega arith) (some-most version) known
+  known_operation (Or c v) known _ =
+      known_row version (row_of (Or c v)) (omega arith) (some-most version) known
+  known_operation (ExclusiveOr c v) known _ =
+      known_row version (row_of (ExclusiveOr c v)) (omega arith) (some-most version) known
+  known_operation (Complement c v) known _ =
+      known_row version (row_of (Complement c v)) (omega arith) (some-most version) known
+  known_operation (ShiftLeft c v) known _ =
+      known_row version (row_of (ShiftLeft c v)) (omega arith) (some-most version) known
+  known_operation (ShiftRight c v) known _ =
+      known_row version (row_of (ShiftRight c v)) (omega arith) (some-most version) known
+  known_operation (Exchange c d) known _ =
+      known_row version (row_of (Exchange c d)) (omega arith) (some-most version) known
+  known_operation (Define f w a z) known _ =
+      known_row version (row_of (Define f w a z)) (omega arith) (some-most version) known
+  known_operation (SaveContent c) known _ =
+      known_row version (row_of (SaveContent c)) (omega arith) (some-most version) known
+  known_operation (RestoreContent c) known _ =
+      known_row version (row_of (RestoreContent c)) (omega arith) (some-most version) known
+  known_operation (SaveDefinition f) known _ =
+      known_row version (row_of (SaveDefinition f)) (omega arith) (some-most version) known
+  known_operation (RestoreDefinition f) known _ =
+      known_row version (row_of (RestoreDefinition f)) (omega arith) (some-most version) known
+  known_operation (Get c v d label) known below =
+      known_row version (row_of (Get c v d label)) (omega arith) (label-below label below) known
+  known_operation (Duplicate c v label) known below =
+      known_row version (row_of (Duplicate c v label)) (omega arith) (label-below label below) known
+  known_operation (Free c v) known _ =
+      known_row version (row_of (Free c v)) (omega arith) (some-most version) known
+  known_operation (Call called fail) known below =
+      let others = (and_parts (is_below (most_in version) called)
+      (list_all (is_below (most_in version)) (option_to_list fail)) below).1 in
+      known_row version (row_of (Call called fail)) (omega arith) (label-below fail others) known
+  known_operation (Input c v label) known below =
+      known_row version (row_of (Input c v label)) (omega arith) (label-below label below) known
+  known_operation (PrintCharacters c v) known _ =
+      known_row version (row_of (PrintCharacters c v)) (omega arith) (some-most version) known
+  known_operation (PrintDecimal c) known _ =
+      known_row version (row_of (PrintDecimal c)) (omega arith) (some-most version) known
+  known_operation (PrintOctal c) known _ =
+      known_row version (row_of (PrintOctal c)) (omega arith) (some-most version) known
+  known_operation (PrintText codes) known _ =
+      known_row version (row_of (PrintText codes)) (omega arith) (some-most version) known
+  known_operation PrintLine known _ =
+      known_row version (row_of PrintLine) (omega arith) (some-most version) known
 
-known_operations : (operations : List (Op ℕ)) →
-    list_all (λ operation. is_row (row_of operation)) operations ≡ true →
-    list_all (λ o. list_all (is_below target_count) (targets_of_operation o)) operations ≡ true →
-    Each KnownOperation operations
-known_operations [] values targets = tt
-known_operations (operation ∷ operations) values targets =
-    let p = λ (o : Op ℕ). is_row (row_of o) in
-    let q = λ (o : Op ℕ). list_all (is_below target_count) (targets_of_operation o) in
-    let a = and_parts (p operation) (list_all p operations) values in
-    let b = and_parts (q operation) (list_all q operations) targets in
-    (record { values = a.0; targets = b.0 }, known_operations operations a.1 b.1)
+  -- what is known of an operation of a program
+  pub record KnownOperation (operation : Op ℕ) : Type 0 where
+    pub values : is_row (row_of operation) ≡ true
+    pub targets : list_all (is_below (most_in version)) (targets_of_operation operation) ≡ true
 
--- what is known of the parts of a statement
-pub record KnownParts (s : Parts) : Type 0 where
-  pub tests : Each (λ test. is_row (row_of_test test) ≡ true) s.tests
-  pub operations : Each KnownOperation s.operations
-  pub target : unwrap_or (exit_target s.exit) 0 < target_count
+  known_operations : (operations : List (Op ℕ)) →
+      list_all (λ operation. is_row (row_of operation)) operations ≡ true →
+      list_all (λ o. list_all (is_below (most_in version)) (targets_of_operation o)) operations ≡ true →
+      Each KnownOperation operations
+  known_operations [] values targets = tt
+  known_operations (operation ∷ operations) values targets =
+      let p = λ (o : Op ℕ). is_row (row_of o) in
+      let q = λ (o : Op ℕ). list_all (is_below (most_in version)) (targets_of_operation o) in
+      let a = and_parts (p operation) (list_all p operations) values in
+      let b = and_parts (q operation) (list_all q operations) targets in
+      (record { values = a.0; targets = b.0 }, known_operations operations a.1 b.1)
 
-exit-below : (leaving : Exit ℕ) →
-    list_all (is_below target_count) (targets_of_exit leaving) ≡ true →
-    unwrap_or (exit_target leaving) 0 < target_count
-exit-below Next each = omega arith
-exit-below (Label target) each =
-    ltb-true target target_count (and_parts (is_below target_count target) true each).0
-exit-below Done each = omega arith
-exit-below Fail each = omega arith
+  -- what is known of the parts of a statement
+  pub record KnownParts (s : Parts) : Type 0 where
+    pub tests : Each (λ test. is_row (row_of_test test) ≡ true) s.tests
+    pub operations : Each KnownOperation s.operations
+    pub target : unwrap_or (exit_target s.exit) 0 < (most_in version)
 
-pub known_parts : (s : Parts) → KnownStatement s → KnownParts s
-known_parts s known =
-    let p = λ (test : Test). is_row (row_of_test test) in
-    let q = λ (o : Op ℕ). is_row (row_of o) in
-    let below = is_below target_count in
-    let called = flat_map targets_of_operation s.operations in
-    let a = and_parts (list_all p s.tests) (list_all q s.operations) known.values in
-    let b = and_parts (list_all below called) (list_all below (targets_of_exit s.exit))
-    (sym (list_all-append below called (targets_of_exit s.exit)) ∙ known.targets) in
-    record {
-      tests = each_of p (λ test. p test ≡ true) (λ test is. is) s.tests a.0;
-      operations = known_operations s.operations a.1
-          (sym (list_all-flat_map below targets_of_operation s.operations) ∙ b.0);
-      target = exit-below s.exit b.1;
-    }
+  exit-below : (leaving : Exit ℕ) →
+      list_all (is_below (most_in version)) (targets_of_exit leaving) ≡ true →
+      unwrap_or (exit_target leaving) 0 < (most_in version)
+  exit-below Next each = some-most version
+  exit-below (Label target) each =
+      ltb-true target (most_in version) (and_parts (is_below (most_in version) target) true each).0
+  exit-below Done each = some-most version
+  exit-below Fail each = some-most version
+
+  pub known_parts : (s : Parts) → KnownStatement s → KnownParts s
+  known_parts s known =
+      let p = λ (test : Test). is_row (row_of_test test) in
+      let q = λ (o : Op ℕ). is_row (row_of o) in
+      let below = is_below (most_in version) in
+      let called = flat_map targets_of_operation s.operations in
+      let a = and_parts (list_all p s.tests) (list_all q s.operations) known.values in
+      let b = and_parts (list_all below called) (list_all below (targets_of_exit s.exit))
+      (sym (list_all-append below called (targets_of_exit s.exit)) ∙ known.targets) in
+      record {
+        tests = each_of p (λ test. p test ≡ true) (λ test is. is) s.tests a.0;
+        operations = known_operations s.operations a.1
+            (sym (list_all-flat_map below targets_of_operation s.operations) ∙ b.0);
+        target = exit-below s.exit b.1;
+      }

@@ -10,15 +10,16 @@ use Rattle.l6_prog.specs.declared.condition.Test.{Test}
 use Rattle.l6_prog.specs.declared.operation.Op.{Op}
 use Rattle.l6_prog.specs.declared.exit.Exit.{Exit}
 use Rattle.l6_prog.specs.declared.exit.Exit.TheVariants.{Next, Label, Done, Fail}
-use Rattle.l6_prog.specs.Numerals.{most_statements}
 use Rattle.l6_prog.specs.Statement.{Parts}
 use Rattle.l6_prog.specs.Target.{targets_of_operation}
 use Rattle.l6_image.specs.Bits.{Field, bits}
-use Rattle.l6_image.specs.Version.{mark, target_fields}
+use Rattle.l6_image.specs.Version.{mark, most_in}
+use Rattle.l6_image.specs.declared.version.Version.{Version}
+use Rattle.l6_image.specs.declared.version.Version.TheVariants.{One, Two}
 use Rattle.l6_image.specs.Row.{is_row}
 use Rattle.l6_image.specs.Table.{row_of, row_of_test}
-use Rattle.l6_image.specs.Image.{condition_code, exit_code, exit_target, header, test_words, operation_words, statement_words, body, words_of, HasImage, target_count}
-use Rattle.l6_image.specs.inner.Fields.{target_in}
+use Rattle.l6_image.specs.Image.{condition_code, exit_code, exit_target, header, test_words, operation_words, words_in_statement, body, words_in, HasImage}
+use Rattle.l6_image.specs.inner.Fields.{target_in, version_of}
 use Rattle.l6_image.specs.inner.Statements.{many, test_at, operation_at, condition_in, exit_in, statement_at, statements_of}
 use Rattle.l6_image.specs.inner.Loading.{if_made, program_in}
 use Rattle.l6_image.proofs.Packing.{AllFit, unpacked, unpacked-packed, values}
@@ -41,23 +42,6 @@ each-again spell at P again (x ∷ xs) each rest =
     ∙ rw (
       again x each.0 (flat_map spell xs ++ rest),
       each-again spell at P again xs each.1 rest,
-    ) refl
-
--- a test, and an operation
-test_at-again : (test : Test) → is_row (row_of_test test) ≡ true → Again test_words test_at test
-unfolding test_at
-test_at-again test known rest =
-    rw (row-again (row_of_test test) rest (known_test test known), test_again test known) refl
-
-operation_at-again : (operation : Op ℕ) → KnownOperation operation →
-    Again operation_words operation_at operation
-unfolding operation_at
-operation_at-again operation known rest =
-    rw (
-      row-again (row_of operation) rest (known_operation operation known.values known.targets),
-      operation_again operation known.values
-          (below-more target_count (2 ^ 16) (targets_of_operation operation) (omega arith)
-          known.targets),
     ) refl
 
 -- condition and exit
@@ -97,72 +81,112 @@ abbrev pub header_fields : Parts → List Field
 header_fields s =
     bits 3 (condition_code s.condition) ∷ bits 6 (length s.tests)
     ∷ bits 6 (length s.operations) ∷ bits 3 (exit_code s.exit)
-    ∷ target_fields (exit_target s.exit)
+    ∷ bits 18 (unwrap_or (exit_target s.exit) 0) ∷ []
 
-pub header_fit : (s : Parts) → KnownStatement s → AllFit (header_fields s)
-header_fit s known = (
-  condition-below s.condition,
-  (
-    omega (arith, known.tests),
+-- a number of statements of either version has sixteen bits
+pub most-below : (version : Version) → most_in version < 2 ^ 16
+most-below One = omega arith
+most-below Two = omega arith
+
+module _ (version : Version) where
+  -- a test, and an operation
+  test_at-again : (test : Test) → is_row (row_of_test test) ≡ true → Again (test_words version) (test_at version) test
+  unfolding test_at
+  test_at-again test known rest =
+      rw (row-again version (row_of_test test) rest (known_test version test known), test_again test known) refl
+
+  operation_at-again : (operation : Op ℕ) → KnownOperation version operation →
+      Again (operation_words version) (operation_at version) operation
+  unfolding operation_at
+  operation_at-again operation known rest =
+      rw (
+        row-again version (row_of operation) rest (known_operation version operation known.values known.targets),
+        operation_again operation known.values
+            (below-more (most_in version) (2 ^ 16) (targets_of_operation operation)
+            (omega (arith, most-below version))
+            known.targets),
+      ) refl
+
+  pub header_fit : (s : Parts) → KnownStatement version s → AllFit (header_fields s)
+  header_fit s known = (
+    condition-below s.condition,
     (
-      omega (arith, known.operations),
-      (exit-below s.exit, (omega arith, ((known_parts s known).target, tt))),
+      omega (arith, known.tests),
+      (
+        omega (arith, known.operations),
+        (
+            exit-below s.exit,
+            (omega (arith, (known_parts version s known).target, most-below version), tt),
+          ),
+      ),
     ),
-  ),
-)
+  )
 
--- a statement is found again in words that begin with one that has its header's fields
-statement_at-found : (s : Parts) (head : ℕ) (rest : List ℕ) → KnownStatement s →
-    unpacked (3 ∷ 6 ∷ 6 ∷ 3 ∷ 6 ∷ 12 ∷ []) head ≡ values (header_fields s) →
-    statement_at (head ∷ flat_map test_words s.tests
-    ++ (flat_map operation_words s.operations ++ rest)) ≡ Some (s, rest)
-unfolding statement_at
-statement_at-found s head rest known is =
-    let at = λ (place : ℕ). ap (λ (xs : List ℕ). get_or xs place 0) is in
-    let parts = known_parts s known in
-    let condition : head / 2 ^ 33 % 8 ≡ condition_code s.condition = at 0 in
-    let tests : head / 2 ^ 27 % 64 ≡ length s.tests = at 1 in
-    let operations : head / 2 ^ 21 % 64 ≡ length s.operations = at 2 in
-    let leaving : head / 2 ^ 18 % 8 ≡ exit_code s.exit = at 3 in
-    let whole : head ≡ head / 1 = omega arith in
-    let target : target_in head ≡ unwrap_or (exit_target s.exit) 0 =
-    ap (λ n. n % 2 ^ 12) whole ∙ at 5 in
+  -- a statement is found again in words that begin with one that has its header's fields
+  statement_at-found : (s : Parts) (head : ℕ) (rest : List ℕ) → KnownStatement version s →
+      unpacked (3 ∷ 6 ∷ 6 ∷ 3 ∷ 18 ∷ []) head ≡ values (header_fields s) →
+      statement_at version (head ∷ flat_map (test_words version) s.tests
+      ++ (flat_map (operation_words version) s.operations ++ rest)) ≡ Some (s, rest)
+  unfolding statement_at
+  statement_at-found s head rest known is =
+      let at = λ (place : ℕ). ap (λ (xs : List ℕ). get_or xs place 0) is in
+      let parts = known_parts version s known in
+      let condition : head / 2 ^ 33 % 8 ≡ condition_code s.condition = at 0 in
+      let tests : head / 2 ^ 27 % 64 ≡ length s.tests = at 1 in
+      let operations : head / 2 ^ 21 % 64 ≡ length s.operations = at 2 in
+      let leaving : head / 2 ^ 18 % 8 ≡ exit_code s.exit = at 3 in
+      let whole : head ≡ head / 1 = omega arith in
+      let last : head % 2 ^ 18 ≡ unwrap_or (exit_target s.exit) 0 =
+      ap (λ n. n % 2 ^ 18) whole ∙ at 4 in
+      let target : target_in head ≡ unwrap_or (exit_target s.exit) 0 =
+      omega (arith, last, parts.target, most-below version) in
+      rw (
+        tests,
+        each-again (test_words version) (test_at version) (λ test. is_row (row_of_test test) ≡ true)
+            test_at-again s.tests parts.tests (flat_map (operation_words version) s.operations ++ rest),
+        operations,
+        each-again (operation_words version) (operation_at version) (KnownOperation version) operation_at-again
+            s.operations parts.operations rest,
+        condition,
+        condition-again s.condition,
+        leaving,
+        target,
+        exit-again s.exit,
+      ) refl
+
+  statement_at-again : (s : Parts) → KnownStatement version s → Again (words_in_statement version) (statement_at version) s
+  statement_at-again s known rest =
+      ap (λ ws. statement_at version (header s ∷ ws))
+      (append_assoc (flat_map (test_words version) s.tests)
+      (flat_map (operation_words version) s.operations) rest)
+      ∙ statement_at-found s (header s) rest known
+      (unpacked-packed (header_fields s) (header_fit s known))
+
+  -- a program is found again in its words
+  statements_of-again : (program : List Parts) → KnownProgram version program →
+      statements_of version (length program ∷ length (body version program) ∷ body version program)
+      ≡ Some program
+  unfolding statements_of
+  statements_of-again program known =
+      let words : body version program ≡ body version program ++ [] =
+      sym (append-nil (body version program)) in
+      ap (λ ws. statements_of version (length program ∷ length (body version program) ∷ ws)) words
+      ∙ rw (each-again (words_in_statement version) (statement_at version) (KnownStatement version)
+      statement_at-again program known.each []) refl
+
+-- the version is found again in its mark
+version_of-again : (version : Version) → version_of (mark version) ≡ Some version
+version_of-again One = refl
+version_of-again Two = refl
+
+pub program_in-again : (version : Version) (program : List Parts) → HasImage version program →
+    program_in (words_in version program) ≡ Some (version, program)
+unfolding words_in program_in
+program_in-again version program has =
     rw (
-      tests,
-      each-again test_words test_at (λ test. is_row (row_of_test test) ≡ true)
-          test_at-again s.tests parts.tests (flat_map operation_words s.operations ++ rest),
-      operations,
-      each-again operation_words operation_at KnownOperation operation_at-again
-          s.operations parts.operations rest,
-      condition,
-      condition-again s.condition,
-      leaving,
-      target,
-      exit-again s.exit,
+      version_of-again version,
+      statements_of-again version program (known_program version program has),
+      has.taken,
+      le-ltb (most_in version) (length program) has.few,
     ) refl
 
-statement_at-again : (s : Parts) → KnownStatement s → Again statement_words statement_at s
-statement_at-again s known rest =
-    ap (λ ws. statement_at (header s ∷ ws))
-    (append_assoc (flat_map test_words s.tests) (flat_map operation_words s.operations) rest)
-    ∙ statement_at-found s (header s) rest known
-    (unpacked-packed (header_fields s) (header_fit s known))
-
--- a program is found again in its words
-statements_of-again : (program : List Parts) → KnownProgram program →
-    statements_of (words_of program) ≡ Some program
-unfolding words_of statements_of
-statements_of-again program known =
-    let words : body program ≡ body program ++ [] = sym (append-nil (body program)) in
-    ap (λ ws. statements_of (mark ∷ length program ∷ length (body program) ∷ ws)) words
-    ∙ rw (
-      le-ltb most_statements (length program) known.count,
-      each-again statement_words statement_at KnownStatement statement_at-again program
-          known.each [],
-    ) refl
-
-pub program_in-again : (program : List Parts) → HasImage program →
-    program_in (words_of program) ≡ Some program
-unfolding program_in
-program_in-again program has =
-    rw (statements_of-again program (known_program program has)) (ap if_made has.taken)

@@ -11,11 +11,12 @@ use Rattle.l6_word.specs.Octal.{octal12, is_octal_digit}
 use Rattle.l6_word.proofs.Octals.{digits_tell_words}
 use Rattle.l6_prog.specs.Statement.{Parts}
 use Rattle.l6_image.specs.Row.{is_word}
-use Rattle.l6_image.specs.Image.{words_of, HasImage}
-use Rattle.l6_image.specs.Text.{word_line, text_of_words, text_of}
+use Rattle.l6_image.specs.Image.{words_in, HasImage}
+use Rattle.l6_image.specs.declared.version.Version.{Version}
+use Rattle.l6_image.specs.Text.{word_line, text_of_words, text_in}
 use Rattle.l6_image.specs.Load.{TextsTellPrograms}
 use Rattle.l6_image.specs.inner.Loading.{program_in}
-use Rattle.l6_image.proofs.Fitness.{words_of-words}
+use Rattle.l6_image.proofs.Fitness.{words_in-words}
 use Rattle.l6_image.proofs.Programs.{program_in-again}
 
 -- a word has twelve digits
@@ -88,25 +89,32 @@ same-words (word ∷ words) (other ∷ others) each every same =
     (same-rest word other (text_of_words words) (text_of_words others) fits too lines))
 
 -- words whose lines are the text of a program's image are the program's
-pub words-are : (text words : List ℕ) (program : List Parts) → list_all is_word words ≡ true →
-    HasImage program → text ≡ text_of_words words → text ≡ text_of program →
-    words ≡ words_of program
-unfolding text_of
-words-are text words program each has lines same =
-    same-words words (words_of program) each (words_of-words program has) (sym lines ∙ same)
+pub words-are : (text words : List ℕ) (version : Version) (program : List Parts) →
+    list_all is_word words ≡ true → HasImage version program → text ≡ text_of_words words →
+    text ≡ text_in version program → words ≡ words_in version program
+unfolding text_in
+words-are text words version program each has lines same =
+    same-words words (words_in version program) each (words_in-words version program has)
+    (sym lines ∙ same)
 
 -- and the program is found in them
-pub program_in-words : (text words : List ℕ) (program : List Parts) →
-    list_all is_word words ≡ true → HasImage program → text ≡ text_of_words words →
-    text ≡ text_of program → program_in words ≡ Some program
-program_in-words text words program each has lines same =
-    ap program_in (words-are text words program each has lines same) ∙ program_in-again program has
+pub program_in-words : (text words : List ℕ) (version : Version) (program : List Parts) →
+    list_all is_word words ≡ true → HasImage version program → text ≡ text_of_words words →
+    text ≡ text_in version program → program_in words ≡ Some (version, program)
+program_in-words text words version program each has lines same =
+    ap program_in (words-are text words version program each has lines same)
+    ∙ program_in-again version program has
 
--- no two programs have one text
+-- what is found twice is one
+pub same_found : (one other : Version × List Parts) → Some one ≡ Some other → one ≡ other
+same_found one other same = cc
+
+-- no text is that of two programs
 pub texts_tell_programs : TextsTellPrograms
-unfolding text_of
-texts_tell_programs one other has too same =
-    let found : Some one ≡ Some other =
-    sym (program_in-again one has)
-    ∙ program_in-words (text_of one) (words_of one) other (words_of-words one has) too refl same in
-    cc
+unfolding text_in
+texts_tell_programs text one other is too =
+    let found : Some (is.0, one) ≡ Some (too.0, other) =
+    sym (program_in-again is.0 one is.1)
+    ∙ program_in-words text (words_in is.0 one) too.0 other (words_in-words is.0 one is.1) too.1
+    is.2 too.2 in
+    ap (λ (p : Version × List Parts). p.1) (same_found (is.0, one) (too.0, other) found)

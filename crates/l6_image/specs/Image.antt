@@ -1,5 +1,5 @@
 -- Images: the words of programs.
-use Rattle.std.specs.Prelude.{◌≡◌, ℕ, List, ◌∷◌, ◌++◌, length, Option, Some, None, Ok, Bool, true, ◌&&◌, ◌^◌}
+use Rattle.std.specs.Prelude.{◌≡◌, ℕ, ◌≤◌, List, [], ◌∷◌, ◌++◌, length, Option, Some, None, unwrap_or, Ok, Bool, true, ◌&&◌}
 use Rattle.std.specs.List.{list_all, flat_map}
 use Rattle.l6_prog.specs.declared.condition.Cond.{Cond}
 use Rattle.l6_prog.specs.declared.condition.Cond.TheVariants.{Always, If, Not, IfAll, IfAny, IfNone, IfNotAll}
@@ -12,7 +12,9 @@ use Rattle.l6_prog.specs.Program.{program_of}
 use Rattle.l6_image.specs.Bits.{bits, packed}
 use Rattle.l6_image.specs.Row.{row_words, is_row}
 use Rattle.l6_image.specs.Table.{row_of, row_of_test}
-use Rattle.l6_image.specs.Version.{mark, target_fields}
+use Rattle.l6_image.specs.Version.{mark, most_in}
+use Rattle.l6_image.specs.declared.version.Version.{Version}
+use Rattle.l6_image.specs.declared.version.Version.TheVariants.{Two}
 
 -- the code of a condition
 abbrev pub condition_code : Cond → ℕ
@@ -36,37 +38,41 @@ abbrev pub exit_target : Exit ℕ → Option ℕ
 exit_target (Label target) = Some target
 exit_target _ = None
 
--- the first word of a statement
+-- the first word of a statement, with the target of its exit, or 0, in the last 18 bits
 abbrev pub header : Parts → ℕ
 header statement =
     packed (bits 3 (condition_code statement.condition) ∷ bits 6 (length statement.tests)
     ∷ bits 6 (length statement.operations) ∷ bits 3 (exit_code statement.exit)
-    ∷ target_fields (exit_target statement.exit))
+    ∷ bits 18 (unwrap_or (exit_target statement.exit) 0) ∷ [])
 
 -- the words of a test, and of an operation
-abbrev pub test_words : Test → List ℕ
-test_words test = row_words (row_of_test test)
+abbrev pub test_words : Version → Test → List ℕ
+test_words version test = row_words version (row_of_test test)
 
-abbrev pub operation_words : Op ℕ → List ℕ
-operation_words operation = row_words (row_of operation)
+abbrev pub operation_words : Version → Op ℕ → List ℕ
+operation_words version operation = row_words version (row_of operation)
 
 -- the words of a statement: the first word, its tests, its operations
-abbrev pub statement_words : Parts → List ℕ
-statement_words statement =
-    header statement ∷ flat_map test_words statement.tests
-    ++ flat_map operation_words statement.operations
+abbrev pub words_in_statement : Version → Parts → List ℕ
+words_in_statement version statement =
+    header statement ∷ flat_map (test_words version) statement.tests
+    ++ flat_map (operation_words version) statement.operations
 
 -- the words of all statements
-abbrev pub body : List Parts → List ℕ
-body program = flat_map statement_words program
+abbrev pub body : Version → List Parts → List ℕ
+body version program = flat_map (words_in_statement version) program
 
 -- the words of a program: the mark, how many statements it has, how many words follow, and these
-unfoldable pub words_of : List Parts → List ℕ
-words_of program = mark ∷ length program ∷ length (body program) ∷ body program
+unfoldable pub words_in : Version → List Parts → List ℕ
+words_in version program =
+    mark version ∷ length program ∷ length (body version program) ∷ body version program
 
--- how many statements the bits for a target can tell apart
-abbrev pub target_count : ℕ
-target_count = 2 ^ 12
+-- what is written is of the second version
+abbrev pub statement_words : Parts → List ℕ
+statement_words statement = words_in_statement Two statement
+
+abbrev pub words_of : List Parts → List ℕ
+words_of program = words_in Two program
 
 -- operands and names of the statement's tests and operations are those of a program
 abbrev pub has_values : Parts → Bool
@@ -74,8 +80,9 @@ has_values statement =
     list_all (λ test. is_row (row_of_test test)) statement.tests
     && list_all (λ operation. is_row (row_of operation)) statement.operations
 
--- the statements are a program, which has an image: statements are lists of any numbers, and in
--- those of a program names are names, and numbers are words
-pub record HasImage (program : List Parts) : Type 0 where
+-- the statements are a program, which has an image of this version: statements are lists of any
+-- numbers, and in those of a program names are names, and numbers are words
+pub record HasImage (version : Version) (program : List Parts) : Type 0 where
   pub taken : program_of program ≡ Ok program
   pub values : list_all has_values program ≡ true
+  pub few : length program ≤ most_in version

@@ -3,8 +3,7 @@ use Rattle.std.specs.Prelude.{◌≡◌, ℕ, List, Some, None, Result, Ok, Err}
 use Rattle.l6_prog.specs.Statement.{Parts}
 use Rattle.l6_image.specs.declared.fault.LoadFault.{LoadFault}
 use Rattle.l6_image.specs.declared.fault.LoadFault.TheVariants.{NotWords, NotAnImage, NoMemory}
-use Rattle.l6_image.specs.Image.{HasImage}
-use Rattle.l6_image.specs.Text.{text_of, IsImage, first_other, whole_lines}
+use Rattle.l6_image.specs.Text.{IsImage, IsImageOf, first_other, whole_lines}
 
 -- the program is loaded, unless memory is wanting
 abbrev pub Loads : List Parts → Result (List Parts) LoadFault → Type 0
@@ -20,8 +19,8 @@ Tells text (NotWords line) = first_other 1 (whole_lines text) ≡ Some line
 Tells text NotAnImage = (first_other 1 (whole_lines text) ≡ None) × (IsImage text → ⊥)
 Tells text NoMemory = Unit {0}
 
--- no two programs have one text
+-- no text is that of two programs, in whichever versions
 abbrev pub TextsTellPrograms : Type 0
 TextsTellPrograms =
-    (one other : List Parts) → HasImage one → HasImage other → text_of one ≡ text_of other →
+    (text : List ℕ) (one other : List Parts) → IsImageOf text one → IsImageOf text other →
     one ≡ other

@@ -7,7 +7,8 @@ use Rattle.l6_prog.specs.Chain.{is_chain}
 use Rattle.l6_prog.specs.PrintText.{is_print_text}
 use Rattle.l6_image.specs.Numerals.{no_name}
 use Rattle.l6_image.specs.Bits.{bits, packed, six}
-use Rattle.l6_image.specs.Version.{label_fields}
+use Rattle.l6_image.specs.Version.{label_number}
+use Rattle.l6_image.specs.declared.version.Version.{Version}
 
 -- where a row may have an operand: there is none, or names, a number or codes
 pub data Slot : Type 0 where
@@ -58,15 +59,16 @@ slot_words (number n) = n ∷ []
 slot_words (text codes) = length codes ∷ sixes codes
 
 -- the first word of a row
-abbrev pub row_head : Row → ℕ
-row_head row =
+abbrev pub row_head : Version → Row → ℕ
+row_head version row =
     packed (bits 6 row.code ∷ bits 2 (kind row.first) ∷ bits 2 (kind row.second)
-    ∷ bits 2 (kind row.third) ∷ bits 6 (unwrap_or row.field no_name) ∷ label_fields row.label)
+    ∷ bits 2 (kind row.third) ∷ bits 6 (unwrap_or row.field no_name)
+    ∷ bits 18 (label_number version row.label) ∷ [])
 
 -- the words of a row: the first word, and those of its operands
-abbrev pub row_words : Row → List ℕ
-row_words row =
-    row_head row ∷ slot_words row.first ++ slot_words row.second ++ slot_words row.third
+abbrev pub row_words : Version → Row → List ℕ
+row_words version row =
+    row_head version row ∷ slot_words row.first ++ slot_words row.second ++ slot_words row.third
 
 -- the number is one of a name
 abbrev pub is_name : ℕ → Bool

@@ -5,7 +5,9 @@ use Rattle.std.specs.Str.{byte}
 use Rattle.l6_word.specs.Numerals.{word_octals}
 use Rattle.l6_word.specs.Octal.{octal12, is_octal12}
 use Rattle.l6_prog.specs.Statement.{Parts}
-use Rattle.l6_image.specs.Image.{words_of, HasImage}
+use Rattle.l6_image.specs.Image.{words_in, HasImage}
+use Rattle.l6_image.specs.declared.version.Version.{Version}
+use Rattle.l6_image.specs.declared.version.Version.TheVariants.{Two}
 
 -- the line of a word: its octal digits and a line feed
 abbrev pub word_line : ℕ → List ℕ
@@ -16,12 +18,20 @@ abbrev pub text_of_words : List ℕ → List ℕ
 text_of_words words = flat_map word_line words
 
 -- the text of a program's image
-unfoldable pub text_of : List Parts → List ℕ
-text_of program = text_of_words (words_of program)
+unfoldable pub text_in : Version → List Parts → List ℕ
+text_in version program = text_of_words (words_in version program)
 
--- the text is that of a program's image
+-- what is written is of the second version
+abbrev pub text_of : List Parts → List ℕ
+text_of program = text_in Two program
+
+-- the text is that of a program's image, in one of the versions
+abbrev pub IsImageOf : List ℕ → List Parts → Type 0
+IsImageOf text program =
+    (version : Version) × HasImage version program × (text ≡ text_in version program)
+
 abbrev pub IsImage : List ℕ → Type 0
-IsImage text = (program : List Parts) × HasImage program × (text ≡ text_of program)
+IsImage text = (program : List Parts) × IsImageOf text program
 
 -- the lines of a text, each with its line feed; the last one may lack it
 abbrev pub whole_lines : List ℕ → List (List ℕ)

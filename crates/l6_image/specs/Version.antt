@@ -1,21 +1,23 @@
--- What depends on the version of the format: its mark, and how the last 18 bits of a word tell a
--- statement.
-use Rattle.std.specs.Prelude.{ℕ, List, [], ◌∷◌, Option, Some, None, unwrap_or}
-use Rattle.l6_image.specs.Bits.{Field, bits}
+-- What depends on the version of the format: its mark, how many statements a program may have, and how
+-- the last 18 bits of a row's first word tell a label.
+use Rattle.std.specs.Prelude.{ℕ, ◌+◌, ◌^◌, Option, Some, None}
+use Rattle.l6_image.specs.declared.version.Version.{Version}
+use Rattle.l6_image.specs.declared.version.Version.TheVariants.{One, Two}
 
--- the first word of every image, which is the text L6IMG1
-abbrev pub mark : ℕ
-mark = 0o542651554721
+-- the first word of an image, which is the text L6IMG1 or L6IMG2
+abbrev pub mark : Version → ℕ
+mark One = 0o542651554721
+mark Two = 0o542651554722
 
--- the target of an exit, if it has one
-abbrev pub target_fields : Option ℕ → List Field
-target_fields target = bits 6 0 ∷ bits 12 (unwrap_or target 0) ∷ []
+-- how many statements a program may have
+abbrev pub most_in : Version → ℕ
+most_in One = 4095
+most_in Two = 65535
 
--- one bit that says whether there is a label
-abbrev pub flag : Option ℕ → ℕ
-flag None = 0
-flag (Some label) = 1
-
--- the label of a row, if it has one
-abbrev pub label_fields : Option ℕ → List Field
-label_fields label = bits 5 0 ∷ bits 1 (flag label) ∷ bits 12 (unwrap_or label 0) ∷ []
+-- the number that tells the label of a row. In the first version a bit says that there is one, and 12
+-- bits behind it tell the statement; in the second it is the number behind the statement's. It is 0
+-- where there is none
+abbrev pub label_number : Version → Option ℕ → ℕ
+label_number version None = 0
+label_number One (Some label) = 2 ^ 12 + label
+label_number Two (Some label) = label + 1

@@ -6,7 +6,7 @@ ghost use Rattle.l6_image.specs.inner.Fields as fields;
 ghost use Rattle.l6_image.specs.inner.Heads.{kind_code, head_word};
 
 use crate::items::NO_NAME;
-use crate::version::{label_bits, label_in};
+use crate::version::Version;
 use l6_prog::Name;
 
 /// What an operand is.
@@ -93,14 +93,14 @@ impl Head {
         }
     }
 
-    /// What a word says.
-    pub(crate) fn of(word: u64) -> Self
+    /// What a word says in a version.
+    pub(crate) fn of(version: Version, word: u64) -> Self
         ensures code { result.code ≡ word / 2 ^ 30 % 64 }
         ensures first { kind_code result.first ≡ word / 2 ^ 28 % 4 }
         ensures second { kind_code result.second ≡ word / 2 ^ 26 % 4 }
         ensures third { kind_code result.third ≡ word / 2 ^ 24 % 4 }
         ensures field { result.field ≡ fields.name_if (word / 2 ^ 18 % 64) }
-        ensures label { result.label ≡ fields.label_in word }
+        ensures label { result.label ≡ fields.label_in version word }
     {
         Head {
             code: (word / (1 << 30) % 64) as u8,
@@ -108,20 +108,20 @@ impl Head {
             second: kind_in(word / (1 << 26)),
             third: kind_in(word / (1 << 24)),
             field: Name::new((word / (1 << 18) % 64) as u8),
-            label: label_in(word),
+            label: version.label_in(word),
         }
     }
 
-    /// The word.
-    pub(crate) fn word(self) -> u64
-        ensures { result ≡ head_word self }
+    /// The word in a version.
+    pub(crate) fn word(self, version: Version) -> u64
+        ensures { result ≡ head_word version self }
     {
         u64::from(self.code) * (1 << 30)
             + u64::from(self.first.code()) * (1 << 28)
             + u64::from(self.second.code()) * (1 << 26)
             + u64::from(self.third.code()) * (1 << 24)
             + u64::from(field_number(self.field)) * (1 << 18)
-            + label_bits(self.label)
+            + version.label_bits(self.label)
     }
 }
 

@@ -20,4 +20,5 @@ pub use fault::LoadFault;
 pub use laws::{images_have_their_numbers, texts_tell_programs};
 pub use loading::{MAX_BYTES, load};
 pub use text::text_of;
+pub use version::Version;
 pub use writing::{statement_words, words_of};

@@ -2,17 +2,18 @@
 
 ghost use Rattle.std.specs.Prelude.{◌≡◌, ◌≤◌, ◌↔◌, List, length, IfOk, IfErr, IsTrue};
 ghost use Rattle.l6_prog.specs.Statement.{Parts};
-ghost use Rattle.l6_image.specs.Image.{HasImage};
 ghost use Rattle.l6_image.specs.Load.{Loads, Tells};
 ghost use Rattle.l6_image.specs.Numerals.{most_bytes};
 ghost use Rattle.l6_image.specs.Text as texts;
+ghost use Rattle.l6_image.specs.Version.{most_in};
 ghost use Rattle.l6_image.specs.inner.Loading as spec;
 ghost use Rattle.l6_image.specs.inner.Seen.{Gives};
 
 use crate::fault::{LoadFault, ReadFault};
 use crate::statements::statements_of;
 use crate::text::words_in;
-use crate::writing::words_of;
+use crate::version::Version;
+use crate::writing::words_in as words_in_version;
 use l6_prog::Program;
 use std::alloc::Global;
 
@@ -29,31 +30,36 @@ pub const MAX_BYTES: usize = 1 << 23;
 pub fn load(alloc: Global, text: &[u8]) -> Result<Program, LoadFault>
     requires { length text.now ≤ most_bytes }
 
-    ensures sound { IfOk result (λ program. text.now ≡ texts.text_of program) }
-    ensures known { IfOk result HasImage }
-    ensures complete { (program : List Parts) → HasImage program →
-        text.now ≡ texts.text_of program → Loads program result }
+    ensures sound { IfOk result (texts.IsImageOf text.now) }
+    ensures complete { (program : List Parts) → texts.IsImageOf text.now program →
+        Loads program result }
     ensures fault { IfErr result (Tells text.now) }
 {
     let words = words_in(alloc, text)?;
-    let program = program_in(alloc, &words)?;
-    let written = words_of(alloc, &program)?;
+    let (version, program) = program_in(alloc, &words)?;
+    let written = words_in_version(alloc, version, &program)?;
     if !are_same(&written, &words) {
         return Err(LoadFault::NotAnImage);
     }
     Ok(program)
 }
 
-/// The program that an image's words tell.
+/// The version of an image's words, and the program that they tell.
 #[tactic(auto, unfolding(crate::specs::inner::Loading::program_in))]
-fn program_in(alloc: Global, words: &[u64]) -> Result<Program, ReadFault>
-    ensures { Gives (λ program. program) result (spec.program_in words.now) }
+fn program_in(alloc: Global, words: &[u64]) -> Result<(Version, Program), ReadFault>
+    ensures found { Gives (λ found. found) result (spec.program_in words.now) }
+    ensures few { IfOk result (λ found. length found.1 ≤ most_in found.0) }
 {
-    let statements = statements_of(alloc, words)?;
-    match Program::new(statements) {
-        Ok(program) => Ok(program),
-        Err(_) => Err(ReadFault::NotAnImage),
+    let (first, rest) = words.split_first().ok_or(ReadFault::NotAnImage)?;
+    let version = Version::of(*first).ok_or(ReadFault::NotAnImage)?;
+    let statements = statements_of(alloc, version, rest)?;
+    let Ok(program) = Program::new(statements) else {
+        return Err(ReadFault::NotAnImage);
+    };
+    if program.statements().len() as u64 > version.most_statements() {
+        return Err(ReadFault::NotAnImage);
     }
+    Ok((version, program))
 }
 
 /// Whether two lists of words are one.

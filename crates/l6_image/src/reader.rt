@@ -5,6 +5,7 @@ ghost use Rattle.l6_image.specs.inner.Reading as spec;
 ghost use Rattle.l6_image.specs.inner.Seen.{slot_seen, Finds};
 
 use crate::head::{Head, Kind};
+use crate::version::Version;
 use l6_prog::{MAX_CHARACTERS, Name};
 use std::marker::Model;
 
@@ -48,10 +49,10 @@ impl<'a> Model for Row<'a> {
     } };
 }
 
-/// The first row of words, and the words behind it.
+/// The first row of words in a version, and the words behind it.
 #[tactic(auto, unfolding(crate::specs::inner::Reading::row_at))]
-pub(crate) fn row_at(words: &[u64]) -> Option<(Row<'_>, &[u64])>
-    ensures { Finds (λ found. (found.0, found.1.now)) result (spec.row_at words.now) }
+pub(crate) fn row_at(version: Version, words: &[u64]) -> Option<(Row<'_>, &[u64])>
+    ensures { Finds (λ found. (found.0, found.1.now)) result (spec.row_at version words.now) }
 {
     let (word, rest) = words.split_first()?;
     let Head {
@@ -61,7 +62,7 @@ pub(crate) fn row_at(words: &[u64]) -> Option<(Row<'_>, &[u64])>
         third,
         field,
         label,
-    } = Head::of(*word);
+    } = Head::of(version, *word);
     let (first, rest) = slot_at(first, rest)?;
     let (second, rest) = slot_at(second, rest)?;
     let (third, rest) = slot_at(third, rest)?;

@@ -8,21 +8,29 @@ ghost use Rattle.l6_image.specs.inner.Writing.{Writes, WritesSlot};
 
 use crate::head::{Head, Kind};
 use crate::items::{names_word, push_codes};
+use crate::version::Version;
 use l6_prog::{Chain, Name, Operand, PrintText};
 use std::alloc::AllocError;
 
 /// Writes the row without operands.
-pub(crate) fn push_none(words: &mut Vec<u64>, code: u8) -> Result<(), AllocError>
-    ensures { OnOk result (Writes words.old.items words.new.items
+pub(crate) fn push_none(version: Version, words: &mut Vec<u64>, code: u8) -> Result<(), AllocError>
+    ensures { OnOk result (Writes version words.old.items words.new.items
         (spec.row code spec.absent spec.absent spec.absent None None)) }
 {
-    words.push(Head::new(code, Kind::Absent, Kind::Absent, Kind::Absent, None, None).word())?;
+    words.push(Head::new(code, Kind::Absent, Kind::Absent, Kind::Absent, None, None).word(
+        version,
+    ))?;
     Ok(())
 }
 
 /// Writes the row of a field.
-pub(crate) fn push_field(words: &mut Vec<u64>, code: u8, field: Name) -> Result<(), AllocError>
-    ensures { OnOk result (Writes words.old.items words.new.items
+pub(crate) fn push_field(
+    version: Version,
+    words: &mut Vec<u64>,
+    code: u8,
+    field: Name,
+) -> Result<(), AllocError>
+    ensures { OnOk result (Writes version words.old.items words.new.items
         (spec.row code spec.absent spec.absent spec.absent (Some field) None)) }
 {
     words.push(Head::new(
@@ -33,28 +41,34 @@ pub(crate) fn push_field(words: &mut Vec<u64>, code: u8, field: Name) -> Result<
         Some(field),
         None,
     )
-    .word())?;
+    .word(version))?;
     Ok(())
 }
 
 /// Writes the row of a chain.
-pub(crate) fn push_one(words: &mut Vec<u64>, code: u8, chain: &Chain) -> Result<(), AllocError>
-    ensures { OnOk result (Writes words.old.items words.new.items
+pub(crate) fn push_one(
+    version: Version,
+    words: &mut Vec<u64>,
+    code: u8,
+    chain: &Chain,
+) -> Result<(), AllocError>
+    ensures { OnOk result (Writes version words.old.items words.new.items
         (spec.row code (spec.chain chain.now) spec.absent spec.absent None None)) }
 {
-    words.push(Head::new(code, Kind::Chain, Kind::Absent, Kind::Absent, None, None).word())?;
+    words.push(Head::new(code, Kind::Chain, Kind::Absent, Kind::Absent, None, None).word(version))?;
     push_chain(words, chain)
 }
 
 /// Writes the row of a chain and an operand, and a label if it has one.
 pub(crate) fn push_two(
+    version: Version,
     words: &mut Vec<u64>,
     code: u8,
     chain: &Chain,
     operand: &Operand,
     label: Option<u16>,
 ) -> Result<(), AllocError>
-    ensures { OnOk result (Writes words.old.items words.new.items
+    ensures { OnOk result (Writes version words.old.items words.new.items
         (spec.row code (spec.chain chain.now) (slot_of operand.now) spec.absent None label)) }
 {
     words.push(Head::new(
@@ -65,28 +79,30 @@ pub(crate) fn push_two(
         None,
         label,
     )
-    .word())?;
+    .word(version))?;
     push_chain(words, chain)?;
     push_operand(words, operand)
 }
 
 /// Writes the row of two chains.
 pub(crate) fn push_chains(
+    version: Version,
     words: &mut Vec<u64>,
     code: u8,
     first: &Chain,
     second: &Chain,
 ) -> Result<(), AllocError>
-    ensures { OnOk result (Writes words.old.items words.new.items
+    ensures { OnOk result (Writes version words.old.items words.new.items
         (spec.row code (spec.chain first.now) (spec.chain second.now) spec.absent None None)) }
 {
-    words.push(Head::new(code, Kind::Chain, Kind::Chain, Kind::Absent, None, None).word())?;
+    words.push(Head::new(code, Kind::Chain, Kind::Chain, Kind::Absent, None, None).word(version))?;
     push_chain(words, first)?;
     push_chain(words, second)
 }
 
 /// Writes the row of a chain, an operand and a chain, and a label if it has one.
 pub(crate) fn push_three(
+    version: Version,
     words: &mut Vec<u64>,
     code: u8,
     first: &Chain,
@@ -94,10 +110,12 @@ pub(crate) fn push_three(
     third: &Chain,
     label: Option<u16>,
 ) -> Result<(), AllocError>
-    ensures { OnOk result (Writes words.old.items words.new.items
+    ensures { OnOk result (Writes version words.old.items words.new.items
         (spec.row code (spec.chain first.now) (slot_of second.now) (spec.chain third.now) None label)) }
 {
-    words.push(Head::new(code, Kind::Chain, kind_of(second), Kind::Chain, None, label).word())?;
+    words.push(Head::new(code, Kind::Chain, kind_of(second), Kind::Chain, None, label).word(
+        version,
+    ))?;
     push_chain(words, first)?;
     push_operand(words, second)?;
     push_chain(words, third)
@@ -105,6 +123,7 @@ pub(crate) fn push_three(
 
 /// Writes the row of a field and three operands.
 pub(crate) fn push_definition(
+    version: Version,
     words: &mut Vec<u64>,
     code: u8,
     field: Name,
@@ -112,7 +131,7 @@ pub(crate) fn push_definition(
     second: &Operand,
     third: &Operand,
 ) -> Result<(), AllocError>
-    ensures { OnOk result (Writes words.old.items words.new.items
+    ensures { OnOk result (Writes version words.old.items words.new.items
         (spec.row code (slot_of first.now) (slot_of second.now) (slot_of third.now) (Some field) None)) }
 {
     words.push(Head::new(
@@ -123,7 +142,7 @@ pub(crate) fn push_definition(
         Some(field),
         None,
     )
-    .word())?;
+    .word(version))?;
     push_operand(words, first)?;
     push_operand(words, second)?;
     push_operand(words, third)
@@ -131,25 +150,33 @@ pub(crate) fn push_definition(
 
 /// Writes the row of a statement, and a label if it has one.
 pub(crate) fn push_statement(
+    version: Version,
     words: &mut Vec<u64>,
     code: u8,
     statement: u16,
     label: Option<u16>,
 ) -> Result<(), AllocError>
-    ensures { OnOk result (Writes words.old.items words.new.items
+    ensures { OnOk result (Writes version words.old.items words.new.items
         (spec.row code (spec.number statement) spec.absent spec.absent None label)) }
 {
-    words.push(Head::new(code, Kind::Number, Kind::Absent, Kind::Absent, None, label).word())?;
+    words.push(Head::new(code, Kind::Number, Kind::Absent, Kind::Absent, None, label).word(
+        version,
+    ))?;
     words.push(u64::from(statement))?;
     Ok(())
 }
 
 /// Writes the row of a text.
-pub(crate) fn push_text(words: &mut Vec<u64>, code: u8, text: &PrintText) -> Result<(), AllocError>
-    ensures { OnOk result (Writes words.old.items words.new.items
+pub(crate) fn push_text(
+    version: Version,
+    words: &mut Vec<u64>,
+    code: u8,
+    text: &PrintText,
+) -> Result<(), AllocError>
+    ensures { OnOk result (Writes version words.old.items words.new.items
         (spec.row code (spec.text text.now) spec.absent spec.absent None None)) }
 {
-    words.push(Head::new(code, Kind::Text, Kind::Absent, Kind::Absent, None, None).word())?;
+    words.push(Head::new(code, Kind::Text, Kind::Absent, Kind::Absent, None, None).word(version))?;
     let codes = text.codes();
     words.push(codes.len() as u64)?;
     push_codes(words, codes)

@@ -8,39 +8,40 @@ ghost use Rattle.l6_image.specs.inner.Seen.{Gives};
 use crate::fault::ReadFault;
 use crate::reader::row_at;
 use crate::reading::{operation_of, test_of};
-use crate::version::target_in;
-use l6_prog::{Cond, Exit, MAX_STATEMENTS, Op, Statement, Test};
+use crate::version::{Version, target_in};
+use l6_prog::{Cond, Exit, Op, Statement, Test};
 use std::alloc::Global;
 
-/// The statements that an image's words tell. Its mark, its number of words and words behind the
-/// last statement are not looked at.
+/// The statements that an image's words tell behind its mark. Their number and words behind the last
+/// statement are not looked at.
 #[tactic(auto, unfolding(crate::specs::inner::Statements::statements_of))]
-pub(crate) fn statements_of(alloc: Global, words: &[u64]) -> Result<Vec<Statement>, ReadFault>
-    ensures { Gives (λ statements. statements.items) result (spec.statements_of words.now) }
+pub(crate) fn statements_of(
+    alloc: Global,
+    version: Version,
+    words: &[u64],
+) -> Result<Vec<Statement>, ReadFault>
+    ensures { Gives (λ statements. statements.items) result (spec.statements_of version words.now) }
 {
-    let (_, rest) = words.split_first().ok_or(ReadFault::NotAnImage)?;
-    let (count, rest) = rest.split_first().ok_or(ReadFault::NotAnImage)?;
+    let (count, rest) = words.split_first().ok_or(ReadFault::NotAnImage)?;
     let (_, rest) = rest.split_first().ok_or(ReadFault::NotAnImage)?;
-    if *count > MAX_STATEMENTS as u64 {
-        return Err(ReadFault::NotAnImage);
-    }
-    let (statements, _) = statements_at(alloc, *count, rest)?;
+    let (statements, _) = statements_at(alloc, version, *count, rest)?;
     Ok(statements)
 }
 
 /// So many statements in front of words, and the words behind them.
 fn statements_at(
     alloc: Global,
+    version: Version,
     count: u64,
     words: &[u64],
 ) -> Result<(Vec<Statement>, &[u64]), ReadFault>
     ensures { Gives (λ found. (found.0.items, found.1.now)) result
-        (spec.many spec.statement_at count words.now) }
+        (spec.many (spec.statement_at version) count words.now) }
 {
     let mut statements = Vec::new(alloc);
     let mut rest = words;
     for _ in 0..count {
-        let (statement, behind) = statement_at(alloc, rest)?;
+        let (statement, behind) = statement_at(alloc, version, rest)?;
         statements.push(statement)?;
         rest = behind;
     }
@@ -49,26 +50,35 @@ fn statements_at(
 
 /// The first statement of words, and the words behind it.
 #[tactic(auto, unfolding(crate::specs::inner::Statements::statement_at))]
-fn statement_at(alloc: Global, words: &[u64]) -> Result<(Statement, &[u64]), ReadFault>
-    ensures { Gives (λ found. (found.0, found.1.now)) result (spec.statement_at words.now) }
+fn statement_at(
+    alloc: Global,
+    version: Version,
+    words: &[u64],
+) -> Result<(Statement, &[u64]), ReadFault>
+    ensures { Gives (λ found. (found.0, found.1.now)) result (spec.statement_at version words.now) }
 {
     let (head, rest) = words.split_first().ok_or(ReadFault::NotAnImage)?;
-    let (tests, rest) = tests_at(alloc, *head / (1 << 27) % 64, rest)?;
-    let (operations, rest) = operations_at(alloc, *head / (1 << 21) % 64, rest)?;
+    let (tests, rest) = tests_at(alloc, version, *head / (1 << 27) % 64, rest)?;
+    let (operations, rest) = operations_at(alloc, version, *head / (1 << 21) % 64, rest)?;
     let condition = condition_in(*head / (1 << 33) % 8);
     let exit = exit_in(*head / (1 << 18) % 8, target_in(*head));
     Ok((Statement::new(condition, tests, operations, exit), rest))
 }
 
 /// So many tests in front of words, and the words behind them.
-fn tests_at(alloc: Global, count: u64, words: &[u64]) -> Result<(Vec<Test>, &[u64]), ReadFault>
+fn tests_at(
+    alloc: Global,
+    version: Version,
+    count: u64,
+    words: &[u64],
+) -> Result<(Vec<Test>, &[u64]), ReadFault>
     ensures { Gives (λ found. (found.0.items, found.1.now)) result
-        (spec.many spec.test_at count words.now) }
+        (spec.many (spec.test_at version) count words.now) }
 {
     let mut tests = Vec::new(alloc);
     let mut rest = words;
     for _ in 0..count {
-        let (test, behind) = test_at(rest)?;
+        let (test, behind) = test_at(version, rest)?;
         tests.push(test)?;
         rest = behind;
     }
@@ -76,14 +86,19 @@ fn tests_at(alloc: Global, count: u64, words: &[u64]) -> Result<(Vec<Test>, &[u6
 }
 
 /// So many operations in front of words, and the words behind them.
-fn operations_at(alloc: Global, count: u64, words: &[u64]) -> Result<(Vec<Op>, &[u64]), ReadFault>
+fn operations_at(
+    alloc: Global,
+    version: Version,
+    count: u64,
+    words: &[u64],
+) -> Result<(Vec<Op>, &[u64]), ReadFault>
     ensures { Gives (λ found. (found.0.items, found.1.now)) result
-        (spec.many spec.operation_at count words.now) }
+        (spec.many (spec.operation_at version) count words.now) }
 {
     let mut operations = Vec::new(alloc);
     let mut rest = words;
     for _ in 0..count {
-        let (operation, behind) = operation_at(rest)?;
+        let (operation, behind) = operation_at(version, rest)?;
         operations.push(operation)?;
         rest = behind;
     }
@@ -92,20 +107,20 @@ fn operations_at(alloc: Global, count: u64, words: &[u64]) -> Result<(Vec<Op>, &
 
 /// The first test of words, and the words behind it.
 #[tactic(auto, unfolding(crate::specs::inner::Statements::test_at))]
-fn test_at(words: &[u64]) -> Result<(Test, &[u64]), ReadFault>
-    ensures { Gives (λ found. (found.0, found.1.now)) result (spec.test_at words.now) }
+fn test_at(version: Version, words: &[u64]) -> Result<(Test, &[u64]), ReadFault>
+    ensures { Gives (λ found. (found.0, found.1.now)) result (spec.test_at version words.now) }
 {
-    let (row, rest) = row_at(words).ok_or(ReadFault::NotAnImage)?;
+    let (row, rest) = row_at(version, words).ok_or(ReadFault::NotAnImage)?;
     let test = test_of(&row).ok_or(ReadFault::NotAnImage)?;
     Ok((test, rest))
 }
 
 /// The first operation of words, and the words behind it.
 #[tactic(auto, unfolding(crate::specs::inner::Statements::operation_at))]
-fn operation_at(words: &[u64]) -> Result<(Op, &[u64]), ReadFault>
-    ensures { Gives (λ found. (found.0, found.1.now)) result (spec.operation_at words.now) }
+fn operation_at(version: Version, words: &[u64]) -> Result<(Op, &[u64]), ReadFault>
+    ensures { Gives (λ found. (found.0, found.1.now)) result (spec.operation_at version words.now) }
 {
-    let (row, rest) = row_at(words).ok_or(ReadFault::NotAnImage)?;
+    let (row, rest) = row_at(version, words).ok_or(ReadFault::NotAnImage)?;
     let operation = operation_of(&row).ok_or(ReadFault::NotAnImage)?;
     Ok((operation, rest))
 }

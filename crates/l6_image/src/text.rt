@@ -7,6 +7,7 @@ ghost use Rattle.l6_image.specs.Image.{HasImage};
 ghost use Rattle.l6_image.specs.Numerals.{most_bytes};
 ghost use Rattle.l6_image.specs.Row.{is_word};
 ghost use Rattle.l6_image.specs.Text as spec;
+ghost use Rattle.l6_image.specs.declared.version.Version.TheVariants.{Two};
 ghost use Rattle.l6_image.specs.inner.Lines.{begins_with_word};
 ghost use Rattle.l6_image.specs.inner.TextFault.{TellsLine};
 
@@ -20,11 +21,11 @@ use std::alloc::{AllocError, Global};
 const LINE_BYTES: usize = OCTALS + 1;
 
 /// The text of a program's image: a line for each of its words.
-#[tactic(auto, unfolding(crate::specs::Text::text_of))]
+#[tactic(auto, unfolding(crate::specs::Text::text_in))]
 pub fn text_of(alloc: Global, program: &Program) -> Result<Vec<u8>, AllocError>
     ensures text { IfOk result (λ text. text.items ≡ spec.text_of program.now) }
     // Every program has an image.
-    ensures known { OnOk result (HasImage program.now) }
+    ensures known { OnOk result (HasImage Two program.now) }
 {
     let words = words_of(alloc, program)?;
     text_of_words(alloc, &words)

@@ -1,32 +1,49 @@
 //! From programs to words.
 
-ghost use Rattle.std.specs.Prelude.{◌≡◌, ◌<◌, ◌++◌, true, IfOk, OnOk, IsTrue};
+ghost use Rattle.std.specs.Prelude.{◌≡◌, ◌<◌, ◌≤◌, ◌++◌, length, true, IfOk, OnOk, IsTrue};
 ghost use Rattle.std.specs.List.{flat_map, list_all};
+ghost use Rattle.l6_prog.specs.Numerals.{most_statements};
 ghost use Rattle.l6_prog.specs.Program.{fits};
 ghost use Rattle.l6_prog.specs.Target.{is_below, targets_of};
 ghost use Rattle.l6_image.specs.Image as spec;
 ghost use Rattle.l6_image.specs.Row.{is_row, is_word};
 ghost use Rattle.l6_image.specs.Table.{row_of, row_of_test};
+ghost use Rattle.l6_image.specs.Version.{most_in};
+ghost use Rattle.l6_image.specs.declared.version.Version.TheVariants.{Two};
 
 use crate::table::{push_operation, push_test};
-use crate::version::{MARK, target_bits};
+use crate::version::{Version, target_bits};
 use l6_prog::{Cond, Exit, Op, Program, Statement, Test};
 use std::alloc::{AllocError, Global};
 
 /// The words of a program's image: the mark, how many statements there are, how many words follow,
 /// and the words of the statements, in order.
-#[tactic(auto, unfolding(crate::specs::Image::words_of))]
 pub fn words_of(alloc: Global, program: &Program) -> Result<Vec<u64>, AllocError>
     ensures words { IfOk result (λ words. words.items ≡ spec.words_of program.now) }
     // Every program has an image.
-    ensures known { OnOk result (spec.HasImage program.now) }
+    ensures known { OnOk result (spec.HasImage Two program.now) }
+{
+    words_in(alloc, Version::Two, program)
+}
+
+/// The words of a program's image in a version, which the first one has for short programs alone.
+#[tactic(auto, unfolding(crate::specs::Image::words_in))]
+pub(crate) fn words_in(
+    alloc: Global,
+    version: Version,
+    program: &Program,
+) -> Result<Vec<u64>, AllocError>
+    ensures words { IfOk result (λ words. words.items ≡ spec.words_in version program.now) }
+    ensures known { OnOk result (length program.now ≤ most_in version
+        → spec.HasImage version program.now) }
+    ensures count { length program.now ≤ most_statements }
 {
     let statements = program.statements();
     let mut words = Vec::new(alloc);
-    words.push(MARK)?;
+    words.push(version.mark())?;
     words.push(statements.len() as u64)?;
     words.push(0)?;
-    push_statements(&mut words, statements)?;
+    push_statements(version, &mut words, statements)?;
     words[2] = (words.len() - 3) as u64;
     Ok(words)
 }
@@ -39,59 +56,71 @@ pub fn statement_words(alloc: Global, statement: &Statement) -> Result<Vec<u64>,
     ensures known { OnOk result (spec.has_values statement.now ≡ true) }
     // Where each target is one that a program may have, each is below 2^36.
     ensures fit { IfOk result (λ words.
-        list_all (is_below spec.target_count) (targets_of statement.now) ≡ true
+        list_all (is_below most_statements) (targets_of statement.now) ≡ true
         → list_all is_word words.items ≡ true) }
 {
     let mut words = Vec::new(alloc);
-    push_statement(&mut words, statement)?;
+    push_statement(Version::Two, &mut words, statement)?;
     Ok(words)
 }
 
 /// Writes the words of statements.
-fn push_statements(words: &mut Vec<u64>, statements: &[Statement]) -> Result<(), AllocError>
+fn push_statements(
+    version: Version,
+    words: &mut Vec<u64>,
+    statements: &[Statement],
+) -> Result<(), AllocError>
     requires { list_all fits statements.now ≡ true }
-    ensures words { OnOk result (words.new.items ≡ words.old.items ++ spec.body statements.now) }
+    ensures words { OnOk result (words.new.items ≡ words.old.items ++ spec.body version statements.now) }
     ensures known { OnOk result (list_all spec.has_values statements.now ≡ true) }
 {
     for statement in statements {
-        push_statement(words, statement)?;
+        push_statement(version, words, statement)?;
     }
     Ok(())
 }
 
 /// Writes the words of a statement.
-fn push_statement(words: &mut Vec<u64>, statement: &Statement) -> Result<(), AllocError>
+fn push_statement(
+    version: Version,
+    words: &mut Vec<u64>,
+    statement: &Statement,
+) -> Result<(), AllocError>
     requires { IsTrue (fits statement.now) }
     ensures words { OnOk result
-        (words.new.items ≡ words.old.items ++ spec.statement_words statement.now) }
+        (words.new.items ≡ words.old.items ++ spec.words_in_statement version statement.now) }
     ensures known { OnOk result (spec.has_values statement.now ≡ true) }
 {
     words.push(header(statement))?;
-    push_tests(words, statement.tests())?;
-    push_operations(words, statement.operations())
+    push_tests(version, words, statement.tests())?;
+    push_operations(version, words, statement.operations())
 }
 
 /// Writes the words of tests.
-fn push_tests(words: &mut Vec<u64>, tests: &[Test]) -> Result<(), AllocError>
+fn push_tests(version: Version, words: &mut Vec<u64>, tests: &[Test]) -> Result<(), AllocError>
     ensures words { OnOk result
-        (words.new.items ≡ words.old.items ++ flat_map spec.test_words tests.now) }
+        (words.new.items ≡ words.old.items ++ flat_map (spec.test_words version) tests.now) }
     ensures known { OnOk result (list_all (λ test. is_row (row_of_test test)) tests.now ≡ true) }
 {
     for test in tests {
-        push_test(words, test)?;
+        push_test(version, words, test)?;
     }
     Ok(())
 }
 
 /// Writes the words of operations.
-fn push_operations(words: &mut Vec<u64>, operations: &[Op]) -> Result<(), AllocError>
+fn push_operations(
+    version: Version,
+    words: &mut Vec<u64>,
+    operations: &[Op],
+) -> Result<(), AllocError>
     ensures words { OnOk result
-        (words.new.items ≡ words.old.items ++ flat_map spec.operation_words operations.now) }
+        (words.new.items ≡ words.old.items ++ flat_map (spec.operation_words version) operations.now) }
     ensures known { OnOk result
         (list_all (λ operation. is_row (row_of operation)) operations.now ≡ true) }
 {
     for operation in operations {
-        push_operation(words, operation)?;
+        push_operation(version, words, operation)?;
     }
     Ok(())
 }

@@ -26,7 +26,7 @@ most_characters = 60
 
 -- how many statements a program may have, the last one, the plain DONE, among them
 abbrev pub most_statements : ℕ
-most_statements = 4095
+most_statements = 65535
 
 -- how many tests a statement may have
 abbrev pub most_tests : ℕ

@@ -15,7 +15,7 @@ use std::marker::Model;
 use thiserror::Error;
 
 /// How many statements a program may have, the last one, the plain `DONE`, among them.
-pub const MAX_STATEMENTS: usize = 4095;
+pub const MAX_STATEMENTS: usize = 65_535;
 /// How many tests a statement may have.
 pub const MAX_TESTS: usize = 63;
 /// How many operations a statement may have.
@@ -24,7 +24,7 @@ pub const MAX_OPERATIONS: usize = 63;
 /// Why statements are no program.
 #[derive(Clone, Copy, Debug, Error, PartialEq, Eq)]
 pub enum ProgFault {
-    /// More than 4,095 statements, or a statement with more than 63 tests or 63 operations.
+    /// More than 65,535 statements, or a statement with more than 63 tests or 63 operations.
     #[error("past a limit")]
     Limit,
     /// A label or a call that names no statement.
@@ -36,7 +36,7 @@ pub enum ProgFault {
     Shape,
 }
 
-/// A program: 1 to 4,095 statements, numbered from 0, of which the last is the plain `DONE`. Each
+/// A program: 1 to 65,535 statements, numbered from 0, of which the last is the plain `DONE`. Each
 /// target is the number of one of them.
 #[derive(Drop)]
 pub struct Program {

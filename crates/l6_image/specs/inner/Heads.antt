@@ -1,11 +1,12 @@
 -- The first words of rows, with kinds in place of operands.
-use Rattle.std.specs.Prelude.{ℕ, ◌∷◌, unwrap_or}
+use Rattle.std.specs.Prelude.{ℕ, [], ◌∷◌, unwrap_or}
 use Rattle.l6_image.specs.declared.head.Kind.{Kind}
 use Rattle.l6_image.specs.declared.head.Kind.TheVariants.{Absent, Chain, Number, Text}
 use Rattle.l6_image.specs.declared.head.Head.{Head}
 use Rattle.l6_image.specs.Numerals.{no_name}
 use Rattle.l6_image.specs.Bits.{bits, packed}
-use Rattle.l6_image.specs.Version.{label_fields}
+use Rattle.l6_image.specs.Version.{label_number}
+use Rattle.l6_image.specs.declared.version.Version.{Version}
 
 -- the number of a kind
 abbrev pub kind_code : Kind → ℕ
@@ -15,8 +16,8 @@ kind_code Number = 2
 kind_code Text = 3
 
 -- the first word of a row
-abbrev pub head_word : Head → ℕ
-head_word head =
+abbrev pub head_word : Version → Head → ℕ
+head_word version head =
     packed (bits 6 head.code ∷ bits 2 (kind_code head.first) ∷ bits 2 (kind_code head.second)
     ∷ bits 2 (kind_code head.third) ∷ bits 6 (unwrap_or head.field no_name)
-    ∷ label_fields head.label)
+    ∷ bits 18 (label_number version head.label) ∷ [])

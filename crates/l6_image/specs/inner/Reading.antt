@@ -4,6 +4,7 @@ use Rattle.std.specs.List.{flat_map}
 use Rattle.std.specs.Option.{option_and_then}
 use Rattle.l6_prog.specs.Numerals.{most_characters}
 use Rattle.l6_image.specs.Row.{Slot, absent, chain, number, text, Row, row}
+use Rattle.l6_image.specs.declared.version.Version.{Version}
 use Rattle.l6_image.specs.inner.Fields.{name_if, label_in, items_in, names_in}
 
 -- what a reading makes of what another found, if that found anything
@@ -36,14 +37,14 @@ slot_at kind words =
     else first_of words >>= (λ first. codes_at first.0 first.1)
 
 -- a row
-unfoldable pub row_at : List ℕ → Option (Row × List ℕ)
-row_at words = do
+unfoldable pub row_at : Version → List ℕ → Option (Row × List ℕ)
+row_at version words = do
   head ← first_of words
   first ← slot_at (head.0 / 2 ^ 28 % 4) head.1
   second ← slot_at (head.0 / 2 ^ 26 % 4) first.1
   third ← slot_at (head.0 / 2 ^ 24 % 4) second.1
   Some (
     row (head.0 / 2 ^ 30 % 64) first.0 second.0 third.0
-        (name_if (head.0 / 2 ^ 18 % 64)) (label_in head.0),
+        (name_if (head.0 / 2 ^ 18 % 64)) (label_in version head.0),
     third.1,
   )

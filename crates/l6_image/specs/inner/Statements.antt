@@ -1,28 +1,28 @@
 -- Statements, read from words.
-use Rattle.std.specs.Prelude.{ℕ, zero, suc, ◌/◌, ◌%◌, ◌^◌, ◌==◌, List, [], ◌∷◌, ◌++◌, Option, Some, None, if◌then◌else◌, nat_lt}
+use Rattle.std.specs.Prelude.{ℕ, zero, suc, ◌/◌, ◌%◌, ◌^◌, ◌==◌, List, [], ◌∷◌, ◌++◌, Option, Some, None, if◌then◌else◌}
 use Rattle.l6_prog.specs.declared.condition.Cond.{Cond}
 use Rattle.l6_prog.specs.declared.condition.Cond.TheVariants.{Always, If, Not, IfAll, IfAny, IfNone, IfNotAll}
 use Rattle.l6_prog.specs.declared.condition.Test.{Test}
 use Rattle.l6_prog.specs.declared.exit.Exit.{Exit}
 use Rattle.l6_prog.specs.declared.exit.Exit.TheVariants.{Next, Label, Done, Fail}
 use Rattle.l6_prog.specs.declared.operation.Op.{Op}
-use Rattle.l6_prog.specs.Numerals.{most_statements}
 use Rattle.l6_prog.specs.Statement.{Parts}
+use Rattle.l6_image.specs.declared.version.Version.{Version}
 use Rattle.l6_image.specs.inner.Fields.{target_in}
 use Rattle.l6_image.specs.inner.Reading.{◌>>=◌, first_of, row_at}
 use Rattle.l6_image.specs.inner.Back.{test_of, operation_of}
 
 -- a test
-unfoldable pub test_at : List ℕ → Option (Test × List ℕ)
-test_at words = do
-  row ← row_at words
+unfoldable pub test_at : Version → List ℕ → Option (Test × List ℕ)
+test_at version words = do
+  row ← row_at version words
   test ← test_of row.0
   Some (test, row.1)
 
 -- an operation
-unfoldable pub operation_at : List ℕ → Option (Op ℕ × List ℕ)
-operation_at words = do
-  row ← row_at words
+unfoldable pub operation_at : Version → List ℕ → Option (Op ℕ × List ℕ)
+operation_at version words = do
+  row ← row_at version words
   operation ← operation_of row.0
   Some (operation, row.1)
 
@@ -60,11 +60,11 @@ exit_in code target =
     else Fail
 
 -- a statement
-unfoldable pub statement_at : List ℕ → Option (Parts × List ℕ)
-statement_at words = do
+unfoldable pub statement_at : Version → List ℕ → Option (Parts × List ℕ)
+statement_at version words = do
   head ← first_of words
-  tests ← many test_at (head.0 / 2 ^ 27 % 64) head.1
-  operations ← many operation_at (head.0 / 2 ^ 21 % 64) tests.1
+  tests ← many (test_at version) (head.0 / 2 ^ 27 % 64) head.1
+  operations ← many (operation_at version) (head.0 / 2 ^ 21 % 64) tests.1
   Some (
     record {
       condition = condition_in (head.0 / 2 ^ 33 % 8);
@@ -75,16 +75,10 @@ statement_at words = do
     operations.1,
   )
 
--- so many statements, if a program may have so many
-abbrev pub limited : ℕ → List ℕ → Option (List Parts)
-limited count words =
-    if nat_lt most_statements count then None
-    else many statement_at count words >>= (λ statements. Some statements.0)
-
--- the statements of an image's words
-unfoldable pub statements_of : List ℕ → Option (List Parts)
-statements_of words = do
-  mark ← first_of words
-  count ← first_of mark.1
+-- the statements of an image's words behind its mark
+unfoldable pub statements_of : Version → List ℕ → Option (List Parts)
+statements_of version words = do
+  count ← first_of words
   size ← first_of count.1
-  limited count.0 size.1
+  statements ← many (statement_at version) count.0 size.1
+  Some statements.0

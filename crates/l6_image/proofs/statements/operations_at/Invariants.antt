@@ -5,5 +5,5 @@ use Rattle.l6_image.proofs.statements.operations_at.Given as goal
 -- the operations so far, and then as many as are left
 abbrev pub invariant-loop : goal.invariant-loop
 invariant-loop l =
-    with_front l.operations.items (many operation_at (l.count - l.counter) l.rest)
-    ≡ many operation_at l.count l.fn.words
+    with_front l.operations.items (many (operation_at l.version) (l.count - l.counter) l.rest)
+    ≡ many (operation_at l.version) l.count l.fn.words

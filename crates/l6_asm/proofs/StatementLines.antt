@@ -6,7 +6,7 @@ use Rattle.std.proofs.lemmas.Option.{slice_get-get_or, slice_get_past}
 use Rattle.l6_prog.specs.Numerals.{most_statements}
 use Rattle.l6_prog.specs.Statement.{Parts}
 use Rattle.l6_prog.specs.Target.{is_below, targets_of}
-use Rattle.l6_image.specs.Image.{statement_words, target_count}
+use Rattle.l6_image.specs.Image.{statement_words}
 use Rattle.l6_image.proofs.Knowing.{below-more}
 use Rattle.l6_asm.specs.Listing.{word_line, words_if_given, statement_lines}
 
@@ -37,6 +37,6 @@ lines-past program number past =
 -- each target of a program's statement is one that an image can tell
 pub targets-told : (program : List Parts) (statement : Parts) → length program ≤ most_statements →
     list_all (is_below (length program)) (targets_of statement) ≡ true →
-    list_all (is_below target_count) (targets_of statement) ≡ true
+    list_all (is_below most_statements) (targets_of statement) ≡ true
 targets-told program statement few below =
-    below-more (length program) target_count (targets_of statement) (omega (arith, few)) below
+    below-more (length program) most_statements (targets_of statement) (omega (arith, few)) below

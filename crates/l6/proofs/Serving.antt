@@ -6,7 +6,7 @@ use Rattle.l6_run.specs.Options.{OptionValues}
 use Rattle.l6_run.specs.Patience.{Fared, FaredWith, lent, lent_reader, tells_read, told_by}
 use Rattle.l6_run.specs.Prints.{Prints, PrintsLoaded, RefusesDeck, RefusesImage}
 use Rattle.l6_run.specs.Serves.{Serves}
-use Rattle.l6_run.specs.Texts.{RefusesCards, WritesImage}
+use Rattle.l6_run.specs.Texts.{RefusesCards, RefusesRewriting, RewritesImage, WritesImage}
 use Rattle.l6_run.specs.declared.ending.Ending.{Ending}
 use Rattle.l6_run.specs.declared.fault.Part.{Part}
 use Rattle.l6_run.specs.declared.fault.Part.TheVariants.{Deck, Image, Input, Commands, Job}
@@ -53,6 +53,19 @@ image_refused verb options job deck old new fault is head served =
     (λ outcome text answers. answers)
     (subst (λ (d : List ℕ). Serves (λ (_ : Unit {0}) text. WritesImage d text) (RefusesCards d)
     old new (Err fault)) head served))
+
+-- why an image was not written anew is why the job was not done whose head is its text
+pub renewal_refused : (verb : Verb) (options : OptionValues) (job image : List ℕ)
+    (old new : Option (List ℕ)) (fault : RunFault) → verb ≡ verbs.Renew → image ≡ head_of job →
+    Serves (λ (_ : Unit {0}) text. RewritesImage image text) (RefusesRewriting image)
+    old new (Err fault) → Becomes verb options job old new (Err fault)
+renewal_refused verb options job image old new fault is head served =
+    subst (λ (v : Verb). Becomes v options job old new (Err fault)) (sym is)
+    (renamed Unit Outcome (λ _. Written) (λ _ text. RewritesImage (head_of job) text)
+    (Answers verbs.Renew options job) (Refuses verbs.Renew job) old new fault
+    (λ outcome text answers. answers)
+    (subst (λ (d : List ℕ). Serves (λ (_ : Unit {0}) text. RewritesImage d text)
+    (RefusesRewriting d) old new (Err fault)) head served))
 
 -- why a deck was not run is why the job was not done whose head it is
 pub run_refused : (verb : Verb) (options : OptionValues) (job deck input : List ℕ)
@@ -145,6 +158,9 @@ untold-job verbs.Run options job part old new result served =
     (λ _ refused. refused) served
 untold-job verbs.Load options job part old new result served =
     untold-reader (Answers verbs.Load options job) (Refuses verbs.Load job) part old new result
+    (λ _ refused. refused) served
+untold-job verbs.Renew options job part old new result served =
+    untold-reader (Answers verbs.Renew options job) (Refuses verbs.Renew job) part old new result
     (λ _ refused. refused) served
 untold-job verbs.Debug options job part old new (Ok _) served = refl
 untold-job verbs.Debug options job part old new (Err fault) served =

@@ -4,7 +4,7 @@ use Rattle.l6_run.specs.Options.{OptionValues}
 use Rattle.l6_run.specs.Prints.{Prints, PrintsLoaded, RefusesDeck, RefusesImage}
 use Rattle.l6_run.specs.Runs.{Reads}
 use Rattle.l6_run.specs.Serves.{IsUnwritten, Serves}
-use Rattle.l6_run.specs.Texts.{RefusesCards, WritesImage, WritesListing}
+use Rattle.l6_run.specs.Texts.{RefusesCards, RefusesRewriting, RewritesImage, WritesImage, WritesListing}
 use Rattle.l6_run.specs.declared.fault.Part.TheVariants.{Job}
 use Rattle.l6_run.specs.declared.fault.RunFault.{RunFault}
 use Rattle.l6_debug.specs.Serving as sessions
@@ -24,6 +24,7 @@ Answers verbs.Run options job (Ran ending) text =
     Prints options (head_of job) (input_of job) ending text
 Answers verbs.Load options job (Ran ending) text =
     PrintsLoaded options (head_of job) (input_of job) ending text
+Answers verbs.Renew options job Written text = RewritesImage (head_of job) text
 Answers verb options job outcome text = ⊥
 
 -- why a job is refused
@@ -32,6 +33,7 @@ Refuses verbs.Asm job fault = RefusesCards (head_of job) fault
 Refuses verbs.List job fault = RefusesCards (head_of job) fault
 Refuses verbs.Run job fault = RefusesDeck (head_of job) (input_of job) fault
 Refuses verbs.Load job fault = RefusesImage (head_of job) (input_of job) fault
+Refuses verbs.Renew job fault = RefusesRewriting (head_of job) fault
 Refuses verb job fault = ⊥
 
 -- what became of a job that was read whole, and what went out for it. The debugger writes each answer

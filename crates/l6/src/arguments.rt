@@ -19,14 +19,17 @@ const RUN_ABOUT: &str = "Runs the deck that standard input gives, and prints wha
 
 const LOAD_ABOUT: &str = "Runs the image that standard input gives, as `run` runs its deck";
 
+const RENEW_ABOUT: &str =
+    "Writes the image that standard input gives anew, in the version that `asm` writes";
+
 const DEBUG_ABOUT: &str =
     "Shows the run of the deck that standard input gives, forward and back, as commands ask for";
 
 /// What stands behind the options in each help.
 const MANUAL: &str = "\
 Standard input is one job: a deck of cards and, behind a line $INPUT, the input of its program.
-Column 1 of a card is blank, or begins a label; then come groups such as (A,E,5). For `load` the
-image that `asm` wrote stands where the deck does. For `debug` commands stand behind the deck, from
+Column 1 of a card is blank, or begins a label; then come groups such as (A,E,5). For `load` and
+`renew` an image stands where the deck does. For `debug` commands stand behind the deck, from
 a line $COMMANDS on and before the line $INPUT.
 
 Examples:
@@ -102,6 +105,7 @@ pub fn request_of(alloc: Global, words: &[String]) -> Result<Request, WordsFault
     let request = match matches.subcommand() {
         Some(("asm", _)) => Some(without_options(Verb::Asm)),
         Some(("list", _)) => Some(without_options(Verb::List)),
+        Some(("renew", _)) => Some(without_options(Verb::Renew)),
         Some(("run", chosen)) => requested(Verb::Run, chosen),
         Some(("load", chosen)) => requested(Verb::Load, chosen),
         Some(("debug", chosen)) => requested(Verb::Debug, chosen),
@@ -125,6 +129,9 @@ fn program<'a>(alloc: Global) -> Result<Command<'a>, AllocError> {
     let list = Command::new(alloc, "list")
         .about(LIST_ABOUT)
         .after_help(MANUAL);
+    let renew = Command::new(alloc, "renew")
+        .about(RENEW_ABOUT)
+        .after_help(MANUAL);
     let run = with_options(Command::new(alloc, "run").about(RUN_ABOUT), alloc)?;
     let load = with_options(Command::new(alloc, "load").about(LOAD_ABOUT), alloc)?;
     let debug = with_options(Command::new(alloc, "debug").about(DEBUG_ABOUT), alloc)?;
@@ -134,6 +141,7 @@ fn program<'a>(alloc: Global) -> Result<Command<'a>, AllocError> {
         .subcommand_required(true)
         .subcommand(asm)?
         .subcommand(list)?
+        .subcommand(renew)?
         .subcommand(run)?
         .subcommand(load)?
         .subcommand(debug)

@@ -10,8 +10,8 @@ ghost use Rattle.l6.specs.Performs.{Becomes, IsUnwrittenBy, Performs};
 use crate::parts::{parts_of, session_of};
 use l6_debug::debug_deck;
 use l6_run::{
-    Ending, Options, Part, Patience, RunFault, Sink, Source, read_part, run_deck, run_image_text,
-    write_deck_image, write_deck_listing,
+    Ending, Options, Part, Patience, RunFault, Sink, Source, read_part, rewrite_image_text,
+    run_deck, run_image_text, write_deck_image, write_deck_listing,
 };
 use std::alloc::Global;
 
@@ -26,6 +26,8 @@ pub enum Verb {
     Run,
     /// The head of the job is the text of an image, which is run with the input of the job.
     Load,
+    /// The head of the job is the text of an image, which is written anew, in the version that is written.
+    Renew,
     /// The head of the job is a deck with commands, which are obeyed with the run of the deck with the
     /// input of the job.
     Debug,
@@ -101,6 +103,10 @@ fn serve<W: Sink>(
         Verb::Load => {
             let ending = run_image_text(alloc, options, parts.head, parts.input, writer, patience)?;
             Ok(Outcome::Ran(ending))
+        }
+        Verb::Renew => {
+            rewrite_image_text(alloc, parts.head, writer, patience)?;
+            Ok(Outcome::Written)
         }
         Verb::Debug => {
             let session = session_of(parts.head);

@@ -115,9 +115,9 @@ module _ (version : Version) where
       (
         omega (arith, known.operations),
         (
-            exit-below s.exit,
-            (omega (arith, (known_parts version s known).target, most-below version), tt),
-          ),
+          exit-below s.exit,
+          (omega (arith, (known_parts version s known).target, most-below version), tt),
+        ),
       ),
     ),
   )
@@ -189,4 +189,3 @@ program_in-again version program has =
       has.taken,
       le-ltb (most_in version) (length program) has.few,
     ) refl
-

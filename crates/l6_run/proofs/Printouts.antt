@@ -2,6 +2,7 @@
 use Rattle.std.proofs.Common.{◌≡◌, ℕ, List, ap, sym, subst, ◌∙◌}
 use Rattle.l6_prog.specs.Statement.{Parts}
 use Rattle.l6_image.specs.Load.{TextsTellPrograms}
+use Rattle.l6_image.specs.declared.version.Version.TheVariants.{Two}
 use Rattle.l6_asm.specs.Assembled.{Assembled}
 use Rattle.l6_asm.specs.Spells.{SpellsInOneWay}
 use Rattle.l6_steps.specs.Laws.{EndsInOneState}
@@ -42,8 +43,7 @@ prints-as_deck one_way tell options deck image input ending text written small =
     fits = small;
     input_fits = prints.input_fits;
     program = written.assembly.program;
-    known = written.known;
-    loaded = written.written;
+    loaded = (Two, written.known, written.written);
     run = printed_by options input ending text prints.assembly.program written.assembly.program
         (ap (λ (a : Assembled). a.program)
         (one_way deck written.assembly prints.assembly written.spelled prints.spelled)) prints.run;
@@ -54,7 +54,7 @@ prints-as_deck one_way tell options deck image input ending text written small =
     assembly = written.assembly;
     spelled = written.spelled;
     run = printed_by options input ending text prints.program written.assembly.program
-        (tell prints.program written.assembly.program prints.known written.known
-        (sym prints.loaded ∙ written.written)) prints.run;
+        (tell image prints.program written.assembly.program prints.loaded
+        (Two, written.known, written.written)) prints.run;
   },
 )

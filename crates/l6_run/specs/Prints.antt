@@ -6,10 +6,9 @@ use Rattle.l6_card.specs.Numerals.{most_deck_bytes}
 use Rattle.l6_asm.specs.AssemblyFault.{assembly_fault}
 use Rattle.l6_asm.specs.Assembled.{Assembled}
 use Rattle.l6_asm.specs.Spells.{Spells, IsUnspelled}
-use Rattle.l6_image.specs.Image.{HasImage}
 use Rattle.l6_image.specs.Load.{Tells}
 use Rattle.l6_image.specs.Numerals.{most_bytes}
-use Rattle.l6_image.specs.Text.{text_of}
+use Rattle.l6_image.specs.Text.{IsImageOf}
 use Rattle.l6_image.specs.declared.fault.LoadFault.{LoadFault}
 use Rattle.l6_image.specs.declared.fault.LoadFault.TheVariants as load
 use Rattle.l6_store.specs.Rule.{Rule}
@@ -78,8 +77,7 @@ pub record PrintsLoaded (options : OptionValues) (image input : List ℕ) (endin
   pub fits : length image ≤ most_bytes
   pub input_fits : length input ≤ most_input
   pub program : List Parts
-  pub known : HasImage program
-  pub loaded : image ≡ text_of program
+  pub loaded : IsImageOf image program
   pub run : RunPrints store_rule (world_under options input program) ending text
 
 -- why a text is no image, which no want of memory says

@@ -3,7 +3,7 @@ use Rattle.std.specs.Prelude.{ℕ, ◌≡◌, ◌⊎◌, List, Option, Result, O
 use Rattle.l6_run.specs.Options.{OptionValues}
 use Rattle.l6_run.specs.Prints.{Prints, PrintsLoaded, RefusesDeck, RefusesImage}
 use Rattle.l6_run.specs.Serves.{Serves}
-use Rattle.l6_run.specs.Texts.{RefusesCards}
+use Rattle.l6_run.specs.Texts.{RefusesCards, RefusesRewriting, RewritesImage}
 use Rattle.l6_run.specs.Transfer.{EndsReading, GivesPart}
 use Rattle.l6_run.specs.declared.ending.Ending.{Ending}
 use Rattle.l6_run.specs.declared.fault.Part.{Part}
@@ -50,6 +50,13 @@ abbrev pub WritesText : (List ℕ → List ℕ → Type 0) → Option (List ℕ)
 WritesText Writes deck deck' taken taken' result =
     Reads Deck deck deck' taken taken' (λ cards.
     Serves (λ _ text. Writes cards text) (RefusesCards cards) taken taken' result) result
+
+-- what became of an image that was to be written anew: what its reader gave, and what went out for it
+abbrev pub Rewrites : Option (List ℕ) → Option (List ℕ) → Option (List ℕ) → Option (List ℕ) →
+    Result (Unit {0}) RunFault → Type 0
+Rewrites image image' taken taken' result =
+    Reads Image image image' taken taken' (λ lines.
+    Serves (λ _ text. RewritesImage lines text) (RefusesRewriting lines) taken taken' result) result
 
 -- the part was not read whole, for more came than it may have or its reader had trouble
 abbrev pub IsOfPart : {Outcome : Type 0} → Part → Result Outcome RunFault → Type 0

@@ -31,6 +31,6 @@ pub use printing::{ending_line, ending_of, printout, push_whole_lines};
 pub use runner::{run, run_image};
 pub use running::run_deck;
 pub use script::Script;
-pub use texts::{write_deck_image, write_deck_listing};
+pub use texts::{rewrite_image_text, write_deck_image, write_deck_listing};
 pub use transfer::{read_part, write_text};
-pub use writer::{write_image, write_listing};
+pub use writer::{rewrite_image, write_image, write_listing};

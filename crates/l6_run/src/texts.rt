@@ -1,10 +1,12 @@
-//! What is written of a deck that is not run: its image, and its listing.
+//! What is written of a deck that is not run, its image and its listing, and of an image that is
+//! renewed.
 
 ghost use Rattle.std.specs.Prelude.{◌≡◌, ◌≤◌, length, [], ◌∷◌, IfOk, IfErr};
 ghost use Rattle.l6_card.specs.Numerals.{most_deck_bytes};
 ghost use Rattle.l6_run.specs.Patience.{FaredWith, lent_writer};
 ghost use Rattle.l6_run.specs.Serves.{IsUnwritten, Serves};
-ghost use Rattle.l6_run.specs.Texts.{RefusesCards, WritesImage, WritesListing};
+ghost use Rattle.l6_image.specs.Numerals.{most_bytes};
+ghost use Rattle.l6_run.specs.Texts.{RefusesCards, RefusesRewriting, RewritesImage, WritesImage, WritesListing};
 ghost use Rattle.l6_run.specs.inner.Running.{HasNoText};
 
 use crate::device::Sink;
@@ -13,7 +15,7 @@ use crate::patience::Patience;
 use crate::transfer::write_text;
 use l6_asm::{assemble, listing};
 use l6_card::MAX_DECK_BYTES;
-use l6_image::text_of;
+use l6_image::{MAX_BYTES, load, text_of};
 use std::alloc::Global;
 
 /// Writes the text of a deck's image.
@@ -83,5 +85,40 @@ fn listing_of(alloc: Global, deck: &[u8]) -> Result<Vec<u8>, RunFault>
 {
     let assembly = assemble(alloc, deck)?;
     let text = listing(alloc, &assembly, deck)?;
+    Ok(text)
+}
+
+/// Writes the text of an image anew, in the version that is written.
+///
+/// # Errors
+///
+/// Why the text is no image. Nothing went out then, unless it is a `Write`.
+pub fn rewrite_image_text<W: Sink>(
+    alloc: Global,
+    image: &[u8],
+    writer: &mut W,
+    patience: &mut Patience,
+) -> Result<(), RunFault>
+    ensures done { Serves (λ _ text. RewritesImage image.now text) (RefusesRewriting image.now)
+        (W.taken writer.old) (W.taken writer.new) result }
+    ensures unwritten { IsUnwritten result → writer.new ≡ writer.old }
+    ensures fared { FaredWith (lent_writer (W.health writer.old) (W.health writer.new) result ∷ [])
+        patience.old patience.new }
+{
+    if image.len() > MAX_BYTES {
+        return Err(RunFault::TooLong(Part::Image));
+    }
+    let text = renewed(alloc, image)?;
+    write_text(writer, text.as_slice(), 0, patience)
+}
+
+/// The text of an image, in the version that is written.
+fn renewed(alloc: Global, image: &[u8]) -> Result<Vec<u8>, RunFault>
+    requires { length image.now ≤ most_bytes }
+    ensures image { IfOk result (λ text. RewritesImage image.now text.items) }
+    ensures refuses { IfErr result (HasNoText (RefusesRewriting image.now)) }
+{
+    let program = load(alloc, image)?;
+    let text = text_of(alloc, &program)?;
     Ok(text)
 }

@@ -1,18 +1,19 @@
-//! The image and the listing of a deck that a reader gives.
+//! The image and the listing of a deck that a reader gives, and an image that is renewed.
 
 ghost use Rattle.std.specs.Prelude.{◌≡◌, ◌+◌, [], ◌∷◌};
 ghost use Rattle.l6_card.specs.Numerals.{most_deck_bytes};
 ghost use Rattle.l6_run.specs.Patience.{Fared, lent_reader, lent_writer};
-ghost use Rattle.l6_run.specs.Runs.{WritesText};
+ghost use Rattle.l6_image.specs.Numerals.{most_bytes};
+ghost use Rattle.l6_run.specs.Runs.{Rewrites, WritesText};
 ghost use Rattle.l6_run.specs.Serves.{IsUnwritten};
 ghost use Rattle.l6_run.specs.Texts.{WritesImage, WritesListing};
 ghost use Rattle.l6_run.specs.Transfer.{GivesAtMost};
-ghost use Rattle.l6_run.specs.declared.fault.Part.TheVariants.{Deck};
+ghost use Rattle.l6_run.specs.declared.fault.Part.TheVariants.{Deck, Image};
 
 use crate::device::{Sink, Source};
 use crate::fault::{Part, RunFault};
 use crate::patience::Patience;
-use crate::texts::{write_deck_image, write_deck_listing};
+use crate::texts::{rewrite_image_text, write_deck_image, write_deck_listing};
 use crate::transfer::read_part;
 use std::alloc::Global;
 
@@ -66,4 +67,31 @@ pub fn write_listing<D: Source, W: Sink>(
     let mut patience = Patience::new();
     let cards = read_part(alloc, deck, Part::Deck, &mut patience)?;
     write_deck_listing(alloc, cards.as_slice(), writer, &mut patience)
+}
+
+/// Reads the text of an image whole, and writes it anew, in the version that is written.
+///
+/// # Errors
+///
+/// Why the text is no image, or not all of the new one went out. Nothing went out then, unless it is a
+/// `Write`.
+pub fn rewrite_image<D: Source, W: Sink>(
+    alloc: Global,
+    image: &mut D,
+    writer: &mut W,
+) -> Result<(), RunFault>
+    // What the reader gave, and what went out for it.
+    ensures done { Rewrites (D.left image.old) (D.left image.new)
+        (W.taken writer.old) (W.taken writer.new) result }
+    ensures unwritten { IsUnwritten result → writer.new ≡ writer.old }
+    ensures at_most { GivesAtMost (most_bytes + 1) (D.left image.old) (D.left image.new) }
+
+    // How the devices fared.
+    ensures fared { Fared (
+        lent_reader Image (D.health image.old) (D.health image.new) result ∷
+        lent_writer (W.health writer.old) (W.health writer.new) result ∷ []) }
+{
+    let mut patience = Patience::new();
+    let text = read_part(alloc, image, Part::Image, &mut patience)?;
+    rewrite_image_text(alloc, text.as_slice(), writer, &mut patience)
 }

@@ -1,7 +1,7 @@
 use Rattle.std.proofs.Common.{ap, ◌∙◌}
 use Rattle.std.proofs.lemmas.Result.{err_from_is_err_and}
 use Rattle.l6.specs.Parts.{commands_of, deck_of}
-use Rattle.l6.proofs.Serving.{debug_refused, image_refused, load_refused, run_refused}
+use Rattle.l6.proofs.Serving.{debug_refused, image_refused, load_refused, renewal_refused, run_refused}
 use Rattle.l6.proofs.job.serve.Goals as goal
 
 pub returns-in_err-write_deck_image-in-Asm-clause-done :
@@ -72,3 +72,18 @@ returns-in_err-debug_deck-in-Debug-clause-fared g c =
     let p = err_from_is_err_and c.from_residual-in_err-debug_deck-in-Debug.result
     c.from_residual-in_err-debug_deck-in-Debug.ensures.1 in
     rw (p.1, p.2) (c.in_err-debug_deck-in-Debug.ensures.fared)
+
+pub returns-in_err-rewrite_image_text-in-Renew-clause-done :
+    goal.returns-in_err-rewrite_image_text-in-Renew-clause-done
+returns-in_err-rewrite_image_text-in-Renew-clause-done g c =
+    let p = err_from_is_err_and c.from_residual-in_err-rewrite_image_text-in-Renew.result
+    c.from_residual-in_err-rewrite_image_text-in-Renew.ensures.1 in
+    rw (p.1, p.2) (renewal_refused _ _ c.args.job.now _ _ _ _ c.in-Renew.is
+    c.parts_of-parts.ensures.head c.in_err-rewrite_image_text-in-Renew.ensures.done)
+
+pub returns-in_err-rewrite_image_text-in-Renew-clause-fared :
+    goal.returns-in_err-rewrite_image_text-in-Renew-clause-fared
+returns-in_err-rewrite_image_text-in-Renew-clause-fared g c =
+    let p = err_from_is_err_and c.from_residual-in_err-rewrite_image_text-in-Renew.result
+    c.from_residual-in_err-rewrite_image_text-in-Renew.ensures.1 in
+    rw (p.1, p.2) (c.in_err-rewrite_image_text-in-Renew.ensures.fared)

@@ -63,8 +63,7 @@ returns-then-not-are_same-clause-fault c =
 pub returns-clause-sound : goal.returns-clause-sound
 unfolding text_in
 returns-clause-sound c =
-    let same = c.if-not-are_same.ensures.0 refl in
-    (
+    let same = c.if-not-are_same.ensures.0 refl in (
       c.in_ok-version.version,
       c.in_ok-written.ensures.known c.in_ok-version.ensures.few,
       c.in_ok-words.ensures.words

@@ -223,7 +223,7 @@ def large_stores(program):
 
 def cut_images(program):
     """The trials on an image that is cut to each number of bytes: what is left ends in a line, or not."""
-    image = b"542651554721 000000000002 000000000007 000020000000 013077000000 127777777777 "
+    image = b"542651554722 000000000002 000000000007 000020000000 013077000000 127777777777 "
     image = (image + b"000000000005 312077000000 127777777777 000002000000 ").replace(b" ", b"\n")
     for count in range(len(image)):
         line, rest = divmod(count, 13)

@@ -1,0 +1,286 @@
+#!/usr/bin/env python3
+"""Runs the examples that README.md and docs/*.md show, and looks that they print what is said there.
+
+documents.py PROGRAM prints each difference, and last 'N passed, M failed'.
+
+A page is read from its top, in a folder of its own, which has a copy of examples/ and a command ./l6 that
+runs the program. What a fenced block is, its info string and the line in front of it tell:
+
+    sh      commands; each must end with status 0, but the last may have another where its printout follows
+    text    what the last example prints, if the line in front ends in "prints:";
+            what it says on standard error, if that line ends in "says:";
+            a piece of a debugger's session with the last deck, if its first line is a command: lines with
+            small letters are commands, and the others are their answers;
+            else a job, which is an example itself, and the file my.deck for the commands that follow
+    figure  a drawing, a form or a table, which nothing runs
+
+The last example is the commands or the job that stand last above. A job is debugged if it has a line
+$COMMANDS, and run if it has none; a line in front that names a verb, as `./l6 list` prints:, has it listed.
+The line in front of a session may name `./l6 debug` with options.
+A job must be followed by what it prints or says, or by a session.
+
+A line <!-- not run: WHY --> in front of a block excuses it. <!-- bytes: → 09, ■ 80 --> tells which
+characters of a job stand for which bytes. A block that is nothing of this has failed, so none is forgotten.
+
+Sentences are looked at, too. In a paragraph or a point of a list,
+
+    `./l6 run < examples/first.deck`    a command in a code span is run
+    `(A,PO)` in place of `(A,PD)`       the last job is run so
+    Without `(FREE,DO)`                 the last job is run without it
+
+and then each code span that is a number, or begins with == or l6:, must be a line that comes out, and
+"exit status is N" must be true.
+"""
+from __future__ import annotations
+
+import re
+import shutil
+import subprocess
+import sys
+import tempfile
+from collections.abc import Iterator
+from dataclasses import dataclass, field
+from pathlib import Path
+
+TOP = Path(__file__).resolve().parent.parent
+SECONDS = 20  # for one command
+FENCE = re.compile(r"^( *)```(\S*)$")
+COMMAND = re.compile(r"[a-z]+( \d+)?")  # of the debugger
+NOT_RUN = re.compile(r"<!-- not run: .+ -->")
+BYTES = re.compile(r"<!-- bytes: (.+) -->")
+VERB = re.compile(r"`\./l6 ([^`<]+)` (?:prints|says|writes)")
+SPAN = re.compile(r"`([^`]+)`")
+TRIAL = re.compile(r"`([^`]+)` in place of `([^`]+)`|\bWithout `([^`]+)`")
+DEBUG = re.compile(r"`(\./l6 debug[^`<]*)`")
+STATUS = re.compile(r"exit status (?:is )?(\d+)")
+
+
+@dataclass
+class Block:
+    """A fenced block, or a paragraph if its kind is empty."""
+
+    line: int  # of the page, counted from 1
+    kind: str  # the info string
+    text: str
+    lead: str = ""  # the paragraph in front
+    marks: list[str] = field(default_factory=list)  # comments in front
+
+
+@dataclass
+class Answer:
+    """What came of an example."""
+
+    stdout: str
+    stderr: str
+    status: int
+
+
+def fenced(lines: list[str], start: int) -> tuple[str, str, int]:
+    """The info string and the text of the block that begins on a line, and the line behind it."""
+    indent, kind = FENCE.fullmatch(lines[start]).groups()
+    end = lines.index(f"{indent}```", start + 1)
+    text = "".join(line.removeprefix(indent) + "\n" for line in lines[start + 1:end])
+    return kind or "none", text, end + 1
+
+
+def blocks_of(page: str) -> Iterator[Block]:
+    """The fenced blocks and the paragraphs of a page; a point of a list is a paragraph, too."""
+    lines = [*page.split("\n"), ""]
+    paragraph: list[str] = []
+    lead, marks, at = "", [], 0
+    while at < len(lines):
+        line = lines[at]
+        fence = FENCE.fullmatch(line)
+        if paragraph and (fence or not line.strip() or re.match(r"\s*(- |\d+\. |\||<!--)", line)):
+            lead = " ".join(paragraph)
+            yield Block(at + 1 - len(paragraph), "", lead)
+            paragraph = []
+        if fence:
+            start = at + 1
+            kind, text, at = fenced(lines, at)
+            yield Block(start, kind, text, lead, marks)
+            lead, marks = "", []
+            continue
+        if line.startswith("<!--"):
+            marks.append(line)
+        elif line.strip():
+            paragraph.append(line.strip())
+            marks = []
+        at += 1
+
+
+class Page:
+    """A page that is read, in a folder of its own."""
+
+    def __init__(self, name: str, folder: str, program: str) -> None:
+        self.name = name
+        self.folder = Path(folder)
+        self.passed = 0
+        self.faults: list[str] = []
+        self.job: bytes | None = None  # the last job
+        self.deck: bytes | None = None  # the last job that has no commands
+        self.session: Block | None = None  # what the page shows of a session so far
+        self.answer: Answer | None = None  # of the last example
+        self.owing: Block | None = None  # the example of which no answer is shown yet
+        shutil.copytree(TOP / "examples", self.folder / "examples")
+        script = self.folder / "l6"
+        script.write_text(f'#!/bin/sh\nexec "{program}" "$@"\n')
+        script.chmod(0o755)
+
+    def look(self, block: Block, want: object, come: object, what: str) -> None:
+        """Counts a comparison."""
+        if want == come:
+            self.passed += 1
+            return
+        self.faults.append(f"{self.name}:{block.line}: {what}\n  must be {want!r}\n  but is  {come!r}")
+
+    def fail(self, block: Block, what: str) -> None:
+        """Counts a block that is not as it must be."""
+        self.faults.append(f"{self.name}:{block.line}: {what}")
+
+    def run(self, command: str, job: bytes = b"") -> Answer:
+        """What comes of a command of the shell, to which a job is given."""
+        done = subprocess.run(
+            ["sh", "-c", command], input=job, capture_output=True, timeout=SECONDS, cwd=self.folder
+        )
+        return Answer(done.stdout.decode("utf-8"), done.stderr.decode("utf-8"), done.returncode)
+
+    def settle(self) -> None:
+        """At an example or the page's end: what stands above has shown its answer."""
+        if self.session:
+            self.settle_session(self.session)
+        elif self.owing and self.owing.kind == "text":
+            self.fail(self.owing, "a job that shows no answer, and is not marked")
+        elif self.owing and self.answer and self.answer.status:
+            self.fail(self.owing, f"the status is {self.answer.status}: {self.answer.stderr}")
+        elif self.owing:
+            self.passed += 1
+        self.owing = self.session = None
+
+    def settle_session(self, session: Block) -> None:
+        """Obeys the commands of a session, and compares all of its answers."""
+        lines = session.text.splitlines(keepends=True)
+        commands = [line for line in lines if re.search("[a-z]", line)]
+        answers = "".join(line for line in lines if line not in commands)
+        deck, mark, behind = (self.deck or b"").partition(b"$INPUT\n")
+        job = deck + b"$COMMANDS\n" + "".join(commands).encode("ascii") + mark + behind
+        command = DEBUG.search(session.lead)
+        come = self.run(command[1] if command else "./l6 debug", job)
+        self.look(session, answers, come.stdout, "the answers of the session")
+
+    def read(self, block: Block) -> None:
+        """Reads a block or a paragraph."""
+        if block.kind == "figure" or any(map(NOT_RUN.fullmatch, block.marks)):
+            return
+        if block.kind == "":
+            self.read_paragraph(block)
+        elif block.kind == "sh":
+            self.read_commands(block)
+        elif block.kind == "text":
+            self.read_text(block)
+        else:
+            self.fail(block, "a block that is neither run nor marked")
+
+    def read_commands(self, block: Block) -> None:
+        """Runs commands, each by itself."""
+        self.settle()
+        answers = [self.run(line) for line in block.text.splitlines()]
+        for answer in answers[:-1]:
+            self.look(block, 0, answer.status, f"the status; {answer.stderr}")
+        stdout, stderr = ("".join(texts) for texts in zip(*((it.stdout, it.stderr) for it in answers)))
+        self.answer = Answer(stdout, stderr, answers[-1].status)
+        self.job, self.owing = None, block
+
+    def read_text(self, block: Block) -> None:
+        """Reads a job, or what is shown of its answer."""
+        first = block.text.partition("\n")[0]
+        if re.search(r"\b(prints|writes):$", block.lead):
+            self.compare(block, "stdout", "what is printed")
+        elif block.lead.endswith(" says:"):
+            self.compare(block, "stderr", "what is said on standard error")
+        elif COMMAND.fullmatch(first) and self.deck is not None:
+            self.owing = None
+            self.session = self.session or Block(block.line, "text", "", block.lead)
+            self.session.text += block.text
+        else:
+            self.settle()
+            self.job = job_of(block)
+            self.answer = self.run("./l6 debug" if b"$COMMANDS\n" in self.job else "./l6 run", self.job)
+            if b"$COMMANDS\n" not in self.job:
+                self.deck = self.job
+            (self.folder / "my.deck").write_bytes(self.job)
+            self.owing = block
+
+    def compare(self, block: Block, part: str, what: str) -> None:
+        """Compares what a page shows with an answer of the last example."""
+        verb = VERB.search(block.lead)
+        if verb and self.job is not None:
+            self.answer = self.run(f"./l6 {verb[1]}", self.job)
+        if self.answer is None:
+            self.fail(block, f"{what}, but of which example?")
+            return
+        self.look(block, block.text, getattr(self.answer, part), what)
+        self.look_status(block, block.lead, self.answer)
+        self.owing = None
+
+    def look_status(self, block: Block, sentence: str, answer: Answer) -> None:
+        """Compares the exit status, if a sentence tells one."""
+        status = STATUS.search(sentence)
+        if status:
+            self.look(block, int(status[1]), answer.status, "the exit status")
+
+    def read_paragraph(self, block: Block) -> None:
+        """Does what the sentences of a paragraph say of examples."""
+        answers = [self.run(span) for span in SPAN.findall(block.text)
+                   if span.startswith("./l6 ") and "<" in span]
+        for new, old, gone in TRIAL.findall(block.text):
+            old = (old or gone).encode("ascii")
+            if self.deck is None or self.deck.count(old) != 1:
+                self.fail(block, f"{old!r} does not stand in the deck above, or not once")
+                continue
+            answers.append(self.run("./l6 run", self.deck.replace(old, new.encode("ascii"))))
+        if not answers:
+            return
+        lines = [line for it in answers for line in (it.stdout + it.stderr).splitlines()]
+        for span in SPAN.findall(block.text):
+            if re.fullmatch(r"\d+|== .*|l6: .*", span):
+                self.look(block, span, span if span in lines else lines, "a line that is said to come out")
+        if STATUS.search(block.text):
+            self.look_status(block, block.text, answers[-1])
+        elif any(answer.status == 64 for answer in answers):
+            self.fail(block, f"wrong words: {[answer.stderr for answer in answers]}")
+        else:
+            self.passed += 1
+
+
+def job_of(block: Block) -> bytes:
+    """The bytes of a job, of which a comment in front may tell how characters are to be read."""
+    job = block.text.encode("utf-8")
+    for mark in filter(None, map(BYTES.fullmatch, block.marks)):
+        for pair in mark[1].split(", "):
+            shown, code = pair.split()
+            job = job.replace(shown.encode("utf-8"), bytes.fromhex(code))
+    return job
+
+
+def main(program: str) -> int:
+    """Reads all pages, prints what is wrong and the count, and answers the exit status."""
+    passed = failed = 0
+    for file in [TOP / "README.md", *sorted(TOP.glob("docs/*.md"))]:
+        with tempfile.TemporaryDirectory() as folder:
+            page = Page(str(file.relative_to(TOP)), folder, program)
+            for block in blocks_of(file.read_text("utf-8")):
+                page.read(block)
+            page.settle()
+        passed += page.passed
+        failed += len(page.faults)
+        for fault in page.faults:
+            print(fault)
+    print(f"{passed} passed, {failed} failed")
+    return 1 if failed else 0
+
+
+if __name__ == "__main__":
+    if len(sys.argv) != 2:
+        sys.exit(__doc__)
+    sys.exit(main(str(Path(sys.argv[1]).resolve())))

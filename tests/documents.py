@@ -50,7 +50,7 @@ NOT_RUN = re.compile(r"<!-- not run: .+ -->")
 BYTES = re.compile(r"<!-- bytes: (.+) -->")
 VERB = re.compile(r"`\./l6 ([^`<]+)` (?:prints|says|writes)")
 SPAN = re.compile(r"`([^`]+)`")
-TRIAL = re.compile(r"`([^`]+)` in place of `([^`]+)`|\bWithout `([^`]+)`")
+TRIAL = re.compile(r"`([^`]+)` in place of `([^`]+)`|\bWithout `(\([^`]+)`")
 DEBUG = re.compile(r"`(\./l6 debug[^`<]*)`")
 STATUS = re.compile(r"exit status (?:is )?(\d+)")
 
@@ -247,8 +247,8 @@ class Page:
                 self.look(block, span, span if span in lines else lines, "a line that is said to come out")
         if STATUS.search(block.text):
             self.look_status(block, block.text, answers[-1])
-        elif any(answer.status == 64 for answer in answers):
-            self.fail(block, f"wrong words: {[answer.stderr for answer in answers]}")
+        elif any(it.status == 64 or it.stderr.startswith("sh:") for it in answers):
+            self.fail(block, f"wrong words: {[it.stderr for it in answers]}")
         else:
             self.passed += 1
 

@@ -1,7 +1,7 @@
 #!/usr/bin/env python3
-"""Runs the examples that README.md and docs/*.md show, and looks that they print what is said there.
+"""Runs the examples of README.md, docs/*.md, the manual page and the program's help.
 
-documents.py PROGRAM prints each difference, and last 'N passed, M failed'.
+documents.py PROGRAM prints each difference, and last 'N passed, M failed'. What is shown must be what comes.
 
 A page is read from its top, in a folder of its own, which has a copy of examples/ and a command ./l6 that
 runs the program. What a fenced block is, its info string and the line in front of it tell:
@@ -30,9 +30,13 @@ Sentences are looked at, too. In a paragraph or a point of a list,
 
 and then each code span that is a number, or begins with == or l6:, must be a line that comes out, and
 "exit status is N" must be true.
+
+In docs/l6.1 a line of an example that begins with "$ " is a command, and the lines below it are what it prints.
+In the help of the program and of each verb the lines under "Examples:" are commands that end with status 0.
 """
 from __future__ import annotations
 
+import os
 import re
 import shutil
 import subprocess
@@ -43,6 +47,7 @@ from dataclasses import dataclass, field
 from pathlib import Path
 
 TOP = Path(__file__).resolve().parent.parent
+DOCS = TOP / "docs"
 SECONDS = 20  # for one command
 FENCE = re.compile(r"^( *)```(\S*)$")
 COMMAND = re.compile(r"[a-z]+( \d+)?")  # of the debugger
@@ -52,6 +57,7 @@ VERB = re.compile(r"`\./l6 ([^`<]+)` (?:prints|says|writes)")
 SPAN = re.compile(r"`([^`]+)`")
 TRIAL = re.compile(r"`([^`]+)` in place of `([^`]+)`|\bWithout `(\([^`]+)`")
 DEBUG = re.compile(r"`(\./l6 debug[^`<]*)`")
+VERBS = ("", "asm", "list", "run", "load", "renew", "debug")
 STATUS = re.compile(r"exit status (?:is )?(\d+)")
 
 
@@ -140,8 +146,10 @@ class Page:
 
     def run(self, command: str, job: bytes = b"") -> Answer:
         """What comes of a command of the shell, to which a job is given."""
+        path = f"{self.folder}:{os.environ['PATH']}"
         done = subprocess.run(
-            ["sh", "-c", command], input=job, capture_output=True, timeout=SECONDS, cwd=self.folder
+            ["sh", "-c", command], input=job, capture_output=True, timeout=SECONDS, cwd=self.folder,
+            env={**os.environ, "PATH": path},
         )
         return Answer(done.stdout.decode("utf-8"), done.stderr.decode("utf-8"), done.returncode)
 
@@ -263,15 +271,40 @@ def job_of(block: Block) -> bytes:
     return job
 
 
+def read_page(page: Page) -> None:
+    """Reads a page of text."""
+    for block in blocks_of((TOP / page.name).read_text("utf-8")):
+        page.read(block)
+    page.settle()
+
+
+def read_manual(page: Page) -> None:
+    """Runs the examples of the manual page."""
+    source = (TOP / page.name).read_text("ascii").replace(r"\e", "\\")
+    for found in re.finditer(r"^\.Bd -literal.*?\n(.*?)^\.Ed$", source, re.DOTALL | re.MULTILINE):
+        line = source.count("\n", 0, found.start()) + 1
+        for command, printout in re.findall(r"^\$ (.*)\n((?:(?!\$ ).*\n)*)", found[1], re.MULTILINE):
+            page.look(Block(line, "", ""), printout, page.run(command).stdout, f"what {command!r} prints")
+
+
+def read_help(page: Page) -> None:
+    """Runs the examples of the help of each verb."""
+    for verb in VERBS:
+        text = page.run(f"l6 {verb} --help").stderr
+        for example in re.findall(r"^Examples?:\n((?: +.*\n)+)", text, re.MULTILINE):
+            for command in example.splitlines():
+                answer = page.run(command.strip())
+                page.look(Block(0, "", ""), 0, answer.status, f"the status of {command!r}; {answer.stderr}")
+
+
 def main(program: str) -> int:
-    """Reads all pages, prints what is wrong and the count, and answers the exit status."""
+    """Reads all that is shown, prints what is wrong and the count, and answers the exit status."""
     passed = failed = 0
-    for file in [TOP / "README.md", *sorted(TOP.glob("docs/*.md"))]:
+    pages = {name: read_page for name in ("README.md", *sorted(f"docs/{it.name}" for it in DOCS.glob("*.md")))}
+    for name, read in {**pages, "docs/l6.1": read_manual, "l6 --help": read_help}.items():
         with tempfile.TemporaryDirectory() as folder:
-            page = Page(str(file.relative_to(TOP)), folder, program)
-            for block in blocks_of(file.read_text("utf-8")):
-                page.read(block)
-            page.settle()
+            page = Page(name, folder, program)
+            read(page)
         passed += page.passed
         failed += len(page.faults)
         for fault in page.faults:

@@ -3,21 +3,21 @@
 
 documents.py PROGRAM prints each difference, and last 'N passed, M failed'. What is shown must be what comes.
 
-A page is read from its top, in a folder of its own, which has a copy of examples/ and a command ./l6 that
-runs the program. What a fenced block is, its info string and the line in front of it tell:
+A page is read from its top, in a folder of its own, which has copies of examples/ and tools/ and a command
+./l6 that runs the program. What a fenced block is, its info string and the line in front of it tell:
 
     sh      commands; each must end with status 0, but the last may have another where its printout follows
-    text    what the last example prints, if the line in front ends in "prints:";
+    text    what the last example prints, if the line in front ends in "prints:" or "writes:";
             what it says on standard error, if that line ends in "says:";
             a piece of a debugger's session with the last deck, if its first line is a command: lines with
             small letters are commands, and the others are their answers;
-            else a job, which is an example itself, and the file my.deck for the commands that follow
+            else a job, which is an example itself
     figure  a drawing, a form or a table, which nothing runs
 
 The last example is the commands or the job that stand last above. A job is debugged if it has a line
 $COMMANDS, and run if it has none; a line in front that names a verb, as `./l6 list` prints:, has it listed.
-The line in front of a session may name `./l6 debug` with options.
-A job must be followed by what it prints or says, or by a session.
+The line in front of a session may name `./l6 debug` with options. A job must be followed by what it prints or
+says, or by a session. Commands find the last job in my.deck, and the last session in my.session.
 
 A line <!-- not run: WHY --> in front of a block excuses it. <!-- bytes: → 09, ■ 80 --> tells which
 characters of a job stand for which bytes. A block that is nothing of this has failed, so none is forgotten.
@@ -31,7 +31,7 @@ Sentences are looked at, too. In a paragraph or a point of a list,
 and then each code span that is a number, or begins with == or l6:, must be a line that comes out, and
 "exit status is N" must be true.
 
-In docs/l6.1 a line of an example that begins with "$ " is a command, and the lines below it are what it prints.
+In docs/l6.1 a line of an example that begins with "$ " is a command, and the lines below it are its printout.
 In the help of the program and of each verb the lines under "Examples:" are commands that end with status 0.
 """
 from __future__ import annotations
@@ -128,7 +128,8 @@ class Page:
         self.session: Block | None = None  # what the page shows of a session so far
         self.answer: Answer | None = None  # of the last example
         self.owing: Block | None = None  # the example of which no answer is shown yet
-        shutil.copytree(TOP / "examples", self.folder / "examples")
+        for name in ("examples", "tools"):
+            shutil.copytree(TOP / name, self.folder / name)
         script = self.folder / "l6"
         script.write_text(f'#!/bin/sh\nexec "{program}" "$@"\n')
         script.chmod(0o755)
@@ -172,6 +173,7 @@ class Page:
         answers = "".join(line for line in lines if line not in commands)
         deck, mark, behind = (self.deck or b"").partition(b"$INPUT\n")
         job = deck + b"$COMMANDS\n" + "".join(commands).encode("ascii") + mark + behind
+        (self.folder / "my.session").write_bytes(job)
         command = DEBUG.search(session.lead)
         come = self.run(command[1] if command else "./l6 debug", job)
         self.look(session, answers, come.stdout, "the answers of the session")
@@ -300,7 +302,8 @@ def read_help(page: Page) -> None:
 def main(program: str) -> int:
     """Reads all that is shown, prints what is wrong and the count, and answers the exit status."""
     passed = failed = 0
-    pages = {name: read_page for name in ("README.md", *sorted(f"docs/{it.name}" for it in DOCS.glob("*.md")))}
+    names = ["README.md", *sorted(f"docs/{file.name}" for file in DOCS.glob("*.md"))]
+    pages = {name: read_page for name in names}
     for name, read in {**pages, "docs/l6.1": read_manual, "l6 --help": read_help}.items():
         with tempfile.TemporaryDirectory() as folder:
             page = Page(name, folder, program)

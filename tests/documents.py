@@ -29,7 +29,7 @@ Sentences are looked at, too. In a paragraph or a point of a list,
     Without `(FREE,DO)`                 the last job is run without it
 
 and then each code span that is a number, or begins with == or l6:, must be a line that comes out, and
-"exit status is N" must be true.
+"exit status is N" must be true. A link to a file must lead to one, and behind a # to a heading of it.
 
 In docs/l6.1 a line of an example that begins with "$ " is a command, and the lines below it are its printout.
 In the help of the program and of each verb the lines under "Examples:" are commands that end with status 0.
@@ -58,6 +58,7 @@ SPAN = re.compile(r"`([^`]+)`")
 TRIAL = re.compile(r"`([^`]+)` in place of `([^`]+)`|\bWithout `(\([^`]+)`")
 DEBUG = re.compile(r"`(\./l6 debug[^`<]*)`")
 VERBS = ("", "asm", "list", "run", "load", "renew", "debug")
+LINK = re.compile(r"\]\((?!https?:)([^)#]*)(?:#([^)]*))?\)")
 STATUS = re.compile(r"exit status (?:is )?(\d+)")
 
 
@@ -239,8 +240,16 @@ class Page:
         if status:
             self.look(block, int(status[1]), answer.status, "the exit status")
 
+    def read_links(self, block: Block) -> None:
+        """Looks that the links of a paragraph lead somewhere."""
+        for path, heading in LINK.findall(block.text):
+            file = (TOP / self.name).parent / path if path else TOP / self.name
+            there = file.exists() and (not heading or heading in headings_of(file))
+            self.look(block, "a place", "a place" if there else "none", f"the link to {path}#{heading}")
+
     def read_paragraph(self, block: Block) -> None:
         """Does what the sentences of a paragraph say of examples."""
+        self.read_links(block)
         answers = [self.run(span) for span in SPAN.findall(block.text)
                    if span.startswith("./l6 ") and "<" in span]
         for new, old, gone in TRIAL.findall(block.text):
@@ -261,6 +270,13 @@ class Page:
             self.fail(block, f"wrong words: {[it.stderr for it in answers]}")
         else:
             self.passed += 1
+
+
+def headings_of(file: Path) -> list[str]:
+    """What stands behind the # of a link to each heading of a page."""
+    text = re.sub(r"^```.*?^```$", "", file.read_text("utf-8"), flags=re.DOTALL | re.MULTILINE)
+    headings = re.findall(r"^#+ (.*)$", text, re.MULTILINE)
+    return [re.sub(r"[^\w\- ]", "", heading.lower()).replace(" ", "-") for heading in headings]
 
 
 def job_of(block: Block) -> bytes:

@@ -197,6 +197,27 @@ def sessions(program):
         yield f"the session {session.stem} in the manual", ([], transcript), shown
 
 
+def helps(program, folder):
+    """The trials on the help of each subcommand: its examples do what they say, and it tells statuses.
+
+    It goes to standard error, with status 64, and nothing is read.
+    """
+    os.symlink(os.path.abspath(program), f"{folder}/l6")
+    environment = {**os.environ, "PATH": f"{folder}:{os.environ['PATH']}"}
+    for words in [[], ["asm"], ["list"], ["run"], ["load"], ["renew"], ["debug"]]:
+        come = answer_of([program, *words, "--help"], input=b"")
+        text = come["stderr"].decode("ascii")
+        want = answer(stderr=come["stderr"], status=64)
+        yield f"help on {words}", want, come
+        yield f"statuses in the help on {words}", True, "\nExit status:" in text
+        examples = re.findall(r"^  (printf .*)$", text, re.MULTILINE)
+        yield f"an example in the help on {words}", True, bool(examples)
+        for example in examples:
+            come = answer_of(["sh", "-c", example], env=environment)
+            want = answer(come["stdout"] or b"(some text)")
+            yield f"the example {example}", want, come
+
+
 def large_stores(program):
     """The trials on a ring of 100,000 blocks, and on a largest store of which each word is a block.
 
@@ -344,6 +365,7 @@ def trials(program, cases):
     yield from largest(program)
     yield from failing_devices(program)
     with tempfile.TemporaryDirectory() as folder:
+        yield from helps(program, folder)
         yield from interrupted_devices(program, folder)
         shim = Shim(folder)
         _, requests = shim.run([program, *cases[0].args], cases[0].stdin)

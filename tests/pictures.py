@@ -1,0 +1,164 @@
+#!/usr/bin/env python3
+"""Looks that docs/pictures/ has just the pictures of the transcripts in examples/, and the docs show them.
+
+The texts for Graphviz and the maps of the store must be those that tools/pictures.py makes. Maps are read
+again, as pictures: so wide must their blocks be, and in that order, as the transcript says. What Graphviz
+has drawn must have the nodes, the arrows and the words of its text. Graphviz itself is not needed.
+
+Each difference has a line. The last line is 'N passed, M failed'.
+"""
+from __future__ import annotations
+
+import re
+import sys
+import xml.etree.ElementTree
+from collections.abc import Iterator
+from pathlib import Path
+
+TOP = Path(__file__).resolve().parent.parent
+sys.path.insert(0, str(TOP / "tools"))
+from pictures import EXAMPLES, PICTURES, texts_of
+from transcripts import drawings_and_maps
+
+DOCS = [TOP / "README.md", *sorted((TOP / "docs").glob("*.md"))]
+SVG = "{http://www.w3.org/2000/svg}"
+
+# A transcript, and the texts that were worked out by hand for it. Its program has printed what looks like
+# an answer. C is as wide as a character, and 44 is the code of L.
+TRANSCRIPT = """\
+AT 3.0 AFTER 7 STEPS
+OUTPUT 9 BYTES
+5 BLOCKS
+
+N 0 18 35
+C 1 30 35
+X -> 1024
+BLOCK 1024 SIZE 2
+  N -> 1026
+BLOCK 1026 SIZE 2
+  N -> 1024
+2 BLOCKS
+BLOCK 1024 SIZE 2
+   0 000000002002
+   1 000000000054
+1024 BLOCK 2
+1026 BLOCK 2
+1028 BLOCK 4 LOST
+1032 FREE 1016
+8 WORDS USED 1016 FREE
+== DONE AFTER 9 STEPS
+0 BLOCKS
+"""
+NODES = [r"""b1024 [.*label="{1024:|<N>N|C 44 'L'}"];""", r"""b1026 [.*label="{1026:|<N>N}"];"""]
+EDGES = ["X -> b1024;", "b1024:N -> b1026;", "b1026:N -> b1024;"]
+STRETCHES = [("block", 2), ("block", 2), ("lost", 4), ("free", 8)]  # of a strip of 16 words
+
+Trial = tuple[str, object, object]  # a name, what must be, and what is
+
+
+def shown_stretches(picture: str) -> list[tuple[str, float]]:
+    """The kinds of the stretches in a map of the store, and how many words each shows, strip for strip."""
+    root = xml.etree.ElementTree.fromstring(picture)
+    boxes = [it for it in root.iter(f"{SVG}rect") if it.get("height") == "54"]
+    marks = [int(it.text or "") for it in root.iter(f"{SVG}text") if it.get("font-size") == "12"]
+    words = (marks[1] - marks[0]) * 8 / 1024  # of a step to the right
+    kinds = {"#2b6299": "block", "url(#lost)": "lost", "white": "free"}
+    return [(kinds[it.get("fill", "")], float(it.get("width", "")) * words) for it in boxes]
+
+
+def handmade() -> Iterator[Trial]:
+    """The trials on the transcript above."""
+    texts = texts_of("hand", TRANSCRIPT)
+    yield "the names of pictures", ["hand-draw-1.dot", "hand-store-1.svg"], sorted(texts)
+    lines = [line.strip() for line in texts["hand-draw-1.dot"].splitlines()]
+    for node in NODES:
+        pattern = re.escape(node).replace(r"\.\*", ".*")
+        yield f"the node {node}", 1, sum(bool(re.fullmatch(pattern, line)) for line in lines)
+    yield "the arrows", EDGES, [line for line in lines if "->" in line]
+    yield "the strip", STRETCHES, shown_stretches(texts["hand-store-1.svg"])
+
+
+def titles(text: str) -> list[str]:
+    """The nodes and the arrows of a text for Graphviz, as a picture that it draws names them."""
+    found = re.findall(r"^  (\w+)(?: \[shape|:?\w*:?\w* -> (\w+);)", text, re.M)
+    return sorted(f"{node}->{other}" if other else node for node, other in found)
+
+
+def drawn_titles(picture: str) -> list[str]:
+    """The nodes and the arrows of a picture that Graphviz has drawn."""
+    root = xml.etree.ElementTree.fromstring(picture)
+    groups = [it for it in root.iter(f"{SVG}g") if it.get("class") in ("node", "edge")]
+    found = [it.findtext(f"{SVG}title", "") for it in groups]
+    return sorted(re.sub(r":\w+", "", title) for title in found)
+
+
+def words_of(text: str) -> list[str]:
+    """The words of the labels in a text for Graphviz."""
+    labels = "|".join(re.findall(r'label="(.*)"\];', text))
+    cells = re.sub(r"(?<!\\)(?:<\w>|[{}])", "", labels).split("|")
+    return sorted(re.sub(r"\\(.)", r"\1", cell) for cell in cells)
+
+
+def drawn_words(picture: str) -> list[str]:
+    """The words in a picture."""
+    root = xml.etree.ElementTree.fromstring(picture)
+    return sorted(it.text or "" for it in root.iter(f"{SVG}text"))
+
+
+def committed() -> Iterator[Trial]:
+    """The trials on the pictures of examples/."""
+    names = {"README.md"}
+    for transcript in sorted(EXAMPLES.glob("*.transcript")):
+        text = transcript.read_text("ascii")
+        for name, picture in texts_of(transcript.stem, text).items():
+            file = PICTURES / name
+            drawn = file.with_suffix(".svg")
+            names |= {name, drawn.name}
+            there = file.read_text("ascii") if file.exists() else "no file"
+            yield f"{name} (tools/pictures.py makes it)", picture, there
+            if file != drawn:
+                is_there = drawn.exists()
+                yield f"{drawn.name} is there", True, is_there
+                drawing = drawn.read_text("utf-8") if is_there else "<svg/>"
+                yield f"the arrows of {drawn.name}", titles(picture), drawn_titles(drawing)
+                yield f"the words of {drawn.name}", words_of(picture), drawn_words(drawing)
+        yield from strips(transcript.stem, text)
+    yield "the files of docs/pictures/", sorted(names), sorted(it.name for it in PICTURES.iterdir())
+
+
+def strips(name: str, text: str) -> Iterator[Trial]:
+    """The trials that the maps of a transcript show all its blocks, each as wide as it is."""
+    for at, store in enumerate(drawings_and_maps(text)[1], 1):
+        file = PICTURES / f"{name}-store-{at}.svg"
+        blocks = [(it.kind, it.size) for it in store.stretches if it.kind != "free"]
+        shown = shown_stretches(file.read_text("ascii")) if file.exists() else []
+        yield f"the blocks of {file.name}", blocks, [it for it in shown if it[0] != "free"]
+
+
+def shown() -> Iterator[Trial]:
+    """The trials that each picture is shown in a document, and that no document shows another one."""
+    places = set()
+    for document in DOCS:
+        for link in re.findall(r"!\[[^\]\n]+\]\(([^)\s]+\.svg)\)", document.read_text("utf-8")):
+            places.add((document.parent / link).resolve())
+    pictures = sorted(it.name for it in PICTURES.glob("*.svg"))
+    yield "the pictures that documents show", pictures, sorted(it.name for it in places)
+    yield "the places of pictures", [], [str(it.name) for it in places if not it.exists()]
+
+
+def main() -> int:
+    """Makes the trials, prints the differences and the count, and answers the exit status."""
+    passed = failed = 0
+    for trials in (handmade(), committed(), shown()):
+        for name, want, come in trials:
+            if want == come:
+                passed += 1
+                continue
+            failed += 1
+            print(f"{name}\n  must be {str(want)[:300]}\n  but is  {str(come)[:300]}")
+    print(f"{passed} passed, {failed} failed")
+    return 1 if failed else 0
+
+
+if __name__ == "__main__":
+    sys.exit(main())

@@ -1,9 +1,10 @@
 #!/usr/bin/env python3
 """Looks that docs/pictures/ has just the pictures of the transcripts in examples/, and the docs show them.
 
-The texts for Graphviz and the maps of the store must be those that tools/pictures.py makes. Maps are read
-again, as pictures: so wide must their blocks be, and in that order, as the transcript says. What Graphviz
-has drawn must have the nodes, the arrows and the words of its text. Graphviz itself is not needed.
+The texts for Graphviz and the other pictures must be those that tools/pictures.py makes. Those pictures
+are read again, as pictures: so wide must the blocks of a map be, and in that order, as the transcript says,
+and where words are shown, each has its place, and each field and bug that leads to a block an arrow. What
+Graphviz has drawn must have the nodes, the arrows and the words of its text. Graphviz itself is not needed.
 
 Each difference has a line. The last line is 'N passed, M failed'.
 """
@@ -46,12 +47,21 @@ BLOCK 1024 SIZE 2
 1028 BLOCK 4 LOST
 1032 FREE 1016
 8 WORDS USED 1016 FREE
-== DONE AFTER 9 STEPS
+AT 4.0 AFTER 8 STEPS
 0 BLOCKS
+N 0 18 35
+Y -> 1028
+BLOCK 1028 SIZE 1
+  N -> 1028
+1 BLOCKS
+BLOCK 1028 SIZE 1
+   0 770000002004
 """
 NODES = [r"""b1024 [.*label="{1024:|<N>N|C 44 'L'}"];""", r"""b1026 [.*label="{1026:|<N>N}"];"""]
 EDGES = ["X -> b1024;", "b1024:N -> b1026;", "b1026:N -> b1024;"]
 STRETCHES = [("block", 2), ("block", 2), ("lost", 4), ("free", 8)]  # of a strip of 16 words
+WORDS = ["0", "1028", "18", "35", "N 1028", "Y", "bit"]  # of the block at 1028, and the numbers of bits
+BITS = (184 + 18 * 16, 18 * 16)  # from where and how wide N is: a bit has 16 steps, and bit 0 begins at 184
 
 Trial = tuple[str, object, object]  # a name, what must be, and what is
 
@@ -69,13 +79,19 @@ def shown_stretches(picture: str) -> list[tuple[str, float]]:
 def handmade() -> Iterator[Trial]:
     """The trials on the transcript above."""
     texts = texts_of("hand", TRANSCRIPT)
-    yield "the names of pictures", ["hand-draw-1.dot", "hand-store-1.svg"], sorted(texts)
+    names = ["hand-draw-1.dot", "hand-draw-2.dot", "hand-store-1.svg", "hand.svg"]
+    yield "the names of pictures", names, sorted(texts)
     lines = [line.strip() for line in texts["hand-draw-1.dot"].splitlines()]
     for node in NODES:
         pattern = re.escape(node).replace(r"\.\*", ".*")
         yield f"the node {node}", 1, sum(bool(re.fullmatch(pattern, line)) for line in lines)
     yield "the arrows", EDGES, [line for line in lines if "->" in line]
     yield "the strip", STRETCHES, shown_stretches(texts["hand-store-1.svg"])
+    yield "the words of a block", WORDS, drawn_words(texts["hand.svg"])
+    boxes = xml.etree.ElementTree.fromstring(texts["hand.svg"]).iter(f"{SVG}rect")
+    wide = [(float(it.get("x", "0")), float(it.get("width", "0"))) for it in boxes]
+    yield "the bits of a field", 1, wide.count(BITS)
+    yield "the arrows of a block", 2, arrows_in(texts["hand.svg"])
 
 
 def titles(text: str) -> list[str]:
@@ -105,34 +121,59 @@ def drawn_words(picture: str) -> list[str]:
     return sorted(it.text or "" for it in root.iter(f"{SVG}text"))
 
 
+def arrows_in(picture: str) -> int:
+    """How many arrows a picture has."""
+    root = xml.etree.ElementTree.fromstring(picture)
+    return sum(it.get("marker-end") is not None for it in root.iter(f"{SVG}path"))
+
+
 def committed() -> Iterator[Trial]:
     """The trials on the pictures of examples/."""
     names = {"README.md"}
     for transcript in sorted(EXAMPLES.glob("*.transcript")):
         text = transcript.read_text("ascii")
         for name, picture in texts_of(transcript.stem, text).items():
+            names.add(name)
             file = PICTURES / name
-            drawn = file.with_suffix(".svg")
-            names |= {name, drawn.name}
             there = file.read_text("ascii") if file.exists() else "no file"
             yield f"{name} (tools/pictures.py makes it)", picture, there
-            if file != drawn:
-                is_there = drawn.exists()
-                yield f"{drawn.name} is there", True, is_there
-                drawing = drawn.read_text("utf-8") if is_there else "<svg/>"
-                yield f"the arrows of {drawn.name}", titles(picture), drawn_titles(drawing)
-                yield f"the words of {drawn.name}", words_of(picture), drawn_words(drawing)
-        yield from strips(transcript.stem, text)
+            if file.suffix == ".dot":
+                names.add(file.with_suffix(".svg").name)
+                yield from graph(file.with_suffix(".svg"), picture)
+        yield from maps(transcript.stem, text)
+        yield from layout(PICTURES / f"{transcript.stem}.svg", text)
     yield "the files of docs/pictures/", sorted(names), sorted(it.name for it in PICTURES.iterdir())
 
 
-def strips(name: str, text: str) -> Iterator[Trial]:
+def graph(file: Path, picture: str) -> Iterator[Trial]:
+    """The trials that Graphviz's picture of a text has its arrows and its words."""
+    yield f"{file.name} is there", True, file.exists()
+    drawing = file.read_text("utf-8") if file.exists() else "<svg/>"
+    yield f"the arrows of {file.name}", titles(picture), drawn_titles(drawing)
+    yield f"the words of {file.name}", words_of(picture), drawn_words(drawing)
+
+
+def maps(name: str, text: str) -> Iterator[Trial]:
     """The trials that the maps of a transcript show all its blocks, each as wide as it is."""
     for at, store in enumerate(drawings_and_maps(text)[1], 1):
         file = PICTURES / f"{name}-store-{at}.svg"
         blocks = [(it.kind, it.size) for it in store.stretches if it.kind != "free"]
         shown = shown_stretches(file.read_text("ascii")) if file.exists() else []
         yield f"the blocks of {file.name}", blocks, [it for it in shown if it[0] != "free"]
+
+
+def layout(file: Path, text: str) -> Iterator[Trial]:
+    """The trials that a picture of words has a place for each of them, and all arrows."""
+    drawings = [it for it in drawings_and_maps(text)[0] if it.fields and all(b.words for b in it.blocks)]
+    yield f"{file.name} is there", bool(drawings), file.exists()
+    if not drawings or not file.exists():
+        return
+    blocks = drawings[0].blocks
+    places = [str(block.place + word) for block in blocks for word in range(block.size)]
+    arrows = sum(len(block.arrows) for block in blocks) + len(set(drawings[0].bugs.values()))
+    picture = file.read_text("ascii")
+    yield f"the places of {file.name}", places, [it for it in drawn_words(picture) if it in places]
+    yield f"the arrows of {file.name}", arrows, arrows_in(picture)
 
 
 def shown() -> Iterator[Trial]:

@@ -7,6 +7,9 @@ pictures.py TRANSCRIPT FOLDER makes those of one transcript in a folder.
 Of a transcript NAME.transcript the first answer to `draw` becomes NAME-draw-1.dot, a text for Graphviz,
 and the first answer to `store` becomes NAME-store-1.svg, a picture; the second ones have a 2, and so on.
 An answer `0 BLOCKS` has no picture. Where Graphviz's program `dot` is at hand it makes NAME-draw-1.svg.
+
+Where `fields`, and `block` of each block, were asked in the state of a drawing, the first such drawing
+becomes NAME.svg, too, which shows the blocks word for word.
 """
 from __future__ import annotations
 
@@ -15,9 +18,10 @@ import subprocess
 import sys
 from pathlib import Path
 
+import layouts
+import strips
 from crates import TOP
 from graphs import dot
-from strips import svg
 from transcripts import drawings_and_maps
 
 EXAMPLES = TOP / "examples"
@@ -31,7 +35,8 @@ def texts_of(name: str, transcript: str) -> dict[str, str]:
     for at, drawing in enumerate(drawings, 1):
         texts[f"{name}-draw-{at}.dot"] = dot(drawing, name)
     for at, store in enumerate(maps, 1):
-        texts[f"{name}-store-{at}.svg"] = svg(store, name)
+        texts[f"{name}-store-{at}.svg"] = strips.svg(store, f"{name}, map {at}")
+    texts |= {f"{name}.svg": layouts.svg(it, name) for it in drawings[::-1] if layouts.is_whole(it)}
     return texts
 
 

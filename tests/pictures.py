@@ -25,7 +25,8 @@ DOCS = [TOP / "README.md", *sorted((TOP / "docs").glob("*.md"))]
 SVG = "{http://www.w3.org/2000/svg}"
 
 # A transcript, and the texts that were worked out by hand for it. Its program has printed what looks like
-# an answer. C is as wide as a character, and 44 is the code of L.
+# an answer. C is as wide as a character; 44 is the code of L, and 28 that of a character that both kinds
+# of texts write in a way of their own.
 TRANSCRIPT = """\
 AT 3.0 AFTER 7 STEPS
 OUTPUT 9 BYTES
@@ -49,18 +50,20 @@ BLOCK 1024 SIZE 2
 8 WORDS USED 1016 FREE
 AT 4.0 AFTER 8 STEPS
 0 BLOCKS
+C 0 0 5
 N 0 18 35
 Y -> 1028
 BLOCK 1028 SIZE 1
   N -> 1028
 1 BLOCKS
 BLOCK 1028 SIZE 1
-   0 770000002004
+   0 340000002004
 """
-NODES = [r"""b1024 [.*label="{1024:|<N>N|C 44 'L'}"];""", r"""b1026 [.*label="{1026:|<N>N}"];"""]
+NODES = ["""b1024 [.*label="{1024:|<N>N|C 44 'L'}"];""", """b1026 [.*label="{1026:|<N>N}"];"""]
+LOOP = """b1028 [.*label="{1028:|C 28 '\\<'|<N>N}"];"""  # in the second drawing
 EDGES = ["X -> b1024;", "b1024:N -> b1026;", "b1026:N -> b1024;"]
 STRETCHES = [("block", 2), ("block", 2), ("lost", 4), ("free", 8)]  # of a strip of 16 words
-WORDS = ["0", "1028", "18", "35", "N 1028", "Y", "bit"]  # of the block at 1028, and the numbers of bits
+WORDS = ["0", "1028", "18", "35", "5", "C 28 '<'", "N 1028", "Y", "bit"]  # of the block at 1028
 BITS = (184 + 18 * 16, 18 * 16)  # from where and how wide N is: a bit has 16 steps, and bit 0 begins at 184
 
 Trial = tuple[str, object, object]  # a name, what must be, and what is
@@ -82,9 +85,11 @@ def handmade() -> Iterator[Trial]:
     names = ["hand-draw-1.dot", "hand-draw-2.dot", "hand-store-1.svg", "hand.svg"]
     yield "the names of pictures", names, sorted(texts)
     lines = [line.strip() for line in texts["hand-draw-1.dot"].splitlines()]
-    for node in NODES:
+    others = [line.strip() for line in texts["hand-draw-2.dot"].splitlines()]
+    for node in [*NODES, LOOP]:
         pattern = re.escape(node).replace(r"\.\*", ".*")
-        yield f"the node {node}", 1, sum(bool(re.fullmatch(pattern, line)) for line in lines)
+        found = [line for line in (others if node is LOOP else lines) if re.fullmatch(pattern, line)]
+        yield f"the node {node}", 1, len(found)
     yield "the arrows", EDGES, [line for line in lines if "->" in line]
     yield "the strip", STRETCHES, shown_stretches(texts["hand-store-1.svg"])
     yield "the words of a block", WORDS, drawn_words(texts["hand.svg"])

@@ -18,21 +18,22 @@ def quoted(text: str) -> str:
     return "".join("\\" + character if character in SPECIAL else character for character in text)
 
 
-def cell(field: Field, block: Block) -> str:
-    """The part of a record for a field that leads nowhere."""
+def told(field: Field, block: Block) -> str:
+    """A field and what it shows of a block of which the words are known."""
     value = field.value(block.words)
     text = f"{field.name} {value}"
     if field.width == CHARACTER_BITS and value:
         text += f" '{chr(value + FIRST_CHARACTER)}'"
-    return quoted(text)
+    return text
 
 
 def cells(block: Block, fields: list[Field]) -> list[str]:
     """The parts of a block's record, in the order of their bits, as far as that is known."""
     shown = [it for it in fields if it.word < block.size and (it.name in block.arrows or block.words)]
-    told = [f"<{it.name}>{it.name}" if it.name in block.arrows else cell(it, block) for it in shown]
-    names = {it.name for it in shown}
-    return told + [f"<{name}>{name}" for name in block.arrows if name not in names]
+    known = {it.name for it in shown}
+    parts = [f"<{it.name}>{it.name}" if it.name in block.arrows else quoted(told(it, block))
+             for it in shown]
+    return parts + [f"<{name}>{name}" for name in block.arrows if name not in known]
 
 
 def record(block: Block, fields: list[Field], is_wide: bool) -> str:
@@ -41,10 +42,10 @@ def record(block: Block, fields: list[Field], is_wide: bool) -> str:
     Dot sets the parts of a record side by side, and those in braces one below the other; in a drawing
     from left to right it is the other way about.
     """
-    told = cells(block, fields)
+    parts = cells(block, fields)
     if is_wide:
-        return "{" + "|".join([f"{block.place}:", *told]) + "}"
-    return "{" + "|".join([f"{block.place}", *(["{" + "|".join(told) + "}"] if told else [])]) + "}"
+        return "{" + "|".join([f"{block.place}:", *parts]) + "}"
+    return f"{{{block.place}|{{{'|'.join(parts)}}}}}" if parts else f"{{{block.place}}}"
 
 
 def dot(drawing: Drawing, name: str) -> str:

@@ -6,8 +6,9 @@ block has an arrow, on the side of the half of the word where the field begins; 
 from __future__ import annotations
 
 from dataclasses import dataclass
+from html import escape
 
-from graphs import cell
+from graphs import told
 from transcripts import WORD_BITS, Block, Drawing, Field
 
 BIT = 16  # the width of a bit
@@ -64,7 +65,8 @@ def box(left: float, middle: float, width: float, fill: str) -> str:
 
 def text(left: float, middle: float, words: str, look: str = "") -> str:
     """A text about a point."""
-    return f'<text x="{left:g}" y="{middle + 5:g}" text-anchor="middle"{look}>{words}</text>\n'
+    safe = escape(words, quote=False)
+    return f'<text x="{left:g}" y="{middle + 5:g}" text-anchor="middle"{look}>{safe}</text>\n'
 
 
 def drawn_row(row: Row, fields: list[Field]) -> str:
@@ -77,8 +79,8 @@ def drawn_row(row: Row, fields: list[Field]) -> str:
             continue
         width = field.width * BIT
         left = LEFT + field.first * BIT
-        told = cell(field, row.block) if width > NARROW else field.name
-        drawn += box(left, row.middle, width, "#eef4fb") + text(left + width / 2, row.middle, told)
+        words = told(field, row.block) if width > NARROW else field.name
+        drawn += box(left, row.middle, width, "#eef4fb") + text(left + width / 2, row.middle, words)
     return drawn
 
 

@@ -5,6 +5,7 @@ block has an arrow, on the side of the half of the word where the field begins; 
 """
 from __future__ import annotations
 
+from collections.abc import Iterator
 from dataclasses import dataclass
 from html import escape
 
@@ -18,6 +19,9 @@ SIDE = 120  # the room for arrows, left and right
 PLACE = 64  # the width of the box with a place
 TOP = 44  # of the first row
 NARROW = 40  # a field that is not so wide is told by its name alone
+FARTHEST = 6  # the rank of the arrows that go out most
+
+Ends = tuple[float, float]  # the heights at which an arrow begins and ends
 
 HEAD = """\
 <svg xmlns="http://www.w3.org/2000/svg" width="{width}" height="{height}" \
@@ -93,29 +97,35 @@ def bits(fields: list[Field]) -> str:
     return drawn
 
 
-def arrow(start: float, end: float, rank: int, is_left: bool) -> str:
+def arrow(ends: Ends, rank: int, is_left: bool) -> str:
     """An arrow from one row to another, on a side; those of a higher rank go further out."""
+    start, end = ends
     edge, out = (SIDE, -1) if is_left else (RIGHT, 1)
-    far = edge + out * (24 + 14 * rank)
+    far = edge + out * (36 + 14 * rank)
     path = f"M{edge:g} {start:g} C{far:g} {start:g} {far:g} {end:g} {edge:g} {end:g}"
     return f'<path d="{path}" fill="none" stroke="black" stroke-width="1.4" marker-end="url(#head)"/>\n'
 
 
+def ranks(arrows: list[Ends]) -> Iterator[tuple[Ends, int]]:
+    """The arrows of a side with their ranks: two of one rank share no height, and short ones go first."""
+    taken: list[tuple[Ends, int]] = []
+    for ends in sorted(arrows, key=lambda ends: (abs(ends[0] - ends[1]), ends)):
+        near = {rank for it, rank in taken if min(it) <= max(ends) and min(ends) <= max(it)}
+        rank = next(it for it in range(len(arrows)) if it not in near)
+        taken.append((ends, rank))
+        yield ends, min(rank, FARTHEST)
+
+
 def links(drawing: Drawing, rows: list[Row]) -> str:
-    """The arrows of the fields. A short one stays near to the rows."""
+    """The arrows of the fields."""
     heights = {(row.block.place, row.word): row.middle for row in rows}
-    sides: dict[bool, list[tuple[float, float]]] = {True: [], False: []}
+    sides: dict[bool, list[Ends]] = {True: [], False: []}
     for row in rows:
         for field in drawing.fields:
             if field.word == row.word and field.name in row.block.arrows:
                 ends = row.middle + 6, heights[row.block.arrows[field.name], 0] - 6
                 sides[field.first < WORD_BITS // 2].append(ends)
-    drawn = ""
-    for is_left, arrows in sides.items():
-        arrows.sort(key=lambda ends: (abs(ends[0] - ends[1]), ends))
-        for rank, (start, end) in enumerate(arrows):
-            drawn += arrow(start, end, min(rank, 7), is_left)
-    return drawn
+    return "".join(arrow(*it, is_left) for is_left, arrows in sides.items() for it in ranks(arrows))
 
 
 def svg(drawing: Drawing, name: str) -> str:

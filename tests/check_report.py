@@ -38,10 +38,11 @@ class Said(enum.Enum):
 
 @dataclass(frozen=True)
 class Report:
-    """A check that has ended: its exit status, and what it printed."""
+    """A check that has ended: its exit status, what it printed, and what it cost."""
 
     status: int
     text: str
+    processor_seconds: float
 
     @property
     def proved(self) -> bool:

@@ -119,7 +119,7 @@ class Bench:
             if Said.BLOCKED in said and not trial.is_refused:
                 blocked.append(trial)
         refused = sum(trial.is_refused for trial in batch)
-        self._tell(f"{refused} of {len(batch)} edits that were tried together are refused")
+        self._tell(f"{refused} of {len(batch)} edits that were tried together are refused", report)
         return blocked
 
     def _try_alone(self, trial: Trial) -> None:
@@ -132,10 +132,11 @@ class Bench:
             trial.failure = f"BAD EDIT: the prover came to no verdict: {report.why()}"
         elif not report.refuses:
             trial.failure = f"BAD EDIT: it says little of a contract, turn a value: {report.why()}"
-        self._tell(f"{trial.edit.name}, tried alone, is {'' if trial.is_refused else 'not '}refused")
+        self._tell(f"{trial.edit.name}, tried alone, is {'' if trial.is_refused else 'not '}refused", report)
 
-    def _tell(self, what: str) -> None:
-        print(f"{self.crate.name}: {what}", file=sys.stderr, flush=True)
+    def _tell(self, what: str, report: Report) -> None:
+        took = f"{report.processor_seconds:.0f} s of processor time"
+        print(f"{self.crate.name}: {what}; {took}", file=sys.stderr, flush=True)
 
     def _check(self, trials: list[Trial]) -> Report:
         """Checks the crate with these edits; a check that was killed is made once more, alone."""
@@ -155,7 +156,7 @@ class Bench:
         with self._lock:
             self.checks += 1
             self.processor_seconds += ended.processor_seconds
-        return Report(ended.status, ended.text)
+        return Report(ended.status, ended.text, ended.processor_seconds)
 
 
 def put_together(trials: list[Trial]) -> list[list[Trial]]:

@@ -6,9 +6,11 @@ and prints each difference of what goes out, of the fault's line and of the exit
 is 'N jobs, M differences'. The gate does not run it. OTHER has to have the buddy system's store, too.
 
 hostile_jobs.py makes each job from its number, so a number is enough to make it once more. With --keep
-what a job gives to standard input is written, where the two differ.
+what a job gives to standard input is written, where the two differ. Images are made by PROGRAM, or by
+a command that --images names, as one that writes them in the first version.
 
-    python3 tests/hostile.py crates/l6/out/l6 'path/to/other --profile buddy' --jobs 200000
+    python3 tests/hostile.py crates/l6/out/l6 'path/to/other --profile r15' --jobs 200000
+    python3 tests/hostile.py PROGRAM OTHER --images 'path/to/other --profile buddy asm' --jobs 20000
     python3 tests/hostile.py PROGRAM OTHER --jobs 300 --stack 256
     python3 tests/hostile.py PROGRAM OTHER --jobs 300 --guard 'valgrind -q --error-exitcode=99'
 """
@@ -50,6 +52,7 @@ class Beside:
 
     program: list[str]
     other: list[str]
+    images: list[str]  # the command that makes images of decks
     guard: list[str]
     stack: int  # KiB that the first one's stack has, or 0
     keep: Path | None  # where jobs that are answered otherwise are kept
@@ -66,7 +69,7 @@ class Beside:
     def compared(self, number: int) -> tuple[str, str]:
         """The verb and the exit status of a job, and how the two programs' answers differ, if they do."""
         job = job_of(number)
-        image = answer_of([*self.program, "asm"], job.deck).stdout if job.words[0] == "load" else b""
+        image = answer_of(self.images, job.deck).stdout if job.has_image else b""
         stdin = job.stdin(image)
         come = answer_of([*self.guard, *self.program, *job.words], stdin, self.stack)
         want = answer_of([*self.other, *job.words], stdin)
@@ -99,12 +102,14 @@ def main() -> int:
     parser.add_argument("--first", type=int, default=1, help="the first job's number")
     parser.add_argument("--jobs", type=int, default=1_000)
     parser.add_argument("--processes", type=int, default=os.cpu_count())
+    parser.add_argument("--images", type=shlex.split, help="the command that makes images of decks")
     parser.add_argument("--guard", type=shlex.split, default=[], help="the words before PROGRAM's")
     parser.add_argument("--stack", type=int, default=0, help="KiB that PROGRAM's stack has")
     parser.add_argument("--keep", type=Path, help="the folder where jobs with a difference are kept")
     given = parser.parse_args()
     program = [str(Path(given.program).resolve())]
-    beside = Beside(program, given.other, given.guard, given.stack, given.keep)
+    images = given.images or [*program, "asm"]
+    beside = Beside(program, given.other, images, given.guard, given.stack, given.keep)
     last = given.first + given.jobs
     batches = [range(at, min(at + BATCH, last)) for at in range(given.first, last, BATCH)]
     statuses, failed = Counter(), 0

@@ -20,7 +20,7 @@ NUMBERS = [
 SIZES = [1, 1, 1, 2, 2, 3, 4, 7, 8, 16, 33, 64, 128, 512, 1_024]
 CHARACTERS = " !\"#$%&'*+-./0123456789:;<=>?@ABCDEFGHIJKLMNOPQRSTUVWXYZ[\\]^_"
 BROKEN = b"(),+*$ \t\r\n\0\x7f\x80\xff09AEZaz_?-"
-MARK = "542651554721"  # the first word of an image
+MARKS = [b"542651554722\n", b"542651554721\n"]  # the first lines of images, of either version
 
 
 @dataclass(frozen=True)
@@ -32,9 +32,14 @@ class Job:
     behind: bytes
     alter: random.Random | None = None  # alters the image that takes the deck's place
 
+    @property
+    def has_image(self) -> bool:
+        """Whether an image takes the deck's place."""
+        return self.words[0] in ("load", "renew")
+
     def stdin(self, image: bytes) -> bytes:
-        """What standard input gives, of which a job of the verb load has an image."""
-        if self.words[0] != "load":
+        """What standard input gives, in which an image stands where its verb wants one."""
+        if not self.has_image:
             return self.deck + self.behind
         return (altered_image(self.alter, image) if self.alter else image) + self.behind
 
@@ -42,18 +47,18 @@ class Job:
 def job_of(number: int) -> Job:
     """The job of a number."""
     r = random.Random(number)
-    verb = r.choices(["run", "debug", "load", "asm", "list"], [50, 25, 15, 4, 6])[0]
+    verb = r.choices(["run", "debug", "load", "renew", "asm", "list"], [48, 25, 13, 4, 4, 6])[0]
     deck = Deck(r).text()
     deck += b"" if deck.endswith(b"\n") else b"\n"
     behind = commands(r) if verb == "debug" else b""
     behind += an_input(r)
-    alter = r if verb == "load" and r.random() < 0.8 else None
+    alter = r if verb in ("load", "renew") and r.random() < 0.8 else None
     return Job([verb, *options(r, verb)], deck, behind, alter)
 
 
 def options(r: random.Random, verb: str) -> list[str]:
     """The program's options: a small store and few steps, so that a job takes little time."""
-    if verb in ("asm", "list"):
+    if verb in ("asm", "list", "renew"):
         return []
     steps = r.choice([60, 300, 1_000, 3_000, 12_000]) if r.random() < 0.95 else r.randint(0, 9)
     words = ["--steps", str(steps), "--store", r.choice(["1", "2", "3", "8", "8", "64"])]
@@ -320,10 +325,12 @@ def commands(r: random.Random) -> bytes:
 
 
 def altered_image(r: random.Random, image: bytes) -> bytes:
-    """An image of which a bit, a digit, a word or a line is another."""
+    """An image of which a bit, a digit, a word or a line is another, or that says another version."""
     lines = image.splitlines(keepends=True)
     if not lines or r.random() < 0.05:
         return broken(r, image)
+    if r.random() < 0.1:
+        return b"".join([r.choice(MARKS), *lines[1:]])
     for _ in range(r.choice([1, 1, 1, 2, 4])):
         at = r.randrange(len(lines))
         choice = r.random()
@@ -336,5 +343,5 @@ def altered_image(r: random.Random, image: bytes) -> bytes:
             lines = shuffled(r, lines)
         else:
             lines[at] = broken(r, lines[at])
-        lines = lines or [MARK.encode("ascii")]
+        lines = lines or [MARKS[0]]
     return b"".join(lines)

@@ -1,11 +1,11 @@
 """The largest job of all: each of its parts is as large as it may be, and so is all that it makes.
 
-Its deck has 1 MiB and 4,094 statements. It saves 1,024 contents and as many definitions, and makes
+Its deck has 1 MiB and 65,534 statements. It saves 1,024 contents and as many definitions, and makes
 1,024 calls that do not return. Then it takes characters from an input of 1 MiB, and prints 16 MiB.
 """
 MOST = 1 << 20  # bytes of a deck, of an input and of commands
 OUTPUT = 1 << 24  # bytes that may be printed
-STATEMENTS = 4_094
+STATEMENTS = 65_534
 DEPTH = 1_024  # of each pushdown, and how many calls may wait
 
 TAKES = STATEMENTS - 6  # statements that take six characters each

@@ -36,8 +36,9 @@ from largest_jobs import debug_job, run_job
 
 HERE = pathlib.Path(__file__).resolve().parent
 EXAMPLES = HERE.parent / "examples"
-TUTORIAL = HERE.parent / "docs" / "tutorial.md"
-MANUAL = HERE.parent / "docs" / "debugger.md"  # of the debugger
+DOCS = HERE.parent / "docs"
+SHOWING = [DOCS / name for name in ("tutorial.md", "gallery.md")]  # where decks are shown
+MANUAL = DOCS / "debugger.md"
 SECONDS = 20  # for one run of the program
 ROOM = 48 << 20  # bytes of addresses that the program has
 MOST_REPEATS = 1_000  # of what was interrupted
@@ -151,50 +152,93 @@ class Shim:
         return come, Requests(int(made), was_refused == "refused", int(kept))
 
 
-def examples(program):
-    """The trials on the decks of examples/, which end by DONE, and that the tutorial shows them.
+def is_shown(block):
+    """Whether a document shows a block."""
+    return any(block in document.read_bytes() for document in SHOWING)
 
-    The image of each deck, with the deck's input behind it, prints what the deck prints.
+
+def examples(program):
+    """The trials on the decks of examples/, which end by DONE, and that a document shows each whole.
+
+    The image of each deck, with the deck's input behind it, prints what the deck prints. No file of
+    examples/ stands alone: each is tried here or among the sessions.
     """
-    tutorial = TUTORIAL.read_bytes()
+    files = []
     for deck in sorted(EXAMPLES.glob("*.deck")):
-        job, printout = deck.read_bytes(), deck.with_suffix(".printout").read_bytes()
+        files += [deck, deck.with_suffix(".printout")]
+        job, printout = (file.read_bytes() for file in files[-2:])
         come = answer_of([program, "run"], input=job)
         yield f"the example {deck.stem}", answer(printout), come
         blocks = b"```text\n%b```\n\nIt prints:\n\n```text\n%b```\n" % (job, printout)
-        yield f"the example {deck.stem} in the tutorial", True, blocks in tutorial
+        yield f"the example {deck.stem} in a document", True, is_shown(blocks)
         image = answer_of([program, "asm"], input=job)["stdout"]
         mark, behind = job.partition(b"$INPUT\n")[1:]
         come = answer_of([program, "load"], input=image + mark + behind)
         yield f"the image of the example {deck.stem}", answer(printout), come
     for listing in sorted(EXAMPLES.glob("*.listing")):
+        files.append(listing)
         text = listing.read_bytes()
         come = answer_of([program, "list"], input=listing.with_suffix(".deck").read_bytes())
         yield f"the listing of the example {listing.stem}", answer(text), come
-        yield f"the listing of {listing.stem} in the tutorial", True, b"```text\n%b```\n" % text in tutorial
+        yield f"the listing of {listing.stem} in a document", True, is_shown(b"```text\n%b```\n" % text)
+    for session in EXAMPLES.glob("*.session"):
+        files += [session, session.with_suffix(".transcript")]
+    yield "the files of examples/", sorted(files), sorted(EXAMPLES.iterdir())
 
 
 def sessions(program):
-    """The trials on the sessions of examples/, and that the debugger's manual shows them.
-
-    The manual shows a session in blocks, each command in front of its answer.
-    """
-    manual = MANUAL.read_text("ascii")
-    blocks = re.findall(r"^```text\n(.*?)^```$", manual, re.DOTALL | re.MULTILINE)
+    """The trials on the sessions of examples/, and that a document shows each whole."""
+    documents = [re.findall(r"^```text\n(.*?)^```$", file.read_text("utf-8"), re.DOTALL | re.MULTILINE)
+                 for file in (MANUAL, *SHOWING)]
     for session in sorted(EXAMPLES.glob("*.session")):
         job, transcript = session.read_bytes(), session.with_suffix(".transcript").read_bytes()
         come = answer_of([program, "debug"], input=job)
         yield f"the session {session.stem}", answer(transcript), come
-        deck, commands = job.decode("ascii").split("$COMMANDS\n")
-        left = commands.splitlines()
-        answers = ""
-        for line in "".join(blocks[blocks.index(deck) + 1:]).splitlines(keepends=True):
-            if left and line == left[0] + "\n":
-                left.pop(0)
-            else:
-                answers += line
-        shown = left, answers.encode("ascii")
-        yield f"the session {session.stem} in the manual", ([], transcript), shown
+        cards, behind = job.decode("ascii").split("$COMMANDS\n")
+        commands, mark, characters = behind.partition("$INPUT\n")
+        deck, answers = cards + mark + characters, transcript.decode("ascii")
+        shown = any(shows(blocks, deck, commands, answers) for blocks in documents)
+        yield f"the session {session.stem} in a document", True, shown
+
+
+def shows(blocks, deck, commands, answers):
+    """Whether the blocks of a document show a session: a block that is the deck, with its input, and
+    somewhere behind it blocks, one after another, with just the commands, each in front of its answer.
+    """
+    if deck not in blocks:
+        return False
+    for start in range(blocks.index(deck) + 1, len(blocks)):
+        left, told = commands.splitlines(), ""
+        for block in blocks[start:]:
+            for line in block.splitlines(keepends=True):
+                if left and line == left[0] + "\n":
+                    left.pop(0)
+                else:
+                    told += line
+            if not left and told == answers:
+                return True
+    return False
+
+
+def helps(program, folder):
+    """The trials on the help of each subcommand: its examples do what they say, and it tells statuses.
+
+    It goes to standard error, with status 64, and nothing is read.
+    """
+    os.symlink(os.path.abspath(program), f"{folder}/l6")
+    environment = {**os.environ, "PATH": f"{folder}:{os.environ['PATH']}"}
+    for words in [[], ["asm"], ["list"], ["run"], ["load"], ["renew"], ["debug"]]:
+        come = answer_of([program, *words, "--help"], input=b"")
+        text = come["stderr"].decode("ascii")
+        want = answer(stderr=come["stderr"], status=64)
+        yield f"help on {words}", want, come
+        yield f"statuses in the help on {words}", True, "\nExit status:" in text
+        examples = re.findall(r"^  (printf .*)$", text, re.MULTILINE)
+        yield f"an example in the help on {words}", True, bool(examples)
+        for example in examples:
+            come = answer_of(["sh", "-c", example], env=environment)
+            want = answer(come["stdout"] or b"(some text)")
+            yield f"the example {example}", want, come
 
 
 def large_stores(program):
@@ -344,6 +388,7 @@ def trials(program, cases):
     yield from largest(program)
     yield from failing_devices(program)
     with tempfile.TemporaryDirectory() as folder:
+        yield from helps(program, folder)
         yield from interrupted_devices(program, folder)
         shim = Shim(folder)
         _, requests = shim.run([program, *cases[0].args], cases[0].stdin)

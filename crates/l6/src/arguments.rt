@@ -1,5 +1,6 @@
 //! The words of the command line, read with `clap`. What they mean is tested, and not proved.
 
+use crate::help;
 use crate::job::Verb;
 use clap::error::ErrorKind;
 use clap::{Arg, ArgMatches, Command, value_parser};
@@ -24,27 +25,6 @@ const RENEW_ABOUT: &str =
 
 const DEBUG_ABOUT: &str =
     "Shows the run of the deck that standard input gives, forward and back, as commands ask for";
-
-/// What stands behind the options in each help.
-const MANUAL: &str = "\
-Standard input is one job: a deck of cards and, behind a line $INPUT, the input of its program.
-Column 1 of a card is blank, or begins a label; then come groups such as (A,E,5). For `load` and
-`renew` an image stands where the deck does. For `debug` commands stand behind the deck, from
-a line $COMMANDS on and before the line $INPUT.
-
-Examples:
-  printf ' (A,E,5)(A,PD)\\n' | l6 run
-  printf ' (A,E,5)(A,PD)\\n' | l6 asm | l6 load
-  printf ' (A,E,5)(A,PD)\\n$COMMANDS\\nstep 2\\nshow\\n' | l6 debug
-
-Exit status:
-  0   the run ended by DONE, or an image, a listing or a debugger's answers were written
-  1   the run ended by FAIL
-  2   the run trapped
-  3   the run was stopped at its limit of steps
-  4   the job was refused: a fault of the deck or the image, or too long
-  5   memory was refused, or reading or writing failed
-  64  these words were wrong, or asked for help";
 
 /// What the words ask for.
 #[derive(Clone, Copy, Debug, PartialEq, Eq)]
@@ -123,28 +103,21 @@ pub fn request_of(alloc: Global, words: &[String]) -> Result<Request, WordsFault
 
 /// The command line of the program.
 fn program<'a>(alloc: Global) -> Result<Command<'a>, AllocError> {
-    let asm = Command::new(alloc, "asm")
-        .about(ASM_ABOUT)
-        .after_help(MANUAL);
-    let list = Command::new(alloc, "list")
-        .about(LIST_ABOUT)
-        .after_help(MANUAL);
-    let renew = Command::new(alloc, "renew")
-        .about(RENEW_ABOUT)
-        .after_help(MANUAL);
-    let run = with_options(Command::new(alloc, "run").about(RUN_ABOUT), alloc)?;
-    let load = with_options(Command::new(alloc, "load").about(LOAD_ABOUT), alloc)?;
-    let debug = with_options(Command::new(alloc, "debug").about(DEBUG_ABOUT), alloc)?;
     Command::new(alloc, "l6")
         .about(ABOUT)
-        .after_help(MANUAL)
+        .after_help(help::PROGRAM)
         .subcommand_required(true)
-        .subcommand(asm)?
-        .subcommand(list)?
-        .subcommand(renew)?
-        .subcommand(run)?
-        .subcommand(load)?
-        .subcommand(debug)
+        .subcommand(verb(alloc, "asm", ASM_ABOUT, help::ASM))?
+        .subcommand(verb(alloc, "list", LIST_ABOUT, help::LIST))?
+        .subcommand(with_options(verb(alloc, "run", RUN_ABOUT, help::RUN), alloc)?)?
+        .subcommand(with_options(verb(alloc, "load", LOAD_ABOUT, help::LOAD), alloc)?)?
+        .subcommand(verb(alloc, "renew", RENEW_ABOUT, help::RENEW))?
+        .subcommand(with_options(verb(alloc, "debug", DEBUG_ABOUT, help::DEBUG), alloc)?)
+}
+
+/// A subcommand: its name, what it does, and what its help says behind the options.
+fn verb<'a>(alloc: Global, name: &'a str, about: &'a str, help: &'a str) -> Command<'a> {
+    Command::new(alloc, name).about(about).after_help(help)
 }
 
 /// A command with the options of a run.
@@ -167,11 +140,7 @@ fn with_options<'a>(command: Command<'a>, alloc: Global) -> Result<Command<'a>, 
         .help("Bytes that the run may print, 0 to 16777216")
         .value_parser(value_parser!(u32).range(0..=16_777_216))
         .default_value("1048576");
-    command
-        .after_help(MANUAL)
-        .arg(store)?
-        .arg(steps)?
-        .arg(output)
+    command.arg(store)?.arg(steps)?.arg(output)
 }
 
 /// The request for a verb for which nothing can be chosen.

@@ -2,6 +2,7 @@
 #![tactic(auto)]
 
 mod arguments;
+mod help;
 mod job;
 mod parts;
 mod status;

@@ -13,7 +13,7 @@ pub enum CardFault {
     /// not whole whose last card it is.
     #[error("card {0}: no reading")]
     Form(u32),
-    /// The 64th test or operation of a statement, the 16th card that continues one, or the 4,095th
+    /// The 64th test or operation of a statement, the 16th card that continues one, or the 65,535th
     /// statement stands on this card.
     #[error("card {0}: past a limit")]
     Limit(u32),

@@ -20,10 +20,10 @@ pub(crate) const MARK_ONE: u64 = 0o542651554721;
 /// The first word of an image of the second version, which is the text `L6IMG2`.
 pub(crate) const MARK_TWO: u64 = 0o542651554722;
 
-/// How many statements the first version can tell apart, and one more.
+/// How many statements a program may have in the first version.
 pub(crate) const MOST_IN_ONE: u64 = 4095;
 
-/// How many statements the second version can tell apart, and one more.
+/// How many statements a program may have in the second version.
 pub(crate) const MOST_IN_TWO: u64 = 65_535;
 
 /// The bit that says in the first version whether a row has a label. The statement's number stands to

@@ -10,4 +10,5 @@ mod returning;
 
 pub use decimal::push_decimal;
 pub use l6_registers::Depths;
+pub use l6_steps::{Halt, Limits, Position, StepResult, Trap};
 pub use machine::{Machine, MachineFault};

@@ -1,0 +1,210 @@
+#!/usr/bin/env python3
+"""Looks that docs/pictures/ has just the pictures of the transcripts in examples/, and the docs show them.
+
+The texts for Graphviz and the other pictures must be those that tools/pictures.py makes. Those pictures
+are read again, as pictures: so wide must the blocks of a map be, and in that order, as the transcript says,
+and where words are shown, each has its place, and each field and bug that leads to a block an arrow. What
+Graphviz has drawn must have the nodes, the arrows and the words of its text. Graphviz itself is not needed.
+
+Each difference has a line. The last line is 'N passed, M failed'.
+"""
+from __future__ import annotations
+
+import re
+import sys
+import xml.etree.ElementTree
+from collections.abc import Iterator
+from pathlib import Path
+
+TOP = Path(__file__).resolve().parent.parent
+sys.path.insert(0, str(TOP / "tools"))
+from pictures import EXAMPLES, PICTURES, texts_of
+from transcripts import drawings_and_maps
+
+DOCS = [TOP / "README.md", *sorted((TOP / "docs").glob("*.md"))]
+SVG = "{http://www.w3.org/2000/svg}"
+
+# A transcript, and the texts that were worked out by hand for it. Its program has printed what looks like
+# an answer. C is as wide as a character; 44 is the code of L, and 28 that of a character that both kinds
+# of texts write in a way of their own.
+TRANSCRIPT = """\
+AT 3.0 AFTER 7 STEPS
+OUTPUT 9 BYTES
+5 BLOCKS
+
+N 0 18 35
+C 1 30 35
+X -> 1024
+BLOCK 1024 SIZE 2
+  N -> 1026
+BLOCK 1026 SIZE 2
+  N -> 1024
+2 BLOCKS
+BLOCK 1024 SIZE 2
+   0 000000002002
+   1 000000000054
+1024 BLOCK 2
+1026 BLOCK 2
+1028 BLOCK 4 LOST
+1032 FREE 1016
+8 WORDS USED 1016 FREE
+AT 4.0 AFTER 8 STEPS
+0 BLOCKS
+C 0 0 5
+N 0 18 35
+Y -> 1028
+BLOCK 1028 SIZE 1
+  N -> 1028
+1 BLOCKS
+BLOCK 1028 SIZE 1
+   0 340000002004
+"""
+NODES = ["""b1024 [.*label="{1024:|<N>N|C 44 'L'}"];""", """b1026 [.*label="{1026:|<N>N}"];"""]
+LOOP = """b1028 [.*label="{1028:|C 28 '\\<'|<N>N}"];"""  # in the second drawing
+EDGES = ["X -> b1024;", "b1024:N -> b1026;", "b1026:N -> b1024;"]
+STRETCHES = [("block", 2), ("block", 2), ("lost", 4), ("free", 8)]  # of a strip of 16 words
+WORDS = ["0", "1028", "18", "35", "5", "C 28 '<'", "N 1028", "Y", "bit"]  # of the block at 1028
+BITS = (184 + 18 * 16, 18 * 16)  # from where and how wide N is: a bit has 16 steps, and bit 0 begins at 184
+
+Trial = tuple[str, object, object]  # a name, what must be, and what is
+
+
+def shown_stretches(picture: str) -> list[tuple[str, float]]:
+    """The kinds of the stretches in a map of the store, and how many words each shows, strip for strip."""
+    root = xml.etree.ElementTree.fromstring(picture)
+    boxes = [it for it in root.iter(f"{SVG}rect") if it.get("height") == "54"]
+    marks = [int(it.text or "") for it in root.iter(f"{SVG}text") if it.get("font-size") == "12"]
+    words = (marks[1] - marks[0]) * 8 / 1024  # of a step to the right
+    kinds = {"#2b6299": "block", "url(#lost)": "lost", "white": "free"}
+    return [(kinds[it.get("fill", "")], float(it.get("width", "")) * words) for it in boxes]
+
+
+def handmade() -> Iterator[Trial]:
+    """The trials on the transcript above."""
+    texts = texts_of("hand", TRANSCRIPT)
+    names = ["hand-draw-1.dot", "hand-draw-2.dot", "hand-store-1.svg", "hand.svg"]
+    yield "the names of pictures", names, sorted(texts)
+    lines = [line.strip() for line in texts["hand-draw-1.dot"].splitlines()]
+    others = [line.strip() for line in texts["hand-draw-2.dot"].splitlines()]
+    for node in [*NODES, LOOP]:
+        pattern = re.escape(node).replace(r"\.\*", ".*")
+        found = [line for line in (others if node is LOOP else lines) if re.fullmatch(pattern, line)]
+        yield f"the node {node}", 1, len(found)
+    yield "the arrows", EDGES, [line for line in lines if "->" in line]
+    yield "the strip", STRETCHES, shown_stretches(texts["hand-store-1.svg"])
+    yield "the words of a block", WORDS, drawn_words(texts["hand.svg"])
+    boxes = xml.etree.ElementTree.fromstring(texts["hand.svg"]).iter(f"{SVG}rect")
+    wide = [(float(it.get("x", "0")), float(it.get("width", "0"))) for it in boxes]
+    yield "the bits of a field", 1, wide.count(BITS)
+    yield "the arrows of a block", 2, arrows_in(texts["hand.svg"])
+
+
+def titles(text: str) -> list[str]:
+    """The nodes and the arrows of a text for Graphviz, as a picture that it draws names them."""
+    found = re.findall(r"^  (\w+)(?: \[shape|:?\w*:?\w* -> (\w+);)", text, re.M)
+    return sorted(f"{node}->{other}" if other else node for node, other in found)
+
+
+def drawn_titles(picture: str) -> list[str]:
+    """The nodes and the arrows of a picture that Graphviz has drawn."""
+    root = xml.etree.ElementTree.fromstring(picture)
+    groups = [it for it in root.iter(f"{SVG}g") if it.get("class") in ("node", "edge")]
+    found = [it.findtext(f"{SVG}title", "") for it in groups]
+    return sorted(re.sub(r":\w+", "", title) for title in found)
+
+
+def words_of(text: str) -> list[str]:
+    """The words of the labels in a text for Graphviz."""
+    labels = "|".join(re.findall(r'label="(.*)"\];', text))
+    cells = re.sub(r"(?<!\\)(?:<\w>|[{}])", "", labels).split("|")
+    return sorted(re.sub(r"\\(.)", r"\1", cell) for cell in cells)
+
+
+def drawn_words(picture: str) -> list[str]:
+    """The words in a picture."""
+    root = xml.etree.ElementTree.fromstring(picture)
+    return sorted(it.text or "" for it in root.iter(f"{SVG}text"))
+
+
+def arrows_in(picture: str) -> int:
+    """How many arrows a picture has."""
+    root = xml.etree.ElementTree.fromstring(picture)
+    return sum(it.get("marker-end") is not None for it in root.iter(f"{SVG}path"))
+
+
+def committed() -> Iterator[Trial]:
+    """The trials on the pictures of examples/."""
+    names = {"README.md"}
+    for transcript in sorted(EXAMPLES.glob("*.transcript")):
+        text = transcript.read_text("ascii")
+        for name, picture in texts_of(transcript.stem, text).items():
+            names.add(name)
+            file = PICTURES / name
+            there = file.read_text("ascii") if file.exists() else "no file"
+            yield f"{name} (tools/pictures.py makes it)", picture, there
+            if file.suffix == ".dot":
+                names.add(file.with_suffix(".svg").name)
+                yield from graph(file.with_suffix(".svg"), picture)
+        yield from maps(transcript.stem, text)
+        yield from layout(PICTURES / f"{transcript.stem}.svg", text)
+    yield "the files of docs/pictures/", sorted(names), sorted(it.name for it in PICTURES.iterdir())
+
+
+def graph(file: Path, picture: str) -> Iterator[Trial]:
+    """The trials that Graphviz's picture of a text has its arrows and its words."""
+    yield f"{file.name} is there", True, file.exists()
+    drawing = file.read_text("utf-8") if file.exists() else "<svg/>"
+    yield f"the arrows of {file.name}", titles(picture), drawn_titles(drawing)
+    yield f"the words of {file.name}", words_of(picture), drawn_words(drawing)
+
+
+def maps(name: str, text: str) -> Iterator[Trial]:
+    """The trials that the maps of a transcript show all its blocks, each as wide as it is."""
+    for at, store in enumerate(drawings_and_maps(text)[1], 1):
+        file = PICTURES / f"{name}-store-{at}.svg"
+        blocks = [(it.kind, it.size) for it in store.stretches if it.kind != "free"]
+        shown = shown_stretches(file.read_text("ascii")) if file.exists() else []
+        yield f"the blocks of {file.name}", blocks, [it for it in shown if it[0] != "free"]
+
+
+def layout(file: Path, text: str) -> Iterator[Trial]:
+    """The trials that a picture of words has a place for each of them, and all arrows."""
+    drawings = [it for it in drawings_and_maps(text)[0] if it.fields and all(b.words for b in it.blocks)]
+    yield f"{file.name} is there", bool(drawings), file.exists()
+    if not drawings or not file.exists():
+        return
+    blocks = drawings[0].blocks
+    places = [str(block.place + word) for block in blocks for word in range(block.size)]
+    arrows = sum(len(block.arrows) for block in blocks) + len(set(drawings[0].bugs.values()))
+    picture = file.read_text("ascii")
+    yield f"the places of {file.name}", places, [it for it in drawn_words(picture) if it in places]
+    yield f"the arrows of {file.name}", arrows, arrows_in(picture)
+
+
+def shown() -> Iterator[Trial]:
+    """The trials that each picture is shown in a document, and that no document shows another one."""
+    places = set()
+    for document in DOCS:
+        for link in re.findall(r"!\[[^\]\n]+\]\(([^)\s]+\.svg)\)", document.read_text("utf-8")):
+            places.add((document.parent / link).resolve())
+    pictures = sorted(it.name for it in PICTURES.glob("*.svg"))
+    yield "the pictures that documents show", pictures, sorted(it.name for it in places)
+    yield "the places of pictures", [], [str(it.name) for it in places if not it.exists()]
+
+
+def main() -> int:
+    """Makes the trials, prints the differences and the count, and answers the exit status."""
+    passed = failed = 0
+    for trials in (handmade(), committed(), shown()):
+        for name, want, come in trials:
+            if want == come:
+                passed += 1
+                continue
+            failed += 1
+            print(f"{name}\n  must be {str(want)[:300]}\n  but is  {str(come)[:300]}")
+    print(f"{passed} passed, {failed} failed")
+    return 1 if failed else 0
+
+
+if __name__ == "__main__":
+    sys.exit(main())

@@ -24,6 +24,7 @@ use l6_store::Places;
 use l6_word::{Window, Word};
 use std::alloc::{AllocError, Global};
 use std::marker::Model;
+use std::rc::Rc;
 use thiserror::Error;
 
 /// Why a machine was not made.
@@ -60,10 +61,18 @@ fn check(limits: Limits) -> Result<(), MachineFault>
     }
 }
 
+/// Code that machines share.
+fn shared(alloc: Global, code: Code) -> Result<Rc<Code, Global>, AllocError>
+    ensures { IfOk result (λ shared. shared.value ≡ code) }
+{
+    Ok(Rc::new(alloc, code)?)
+}
+
 /// A machine with a program to run and a store of blocks, at some moment of its run.
 #[derive(Drop)]
 pub struct Machine<S: Places> {
-    code: Code,
+    // it never changes, so the copies of a machine share it
+    code: Rc<Code, Global>,
     registers: Registers<S>,
     progress: Progress,
 }
@@ -81,11 +90,11 @@ impl<S: Places> Model for Machine<S> {
     ghost use Rattle.l6_machine.specs.inner.Progress.{moment_of, world_of};
 
     ghost view = { λ m. record {
-      world = world_of m.code.program m.registers;
-      moment = moment_of m.registers (course_of m.code.layout m.progress);
+      world = world_of m.code.value.program m.registers;
+      moment = moment_of m.registers (course_of m.code.value.layout m.progress);
     } };
 
-    ghost invariant = { λ m. IsSoundAt S.rule m.code m.registers m.progress };
+    ghost invariant = { λ m. IsSoundAt S.rule m.code.value m.registers m.progress };
 }
 
 impl<S: Places> Machine<S> {
@@ -159,7 +168,7 @@ impl<S: Places> Machine<S> {
             ending: None,
         };
         Ok(Machine {
-            code,
+            code: shared(alloc, code)?,
             registers,
             progress,
         })
@@ -237,14 +246,15 @@ impl<S: Places> Machine<S> {
     }
 
     /// The same machine once more, at the same moment of the same run, with a store of its own. All
-    /// that its run needs is taken from memory here.
+    /// that its run needs is taken from memory here, but for the program and the input, which the two
+    /// share.
     pub fn duplicate(&self, alloc: Global) -> Result<Self, AllocError>
     where
         S: Drop,
         ensures { IfOk result (λ copy. copy ≡ self.now) }
     {
         Ok(Machine {
-            code: self.code.duplicate(alloc)?,
+            code: self.code.clone()?,
             registers: self.registers.copy(alloc)?,
             progress: self.progress,
         })

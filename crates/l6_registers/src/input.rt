@@ -10,6 +10,7 @@ ghost use Rattle.l6_registers.specs.inner.Input.{blank, kept_line, line_end, spr
 use l6_word::{first_line, input_code, without_return};
 use std::alloc::{AllocError, Global};
 use std::marker::Model;
+use std::rc::Rc;
 
 /// How many characters a line of an input has.
 pub const INPUT_WIDTH: usize = 80;
@@ -27,7 +28,8 @@ const BLANK: u8 = 0;
 /// a line, with an end behind them; the blanks that fill a line are not kept, but counted off.
 #[derive(Drop)]
 pub(crate) struct Input {
-    codes: Vec<u8>,
+    // they never change, so the copies of an input share them
+    codes: Rc<Vec<u8>, Global>,
     // how many characters there are, and how many are taken
     count: usize,
     taken: usize,
@@ -42,9 +44,9 @@ impl Model for Input {
 
     ghost Value = { Fed };
 
-    ghost view = { λ i. record { characters = characters_in i.codes.items; taken = i.taken } };
+    ghost view = { λ i. record { characters = characters_in i.codes.value.items; taken = i.taken } };
 
-    ghost invariant = { λ i. IsFed i.codes.items i.count i.taken i.place i.column };
+    ghost invariant = { λ i. IsFed i.codes.value.items i.count i.taken i.place i.column };
 }
 
 impl Input {
@@ -63,7 +65,7 @@ impl Input {
             rest = behind;
         }
         Ok(Input {
-            codes,
+            codes: Rc::new(alloc, codes)?,
             count,
             taken: 0,
             place: 0,
@@ -72,11 +74,11 @@ impl Input {
     }
 
     /// The same input once more, of which as many characters are taken.
-    pub(crate) fn duplicate(&self, alloc: Global) -> Result<Self, AllocError>
+    pub(crate) fn duplicate(&self) -> Result<Self, AllocError>
         ensures { IfOk result (λ copy. copy ≡ self.now) }
     {
         Ok(Input {
-            codes: Vec::from_slice(alloc, self.codes.as_slice())?,
+            codes: self.codes.clone()?,
             count: self.count,
             taken: self.taken,
             place: self.place,
@@ -131,7 +133,11 @@ impl Input {
         ensures taken { self.new ≡ record self.old { taken = self.old.taken + 1 } }
         ensures range { result < code_count }
     {
-        let (code, place, column) = next_of(self.codes.as_slice(), self.place, self.column);
+        let (code, place, column) = next_of(
+            self.codes.as_ref().as_slice(),
+            self.place,
+            self.column,
+        );
         self.taken += 1;
         self.place = place;
         self.column = column;

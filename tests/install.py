@@ -1,43 +1,21 @@
 #!/usr/bin/env python3
 """Looks that ./install puts the program and its manual page in their places, or says why it can't.
 
-install.py PROGRAM prints each difference, and last 'N passed, M failed'. It works on a copy of what is
-installed, in which a script stands for ./l6, so nothing is proved and nothing else is touched.
+install.py prints each difference, and last 'N passed, M failed'. It works on a small checkout of its own
+(checkout.py), so nothing is proved and nothing else is touched.
 """
 from __future__ import annotations
 
-import shutil
 import subprocess
 import sys
 import tempfile
 from collections.abc import Iterator
 from pathlib import Path
 
-TOP = Path(__file__).resolve().parent.parent
+from checkout import TOP, UNPROVED, Checkout, Outcome
+
 USAGE = "usage: ./install [PREFIX]\n"
-SECONDS = 20  # for one call
-CARD = b" (A,E,5)(A,PD)\n"
-PRINTOUT = b"5\n== DONE AFTER 6 STEPS\n"
-
-
-def copy_of(folder: Path, program: Path, script: str) -> Path:
-    """A copy of what is installed, in which a script stands for ./l6."""
-    top = folder / "top"
-    (top / "crates/l6/out").mkdir(parents=True)
-    (top / "docs").mkdir()
-    shutil.copy(TOP / "install", top)
-    shutil.copy(TOP / "docs/l6.1", top / "docs")
-    shutil.copy(program, top / "crates/l6/out/l6")
-    (top / "l6").write_text(f"#!/bin/sh\n{script}\n")
-    (top / "l6").chmod(0o755)
-    return top
-
-
-def install(top: Path, *words: str) -> subprocess.CompletedProcess[str]:
-    """What comes of ./install with these words."""
-    return subprocess.run(
-        [top / "install", *words], capture_output=True, text=True, timeout=SECONDS, cwd=top.parent
-    )
+INSTALLED = ["bin/l6", "share/man/man1/l6.1"]
 
 
 def names_in(folder: Path) -> list[str]:
@@ -45,49 +23,111 @@ def names_in(folder: Path) -> list[str]:
     return sorted(str(file.relative_to(folder)) for file in folder.rglob("*") if file.is_file())
 
 
-def trials(folder: Path, program: Path) -> Iterator[tuple[str, object, object]]:
-    """All trials: a name, what must come, and what comes."""
-    top = copy_of(folder, program, f'exec "{program}" "$@"')
-    done = install(top, "--help")
-    yield "help", (0, USAGE, ""), (done.returncode, done.stdout[:len(USAGE)], done.stderr)
+def arguments(checkout: Checkout) -> Iterator[tuple[str, object, object]]:
+    """Help, and wrong arguments."""
+    come = checkout.run("install", "--help", has_rt=False)
+    yield "help", (0, USAGE, ""), (come.status, come.stdout[:len(USAGE)], come.stderr)
     for words in (("-x",), ("a", "b"), ("",)):
-        done = install(top, *words)
-        yield f"the words {words}", (64, "", USAGE), (done.returncode, done.stdout, done.stderr[:len(USAGE)])
-    for prefix in ("a new folder/of mine", "a new folder/of mine"):  # anew, and over what is there
-        done = install(top, prefix)
-        yield "the status of an installation", (0, ""), (done.returncode, done.stderr)
-        place = folder / prefix
-        yield "what is installed", ["bin/l6", "share/man/man1/l6.1"], names_in(place)
+        come = checkout.run("install", *words, has_rt=False)
+        yield f"the arguments {words}", (64, "", USAGE), (come.status, come.stdout, come.stderr[:len(USAGE)])
+
+
+def installations(checkout: Checkout) -> Iterator[tuple[str, object, object]]:
+    """The program of dist/ is installed where neither rt nor Python is there, over an earlier one too."""
+    prefix = "a new folder/of mine"
+    place = checkout.folder / prefix
+    said = f"installed {prefix}/bin/l6 and {prefix}/share/man/man1/l6.1\n{prefix}/bin is not on the path\n"
+    for which in ("the first", "the second"):
+        come = checkout.run("install", prefix, has_rt=False)
+        yield f"{which} installation", Outcome(said, "", 0), come
+        yield f"what {which} installs", INSTALLED, names_in(place)
+        modes = [oct((place / name).stat().st_mode & 0o777) for name in INSTALLED]
+        yield f"the modes of {which}", ["0o755", "0o644"], modes
         page = place / "share/man/man1/l6.1"
-        yield "the manual page", (TOP / "docs/l6.1").read_bytes(), page.read_bytes()
-        come = subprocess.run([place / "bin/l6", "run"], input=CARD, capture_output=True, timeout=SECONDS)
-        yield "the installed program", (0, PRINTOUT), (come.returncode, come.stdout)
-    (folder / "file").touch()
-    done = install(top, "file")
-    want = "install: there is no right to write in file/bin\n"
-    yield "a file in the prefix's place", (1, "", want), (done.returncode, done.stdout, done.stderr)
-    (top / "l6").write_text("#!/bin/sh\nexit 1\n")
-    done = install(top, "not proved")
-    want = "install: the program was not proved and built, and nothing is installed\n"
-    yield "a program that is not proved", (1, "", want), (done.returncode, done.stdout, done.stderr)
-    yield "what is installed of it", [], names_in(folder / "not proved")
+        yield f"the manual page of {which}", (TOP / "docs/l6.1").read_bytes(), page.read_bytes()
+        program = (place / "bin/l6").read_bytes()
+        yield f"the program of {which}", (checkout.top / "dist/l6").read_bytes(), program
+        for name in INSTALLED:
+            (place / name).chmod(0o600)
+    prefix = str(checkout.folder / "on the path")
+    come = checkout.run("install", prefix, has_rt=False, FIRST=f"{prefix}/bin")
+    said = f"installed {prefix}/bin/l6 and {prefix}/share/man/man1/l6.1\n"
+    yield "a folder on the path", Outcome(said, "", 0), come
 
 
-def main(program: Path) -> int:
+def running_program(checkout: Checkout) -> Iterator[tuple[str, object, object]]:
+    """A program that runs is replaced, and runs on; an own mask of modes changes nothing."""
+    place = checkout.folder / "running"
+    program = place / "bin/l6"
+    program.parent.mkdir(parents=True)
+    program.write_bytes(Path("/bin/sleep").read_bytes())
+    program.chmod(0o755)
+    with subprocess.Popen([program, "60"]) as running:
+        come = checkout.run("install", "running", has_rt=False, umask=0o077)
+        yield "a program that runs is replaced", (0, ""), (come.status, come.stderr)
+        yield "the program still runs", None, running.poll()
+        running.kill()
+    modes = [oct((place / name).stat().st_mode & 0o777) for name in (*INSTALLED, "share/man")]
+    yield "the modes under a mask of one's own", ["0o755", "0o644", "0o755"], modes
+    yield "the program that replaced it", (checkout.top / "dist/l6").read_bytes(), program.read_bytes()
+
+
+def refusals(checkout: Checkout) -> Iterator[tuple[str, object, object]]:
+    """Where it can't install both files, it installs none, and says why."""
+    (checkout.folder / "file").touch()
+    come = checkout.run("install", "file", has_rt=False)
+    yield "a file in the prefix's place", Outcome("", "install: no permission to write to file/bin\n", 1), come
+    for name in INSTALLED:
+        folder = f"a folder for {Path(name).name}"
+        (checkout.folder / folder / name).mkdir(parents=True)
+        come = checkout.run("install", folder, has_rt=False)
+        yield folder, Outcome("", f"install: {folder}/{name} is a folder\n", 1), come
+        yield f"what is installed beside {folder}", [], names_in(checkout.folder / folder)
+    (checkout.folder / "half/share").mkdir(parents=True)
+    (checkout.folder / "half/share/man").touch()
+    come = checkout.run("install", "half", has_rt=False)
+    want = Outcome("", "install: no permission to write to half/share/man/man1\n", 1)
+    yield "a manual page that can't be written", want, come
+    yield "what is installed without its page", ["share/man"], names_in(checkout.folder / "half")
+    page = checkout.top / "docs/l6.1"
+    page.rename(checkout.folder / "page")
+    come = checkout.run("install", "no page", has_rt=False)
+    want = "install: no page/share/man/man1/l6.1 can't be written; nothing is installed\n"
+    yield "a manual page that is missing", ("", want, 1), (come.stdout, come.stderr[-len(want):], come.status)
+    yield "what is installed then", [], names_in(checkout.folder / "no page")
+    (checkout.folder / "page").rename(page)
+    program = checkout.top / "dist/l6"
+    whole = program.read_bytes()
+    program.write_bytes(whole[:-1])
+    come = checkout.run("install", "damaged", has_rt=False)
+    want = "install: there is no program to install\n"
+    yield "a program that is cut", (1, "", want), (come.status, come.stdout, come.stderr[-len(want):])
+    checkout.write("crates/l6_word/proofs/Lib.antt", UNPROVED)
+    come = checkout.run("install", "damaged")
+    yield "sources that are not proved", (1, "", want), (come.status, come.stdout, come.stderr[-len(want):])
+    yield "what is installed of both", [], names_in(checkout.folder / "damaged")
+    program.write_bytes(whole)
+    checkout.write("crates/l6_word/proofs/Lib.antt", "proved again\n")
+    come = checkout.run("install", "built anew")
+    yield "sources that are proved first", 0, come.status
+    come = checkout.run("../built anew/bin/l6")
+    yield "the program that is built anew", Outcome(checkout.made_of, "", 0), come
+
+
+def main() -> int:
     """Makes the trials, prints their differences and the count, and answers the exit status."""
     passed = failed = 0
-    with tempfile.TemporaryDirectory() as folder:
-        for name, want, come in trials(Path(folder), program):
-            if want == come:
-                passed += 1
-                continue
-            failed += 1
-            print(f"{name}\n  must be {want!r}\n  but is  {come!r}")
+    for group in (arguments, installations, running_program, refusals):
+        with tempfile.TemporaryDirectory() as folder:
+            for name, want, come in group(Checkout(Path(folder) / "checkout")):
+                if want == come:
+                    passed += 1
+                    continue
+                failed += 1
+                print(f"{group.__name__}: {name}\n  must be {want!r}\n  but is  {come!r}")
     print(f"{passed} passed, {failed} failed")
     return 1 if failed else 0
 
 
 if __name__ == "__main__":
-    if len(sys.argv) != 2:
-        sys.exit(__doc__)
-    sys.exit(main(Path(sys.argv[1]).resolve()))
+    sys.exit(main())

@@ -17,6 +17,7 @@ import sys
 import time
 from collections.abc import Iterable
 from concurrent.futures import FIRST_COMPLETED, Future, ThreadPoolExecutor, wait
+from pathlib import Path
 
 from commands import Commands, Ended, run_program
 from crates import SOURCES, TOP, Crate, listed, read_crates
@@ -117,8 +118,15 @@ def proved(crate: Crate, jobs: int, commands: Commands) -> Ended:
             made = [f"out/{crate.name}", f"out/{crate.name}.stamp"] if crate.is_program else [LIBRARY]
             bring_back(crate, folder, made)
     if ended.status == 0 and sources_sum(crate) == before:
-        (crate.folder / STAMP).write_text(f"{before} {made_sum(crate)}\n", "utf-8")
+        replace_text(crate.folder / STAMP, f"{before} {made_sum(crate)}\n")
     return ended
+
+
+def replace_text(file: Path, text: str) -> None:
+    """Puts a new file in the place of one, which may be linked from elsewhere."""
+    new = file.with_name(f"{file.name}.new")
+    new.write_text(text, "utf-8")
+    new.replace(file)
 
 
 def words_of(crate: Crate) -> list[str]:

@@ -1,0 +1,175 @@
+"""A small checkout with the scripts of this repository, in which a stand-in takes the part of rt.
+
+The stand-in proves nothing. It "builds" programs that tell which sources they were made from, so a test
+can see which program ran.
+"""
+from __future__ import annotations
+
+import hashlib
+import os
+import shutil
+import subprocess
+import sys
+from dataclasses import dataclass
+from pathlib import Path
+
+TOP = Path(__file__).resolve().parent.parent
+SCRIPTS = ("l6", "install", "tools", "docs/l6.1")
+SECONDS = 60  # for one command
+SOURCES = ("src", "specs", "proofs")
+UNPROVED = "UNPROVED"  # a crate with this text in its sources is not proved
+
+# All commands beside the shell that the scripts may use where neither rt nor Python is needed.
+PLAIN = ("cat", "chmod", "cmp", "cp", "dirname", "find", "mkdir", "mv", "readlink", "rm", "sed", "sha256sum",
+         "sh", "sort", "uname", "xargs")
+
+RT = f'''#!{sys.executable}
+"""Stands in for rt: tells its version, and "builds" a library or a program in a crate's folder."""
+import os, shutil, sys
+from pathlib import Path
+sys.path.insert(0, {str(TOP / "tests")!r})
+from checkout import UNPROVED, program_text, sum_of_sources
+state = Path(os.environ["STAND_IN"])
+verb = sys.argv[1]
+if verb == "version":
+    print((state / "version").read_text())
+    sys.exit(0)
+crate = Path.cwd()
+with open(state / "log", "a") as log:
+    log.write(f"{{verb}} {{crate.name}}\\n")
+hook = state / "edit"
+if hook.exists():
+    Path(hook.read_text()).open("a").write("edited while it builds\\n")
+    hook.unlink()
+texts = [file.read_text() for part in ("src", "specs", "proofs") for file in (crate / part).rglob("*.*")]
+if any(UNPROVED in text for text in texts):
+    print(f"fn {{crate.name}}::main: not proved")
+    sys.exit(1)
+kill = state / "kill"
+if kill.exists():
+    kill.unlink()
+    sys.exit(-9)
+(crate / "out/incremental").mkdir(parents=True, exist_ok=True)
+(crate / "out/incremental/kept").write_text("kept\\n")
+made = sum_of_sources(crate.parent.parent)
+if verb == "lib":
+    shutil.rmtree(crate / "out/rlib", ignore_errors=True)
+    (crate / "out/rlib").mkdir(parents=True)
+    (crate / "out/rlib/stamp").write_text(made)
+else:
+    program = crate / "out" / crate.name
+    program.write_text(program_text(made))
+    program.chmod(0o755)
+    (crate / f"out/{{crate.name}}.stamp").write_text(made)
+'''
+
+
+def sum_of_sources(top: Path) -> str:
+    """A sum of the sources that the program of a checkout, or of a part of one, is made of."""
+    total = hashlib.sha256()
+    for crate in ("l6_word", "l6"):
+        for file in sorted((top / "crates" / crate).rglob("*")):
+            if file.is_file() and file.relative_to(top).parts[2] in SOURCES:
+                total.update(f"{file.relative_to(top)} ".encode() + file.read_bytes())
+    return total.hexdigest()
+
+
+def program_text(made_of: str) -> str:
+    """A program that tells its sources, its arguments and its input, and ends with the status given."""
+    return (
+        "#!/bin/sh\n"
+        f"echo made of {made_of}\n"
+        'for word; do printf "<%s>\\n" "$word"; done\n'
+        "cat\n"
+        'exit "${STATUS-0}"\n'
+    )
+
+
+@dataclass(frozen=True)
+class Outcome:
+    """What came of a command."""
+
+    stdout: str
+    stderr: str
+    status: int
+
+
+class Checkout:
+    """A small checkout, with a program in its dist/ that belongs to its sources."""
+
+    def __init__(self, folder: Path) -> None:
+        self.folder, self.top = folder, folder / "top"
+        self.state = folder / "state"  # of the stand-in
+        self.state.mkdir(parents=True)
+        self._make_commands()
+        for name in SCRIPTS:
+            source, target = TOP / name, self.top / name
+            target.parent.mkdir(parents=True, exist_ok=True)
+            copy = shutil.copytree if source.is_dir() else shutil.copy
+            copy(source, target)
+        self.write("crates.txt", "# a comment\nl6_word:\nl6: l6_word\nl6_tests: l6_word\n")
+        self.write("HANDLES", "Handles allowed: none.\n")
+        for crate, root in (("l6_word", "lib.rt"), ("l6", "main.rt"), ("l6_tests", "lib.rt")):
+            for name in (f"src/{root}", "specs/Lib.antt", "proofs/Lib.antt", "proofs/main/Answers.antt"):
+                self.write(f"crates/{crate}/{name}", f"-- {name} of {crate}\n")
+        self.set_version("a toolchain")
+        (self.top / "dist").mkdir()
+        done = self.run("tools/make_dist")
+        assert done.status == 0, done
+        self.forget_what_was_built()
+
+    def _make_commands(self) -> None:
+        plain, whole = self.folder / "plain", self.folder / "whole"
+        plain.mkdir()
+        whole.mkdir()
+        for name in PLAIN:
+            (plain / name).symlink_to(shutil.which(name))
+        (whole / "python3").symlink_to(sys.executable)
+        (whole / "rt").write_text(RT)
+        (whole / "rt").chmod(0o755)
+
+    @property
+    def made_of(self) -> str:
+        """The line by which the program of the present sources tells what it was made of."""
+        return f"made of {sum_of_sources(self.top)}\n"
+
+    def set_version(self, line: str) -> None:
+        """Sets the line of the toolchain's version."""
+        (self.state / "version").write_text(line)
+
+    def write(self, name: str, text: str) -> None:
+        """Writes a file of the checkout."""
+        file = self.top / name
+        file.parent.mkdir(parents=True, exist_ok=True)
+        file.write_text(text)
+
+    def calls(self) -> list[str]:
+        """The builds that rt was asked for since this was last asked."""
+        log = self.state / "log"
+        calls = log.read_text().splitlines() if log.exists() else []
+        log.unlink(missing_ok=True)
+        return calls
+
+    def forget_what_was_built(self) -> None:
+        """Removes all that was built outside of dist/."""
+        for crate in (self.top / "crates").iterdir():
+            shutil.rmtree(crate / "out", ignore_errors=True)
+        self.calls()
+
+    def run(
+        self, command: str, *words: str, has_rt: bool = True, stdin: str = "", umask: int = 0o022,
+        **environment: str,
+    ) -> Outcome:
+        """What comes of a script of the checkout; without rt there is no Python either.
+
+        FIRST in the environment is a folder that comes first on the path.
+        """
+        path = f"{self.folder / 'whole'}:{os.environ['PATH']}" if has_rt else str(self.folder / "plain")
+        first = environment.pop("FIRST", "")
+        interpreter = [sys.executable] if command.endswith(".py") else []
+        done = subprocess.run(
+            [*interpreter, self.top / command, *words], input=stdin, capture_output=True, text=True, timeout=SECONDS,
+            cwd=self.folder, umask=umask,
+            env={"PATH": f"{first}:{path}" if first else path, "STAND_IN": str(self.state), **environment},
+        )
+        return Outcome(done.stdout, done.stderr, done.returncode)

@@ -1,0 +1,258 @@
+#!/usr/bin/env python3
+"""Looks that ./l6 runs the program that belongs to the sources, and no other.
+
+launcher.py prints each difference, and last 'N passed, M failed'. It works on small checkouts of its own,
+in which a stand-in takes the part of rt (checkout.py), so nothing is proved and nothing else is touched.
+It also tries tools/prove.py and tools/make_dist.
+"""
+from __future__ import annotations
+
+import os
+import sys
+import tempfile
+from collections.abc import Callable, Iterator
+from pathlib import Path
+
+from checkout import UNPROVED, Checkout, Outcome
+
+Trial = tuple[str, object, object]  # a name, what must come, and what comes
+
+SOURCES = (
+    "crates.txt", "HANDLES", "crates/l6_word/src/lib.rt", "crates/l6_word/specs/Lib.antt",
+    "crates/l6_word/proofs/Lib.antt", "crates/l6/src/main.rt", "crates/l6/specs/Lib.antt",
+    "crates/l6/proofs/main/Answers.antt",
+)
+STALE = "l6: dist/l6 was not made from the sources in this checkout\n"
+BROKEN = "l6: dist/l6 is not the program that dist/l6.provenance names: it is missing, altered or incomplete\n"
+NO_RT = "l6: rt is not on the path; it is needed to prove and build the program (README.md)\n"
+PROVING = "l6: proving and building the program; from nothing this takes some 25 minutes on four processors\n"
+EDITED = "l6: the sources were edited meanwhile, so the program may not belong to them; call again\n"
+
+
+def distributed(checkout: Checkout) -> Iterator[Trial]:
+    """The program of dist/ runs where neither rt nor Python is there, and is handed all it needs."""
+    want = Outcome(checkout.made_of, "", 0)
+    yield "the program of dist/", want, checkout.run("l6", has_rt=False)
+    yield "the program of dist/ beside rt", want, checkout.run("l6")
+    words = ["run", "a b", "", "-x", "--", "*", "$HOME", "two\nlines", "--prove"]
+    told = "".join(f"<{word}>\n" for word in words)
+    for status in (0, 1, 2, 5, 64, 255):
+        want = Outcome(f"{checkout.made_of}{told}a line\nno end", "", status)
+        come = checkout.run("l6", *words, has_rt=False, stdin="a line\nno end", STATUS=str(status))
+        yield f"arguments, input and status {status}", want, come
+    (checkout.folder / "linked").symlink_to(checkout.top / "l6")
+    want = Outcome(checkout.made_of, "", 0)
+    yield "./l6 through a link", want, checkout.run("../linked", has_rt=False)
+    yield "what rt was asked for", [], checkout.calls()
+
+
+def changed_sources(checkout: Checkout) -> Iterator[Trial]:
+    """A source that is edited, added, removed or renamed makes ./l6 build anew, once."""
+    for name in SOURCES:
+        file = checkout.top / name
+        before = file.read_bytes()
+        file.write_bytes(before + b"-- edited\n")
+        yield from builds_anew(checkout, f"an edit of {name}", STALE)
+        file.write_bytes(before)
+        yield f"{name} as it was", Outcome(checkout.made_of, "", 0), checkout.run("l6", has_rt=False)
+        checkout.forget_what_was_built()
+    first = checkout.top / "crates/l6_word/src/lib.rt"
+    other = first.with_name("other.rt")
+    other.write_text("")
+    yield from builds_anew(checkout, "a new file", STALE)
+    other.unlink()
+    first.rename(other)
+    yield from builds_anew(checkout, "a file that is renamed", STALE)
+    other.rename(first)
+    times = os.stat(first).st_mtime_ns
+    before = first.read_bytes()
+    first.write_bytes(before.swapcase())
+    os.utime(first, ns=(times, times))
+    yield from builds_anew(checkout, "an edit that keeps size and time", STALE)
+    first.write_bytes(before)
+
+
+def builds_anew(checkout: Checkout, what: str, why: str) -> Iterator[Trial]:
+    """The program of dist/ is refused; it is proved and built once, and then run with no further word."""
+    yield f"{what}, without rt", Outcome("", why + NO_RT, 1), checkout.run("l6", has_rt=False)
+    come = checkout.run("l6")
+    yield what, (checkout.made_of, 0), (come.stdout, come.status)
+    yield f"{what}: what is said", why + PROVING, come.stderr[:len(why + PROVING)]
+    checkout.calls()
+    come = checkout.run("l6", "again")
+    want = Outcome(f"{checkout.made_of}<again>\n", why if why == BROKEN else "", 0)
+    yield f"{what}, the second call", want, come
+    yield f"{what}, the second call's builds", [], checkout.calls()
+
+
+def damaged_distribution(checkout: Checkout) -> Iterator[Trial]:
+    """A program or a provenance in dist/ that is altered, cut or missing is refused by its name."""
+    program, provenance = (checkout.top / "dist" / name for name in ("l6", "l6.provenance"))
+    whole, told = program.read_bytes(), provenance.read_bytes()
+    turned = whole.replace(b"made", b"Made")
+    for what, text in (("altered", turned), ("cut", whole[:-1]), ("longer", whole + b"\n"), ("empty", b"")):
+        program.write_bytes(text)
+        yield f"dist/l6 is {what}", Outcome("", BROKEN + NO_RT, 1), checkout.run("l6", has_rt=False)
+    yield from builds_anew(checkout, "dist/l6 is empty", BROKEN)
+    checkout.forget_what_was_built()
+    program.unlink()
+    yield "dist/l6 is missing", Outcome("", BROKEN + NO_RT, 1), checkout.run("l6", has_rt=False)
+    program.write_bytes(whole)
+    come = checkout.run("l6", has_rt=False)
+    yield "dist/l6 may not be run", ("", 1), (come.stdout, come.status)
+    program.chmod(0o755)
+    for place in range(len(told)):
+        provenance.write_bytes(told[:place] + bytes([told[place] ^ 1]) + told[place + 1:])
+        come = checkout.run("l6", has_rt=False)
+        yield f"byte {place} of the provenance", ("", 1), (come.stdout, come.status)
+    for what, text in (("cut", told[:-1]), ("longer", told + b"\n"), ("empty", b"")):
+        provenance.write_bytes(text)
+        come = checkout.run("l6", has_rt=False)
+        yield f"a provenance that is {what}", ("", 1), (come.stdout, come.status)
+    provenance.unlink()
+    yield from builds_anew(checkout, "a provenance that is missing", BROKEN)
+    provenance.write_bytes(told)
+
+
+def built_program(checkout: Checkout) -> Iterator[Trial]:
+    """A program that was built here is run only while it, its sources and the toolchain are the same."""
+    checkout.write("crates/l6/src/main.rt", "another main\n")
+    checkout.run("l6")
+    program, provenance = (checkout.top / "crates/l6/out" / name for name in ("l6", "l6.provenance"))
+    for file in (program, provenance):
+        checkout.calls()
+        file.write_bytes(file.read_bytes()[:-2] + b"1\n")
+        come = checkout.run("l6")
+        yield f"{file.name} is altered", (checkout.made_of, 0), (come.stdout, come.status)
+        yield f"{file.name} is altered: it is built anew", PROVING, come.stderr[len(STALE):][:len(PROVING)]
+    checkout.calls()
+    checkout.set_version("another toolchain")
+    come = checkout.run("l6")
+    yield "another toolchain", (checkout.made_of, 0), (come.stdout, come.status)
+    yield "another toolchain: what is built", ["lib l6_word", "run l6"], checkout.calls()
+
+
+def failed_proofs(checkout: Checkout) -> Iterator[Trial]:
+    """Where a crate is not proved nothing runs, and no earlier program does."""
+    checkout.write("crates/l6/src/main.rt", "another main\n")
+    checkout.run("l6")
+    for crate, called in (("l6", ["run l6"]), ("l6_word", ["lib l6_word"])):
+        checkout.calls()
+        checkout.write(f"crates/{crate}/proofs/Lib.antt", UNPROVED)
+        for which in ("the first call", "the second call"):
+            come = checkout.run("l6")
+            yield f"{crate} is not proved, {which}", ("", 1), (come.stdout, come.status)
+            told = [f"fn {crate}::main: not proved" in come.stderr, come.stderr.endswith("was not built\n")]
+            yield f"{crate} is not proved, what {which} says", [True, True], told
+            yield f"{crate} is not proved, what {which} builds", called, checkout.calls()
+        checkout.write(f"crates/{crate}/proofs/Lib.antt", "proved again\n")
+    come = checkout.run("l6")
+    yield "proved again", (checkout.made_of, 0), (come.stdout, come.status)
+
+
+def edits_while_it_builds(checkout: Checkout) -> Iterator[Trial]:
+    """What is edited while the program is built is not noted as built, and not run."""
+    for name in ("crates/l6_word/src/lib.rt", "crates/l6/specs/Lib.antt", "HANDLES"):
+        checkout.write("crates/l6/src/main.rt", f"a main before {name}\n")
+        (checkout.state / "edit").write_text(str(checkout.top / name))
+        come = checkout.run("l6")
+        yield f"{name} is edited meanwhile", ("", EDITED, 1), (come.stdout, come.stderr[-len(EDITED):], come.status)
+        come = checkout.run("l6")
+        yield f"after {name} was edited", (checkout.made_of, 0), (come.stdout, come.status)
+        yield f"after {name} was edited: it is built anew", True, PROVING in come.stderr
+
+
+def crates_below(checkout: Checkout) -> Iterator[Trial]:
+    """A crate is proved again where it or one below it has changed, lowest first, and else not."""
+    come = checkout.run("l6", "--prove")
+    said = "l6: the program is proved, and dist/l6 is the same, byte for byte\n"
+    yield "--prove", ("", said, 0), (come.stdout, come.stderr[-len(said):], come.status)
+    yield "what --prove builds", ["lib l6_word", "run l6"], checkout.calls()
+    checkout.write("crates/l6/src/main.rt", "another main\n")
+    come = checkout.run("l6", "--prove")
+    said = "l6: the program is proved, and dist/l6 is another one; this one is crates/l6/out/l6\n"
+    yield "--prove of other sources", ("", said, 0), (come.stdout, come.stderr[-len(said):], come.status)
+    yield "a change of the program", ["run l6"], checkout.calls()
+    for part in ("src/lib.rt", "specs/Lib.antt", "proofs/Lib.antt"):
+        checkout.write(f"crates/l6_word/{part}", "another text\n")
+        checkout.run("tools/prove.py")
+        calls = checkout.calls()
+        yield f"a change of {part} below: the first crate", "lib l6_word", calls[0]
+        yield f"a change of {part} below", ["lib l6_tests", "lib l6_word", "run l6"], sorted(calls)
+    for note in ("crates/l6_word/out/proved", "crates/l6_word/out/rlib/stamp"):
+        file = checkout.top / note
+        linked = checkout.folder / "linked note"
+        linked.unlink(missing_ok=True)
+        file.write_text("something else\n")
+        linked.hardlink_to(file)
+        checkout.run("tools/prove.py", "l6_word")
+        yield f"{note} is altered", ["lib l6_word"], checkout.calls()
+        yield f"{note} was written anew and not in place", "something else\n", linked.read_text()
+    kept = checkout.top / "crates/l6_word/out/incremental/kept"
+    yield "what a check kept", True, kept.is_file()
+    (checkout.state / "kill").touch()
+    checkout.write("crates/l6_word/src/lib.rt", "a text whose check is killed\n")
+    come = checkout.run("tools/prove.py", "l6_word")
+    yield "a check that is killed", (0, ["lib l6_word"] * 2), (come.status, checkout.calls())
+
+
+def other_systems(checkout: Checkout) -> Iterator[Trial]:
+    """On another system the program of dist/ is not run."""
+    first = checkout.folder / "other system"
+    first.mkdir()
+    (first / "uname").write_text("#!/bin/sh\necho Plan9 mips\n")
+    (first / "uname").chmod(0o755)
+    why = "l6: dist/l6 is for Linux x86_64, and this is Plan9 mips\n"
+    come = checkout.run("l6", has_rt=False, FIRST=str(first))
+    yield "another system", Outcome("", why + NO_RT, 1), come
+
+
+def making_dist(checkout: Checkout) -> Iterator[Trial]:
+    """tools/make_dist writes the program and its provenance, or nothing."""
+    dist = checkout.top / "dist"
+    before = {file.name: file.read_bytes() for file in dist.iterdir()}
+    yield "what lies in dist/", ["l6", "l6.provenance"], sorted(before)
+    come = checkout.run("tools/make_dist")
+    again = {file.name: file.read_bytes() for file in dist.iterdir()}
+    yield "dist/ made once more", (0, before), (come.status, again)
+    for crate in ("l6", "l6_word", "l6_tests"):
+        text = (checkout.top / f"crates/{crate}/specs/Lib.antt").read_text()
+        checkout.write(f"crates/{crate}/specs/Lib.antt", UNPROVED)
+        come = checkout.run("tools/make_dist")
+        again = {file.name: file.read_bytes() for file in dist.iterdir()}
+        yield f"{crate} is not proved", (1, before), (come.status, again)
+        checkout.write(f"crates/{crate}/specs/Lib.antt", text)
+    checkout.write("crates/l6/src/main.rt", "another main\n")
+    (dist / "l6").chmod(0o600)
+    come = checkout.run("tools/make_dist")
+    yield "dist/ made of other sources", 0, come.status
+    yield "the mode of dist/l6", 0o755, (dist / "l6").stat().st_mode & 0o777
+    yield "what lies in dist/ then", ["l6", "l6.provenance"], sorted(file.name for file in dist.iterdir())
+    checkout.forget_what_was_built()
+    want = Outcome(checkout.made_of, "", 0)
+    yield "the new program of dist/", want, checkout.run("l6", has_rt=False)
+
+
+GROUPS: tuple[Callable[[Checkout], Iterator[Trial]], ...] = (
+    distributed, changed_sources, damaged_distribution, built_program, failed_proofs,
+    edits_while_it_builds, crates_below, other_systems, making_dist,
+)
+
+
+def main() -> int:
+    """Makes the trials, prints their differences and the count, and answers the exit status."""
+    passed = failed = 0
+    for group in GROUPS:
+        with tempfile.TemporaryDirectory() as folder:
+            for name, want, come in group(Checkout(Path(folder) / "checkout")):
+                if want == come:
+                    passed += 1
+                    continue
+                failed += 1
+                print(f"{group.__name__}: {name}\n  must be {want!r}\n  but is  {come!r}")
+    print(f"{passed} passed, {failed} failed")
+    return 1 if failed else 0
+
+
+if __name__ == "__main__":
+    sys.exit(main())

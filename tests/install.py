@@ -13,6 +13,7 @@ from collections.abc import Iterator
 from pathlib import Path
 
 from checkout import TOP, UNPROVED, Checkout, Outcome
+from trials import Trial, report
 
 USAGE = "usage: ./install [PREFIX]\n"
 INSTALLED = ["bin/l6", "share/man/man1/l6.1"]
@@ -23,7 +24,7 @@ def names_in(folder: Path) -> list[str]:
     return sorted(str(file.relative_to(folder)) for file in folder.rglob("*") if file.is_file())
 
 
-def arguments(checkout: Checkout) -> Iterator[tuple[str, object, object]]:
+def arguments(checkout: Checkout) -> Iterator[Trial]:
     """Help, and wrong arguments."""
     come = checkout.run("install", "--help", has_rt=False)
     yield "help", (0, USAGE, ""), (come.status, come.stdout[:len(USAGE)], come.stderr)
@@ -32,7 +33,7 @@ def arguments(checkout: Checkout) -> Iterator[tuple[str, object, object]]:
         yield f"the arguments {words}", (64, "", USAGE), (come.status, come.stdout, come.stderr[:len(USAGE)])
 
 
-def installations(checkout: Checkout) -> Iterator[tuple[str, object, object]]:
+def installations(checkout: Checkout) -> Iterator[Trial]:
     """The program of dist/ is installed where neither rt nor Python is there, over an earlier one too."""
     prefix = "a new folder/of mine"
     place = checkout.folder / prefix
@@ -55,7 +56,7 @@ def installations(checkout: Checkout) -> Iterator[tuple[str, object, object]]:
     yield "a folder on the path", Outcome(said, "", 0), come
 
 
-def running_program(checkout: Checkout) -> Iterator[tuple[str, object, object]]:
+def running_program(checkout: Checkout) -> Iterator[Trial]:
     """A program that runs is replaced, and runs on; an own mask of modes changes nothing."""
     place = checkout.folder / "running"
     program = place / "bin/l6"
@@ -72,7 +73,7 @@ def running_program(checkout: Checkout) -> Iterator[tuple[str, object, object]]:
     yield "the program that replaced it", (checkout.top / "dist/l6").read_bytes(), program.read_bytes()
 
 
-def refusals(checkout: Checkout) -> Iterator[tuple[str, object, object]]:
+def refusals(checkout: Checkout) -> Iterator[Trial]:
     """Where it can't install both files, it installs none, and says why."""
     (checkout.folder / "file").touch()
     come = checkout.run("install", "file", has_rt=False)
@@ -114,20 +115,13 @@ def refusals(checkout: Checkout) -> Iterator[tuple[str, object, object]]:
     yield "the program that is built anew", Outcome(checkout.made_of, "", 0), come
 
 
-def main() -> int:
-    """Makes the trials, prints their differences and the count, and answers the exit status."""
-    passed = failed = 0
+def trials() -> Iterator[Trial]:
+    """All trials, each group on a checkout of its own."""
     for group in (arguments, installations, running_program, refusals):
         with tempfile.TemporaryDirectory() as folder:
-            for name, want, come in group(Checkout(Path(folder) / "checkout")):
-                if want == come:
-                    passed += 1
-                    continue
-                failed += 1
-                print(f"{group.__name__}: {name}\n  must be {want!r}\n  but is  {come!r}")
-    print(f"{passed} passed, {failed} failed")
-    return 1 if failed else 0
+            for name, expected, actual in group(Checkout(Path(folder) / "checkout")):
+                yield f"{group.__name__}: {name}", expected, actual
 
 
 if __name__ == "__main__":
-    sys.exit(main())
+    sys.exit(report(trials()))

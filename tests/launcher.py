@@ -14,8 +14,7 @@ from collections.abc import Callable, Iterator
 from pathlib import Path
 
 from checkout import UNPROVED, Checkout, Outcome
-
-Trial = tuple[str, object, object]  # a name, what must come, and what comes
+from trials import Trial, report
 
 SOURCES = (
     "crates.txt", "HANDLES", "crates/l6_word/src/lib.rt", "crates/l6_word/specs/Lib.antt",
@@ -224,7 +223,7 @@ def making_dist(checkout: Checkout) -> Iterator[Trial]:
         checkout.write(f"crates/{crate}/specs/Lib.antt", text)
     checkout.write("crates/l6/src/main.rt", "another main\n")
     (dist / "l6").chmod(0o600)
-    come = checkout.run("tools/make_dist")
+    come = checkout.run("tools/make_dist", umask=0o077)
     yield "dist/ made of other sources", 0, come.status
     yield "the mode of dist/l6", 0o755, (dist / "l6").stat().st_mode & 0o777
     yield "what lies in dist/ then", ["l6", "l6.provenance"], sorted(file.name for file in dist.iterdir())
@@ -239,20 +238,13 @@ GROUPS: tuple[Callable[[Checkout], Iterator[Trial]], ...] = (
 )
 
 
-def main() -> int:
-    """Makes the trials, prints their differences and the count, and answers the exit status."""
-    passed = failed = 0
+def trials() -> Iterator[Trial]:
+    """All trials, each group on a checkout of its own."""
     for group in GROUPS:
         with tempfile.TemporaryDirectory() as folder:
-            for name, want, come in group(Checkout(Path(folder) / "checkout")):
-                if want == come:
-                    passed += 1
-                    continue
-                failed += 1
-                print(f"{group.__name__}: {name}\n  must be {want!r}\n  but is  {come!r}")
-    print(f"{passed} passed, {failed} failed")
-    return 1 if failed else 0
+            for name, expected, actual in group(Checkout(Path(folder) / "checkout")):
+                yield f"{group.__name__}: {name}", expected, actual
 
 
 if __name__ == "__main__":
-    sys.exit(main())
+    sys.exit(report(trials()))

@@ -14,12 +14,14 @@ import re
 import sys
 import xml.etree.ElementTree
 from collections.abc import Iterator
+from itertools import chain
 from pathlib import Path
 
 TOP = Path(__file__).resolve().parent.parent
 sys.path.insert(0, str(TOP / "tools"))
 from pictures import EXAMPLES, PICTURES, texts_of
 from transcripts import drawings_and_maps
+from trials import Trial, report
 
 DOCS = [TOP / "README.md", *sorted((TOP / "docs").glob("*.md"))]
 SVG = "{http://www.w3.org/2000/svg}"
@@ -65,8 +67,6 @@ EDGES = ["X -> b1024;", "b1024:N -> b1026;", "b1026:N -> b1024;"]
 STRETCHES = [("block", 2), ("block", 2), ("lost", 4), ("free", 8)]  # of a strip of 16 words
 WORDS = ["0", "1028", "18", "35", "5", "C 28 '<'", "N 1028", "Y", "bit"]  # of the block at 1028
 BITS = (184 + 18 * 16, 18 * 16)  # from where and how wide N is: a bit has 16 steps, and bit 0 begins at 184
-
-Trial = tuple[str, object, object]  # a name, what must be, and what is
 
 
 def shown_stretches(picture: str) -> list[tuple[str, float]]:
@@ -192,19 +192,5 @@ def shown() -> Iterator[Trial]:
     yield "the places of pictures", [], [str(it.name) for it in places if not it.exists()]
 
 
-def main() -> int:
-    """Makes the trials, prints the differences and the count, and answers the exit status."""
-    passed = failed = 0
-    for trials in (handmade(), committed(), shown()):
-        for name, want, come in trials:
-            if want == come:
-                passed += 1
-                continue
-            failed += 1
-            print(f"{name}\n  must be {str(want)[:300]}\n  but is  {str(come)[:300]}")
-    print(f"{passed} passed, {failed} failed")
-    return 1 if failed else 0
-
-
 if __name__ == "__main__":
-    sys.exit(main())
+    sys.exit(report(chain(handmade(), committed(), shown())))

@@ -33,6 +33,7 @@ import tempfile
 from dataclasses import dataclass
 
 from largest_jobs import debug_job, run_job
+from trials import report
 
 HERE = pathlib.Path(__file__).resolve().parent
 EXAMPLES = HERE.parent / "examples"
@@ -417,21 +418,13 @@ def differences(want, come):
     for what in want:
         if want[what] != come[what]:
             must, is_ = shown(want[what], come[what])
-            yield f"  {what}: must be {must}\n  {' ' * len(what)}  but is  {is_}"
+            yield f"  {what}: expected {must}\n  {' ' * len(what)}  actual   {is_}"
 
 
 def main(program):
     """Makes the trials, prints their differences and the count, and answers the exit status."""
     cases = [Case(line) for line in (HERE / "cases.jsonl").read_text("ascii").splitlines()]
-    passed = failed = 0
-    for name, want, come in trials(program, cases):
-        if want == come:
-            passed += 1
-            continue
-        failed += 1
-        print(name, *differences(want, come), sep="\n")
-    print(f"{passed} passed, {failed} failed")
-    return 1 if failed else 0
+    return report(trials(program, cases), differences)
 
 
 if __name__ == "__main__":

@@ -69,6 +69,11 @@ class Report:
         errors = [(it["file"], int(it["line"])) for it in UNREAD.finditer(self.text)]
         return any(it.has(file, line) for it in functions for file, line in errors)
 
+    def proves(self, function: Function) -> bool:
+        """Whether the check says that a function is proved."""
+        name = rf"(?:\w+::)*{re.escape(function.name)}"
+        return re.search(rf"^fn {name}: proved\b", self.text, re.M) is not None
+
     def says(self, function: Function) -> Said:
         """What the check says of a function."""
         lines = re.findall(rf"^fn ((?:\w+::)*{re.escape(function.name)}): (.*)", self.text, re.M)

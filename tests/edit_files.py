@@ -29,6 +29,7 @@ class Function:
     file: str
     first: int  # its first line
     last: int  # its last line
+    is_of_trait: bool  # whether it is a trait's method, or an implementation of one
 
     def has(self, file: str, line: int) -> bool:
         """Whether a line of a file is one of its lines."""
@@ -100,14 +101,18 @@ def function_at(lines: list[str], line: int, file: str, crate: str) -> Function 
         module = file.removeprefix("src/").removesuffix(".rt").replace("/", "::")
         path = [crate] if module in ("lib", "main") else [crate, module]
         # (a check lists a method in its type's module, wherever the impl stands)
-        path = [owner(lines, first)] if indent else path
-        return Function("::".join([*path, name]), file, first + 1, last + 1)
+        owner, is_of_trait = owner_of(lines, first) if indent else ("", False)
+        path = [owner] if owner else path
+        return Function("::".join([*path, name]), file, first + 1, last + 1, is_of_trait)
     return None
 
 
-def owner(lines: list[str], line: int) -> str:
-    """The name under which a check lists the methods of the impl or the trait that a line stands in."""
+def owner_of(lines: list[str], line: int) -> tuple[str, bool]:
+    """The name under which a check lists the methods of the impl or the trait that a line stands in.
+
+    The second value tells whether they are a trait's.
+    """
     head = next(row for row in reversed(lines[:line]) if IMPL.match(row) or TRAIT.match(row))
     found = IMPL.match(head) or TRAIT.match(head)
     of = found.groupdict().get("of") or ""
-    return found["type"] + "".join(re.findall(r"\b[A-Z]\w*", of))
+    return found["type"] + "".join(re.findall(r"\b[A-Z]\w*", of)), bool(of or TRAIT.match(head))

@@ -1,10 +1,11 @@
 #!/usr/bin/env python3
 """Tries the edits that the prover must refuse, many in one check.
 
-The edits of a crate are the files NAME.edit in its folder edits/. Those of different functions are
-tried together, in a copy of the crate and over what its own check has kept. An edit is refused where
-its own function is, for goals of its own. What is not refused so is tried again: without the edits of
-the functions that it calls, and then alone, where it is refused if the crate is.
+The edits of a crate are the files NAME.edit in its folder edits/. Many are tried in one check, in a copy
+of the crate and over what its own check has kept. Where several edits turn one function, each turns a copy
+of it that stands beside it (edit_copies.py), and is refused if the copy is, for goals of its own. What can't
+be tried so is tried in place, together with edits of other functions; then without the edits of the
+functions that it calls; and then alone, where it is refused if the crate is.
 
 Each edit that is not refused has a line that says why, and each crate one that says what its checks
 took. The last line is 'N passed, M failed'. Standard error tells of each check as it ends.
@@ -18,7 +19,8 @@ import sys
 import tempfile
 import threading
 import time
-from collections.abc import Iterator
+from collections import Counter
+from collections.abc import Callable, Iterator
 from concurrent.futures import ThreadPoolExecutor, as_completed
 from dataclasses import dataclass
 from pathlib import Path
@@ -27,12 +29,14 @@ sys.path.insert(0, str(Path(__file__).resolve().parent.parent / "tools"))
 from check_report import Report, Said
 from commands import Commands, run_program
 from crates import Crate, read_crates
+from edit_copies import Copied, copy_functions
 from edit_files import BadEdit, Edit, Function
 from lanes import ALL_MEMORY, Lanes, processors
 from prove import prove
 from rooms import room_of
 
 FOLDER = "edits"
+COPIES = 16  # how many edited copies are tried in one check
 
 
 @dataclass
@@ -54,6 +58,12 @@ class Trial:
         """Whether it turns functions and nothing else, as a constant or a type."""
         return bool(self.functions) and None not in self.functions
 
+    @property
+    def function(self) -> Function | None:
+        """The function that it turns, if that is one that may be copied."""
+        only = next(iter(self.functions)) if len(self.functions) == 1 else None
+        return only if only and not only.is_of_trait else None
+
 
 class Bench:
     """Where the edits of a crate are tried."""
@@ -68,8 +78,12 @@ class Bench:
         """Tries all edits; answers a line that says what that took, and one for each that failed."""
         start = time.monotonic()
         self.read_all()
-        together = [trial for trial in self.trials if trial.turns_functions]
-        tried = []
+        turned = Counter(trial.function for trial in self.trials)
+        copies = [trial for trial in self.trials if trial.function and turned[trial.function] > 1]
+        chunks = [copies[n:n + COPIES] for n in range(0, len(copies), COPIES)]
+        self._side_by_side(self._try_copies, chunks)
+        together = [trial for trial in self.trials if trial.is_open and trial.turns_functions]
+        tried: list[Trial] = []
         while len(together) != len(tried):  # all, and then those alone that call another edited one
             tried = together
             blocked = self._side_by_side(self._try_together, put_together(tried))
@@ -101,6 +115,22 @@ class Bench:
                 trial.functions = trial.edit.apply(Path(room), self.crate.name)
             except BadEdit as why:
                 trial.failure = f"BAD EDIT: {why}"
+
+    def _try_copies(self, batch: list[Trial]) -> None:
+        """Tries edits in copies of their functions, which stand beside them, in one check."""
+        copies: dict[Edit, Copied] = {}
+
+        def prepare(folder: Path) -> None:
+            found = [(trial.edit, trial.function) for trial in batch if trial.function]
+            copies.update(copy_functions(found, folder, self.crate.name))
+
+        report = self._checked_in(self.crate.memory, prepare)
+        for trial in batch:
+            copy = copies.get(trial.edit)
+            if copy and report.judged and report.proves(copy.unedited):
+                trial.is_refused = report.says(copy.edited) is Said.REFUSED
+        refused = sum(trial.is_refused for trial in batch)
+        self._tell(f"{refused} of {len(batch)} edits that were tried in copies are refused", report)
 
     def _try_together(self, batch: list[Trial]) -> list[Trial]:
         """Tries edits of different functions in one check; answers those that wait for another's."""
@@ -140,18 +170,22 @@ class Bench:
 
     def _check(self, trials: list[Trial]) -> Report:
         """Checks the crate with these edits; a check that was killed is made once more, alone."""
-        memory = self.crate.memory
-        report = self._checked_in(memory, trials)
-        if not report.judged and not report.unread:
-            report = self._checked_in(ALL_MEMORY, trials)
-        return report
 
-    def _checked_in(self, memory: int, trials: list[Trial]) -> Report:
-        with self._lanes.lane(memory, self.crate.lines), room_of(self.crate) as folder:
+        def prepare(folder: Path) -> None:
             for trial in trials:
                 # (where the text of one edit hides that of another, that is left to a check of its own)
                 with contextlib.suppress(BadEdit):
                     trial.edit.apply(folder, self.crate.name)
+
+        report = self._checked_in(self.crate.memory, prepare)
+        if not report.judged and not report.unread:
+            report = self._checked_in(ALL_MEMORY, prepare)
+        return report
+
+    def _checked_in(self, memory: int, prepare: Callable[[Path], None]) -> Report:
+        """Checks a copy of the crate that was prepared."""
+        with self._lanes.lane(memory, self.crate.lines), room_of(self.crate) as folder:
+            prepare(folder)
             ended = self._commands.run(["rt", "check", "--jobs", "1"], folder)
         with self._lock:
             self.checks += 1

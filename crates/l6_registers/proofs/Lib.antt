@@ -4,6 +4,7 @@ mod Windows
 mod Got
 mod Levels
 mod NewBlocks
+pub mod Freed
 pub mod Gathering
 pub mod Apart
 pub mod Shown

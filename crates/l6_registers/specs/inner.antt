@@ -3,4 +3,5 @@ pub mod Registers
 pub mod Exchanging
 pub mod Definitions
 pub mod Fields
+pub mod Freeing
 pub mod Upcoming

@@ -1,6 +1,6 @@
 //! Calls and their returns.
 
-ghost use Rattle.std.specs.Prelude.{◌≡◌, ◌+◌, ◌≤◌, ◌∷◌, IfNone, IfSome, Ok};
+ghost use Rattle.std.specs.Prelude.{◌≡◌, ◌+◌, ◌≤◌, ◌∷◌, IfNone, IfSome, Ok, Some};
 ghost use Rattle.l6_prog.specs.Numerals.{most_operations};
 ghost use Rattle.l6_prog.specs.declared.exit.Exit.TheVariants as exits;
 ghost use Rattle.l6_steps.specs.declared.jump.Jump.TheVariants as jumps;
@@ -113,5 +113,25 @@ impl<S: Places> Registers<S> {
         let latest = self.saved.returns.pop();
         self.recall();
         latest
+    }
+
+    /// Takes off the latest return for which a call waits, as the exit FAIL does, and answers its fail
+    /// label. Where no call waits, or where it has no such label, nothing changes.
+    #[inline(always)]
+    pub fn go_to_fail(&mut self) -> Option<u16>
+        ensures done { IfSome result (λ label.
+            Does S.rule (λ setting choice. leave_by exits.Fail) self.old self.new
+            (Ok (jumps.To label))) }
+        ensures latest { IfSome result (λ label.
+            (latest : Return) × (latest.fail ≡ Some label)
+            × (self.old.memory.returns ≡ latest ∷ self.new.memory.returns)) }
+        ensures none { IfNone result (self.new ≡ self.old) }
+        ensures held { AreHeld S.rule self.new }
+    {
+        self.recall();
+        let label = self.saved.returns.latest()?.fail?;
+        self.saved.returns.pop();
+        self.recall();
+        Some(label)
     }
 }

@@ -26,3 +26,4 @@ pub mod Sized
 pub mod Loops
 pub mod Stores
 pub mod Fitting
+pub mod MarkSizes

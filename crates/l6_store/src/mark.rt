@@ -1,10 +1,15 @@
-//! What stands at a place of a buddy store.
+//! What stands at the places of a buddy store.
 
-ghost use Rattle.std.specs.Prelude.{◌≡◌};
-ghost use Rattle.l6_store.specs.inner.Tags.{level_of};
-ghost use Rattle.l6_store.specs.inner.Layout.{mark_at, tag_of};
+ghost use Rattle.std.specs.Prelude.{◌≡◌, ◌<◌, ◌≤◌, length, replicate, slice_set, IfOk};
+ghost use Rattle.l6_word.specs.Numerals.{largest_level};
+ghost use Rattle.l6_store.specs.declared.mark.Mark.TheVariants.{Inner};
+ghost use Rattle.l6_store.specs.inner.Tags.{level_of, size_by};
+ghost use Rattle.l6_store.specs.inner.Layout.{mark_at, tag_of, IsMark};
 
-use crate::places::Level;
+use crate::places::{Level, Place};
+use crate::tag::size_of;
+use std::alloc::{AllocError, Global};
+use std::marker::Model;
 
 /// What a place is the first word of, if of anything.
 #[derive(Clone, Copy, Debug, PartialEq, Eq)]
@@ -17,12 +22,99 @@ pub(crate) enum Mark {
     Listed(Level),
 }
 
-/// The level of the block that begins at a place, if one does.
-pub(crate) fn block_level(marks: &[Mark], place: usize) -> Option<Level>
-    ensures { result ≡ level_of (tag_of (mark_at marks.now place)) }
+/// How many words the block has that begins at a place with this mark, 0 where none begins.
+fn size_at(mark: Mark) -> u16
+    requires { IsMark mark }
+    ensures { result ≡ size_by (tag_of mark) }
 {
-    match marks.get(place) {
-        Some(Mark::Block(level)) => Some(*level),
-        Some(Mark::Inner | Mark::Listed(_)) | None => None,
+    match mark {
+        Mark::Block(level) => size_of(level) as u16,
+        Mark::Inner | Mark::Listed(_) => 0,
+    }
+}
+
+/// The mark of each place.
+#[derive(Drop)]
+pub(crate) struct Marks {
+    marks: Vec<Mark>,
+    // how many words the block has that begins at each place, 0 where none begins: so one comparison
+    // tells whether a block begins there and has a word of some index
+    sizes: Vec<u16>,
+}
+
+impl Model for Marks {
+    ghost use Rattle.std.specs.Prelude.{List};
+    ghost use Rattle.l6_store.specs.declared.mark.Mark.{Mark as OneMark};
+    ghost use Rattle.l6_store.specs.inner.Layout.{AreMarkSizes};
+
+    ghost Value = { List OneMark };
+
+    ghost view = { λ m. m.marks.items };
+
+    ghost invariant = { λ m. AreMarkSizes m.marks.items m.sizes.items };
+}
+
+impl Marks {
+    /// The marks of so many places, each the first word of nothing.
+    pub(crate) fn new(alloc: Global, places: usize) -> Result<Self, AllocError>
+        ensures { IfOk result (λ marks. marks ≡ replicate places Inner) }
+    {
+        Ok(Marks {
+            marks: vec![in alloc; Mark::Inner; places]?,
+            sizes: vec![in alloc; 0; places]?,
+        })
+    }
+
+    /// Makes each place the first word of nothing.
+    pub(crate) fn clear(&mut self)
+        ensures { self.new ≡ replicate (length self.old) Inner }
+    {
+        self.marks.fill(Mark::Inner);
+        self.sizes.fill(0);
+    }
+
+    /// The mark of a place.
+    pub(crate) fn at(&self, place: Place) -> Mark
+        requires { place < length self.now }
+        ensures { result ≡ mark_at self.now place }
+    {
+        self.marks[place as usize]
+    }
+
+    /// Marks a place.
+    pub(crate) fn set(&mut self, place: Place, mark: Mark)
+        requires place { place < length self.old }
+        requires mark { IsMark mark }
+        ensures { self.new ≡ slice_set self.old place mark }
+    {
+        self.sizes[place as usize] = size_at(mark);
+        self.marks[place as usize] = mark;
+    }
+
+    /// The level of the block that begins at a place, if one does.
+    pub(crate) fn level(&self, place: usize) -> Option<Level>
+        ensures { result ≡ level_of (tag_of (mark_at self.now place)) }
+    {
+        match self.marks.get(place) {
+            Some(Mark::Block(level)) => Some(*level),
+            Some(Mark::Inner | Mark::Listed(_)) | None => None,
+        }
+    }
+
+    /// How many words the block has that begins at a place, 0 where none begins.
+    pub(crate) fn size(&self, place: usize) -> u16
+        ensures { result ≡ size_by (tag_of (mark_at self.now place)) }
+    {
+        self.sizes.get(place).copied().unwrap_or(0)
+    }
+
+    /// The same marks, in memory of their own.
+    pub(crate) fn duplicate(&self, alloc: Global) -> Result<Self, AllocError>
+        ensures { IfOk result (λ copy. copy ≡ self.now) }
+    {
+        Ok(Marks {
+            marks: self.marks.to_vec(alloc)?,
+            sizes: self.sizes.to_vec(alloc)?,
+        })
     }
 }

@@ -269,6 +269,16 @@ impl Arena {
         self.words.copy(from as usize, to as usize, size_of(level));
     }
 
+    /// Becomes the same as another arena, which has as many units. No memory is taken.
+    pub(crate) fn take_from(&mut self, other: &Arena)
+        requires { self.old.units ≡ other.now.units }
+        ensures { self.new ≡ other.now }
+    {
+        self.words.take_from(&other.words);
+        self.marks.take_from(&other.marks);
+        self.heads.copy_from_slice(&other.heads);
+    }
+
     /// The same arena once more.
     pub(crate) fn duplicate(&self, alloc: Global) -> Result<Self, AllocError>
         ensures { IfOk result (λ copy. copy ≡ self.now) }

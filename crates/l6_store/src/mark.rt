@@ -108,6 +108,15 @@ impl Marks {
         self.sizes.get(place).copied().unwrap_or(0)
     }
 
+    /// Takes over the marks of as many other places.
+    pub(crate) fn take_from(&mut self, other: &Marks)
+        requires { length self.old ≡ length other.now }
+        ensures { self.new ≡ other.now }
+    {
+        self.marks.copy_from_slice(&other.marks);
+        self.sizes.copy_from_slice(&other.sizes);
+    }
+
     /// The same marks, in memory of their own.
     pub(crate) fn duplicate(&self, alloc: Global) -> Result<Self, AllocError>
         ensures { IfOk result (λ copy. copy ≡ self.now) }

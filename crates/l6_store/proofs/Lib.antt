@@ -27,3 +27,4 @@ pub mod Loops
 pub mod Stores
 pub mod Fitting
 pub mod MarkSizes
+pub mod UsedUnits

@@ -3,11 +3,14 @@
 ghost use Rattle.std.specs.Prelude.{◌≡◌, ◌<◌, ◌≤◌, length, replicate, slice_set, IfOk};
 ghost use Rattle.l6_word.specs.Numerals.{largest_level};
 ghost use Rattle.l6_store.specs.declared.mark.Mark.TheVariants.{Inner};
+ghost use Rattle.l6_store.specs.Blocks.{end_of};
+ghost use Rattle.l6_store.specs.Numerals.{most_units};
 ghost use Rattle.l6_store.specs.inner.Tags.{level_of, size_by};
 ghost use Rattle.l6_store.specs.inner.Layout.{mark_at, tag_of, IsMark};
 
 use crate::places::{Level, Place};
 use crate::tag::size_of;
+use crate::units::{UNIT_PLACES, UNITS, take_units};
 use std::alloc::{AllocError, Global};
 use std::marker::Model;
 
@@ -40,28 +43,37 @@ pub(crate) struct Marks {
     // how many words the block has that begins at each place, 0 where none begins: so one comparison
     // tells whether a block begins there and has a word of some index
     sizes: Vec<u16>,
+    // whether each unit is used: in an unused one no block begins, and nothing behind its first place
+    used: [bool; UNITS],
 }
 
 impl Model for Marks {
-    ghost use Rattle.std.specs.Prelude.{List};
+    ghost use Rattle.std.specs.Prelude.{List, length, ◌≤◌};
+    ghost use Rattle.l6_store.specs.Blocks.{end_of};
+    ghost use Rattle.l6_store.specs.Numerals.{most_units};
     ghost use Rattle.l6_store.specs.declared.mark.Mark.{Mark as OneMark};
     ghost use Rattle.l6_store.specs.inner.Layout.{AreMarkSizes};
+    ghost use Rattle.l6_store.specs.inner.Units.{AreUnused};
 
     ghost Value = { List OneMark };
 
     ghost view = { λ m. m.marks.items };
 
-    ghost invariant = { λ m. AreMarkSizes m.marks.items m.sizes.items };
+    ghost invariant = { λ m. AreMarkSizes m.marks.items m.sizes.items
+        × AreUnused m.marks.items m.used
+        × (length m.marks.items ≤ end_of most_units) };
 }
 
 impl Marks {
     /// The marks of so many places, each the first word of nothing.
     pub(crate) fn new(alloc: Global, places: usize) -> Result<Self, AllocError>
+        requires { places ≤ end_of most_units }
         ensures { IfOk result (λ marks. marks ≡ replicate places Inner) }
     {
         Ok(Marks {
             marks: vec![in alloc; Mark::Inner; places]?,
             sizes: vec![in alloc; 0; places]?,
+            used: [false; UNITS],
         })
     }
 
@@ -71,6 +83,7 @@ impl Marks {
     {
         self.marks.fill(Mark::Inner);
         self.sizes.fill(0);
+        self.used = [false; UNITS];
     }
 
     /// The mark of a place.
@@ -87,8 +100,11 @@ impl Marks {
         requires mark { IsMark mark }
         ensures { self.new ≡ slice_set self.old place mark }
     {
-        self.sizes[place as usize] = size_at(mark);
-        self.marks[place as usize] = mark;
+        let place = place as usize;
+        let size = size_at(mark);
+        self.used[place / UNIT_PLACES] |= place % UNIT_PLACES != 0 || size != 0;
+        self.sizes[place] = size;
+        self.marks[place] = mark;
     }
 
     /// The level of the block that begins at a place, if one does.
@@ -113,8 +129,9 @@ impl Marks {
         requires { length self.old ≡ length other.now }
         ensures { self.new ≡ other.now }
     {
-        self.marks.copy_from_slice(&other.marks);
-        self.sizes.copy_from_slice(&other.sizes);
+        take_units(&mut self.marks, &other.marks, &self.used, &other.used, 1);
+        take_units(&mut self.sizes, &other.sizes, &self.used, &other.used, 0);
+        self.used = other.used;
     }
 
     /// The same marks, in memory of their own.
@@ -124,6 +141,7 @@ impl Marks {
         Ok(Marks {
             marks: self.marks.to_vec(alloc)?,
             sizes: self.sizes.to_vec(alloc)?,
+            used: self.used,
         })
     }
 }

@@ -1,12 +1,17 @@
 -- The numbers of the states that a ring keeps.
-use Rattle.std.proofs.Common.{◌≡◌, ℕ, ◌+◌, ◌<◌, ◌≤◌, true, false, List, [], ◌∷◌, ◌++◌, Some, refl, sym, ap, ◌∙◌, subst, take, arith, inl, inr}
-use Rattle.std.specs.Prelude.{◌==◌, ◌||◌, max, slice_get, get_or, Option, MatchOption, if◌then◌else◌}
-use Rattle.std.specs.List.{list_any}
+use Rattle.std.proofs.Common.{◌≡◌, ℕ, ◌+◌, ◌-◌, ◌<◌, ◌≤◌, true, false, List, [], ◌∷◌, ◌++◌, Some, None, length, refl, sym, ap, ◌∙◌, subst, take, drop, arith, inl, inr}
+use Rattle.std.specs.Prelude.{◌==◌, ◌||◌, max, slice_get, get_or, Option, MatchOption, Result, Ok, Err, OnOk, OnErr, is_ok, if◌then◌else◌}
+use Rattle.std.specs.List.{All, list_any}
 use Rattle.std.proofs.lemmas.Bool.{cases_lt, le-leb, lt-leb, eq-eqb, ne_eqb}
-use Rattle.std.proofs.lemmas.List.{take_more}
+use Rattle.std.proofs.lemmas.List.{length-append, take_all, take_more}
+use Rattle.std.proofs.lemmas.List.Elements.{All-head}
 use Rattle.std.proofs.lemmas.List.Folds.{list_any_at, list_any_more}
 use Rattle.std.proofs.lemmas.Option.{get_or_from_slice_get, slice_get_within}
+use Rattle.circular_buffer.specs.Buffer.{Buffer, buffer, keep_last}
+use Rattle.l6_steps.specs.State.{World}
 use Rattle.l6_debug.specs.History.{greatest_up_to, if_up_to}
+use Rattle.l6_debug.specs.inner.Ring.{Checkpoints, MayAdd}
+use Rattle.l6_debug.specs.inner.Visit.{Visit}
 
 -- a number that is not above n, and one that is
 up_to-same : (n k : ℕ) → k ≤ n → if_up_to n k ≡ k
@@ -107,3 +112,79 @@ not-held-at numbers index k n is other before =
     ∙ ap (λ b. b || (get_or numbers index k == n)) before
     ∙ ap (λ j. j == n) (get_or_from_slice_get numbers index k k is)
     ∙ ne_eqb k n other
+
+-- ---- a ring that is full
+-- one more takes the place of the first: it stands behind the others
+pub next-full : {A : Type 0} (items : List A) (new : A) (capacity : ℕ) →
+    length items ≡ capacity → 1 ≤ capacity →
+    keep_last capacity (drop 1 items ++ new ∷ []) ≡ keep_last capacity (items ++ new ∷ [])
+next-full [] new capacity full some = absurd (omega (arith, full, some))
+next-full {A = A} (first ∷ others) new capacity full some =
+    let later : List A = others ++ new ∷ [] in
+    let size : length later ≡ length others + 1 = length-append others (new ∷ []) in
+    let none : length later - capacity ≡ 0 = omega (arith, size, full) in
+    let one : length (first ∷ later) - capacity ≡ 1 = omega (arith, size, full) in
+    ap (λ n. drop n later) none ∙ sym (ap (λ n. drop n (first ∷ later)) one)
+
+-- and where the first is put back, all is as it was
+pub back-full : {A : Type 0} (items : List A) (first : A) (capacity : ℕ) →
+    length items ≡ capacity → 1 ≤ capacity → Some first ≡ slice_get items 0 →
+    take capacity (first ∷ drop 1 items) ≡ items
+back-full [] first capacity full some is = absurd (omega (arith, full, some))
+back-full {A = A} (other ∷ others) first capacity full some is =
+    let same : first ≡ other = cc is in
+    take_all capacity (first ∷ others) (omega (arith, full))
+    ∙ ap (λ (x : A). x ∷ others) same
+
+-- the first of those that are kept is of the same run
+pub first-same : (world : World) (items : List Visit) (first : Visit) →
+    All (λ (v : Visit). v.world ≡ world) items → Some first ≡ slice_get items 0 →
+    first.world ≡ world
+first-same world [] first same is = absurd (let none : Some first ≡ None = is in cc)
+first-same world (other ∷ others) first same is =
+    let one : first ≡ other = cc is in
+    ap (λ (v : Visit). v.world) one
+    ∙ All-head (λ (v : Visit). v.world ≡ world) other others same
+
+-- what becomes of a full ring
+pub may-add-next : (kept : Checkpoints) (ring popped pushed : Buffer Visit) (visit item : Visit) →
+    kept ≡ Some ring → length ring.items ≡ ring.capacity → 1 ≤ ring.capacity →
+    popped ≡ buffer (drop 1 ring.items) ring.capacity → item ≡ visit →
+    pushed ≡ buffer (keep_last popped.capacity (popped.items ++ item ∷ [])) popped.capacity →
+    MayAdd kept visit (Some pushed)
+may-add-next kept ring popped pushed visit item there full some is same added =
+    subst (λ k. MayAdd k visit (Some pushed)) (sym there)
+    (inr (ap (λ (b : Buffer Visit). Some b)
+    (added
+    ∙ ap (λ (b : Buffer Visit). buffer (keep_last b.capacity (b.items ++ item ∷ [])) b.capacity) is
+    ∙ ap (λ (v : Visit).
+    buffer (keep_last ring.capacity (drop 1 ring.items ++ v ∷ [])) ring.capacity) same
+    ∙ ap (λ (vs : List Visit). buffer vs ring.capacity)
+    (next-full ring.items visit ring.capacity full some))))
+
+pub may-add-none : (kept : Checkpoints) (ring popped pushed : Buffer Visit)
+    (visit first item : Visit) →
+    kept ≡ Some ring → length ring.items ≡ ring.capacity → 1 ≤ ring.capacity →
+    popped ≡ buffer (drop 1 ring.items) ring.capacity → Some first ≡ slice_get ring.items 0 →
+    item ≡ first →
+    pushed ≡ buffer (take popped.capacity (item ∷ popped.items)) popped.capacity →
+    MayAdd kept visit (Some pushed)
+may-add-none kept ring popped pushed visit first item there full some is front same added =
+    subst (λ k. MayAdd k visit (Some pushed)) (sym there)
+    (inl (ap (λ (b : Buffer Visit). Some b)
+    (added
+    ∙ ap (λ (b : Buffer Visit). buffer (take b.capacity (item ∷ b.items)) b.capacity) is
+    ∙ ap (λ (v : Visit). buffer (take ring.capacity (v ∷ drop 1 ring.items)) ring.capacity) same
+    ∙ ap (λ (vs : List Visit). buffer vs ring.capacity)
+    (back-full ring.items first ring.capacity full some front))))
+
+-- what an answer tells once it is known which it is
+pub on-ok : {T E : Type 0} (P : Type 0) (result : Result T E) → is_ok result ≡ true →
+    OnOk result P → P
+on-ok P (Ok value) is told = told
+on-ok P (Err error) is told = absurd (let both : false ≡ true = is in cc)
+
+pub on-err : {T E : Type 0} (P : Type 0) (result : Result T E) → is_ok result ≡ false →
+    OnErr result P → P
+on-err P (Ok value) is told = absurd (let both : true ≡ false = is in cc)
+on-err P (Err error) is told = told

@@ -12,11 +12,13 @@ use Rattle.l6_steps.specs.Limits.{are_allowed}
 use Rattle.l6_steps.specs.Moment.{Moment, IsNumbered, moment_after, moment_at, pick_at, state_at}
 use Rattle.l6_steps.specs.Numbering.{last_number}
 use Rattle.l6_steps.specs.Numerals.{most_steps}
+use Rattle.l6_steps.specs.Output.{BeginAlike}
 use Rattle.l6_steps.specs.Standing.{Standing}
 use Rattle.l6_steps.specs.State.{State, World, is_last}
 use Rattle.l6_steps.specs.Step.{deed_at, ending_after, outcome}
 use Rattle.l6_steps.proofs.Lasting.{last-found, last-is, last-least, last-moment, last-or_goes_on, last-within, not_last-below}
 use Rattle.l6_steps.proofs.Numbered.{later-stays, moment_after-goes_on}
+use Rattle.l6_steps.proofs.Outputs.{outputs-begin_alike}
 use Rattle.l6_machine.specs.Counting.{number_by, number_of}
 use Rattle.l6_debug.specs.History.{number_to}
 use Rattle.l6_debug.specs.inner.Visit.{StandsAt}
@@ -228,3 +230,16 @@ goes-to rule old new number goal ran stands on goes =
       },
       omega (arith, there, same, last, short, past),
     )
+
+-- the outputs of machines that stand at states of one run begin alike
+pub outputs-alike : (rule : Rule) (one other : Standing) (first second : ℕ) →
+    StandsAt rule one first → StandsAt rule other second → one.world ≡ other.world →
+    BeginAlike one.moment.state.memory.output other.moment.state.memory.output
+outputs-alike rule one other first second stands also same =
+    subst (λ (s : Standing). BeginAlike s.moment.state.memory.output
+    other.moment.state.memory.output) (sym stands.is)
+    (subst (λ (s : Standing). BeginAlike (state_at rule one.world first).memory.output
+    s.moment.state.memory.output) (sym also.is)
+    (subst (λ (w : World). BeginAlike (state_at rule one.world first).memory.output
+    (state_at rule w second).memory.output) same
+    (outputs-begin_alike rule one.world first second)))

@@ -69,16 +69,25 @@ impl<S: Places> Ring<S> {
         }
     }
 
-    /// Keeps a copy of a visit, at the cost of the oldest where there is room for no more. Where
-    /// memory is refused, nothing changes.
+    /// Keeps a copy of a visit of the same run. Where there is room for no more, the oldest becomes the
+    /// copy, in the memory that it has. Where memory is refused, nothing changes.
     pub(crate) fn add(&mut self, alloc: Global, visit: &Visit<S>)
     where
         S: Drop,
+        requires { AreKept visit.now.world self.old.visits }
         ensures { MayAdd self.old.visits visit.now self.new.visits }
     {
         if let Some(visits) = &mut self.visits {
-            if let Ok(copy) = visit.duplicate(alloc) {
-                visits.push_back(copy);
+            if !visits.is_full() {
+                if let Ok(copy) = visit.duplicate(alloc) {
+                    visits.push_back(copy);
+                }
+            } else if let Some(mut oldest) = visits.pop_front() {
+                if oldest.take_from(visit).is_ok() {
+                    visits.push_back(oldest);
+                } else {
+                    visits.push_front(oldest);
+                }
             }
         }
     }

@@ -1,6 +1,6 @@
 //! A machine at a state of its run, by the state's number.
 
-ghost use Rattle.std.specs.Prelude.{◌≡◌, ◌+◌, ◌<◌, ◌≤◌, ◌↔◌, true, IfOk};
+ghost use Rattle.std.specs.Prelude.{◌≡◌, ◌+◌, ◌<◌, ◌≤◌, ◌↔◌, true, IfOk, OnErr, OnOk};
 ghost use Rattle.l6_steps.specs.Moment.{first_moment};
 ghost use Rattle.l6_steps.specs.Numbering.{last_number};
 ghost use Rattle.l6_steps.specs.Numerals.{most_steps};
@@ -70,6 +70,18 @@ impl<S: Places> Visit<S> {
             machine: self.machine.duplicate(alloc)?,
             number: self.number,
         })
+    }
+
+    /// Becomes another visit of the same run, in the memory that it has. Only the output is copied that
+    /// one of the two has more. Where that is refused, nothing changes.
+    pub(crate) fn take_from(&mut self, other: &Self) -> Result<(), AllocError>
+        requires { self.old.world ≡ other.now.world }
+        ensures ok { OnOk result (self.new ≡ other.now) }
+        ensures err { OnErr result (self.new ≡ self.old) }
+    {
+        self.machine.take_from(&other.machine)?;
+        self.number = other.number;
+        Ok(())
     }
 
     /// Goes back to the start.

@@ -1,6 +1,6 @@
 //! The machine.
 
-ghost use Rattle.std.specs.Prelude.{◌≡◌, ◌≤◌, ◌<◌, ◌^◌, ◌+◌, ◌-◌, ◌↔◌, true, false, IfOk, IfErr, OnOk, IsErrOf, slice_index, slice_index_or, length, All, None, Some};
+ghost use Rattle.std.specs.Prelude.{◌≡◌, ◌≤◌, ◌<◌, ◌^◌, ◌+◌, ◌-◌, ◌↔◌, true, false, IfOk, IfErr, OnOk, OnErr, IsErrOf, slice_index, slice_index_or, length, All, None, Some};
 ghost use Rattle.l6_word.specs.Input.{characters_of};
 ghost use Rattle.l6_word.specs.Numerals.{word_bits};
 ghost use Rattle.l6_prog.specs.Numerals.{first_letter, letter_count, name_count};
@@ -9,6 +9,7 @@ ghost use Rattle.l6_store.specs.Store.{fresh};
 ghost use Rattle.l6_steps.specs.Limits.{are_allowed};
 ghost use Rattle.l6_steps.specs.Moment.{first_moment, moment_after, EndsBy, IsNumbered};
 ghost use Rattle.l6_steps.specs.Numerals.{most_entries, most_input, most_output, most_steps};
+ghost use Rattle.l6_steps.specs.Output.{BeginAlike};
 ghost use Rattle.l6_steps.specs.State.{is_at_limit, is_last};
 ghost use Rattle.l6_steps.specs.Locus.{index_of};
 ghost use Rattle.l6_steps.specs.Step.{Step, answer};
@@ -258,6 +259,23 @@ impl<S: Places> Machine<S> {
             registers: self.registers.copy(alloc)?,
             progress: self.progress,
         })
+    }
+
+    /// Comes to the moment of another machine of the same world, in the memory that it has. The caller
+    /// owes that the shorter of the two outputs is the beginning of the other, as outputs of one run
+    /// are. Where the program or the input can't be shared once more, nothing changes.
+    pub fn take_from(&mut self, other: &Self) -> Result<(), AllocError>
+        requires world { self.old.world ≡ other.now.world }
+        requires output { BeginAlike self.old.moment.state.memory.output
+            other.now.moment.state.memory.output }
+        ensures ok { OnOk result (self.new ≡ other.now) }
+        ensures err { OnErr result (self.new ≡ self.old) }
+    {
+        let code = other.code.clone()?;
+        self.registers.take_from(&other.registers)?;
+        self.code = code;
+        self.progress = other.progress;
+        Ok(())
     }
 
     /// The program.

@@ -3,3 +3,4 @@ pub mod Rows
 pub mod Rooms
 pub mod Fields
 pub mod Glances
+pub mod Pages

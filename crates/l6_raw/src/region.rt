@@ -1,24 +1,35 @@
 //! The region: a list of words, as others see it.
 
-ghost use Rattle.std.specs.Prelude.{◌≡◌, ◌+◌, ◌<◌, ◌≤◌, ◌^◌, ◌⊎◌, ◌++◌, length, replicate, slice_index, slice_range, slice_set, IfOk};
+ghost use Rattle.std.specs.Prelude.{◌≡◌, ◌+◌, ◌<◌, ◌≤◌, ◌^◌, ◌%◌, ◌⊎◌, ◌++◌, length, replicate, slice_index, slice_range, slice_set, IfOk};
 ghost use Rattle.l6_raw.specs.Numerals.{most_words, word_bits};
 ghost use Rattle.l6_raw.specs.Words.{AreWords, overwritten};
+ghost use Rattle.l6_raw.specs.inner.Pages.{most_pages, page_size, AreUnused};
 
 use crate::memory::{Memory, Title};
 use std::alloc::{AllocError, Global};
 use std::marker::Model;
 
+/// How many pages the largest region has.
+const PAGES: usize = 256;
+
 /// So many words in one piece of raw memory, 1 to `MOST_WORDS`. A word is below 2^36.
+///
+/// The words are counted off in pages of `PAGE_SIZE`. A page is used once one of its words is written
+/// by another call than `write_first`; all but the first word of an unused page are 0. So `take_from`
+/// leaves the pages out that are unused in both regions.
 pub struct Region {
     memory: Memory,
     title: Title<Global>,
     alloc: Global,
+    // whether each page is used
+    used: [bool; PAGES],
 }
 
 impl Model for Region {
     ghost use Rattle.std.specs.Prelude.{List, ℕ, length, ◌≡◌, ◌≤◌};
     ghost use Rattle.l6_raw.specs.Numerals.{most_words};
     ghost use Rattle.l6_raw.specs.Words.{AreWords};
+    ghost use Rattle.l6_raw.specs.inner.Pages.{AreUnused};
 
     ghost Value = { List ℕ };
 
@@ -30,7 +41,8 @@ impl Model for Region {
         × (region.title.room ≡ region.memory.room)
         × (region.title.alloc ≡ region.alloc)
         × (length region.memory.words ≤ most_words)
-        × AreWords region.memory.words };
+        × AreWords region.memory.words
+        × AreUnused region.memory.words region.used };
 }
 
 /// Its memory is given back, once: `Memory` and `Title` can be neither copied nor forgotten.
@@ -40,6 +52,7 @@ impl Drop for Region {
             memory,
             title,
             alloc,
+            used: _,
         } = self;
         memory.free(title, &alloc);
     }
@@ -51,6 +64,9 @@ impl Region {
 
     /// How many bits a word has.
     pub const WORD_BITS: u32 = 36;
+
+    /// How many words a page has.
+    pub const PAGE_SIZE: usize = 1024;
 
     /// So many words, all 0.
     pub fn new(alloc: Global, count: usize) -> Result<Self, AllocError>
@@ -64,6 +80,7 @@ impl Region {
             memory,
             title,
             alloc,
+            used: [false; PAGES],
         })
     }
 
@@ -76,13 +93,24 @@ impl Region {
         self.memory.words()[index]
     }
 
-    /// Puts a word at an index.
+    /// Puts a word at an index. Its page is used from then on.
     pub fn write(&mut self, index: usize, word: u64)
         requires index { index < length self.old }
         requires word { word < 2 ^ word_bits }
         ensures { self.new ≡ slice_set self.old index word }
     {
+        self.used[index / Self::PAGE_SIZE] = true;
         self.memory.write(index, word);
+    }
+
+    /// Puts a word at the first index of a page. An unused page stays unused.
+    pub fn write_first(&mut self, first: usize, word: u64)
+        requires index { first < length self.old }
+        requires page { first % page_size ≡ 0 }
+        requires word { word < 2 ^ word_bits }
+        ensures { self.new ≡ slice_set self.old first word }
+    {
+        self.memory.write(first, word);
     }
 
     /// So many words from an index on, lent and not copied.
@@ -109,7 +137,12 @@ impl Region {
         requires apart { (from + count ≤ to) ⊎ (to + count ≤ from) }
         ensures { self.new ≡ overwritten self.old to (slice_range self.old from (from + count)) }
     {
-        copy(&mut self.memory, from, to, count);
+        // a look at one field, for which the invariant is opened
+        let _ = &self.memory;
+        for done in 0..count {
+            let word = self.read(from + done);
+            self.write(to + done, word);
+        }
     }
 
     /// The same words once more, in memory of their own.
@@ -119,11 +152,64 @@ impl Region {
         let words = self.memory.words();
         let (mut memory, title) = Memory::take(&alloc, words.len())?;
         append_words(&mut memory, words);
+        let mut used = [false; PAGES];
+        used.copy_from_slice(&self.used);
         Ok(Region {
             memory,
             title,
             alloc,
+            used,
         })
+    }
+
+    /// Takes over the words of another region, which has as many.
+    pub fn take_from(&mut self, other: &Region)
+        requires { length self.old ≡ length other.now }
+        ensures { self.new ≡ other.now }
+    {
+        overwrite(
+            &mut self.memory,
+            other.memory.words(),
+            &self.used,
+            &other.used,
+        );
+        self.used.copy_from_slice(&other.used);
+    }
+}
+
+/// Overwrites all words with as many others. Of a page that is unused in both only the first word is
+/// written: the others are 0 before and after.
+fn overwrite(memory: &mut Memory, words: &[u64], used: &[bool], other_used: &[bool])
+    requires long { length memory.old.words ≡ length words.now }
+    requires most { length words.now ≤ most_words }
+    requires pages { (length used.now ≡ most_pages) × (length other_used.now ≡ most_pages) }
+    requires unused { AreUnused memory.old.words used.now }
+    requires other_unused { AreUnused words.now other_used.now }
+    ensures words { memory.new.words ≡ words.now }
+    ensures room { memory.new.room ≡ memory.old.room }
+    ensures start { memory.new.start ≡ memory.old.start }
+{
+    for page in 0..words.len().div_ceil(Region::PAGE_SIZE) {
+        let first = page * Region::PAGE_SIZE;
+        let left = words.len() - first;
+        let count = if used[page] || other_used[page] {
+            left.min(Region::PAGE_SIZE)
+        } else {
+            1
+        };
+        put(memory, first, &words[first..first + count]);
+    }
+}
+
+/// Puts words in the place of those from an index on.
+fn put(memory: &mut Memory, index: usize, words: &[u64])
+    requires { index + length words.now ≤ length memory.old.words }
+    ensures words { memory.new.words ≡ overwritten memory.old.words index words.now }
+    ensures room { memory.new.room ≡ memory.old.room }
+    ensures start { memory.new.start ≡ memory.old.start }
+{
+    for done in 0..words.len() {
+        memory.write(index + done, words[done]);
     }
 }
 
@@ -160,21 +246,5 @@ fn clear(memory: &mut Memory, index: usize, count: usize)
 {
     for done in 0..count {
         memory.write(index + done, 0);
-    }
-}
-
-/// Copies so many words from one index on to another on. The two ranges are apart.
-fn copy(memory: &mut Memory, from: usize, to: usize, count: usize)
-    requires source { from + count ≤ length memory.old.words }
-    requires target { to + count ≤ length memory.old.words }
-    requires apart { (from + count ≤ to) ⊎ (to + count ≤ from) }
-    ensures words { memory.new.words
-        ≡ overwritten memory.old.words to (slice_range memory.old.words from (from + count)) }
-    ensures room { memory.new.room ≡ memory.old.room }
-    ensures start { memory.new.start ≡ memory.old.start }
-{
-    for done in 0..count {
-        let word = memory.words()[from + done];
-        memory.write(to + done, word);
     }
 }

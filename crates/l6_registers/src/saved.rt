@@ -55,6 +55,17 @@ impl Saved {
         })
     }
 
+    /// Becomes the same as what else is saved, in the memory that it has.
+    pub(crate) fn take_from(&mut self, other: &Saved)
+        ensures contents { self.new.contents ≡ other.now.contents }
+        ensures definitions { self.new.definitions ≡ other.now.definitions }
+        ensures returns { self.new.returns ≡ other.now.returns }
+    {
+        self.contents.take_from(&other.contents);
+        self.definitions.take_from(&other.definitions);
+        self.returns.take_from(&other.returns);
+    }
+
     /// Gives up all that is saved.
     pub(crate) fn clear(&mut self)
         ensures contents { self.new.contents ≡ [] }

@@ -49,6 +49,14 @@ impl<T: Copy> Stack<T> {
         Ok(Stack { entries })
     }
 
+    /// Becomes the same as another stack, in the memory that it has.
+    pub(crate) fn take_from(&mut self, other: &Stack<T>)
+        ensures { self.new ≡ other.now }
+    {
+        self.entries.clear();
+        let _ = self.entries.extend_from_slice(other.entries.as_slice());
+    }
+
     /// Takes off all entries.
     pub(crate) fn clear(&mut self)
         ensures { self.new ≡ [] }

@@ -12,3 +12,4 @@ pub mod Actions
 pub mod Levels
 pub mod Loci
 pub mod Bounds
+pub mod Outputs

@@ -16,6 +16,7 @@ pub mod Moment
 pub mod Numbering
 pub mod Taking
 pub mod Bounds
+pub mod Output
 pub mod Laws
 pub mod Standing
 pub mod Worked

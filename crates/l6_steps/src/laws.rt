@@ -2,7 +2,7 @@
 //! language.
 
 ghost use Rattle.std.specs.Prelude.{◌≡◌, ◌+◌, ◌%◌, min, max};
-ghost use Rattle.l6_steps.specs.Laws.{DifferencesAddUp, EndsInOneState, EndsUnderEachRule, GoesBitByBit, HasALastState, OnesBitByBit, RulesRunBySteps, RunsStayWithinBounds, TurnsEachBit, ZerosBitByBit};
+ghost use Rattle.l6_steps.specs.Laws.{DifferencesAddUp, EndsInOneState, EndsUnderEachRule, GoesBitByBit, HasALastState, OnesBitByBit, OutputsGrow, RulesRunBySteps, RunsStayWithinBounds, TurnsEachBit, ZerosBitByBit};
 ghost use Rattle.l6_steps.specs.Numerals.{most_input, most_output, most_steps};
 
 use crate::calculation::Calculation;
@@ -42,6 +42,12 @@ pub fn runs_have_a_last_state()
 /// no word with another, and each definition is a window of a word.
 pub fn runs_stay_within_bounds()
     ensures { RunsStayWithinBounds }
+{}
+
+/// The output of each state of a run is the beginning of the output of each later state: what is printed
+/// stays.
+pub fn outputs_grow()
+    ensures { OutputsGrow }
 {}
 
 /// The tests of bits look at each bit: those that are one in the operand are one in the content, or

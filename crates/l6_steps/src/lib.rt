@@ -21,8 +21,8 @@ pub use condition::{Stop, compares, stop_of};
 pub use halt::{Halt, StepResult};
 pub use jump::{Jump, ending_after, position_after};
 pub use laws::{
-    logic_goes_bit_by_bit, runs_are_determined, runs_have_a_last_state, runs_have_their_limits,
-    runs_stay_within_bounds, sums_undo_differences, tests_look_at_each_bit,
+    logic_goes_bit_by_bit, outputs_grow, runs_are_determined, runs_have_a_last_state,
+    runs_have_their_limits, runs_stay_within_bounds, sums_undo_differences, tests_look_at_each_bit,
 };
 pub use limits::{Limits, MAX_INPUT, MAX_OUTPUT, MAX_STEPS};
 pub use locus::Locus;

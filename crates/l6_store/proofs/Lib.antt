@@ -26,3 +26,5 @@ pub mod Sized
 pub mod Loops
 pub mod Stores
 pub mod Fitting
+pub mod MarkSizes
+pub mod UsedUnits

@@ -3,3 +3,4 @@ pub mod Marks
 pub mod Chains
 pub mod Layout
 pub mod Hands
+pub mod Units

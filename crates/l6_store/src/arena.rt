@@ -10,7 +10,7 @@ ghost use Rattle.l6_store.specs.Buddy.{IsListed, first_of, first_or, has, in_fro
 ghost use Rattle.l6_store.specs.inner.Layout.{IsSoundLayout};
 
 use crate::link::{link, pop, unlink};
-use crate::mark::{Mark, block_level};
+use crate::mark::{Mark, Marks};
 use crate::places::{Level, Place};
 use crate::tag::size_of;
 use l6_raw::Region;
@@ -28,7 +28,7 @@ pub(crate) struct Arena {
     // the word at each place
     words: Region,
     // what stands at each place
-    marks: Vec<Mark>,
+    marks: Marks,
     // the first place of each level's list, 0 where it is empty
     heads: [Place; LEVELS],
 }
@@ -42,9 +42,9 @@ impl Model for Arena {
 
     ghost use Rattle.l6_store.specs.inner.Layout.{layout_of, IsLaid};
 
-    ghost view = { λ a. layout_of a.units a.words a.marks.items a.heads };
+    ghost view = { λ a. layout_of a.units a.words a.marks a.heads };
 
-    ghost invariant = { λ a. IsLaid a.units a.words a.marks.items a.heads };
+    ghost invariant = { λ a. IsLaid a.units a.words a.marks a.heads };
 }
 
 impl Arena {
@@ -61,7 +61,7 @@ impl Arena {
         let mut arena = Arena {
             units,
             words: Region::new(alloc, places)?,
-            marks: vec![in alloc; Mark::Inner; places]?,
+            marks: Marks::new(alloc, places)?,
             heads: [0; LEVELS],
         };
         arena.list_units();
@@ -91,7 +91,7 @@ impl Arena {
         ensures order { self.new.order ≡ first_order self.old.units }
         ensures sound { IsSoundLayout self.new }
     {
-        self.marks.fill(Mark::Inner);
+        self.marks.clear();
         self.heads = [0; LEVELS];
         self.list_units();
     }
@@ -117,7 +117,7 @@ impl Arena {
         requires { place < end_of self.now.units }
         ensures { result ≡ has place (listed self.now.order level) }
     {
-        self.marks[place as usize] == Mark::Listed(level)
+        self.marks.at(place) == Mark::Listed(level)
     }
 
     /// Puts a free piece in front of its level's list.
@@ -133,7 +133,7 @@ impl Arena {
         ensures sound { IsSoundLayout self.new }
     {
         link(&mut self.words, &mut self.heads, level, place);
-        self.marks[place as usize] = Mark::Listed(level);
+        self.marks.set(place, Mark::Listed(level));
     }
 
     /// Takes a free piece out of its level's list.
@@ -146,7 +146,7 @@ impl Arena {
         ensures sound { IsSoundLayout self.new }
     {
         unlink(&mut self.words, &mut self.heads, level, place);
-        self.marks[place as usize] = Mark::Inner;
+        self.marks.set(place, Mark::Inner);
     }
 
     /// Takes the first free piece out of a level's list.
@@ -160,7 +160,7 @@ impl Arena {
         ensures sound { IsSoundLayout self.new }
     {
         let place = pop(&mut self.words, &mut self.heads, level);
-        self.marks[place as usize] = Mark::Inner;
+        self.marks.set(place, Mark::Inner);
         place
     }
 
@@ -171,7 +171,7 @@ impl Arena {
             ≡ option_map length (map.get self.now.blocks place) }
         ensures level { IfSome result (λ level. level ≤ largest_level) }
     {
-        block_level(&self.marks, place)
+        self.marks.level(place)
     }
 
     /// The word of this index in the block that begins at a place, or `None` where none begins or the
@@ -181,8 +181,7 @@ impl Arena {
         ensures near { IfSome result
             (λ _. (start < end_of most_units) × (index < unit_size)) }
     {
-        let level = block_level(&self.marks, start)?;
-        if usize::from(index) < size_of(level) {
+        if index < self.marks.size(start) {
             let word = self.words.read(start + usize::from(index));
             Some(Word::from_value(word))
         } else {
@@ -204,7 +203,7 @@ impl Arena {
         ensures sound { IsSoundLayout self.new }
     {
         self.words.fill(place as usize, size_of(level));
-        self.marks[place as usize] = Mark::Block(level);
+        self.marks.set(place, Mark::Block(level));
     }
 
     /// Takes out a block, of which a piece of the level told is left.
@@ -218,7 +217,7 @@ impl Arena {
         ensures sound { IsSoundLayout self.new }
     {
         let level = self.level_at(place as usize).unwrap();
-        self.marks[place as usize] = Mark::Inner;
+        self.marks.set(place, Mark::Inner);
         level
     }
 
@@ -270,6 +269,16 @@ impl Arena {
         self.words.copy(from as usize, to as usize, size_of(level));
     }
 
+    /// Becomes the same as another arena, which has as many units. No memory is taken.
+    pub(crate) fn take_from(&mut self, other: &Arena)
+        requires { self.old.units ≡ other.now.units }
+        ensures { self.new ≡ other.now }
+    {
+        self.words.take_from(&other.words);
+        self.marks.take_from(&other.marks);
+        self.heads.copy_from_slice(&other.heads);
+    }
+
     /// The same arena once more.
     pub(crate) fn duplicate(&self, alloc: Global) -> Result<Self, AllocError>
         ensures { IfOk result (λ copy. copy ≡ self.now) }
@@ -277,7 +286,7 @@ impl Arena {
         Ok(Arena {
             units: self.units,
             words: self.words.duplicate(alloc)?,
-            marks: self.marks.to_vec(alloc)?,
+            marks: self.marks.duplicate(alloc)?,
             heads: self.heads,
         })
     }

@@ -157,6 +157,11 @@ impl Places for Buddy {
         })
     }
 
+    fn take_from(&mut self, other: &Self) {
+        self.arena.take_from(&other.arena);
+        self.moves = other.moves;
+    }
+
     fn reset(&mut self) {
         self.arena.reset();
         self.moves = 0;

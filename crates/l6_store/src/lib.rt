@@ -11,6 +11,7 @@ mod piece;
 mod places;
 mod scan_store;
 mod tag;
+mod units;
 
 pub use buddy::Buddy;
 pub use fault::StoreFault;

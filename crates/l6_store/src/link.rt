@@ -42,7 +42,12 @@ fn set_neighbors(words: &mut Region, place: Place, neighbors: Neighbors)
         ≡ slice_set words.old place (link_word neighbors.before neighbors.after) }
 {
     let word = (u64::from(neighbors.before) << PLACE_BITS) + u64::from(neighbors.after);
-    words.write(place as usize, word);
+    // a unit that is free as a whole has a link in its first word alone, and so stays unused
+    if place as usize % Region::PAGE_SIZE == 0 {
+        words.write_first(place as usize, word);
+    } else {
+        words.write(place as usize, word);
+    }
 }
 
 /// Makes `before` the place before this one in its list. Place 0 is the end of a list and has none.

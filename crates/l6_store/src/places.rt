@@ -124,6 +124,13 @@ pub trait Places: Sized {
         ensures same { IfOk result (λ copy. store copy ≡ store self.now) }
         ensures sound { IfOk result (λ copy. IsSound rule (store copy)) };
 
+    /// Becomes the same as another store, its order and moves included. The caller owes that it has as
+    /// many units. No memory is taken.
+    fn take_from(&mut self, other: &Self)
+        requires { (store self.old).units ≡ (store other.now).units }
+        ensures same { store self.new ≡ store other.now }
+        ensures sound { IsSound rule (store self.new) };
+
     /// Takes out all blocks. The store is then as it was made.
     fn reset(&mut self)
         ensures after { store self.new ≡ fresh rule (store self.old).units }

@@ -149,6 +149,13 @@ impl Places for ScanStore {
         })
     }
 
+    fn take_from(&mut self, other: &Self) {
+        self.tags.copy_from_slice(&other.tags);
+        self.words.copy_from_slice(&other.words);
+        self.sizes.copy_from_slice(&other.sizes);
+        self.low = other.low;
+    }
+
     fn reset(&mut self) {
         self.tags.fill(Tag::Free);
         self.sizes.fill(0);

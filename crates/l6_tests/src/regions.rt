@@ -16,6 +16,9 @@ fn a_copy_keeps_its_words(rt: HostRuntime) -> Result<(), Fail> {
     region.fill(1, 2);
     assert_eq!(rt; region.words(0, 4), [0, 0, 0, 8].as_slice());
     assert_eq!(rt; copy.words(0, 4), [0, 7, 0, 0].as_slice());
+    region.take_from(&copy);
+    region.write_first(0, 9);
+    assert_eq!(rt; region.words(0, 4), [9, 7, 0, 0].as_slice());
     Ok(())
 }
 

@@ -1,5 +1,5 @@
 -- What the words, the marks and the heads of an arena mean, and what is true of them.
-use Rattle.std.specs.Prelude.{◌≡◌, ℕ, suc, ◌+◌, ◌-◌, ◌*◌, ◌^◌, ◌<◌, ◌≤◌, false, List, [], ◌∷◌, ◌++◌, length, map, replicate, slice_index_or, refl}
+use Rattle.std.specs.Prelude.{◌≡◌, ℕ, suc, ◌+◌, ◌-◌, ◌*◌, ◌^◌, ◌<◌, ◌≤◌, false, List, [], ◌∷◌, ◌++◌, length, map, replicate, slice_index, slice_index_or, refl}
 use Rattle.std.specs.List.{All}
 use Rattle.std.specs.Coded.{Coded, code_by, coded×, coded_ℕ, coded_list}
 use Rattle.std.specs.FinMap as map
@@ -9,7 +9,7 @@ use Rattle.l6_store.specs.Blocks.{Blocks, blocks_code, Fits, LiesIn, Stands, end
 use Rattle.l6_store.specs.Rule.{Order}
 use Rattle.l6_store.specs.Buddy.{has, listed, units_from, IsListed}
 use Rattle.l6_store.specs.Links.{Links}
-use Rattle.l6_store.specs.inner.Tags.{gathered}
+use Rattle.l6_store.specs.inner.Tags.{gathered, size_by}
 use Rattle.l6_store.specs.inner.Chains.{order_of}
 use Rattle.l6_store.specs.declared.mark.Mark.{Mark}
 use Rattle.l6_store.specs.declared.mark.Mark.TheVariants.{Inner, Block, Listed}
@@ -25,6 +25,17 @@ abbrev pub tag_of : Mark → Tag
 tag_of Inner = Free
 tag_of (Block level) = First level
 tag_of (Listed level) = Free
+
+-- a mark that a place may have: a block has one of the levels
+abbrev pub IsMark : Mark → Type 0
+IsMark Inner = Unit {0}
+IsMark (Block level) = level ≤ largest_level
+IsMark (Listed level) = Unit {0}
+
+-- the sizes are those of the blocks that begin at the places
+pub record AreMarkSizes (marks : List Mark) (sizes : List ℕ) : Type 0 where
+  pub count : length sizes ≡ length marks
+  pub each : (at : ℕ) → slice_index sizes at ≡ size_by (tag_of (mark_at marks at))
 
 -- the blocks that marks and words tell
 unfoldable pub blocks_of : List Mark → List ℕ → Blocks

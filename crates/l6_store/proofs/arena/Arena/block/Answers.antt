@@ -5,13 +5,13 @@ use Rattle.l6_store.proofs.Marked.{BlockHere, block_here}
 use Rattle.l6_store.proofs.Sized.{told_size}
 use Rattle.l6_store.proofs.arena.Arena.block.Goals as goal
 
-live : (c : goal.After-size_of) → IsLive (blocks_of c.self.inside.marks.items c.self.inside.words) c.args.place
+live : (c : goal.After-size_of) → IsLive (blocks_of c.self.inside.marks c.self.inside.words) c.args.place
 live c = subst (λ (l : Layout). IsLive l.blocks c.args.place) (sym c.self.view_is) c.requires
 
 here : (c : goal.After-size_of)
-    → BlockHere c.self.inside.units c.self.inside.marks.items c.self.inside.words c.args.place
+    → BlockHere c.self.inside.units c.self.inside.marks c.self.inside.words c.args.place
 here c =
-    block_here c.self.inside.units c.self.inside.marks.items c.self.inside.words
+    block_here c.self.inside.units c.self.inside.marks c.self.inside.words
     c.self.invariant.filled c.self.invariant.are_blocks.stands c.args.place (live c)
 
 size : (c : goal.After-size_of) → c.size_of.result ≡ 2 ^ (here c).level
@@ -25,13 +25,13 @@ size c =
 pub words-requires : goal.words-requires
 words-requires c = omega (arith, size c, (here c).within)
 
-live_then : (c : goal.After-words) → IsLive (blocks_of c.self.inside.marks.items c.self.inside.words) c.args.place
+live_then : (c : goal.After-words) → IsLive (blocks_of c.self.inside.marks c.self.inside.words) c.args.place
 live_then c = subst (λ (l : Layout). IsLive l.blocks c.args.place) (sym c.self.view_is) c.requires
 
 here_then : (c : goal.After-words)
-    → BlockHere c.self.inside.units c.self.inside.marks.items c.self.inside.words c.args.place
+    → BlockHere c.self.inside.units c.self.inside.marks c.self.inside.words c.args.place
 here_then c =
-    block_here c.self.inside.units c.self.inside.marks.items c.self.inside.words
+    block_here c.self.inside.units c.self.inside.marks c.self.inside.words
     c.self.invariant.filled c.self.invariant.are_blocks.stands c.args.place (live_then c)
 
 size_then : (c : goal.After-words) → c.size_of.result ≡ 2 ^ (here_then c).level

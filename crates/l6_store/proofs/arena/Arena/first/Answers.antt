@@ -23,7 +23,7 @@ returns-then-place-eq0 c =
     sym (ap (λ (l : Layout). first_of (listed l.order c.args.level)) (sym c.self.view_is)
     ∙ none_first (length c.self.inside.words) _
     (within c.self.inside.units c.self.inside.words c.self.inside.heads
-    c.self.inside.marks.items c.self.invariant c.args.level)
+    c.self.inside.marks c.self.invariant c.args.level)
     (omega (
       arith,
       begins,

@@ -9,27 +9,25 @@ use Rattle.l6_word.specs.Numerals.{largest_level}
 use Rattle.l6_store.proofs.Marked.{live_marked, marked_live, marked_size, marked_small}
 use Rattle.l6_store.proofs.arena.Arena.level_at.Goals as goal
 
-told : (c : goal.After-block_level)
-    → c.block_level.result ≡ level_of (tag_of (mark_at c.self.inside.marks.items c.args.place))
+told : (c : goal.After-level)
+    → c.level.result ≡ level_of (tag_of (mark_at c.self.inside.marks c.args.place))
 told c =
-    c.block_level.ensures
-    ∙ ap (λ (marks : List Mark). level_of (tag_of (mark_at marks c.args.place)))
-    c.deref.ensures.value
+    c.level.ensures
 
 pub returns-clause-live : goal.returns-clause-live
 returns-clause-live c = (
   λ some. subst (λ (l : Layout). IsLive l.blocks c.args.place) c.self.view_is
-      (marked_live c.self.inside.marks.items c.self.inside.words c.args.place
+      (marked_live c.self.inside.marks c.self.inside.words c.args.place
       (subst (λ (o : Option ℕ). IsSome o) (told c) some)),
   λ live. subst (λ (o : Option ℕ). IsSome o) (sym (told c))
-      (live_marked c.self.inside.marks.items c.self.inside.words c.args.place
+      (live_marked c.self.inside.marks c.self.inside.words c.args.place
       (subst (λ (l : Layout). IsLive l.blocks c.args.place) (sym c.self.view_is) live)),
 )
 
 pub returns-clause-size : goal.returns-clause-size
 returns-clause-size c =
     ap (option_map (λ (level : ℕ). 2 ^ level)) (told c)
-    ∙ marked_size c.self.inside.units c.self.inside.marks.items c.self.inside.words
+    ∙ marked_size c.self.inside.units c.self.inside.marks c.self.inside.words
     c.self.invariant.filled c.self.invariant.are_blocks.stands c.args.place
     ∙ ap (λ (l : Layout). option_map (λ (block : List ℕ). length block)
     (map.get l.blocks c.args.place)) c.self.view_is
@@ -37,5 +35,5 @@ returns-clause-size c =
 pub returns-clause-level : goal.returns-clause-level
 returns-clause-level c =
     subst (λ (o : Option ℕ). IfSome o (λ level. level ≤ largest_level)) (sym (told c))
-    (marked_small c.self.inside.units c.self.inside.marks.items c.self.invariant.are_blocks.stands
+    (marked_small c.self.inside.units c.self.inside.marks c.self.invariant.are_blocks.stands
     c.args.place)

@@ -11,24 +11,26 @@ use Rattle.l6_store.proofs.arena.Arena.link.Goals as goal
 pub link-requires-clause-head : goal.link-requires-clause-head
 link-requires-clause-head c =
     head_within c.self.inside.units c.self.inside.words c.self.inside.heads
-    c.self.inside.marks.items c.self.invariant c.args.level
+    c.self.inside.marks c.self.invariant c.args.level
 
-below : (c : goal.After-self-1) → c.args.place < end_of c.self.inside.units
+below : (c : goal.After-set) → c.args.place < end_of c.self.inside.units
 below c = omega (arith, c.requires.within, ap (λ (l : Layout). l.units) c.self.view_is)
 
-fresh : (c : goal.After-self-1) → (k : ℕ)
+fresh : (c : goal.After-set) → (k : ℕ)
     → IsListed (order_of c.self.inside.words c.self.inside.heads) k c.args.place → ⊥
 fresh c k is =
     c.requires.fresh k (subst (λ (l : Layout). IsListed l.order k c.args.place) c.self.view_is is)
 
-beside : (c : goal.After-self-1)
-    → LiesIn (blocks_of c.self.inside.marks.items c.self.inside.words) c.args.place → ⊥
+beside : (c : goal.After-set)
+    → LiesIn (blocks_of c.self.inside.marks c.self.inside.words) c.args.place → ⊥
 beside c lies =
     c.requires.beside (subst (λ (l : Layout). LiesIn l.blocks c.args.place) c.self.view_is lies)
 
 pub invariant_of-self : goal.invariant_of-self
 invariant_of-self c =
-    let marks : List Mark = set c.self.inside.marks.items c.args.place (Listed c.args.level) in
+    subst (λ (ms : List Mark). IsLaid c.self.inside.units c.link.new.words ms c.link.new.heads)
+    (sym c.set.ensures)
+    (let marks : List Mark = set c.self.inside.marks c.args.place (Listed c.args.level) in
     subst (λ (words : List ℕ). IsLaid c.self.inside.units words marks c.link.new.heads)
     (sym c.link.ensures.words)
     (subst (λ (heads : List ℕ). IsLaid c.self.inside.units
@@ -36,15 +38,16 @@ invariant_of-self c =
     heads)
     (sym c.link.ensures.heads)
     (linked_laid c.self.inside.units c.self.inside.words c.self.inside.heads
-    c.self.inside.marks.items c.self.invariant c.args.level c.args.place c.requires.level
-    c.requires.some (below c) (fresh c) (beside c)))
+    c.self.inside.marks c.self.invariant c.args.level c.args.place c.requires.level
+    c.requires.some (below c) (fresh c) (beside c))))
 
 pub returns-clause-blocks : goal.returns-clause-blocks
 returns-clause-blocks c =
-    ap (blocks_of (set c.self.inside.marks.items c.args.place (Listed c.args.level)))
+    ap (λ (ms : List Mark). blocks_of ms c.link.new.words) c.set.ensures
+    ∙ ap (blocks_of (set c.self.inside.marks c.args.place (Listed c.args.level)))
     c.link.ensures.words
     ∙ linked_blocks c.self.inside.units c.self.inside.words c.self.inside.heads
-    c.self.inside.marks.items c.self.invariant c.args.level c.args.place c.requires.level
+    c.self.inside.marks c.self.invariant c.args.level c.args.place c.requires.level
     c.requires.some (below c) (fresh c) (beside c)
     ∙ ap (λ (l : Layout). l.blocks) c.self.view_is
 
@@ -54,11 +57,11 @@ returns-clause-order c =
     ∙ ap (order_of (words_linked c.self.inside.words c.args.place
     (get_or c.self.inside.heads c.args.level 0))) c.link.ensures.heads
     ∙ linked_order c.self.inside.units c.self.inside.words c.self.inside.heads
-    c.self.inside.marks.items c.self.invariant c.args.level c.args.place c.requires.level
+    c.self.inside.marks c.self.invariant c.args.level c.args.place c.requires.level
     c.requires.some (below c) (fresh c) (beside c)
     ∙ ap (λ (l : Layout). in_front l.order c.args.level c.args.place) c.self.view_is
 
 pub returns-clause-sound : goal.returns-clause-sound
 returns-clause-sound c =
     sound c.self.inside.units c.link.new.words c.link.new.heads
-    (set c.self.inside.marks.items c.args.place (Listed c.args.level)) (invariant_of-self c)
+    c.set.new.self (invariant_of-self c)

@@ -22,7 +22,7 @@ loop-unit-init c =
           ∙ ap (order_from c.args.self.now.units) (sym units);
       sound = subst IsSoundLayout c.self.view_is
           (sound c.self.inside.units c.self.inside.words c.self.inside.heads
-          c.self.inside.marks.items c.self.invariant);
+          c.self.inside.marks c.self.invariant);
     }
 
 place : (c : goal.After-from) → c.loop-unit.unit * c.from.result ≡ c.loop-unit.unit * unit_size

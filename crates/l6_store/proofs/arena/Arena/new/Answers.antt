@@ -10,38 +10,38 @@ use Rattle.l6_store.proofs.Arenas.{AreWords}
 use Rattle.l6_store.proofs.Fresh.{cleared_laid, cleared_blocks, cleared_order, all_alike, zero_heads}
 use Rattle.l6_store.proofs.arena.Arena.new.Goals as goal
 
-places : (c : goal.In_ok-vec) → (c.args.units + 1) * c.from.result ≡ end_of c.args.units
+places : (c : goal.In_ok-new-2) → (c.args.units + 1) * c.from.result ≡ end_of c.args.units
 places c =
     let product : (c.args.units + 1) * c.from.result ≡ (c.args.units + 1) * unit_size
     = ap (λ (n : ℕ). (c.args.units + 1) * n) c.from.ensures in
     omega (arith, product)
 
-filled : (c : goal.In_ok-vec) → length c.in_ok-new.field-0 ≡ end_of c.args.units
+filled : (c : goal.In_ok-new-2) → length c.in_ok-new.field-0 ≡ end_of c.args.units
 filled c =
     ap (λ (words : List ℕ). length words) c.in_ok-new.ensures
     ∙ length-replicate {A = ℕ} ((c.args.units + 1) * c.from.result) 0 ∙ places c
 
-marks_are : (c : goal.In_ok-vec)
-    → c.in_ok-vec.field-0.items ≡ replicate ((c.args.units + 1) * c.from.result) Inner
-marks_are c = c.in_ok-vec.ensures.items_if_clones_equal (λ y same. same)
+marks_are : (c : goal.In_ok-new-2)
+    → c.in_ok-new-2.field-0 ≡ replicate ((c.args.units + 1) * c.from.result) Inner
+marks_are c = c.in_ok-new-2.ensures
 
-count : (c : goal.In_ok-vec) → length c.in_ok-vec.field-0.items ≡ end_of c.args.units
+count : (c : goal.In_ok-new-2) → length c.in_ok-new-2.field-0 ≡ end_of c.args.units
 count c =
     ap (λ (marks : List Mark). length marks) (marks_are c)
     ∙ length-replicate {A = Mark} ((c.args.units + 1) * c.from.result) Inner ∙ places c
 
-inner : (c : goal.In_ok-vec) → (at : ℕ) → mark_at c.in_ok-vec.field-0.items at ≡ Inner
+inner : (c : goal.In_ok-new-2) → (at : ℕ) → mark_at c.in_ok-new-2.field-0 at ≡ Inner
 inner c at = ap (λ (marks : List Mark). mark_at marks at) (marks_are c)
     ∙ all_alike ((c.args.units + 1) * c.from.result) at
 
-are_words : (c : goal.In_ok-vec) → AreWords c.in_ok-new.field-0
+are_words : (c : goal.In_ok-new-2) → AreWords c.in_ok-new.field-0
 are_words c = subst AreWords (sym c.in_ok-new.ensures)
     (are_words-zeros ((c.args.units + 1) * c.from.result))
 
 pub invariant_of-arena : goal.invariant_of-arena
 invariant_of-arena c =
     cleared_laid c.args.units c.in_ok-new.field-0 (replicate (suc largest_level) 0)
-    c.in_ok-vec.field-0.items c.requires.some c.requires.most (filled c) (count c) (inner c) refl
+    c.in_ok-new-2.field-0 c.requires.some c.requires.most (filled c) (count c) (inner c) refl
     zero_heads (are_words c)
 
 places_then : (c : goal.After-arena-2-1) → (c.args.units + 1) * c.from.result ≡ end_of c.args.units
@@ -56,15 +56,15 @@ filled_then c =
     ∙ length-replicate {A = ℕ} ((c.args.units + 1) * c.from.result) 0 ∙ places_then c
 
 marks_are_then : (c : goal.After-arena-2-1)
-    → c.in_ok-vec.field-0.items ≡ replicate ((c.args.units + 1) * c.from.result) Inner
-marks_are_then c = c.in_ok-vec.ensures.items_if_clones_equal (λ y same. same)
+    → c.in_ok-new-2.field-0 ≡ replicate ((c.args.units + 1) * c.from.result) Inner
+marks_are_then c = c.in_ok-new-2.ensures
 
-count_then : (c : goal.After-arena-2-1) → length c.in_ok-vec.field-0.items ≡ end_of c.args.units
+count_then : (c : goal.After-arena-2-1) → length c.in_ok-new-2.field-0 ≡ end_of c.args.units
 count_then c =
     ap (λ (marks : List Mark). length marks) (marks_are_then c)
     ∙ length-replicate {A = Mark} ((c.args.units + 1) * c.from.result) Inner ∙ places_then c
 
-inner_then : (c : goal.After-arena-2-1) → (at : ℕ) → mark_at c.in_ok-vec.field-0.items at ≡ Inner
+inner_then : (c : goal.After-arena-2-1) → (at : ℕ) → mark_at c.in_ok-new-2.field-0 at ≡ Inner
 inner_then c at = ap (λ (marks : List Mark). mark_at marks at) (marks_are_then c)
     ∙ all_alike ((c.args.units + 1) * c.from.result) at
 
@@ -75,11 +75,11 @@ are_words_then c = subst AreWords (sym c.in_ok-new.ensures)
 pub list_units-requires-clause-blocks : goal.list_units-requires-clause-blocks
 list_units-requires-clause-blocks c =
     cleared_blocks c.args.units c.in_ok-new.field-0 (replicate (suc largest_level) 0)
-    c.in_ok-vec.field-0.items c.requires.some c.requires.most (filled_then c) (count_then c) (inner_then c) refl
+    c.in_ok-new-2.field-0 c.requires.some c.requires.most (filled_then c) (count_then c) (inner_then c) refl
     zero_heads (are_words_then c)
 
 pub list_units-requires-clause-order : goal.list_units-requires-clause-order
 list_units-requires-clause-order c =
     cleared_order c.args.units c.in_ok-new.field-0 (replicate (suc largest_level) 0)
-    c.in_ok-vec.field-0.items c.requires.some c.requires.most (filled_then c) (count_then c) (inner_then c) refl
+    c.in_ok-new-2.field-0 c.requires.some c.requires.most (filled_then c) (count_then c) (inner_then c) refl
     zero_heads (are_words_then c)

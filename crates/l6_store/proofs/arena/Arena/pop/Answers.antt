@@ -7,16 +7,15 @@ use Rattle.l6_store.specs.Buddy.{IsListed, first_or, listed, taken_out}
 use Rattle.l6_store.proofs.Arenas.{head_within, out_laid, out_blocks, out_order, sound}
 use Rattle.l6_store.proofs.arena.Arena.pop.Goals as goal
 
-pub index_mut-requires : goal.index_mut-requires
-index_mut-requires c =
+pub set-requires-clause-place : goal.set-requires-clause-place
+set-requires-clause-place c =
     omega (
       arith,
       c.pop-place.ensures.place,
-      c.self.inside.marks.ok.0,
       c.self.invariant.count,
       c.self.invariant.filled,
       head_within c.self.inside.units c.self.inside.words c.self.inside.heads
-          c.self.inside.marks.items c.self.invariant c.args.level,
+          c.self.inside.marks c.self.invariant c.args.level,
     )
 
 pub returns-clause-first : goal.returns-clause-first
@@ -24,12 +23,12 @@ returns-clause-first c =
     c.pop-place.ensures.place ∙ c.self.invariant.are_lists.links.begun c.args.level
     ∙ ap (λ (l : Layout). first_or (listed l.order c.args.level) 0) c.self.view_is
 
-first_is : (c : goal.After-self-1)
+first_is : (c : goal.After-set)
     → get_or c.self.inside.heads c.args.level 0
     ≡ first_or (listed (order_of c.self.inside.words c.self.inside.heads) c.args.level) 0
 first_is c = c.self.invariant.are_lists.links.begun c.args.level
 
-there_is : (c : goal.After-self-1)
+there_is : (c : goal.After-set)
     → IsListed (order_of c.self.inside.words c.self.inside.heads) c.args.level c.pop-place.result
 there_is c =
     subst (λ (p : ℕ). IsListed (order_of c.self.inside.words c.self.inside.heads) c.args.level p)
@@ -39,20 +38,23 @@ there_is c =
 
 pub invariant_of-self : goal.invariant_of-self
 invariant_of-self c =
-    let marks : List Mark = set c.self.inside.marks.items c.pop-place.result Inner in
+    subst (λ (ms : List Mark). IsLaid c.self.inside.units c.pop-place.new.words ms c.pop-place.new.heads)
+    (sym c.set.ensures)
+    (let marks : List Mark = set c.self.inside.marks c.pop-place.result Inner in
     subst (λ (words : List ℕ). IsLaid c.self.inside.units words marks c.pop-place.new.heads)
     (sym c.pop-place.ensures.words)
     (subst (λ (heads : List ℕ). IsLaid c.self.inside.units (words_unlinked c.self.inside.words c.pop-place.result)
     marks heads)
     (sym c.pop-place.ensures.heads)
     (out_laid c.self.inside.units c.self.inside.words c.self.inside.heads
-    c.self.inside.marks.items c.self.invariant c.args.level c.pop-place.result c.requires.level (there_is c)))
+    c.self.inside.marks c.self.invariant c.args.level c.pop-place.result c.requires.level (there_is c))))
 
 pub returns-clause-blocks : goal.returns-clause-blocks
 returns-clause-blocks c =
-    ap (blocks_of (set c.self.inside.marks.items c.pop-place.result Inner)) c.pop-place.ensures.words
+    ap (λ (ms : List Mark). blocks_of ms c.pop-place.new.words) c.set.ensures
+    ∙ ap (blocks_of (set c.self.inside.marks c.pop-place.result Inner)) c.pop-place.ensures.words
     ∙ out_blocks c.self.inside.units c.self.inside.words c.self.inside.heads
-    c.self.inside.marks.items c.self.invariant c.args.level c.pop-place.result c.requires.level (there_is c)
+    c.self.inside.marks c.self.invariant c.args.level c.pop-place.result c.requires.level (there_is c)
     ∙ ap (λ (l : Layout). l.blocks) c.self.view_is
 
 pub returns-clause-order : goal.returns-clause-order
@@ -60,10 +62,10 @@ returns-clause-order c =
     ap (λ (words : List ℕ). order_of words c.pop-place.new.heads) c.pop-place.ensures.words
     ∙ ap (order_of (words_unlinked c.self.inside.words c.pop-place.result)) c.pop-place.ensures.heads
     ∙ out_order c.self.inside.units c.self.inside.words c.self.inside.heads
-    c.self.inside.marks.items c.self.invariant c.args.level c.pop-place.result c.requires.level (there_is c)
+    c.self.inside.marks c.self.invariant c.args.level c.pop-place.result c.requires.level (there_is c)
     ∙ ap (λ (l : Layout). taken_out l.order c.args.level c.pop-place.result) c.self.view_is
 
 pub returns-clause-sound : goal.returns-clause-sound
 returns-clause-sound c =
     sound c.self.inside.units c.pop-place.new.words c.pop-place.new.heads
-    (set c.self.inside.marks.items c.pop-place.result Inner) (invariant_of-self c)
+    c.set.new.self (invariant_of-self c)

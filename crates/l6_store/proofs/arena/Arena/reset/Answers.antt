@@ -5,53 +5,52 @@ use Rattle.l6_store.specs.declared.mark.Mark.TheVariants.{Inner}
 use Rattle.std.proofs.lemmas.List.{length-replicate}
 use Rattle.l6_word.specs.Numerals.{largest_level}
 use Rattle.l6_store.specs.Blocks.{end_of}
-use Rattle.std.specs.Vec.{vec_len}
 use Rattle.l6_store.proofs.Fresh.{cleared_laid, cleared_blocks, cleared_order, all_alike, zero_heads}
 use Rattle.l6_store.proofs.arena.Arena.reset.Goals as goal
 
-marks_are : (c : goal.After-self-1) → c.fill.new.self.items ≡ replicate (vec_len c.self.inside.marks) Inner
-marks_are c = c.fill.ensures.items (λ y same. same)
+marks_are : (c : goal.After-self-1) → c.clear.new.self ≡ replicate (length c.self.inside.marks) Inner
+marks_are c = c.clear.ensures
 
-count : (c : goal.After-self-1) → length c.fill.new.self.items ≡ end_of c.self.inside.units
+count : (c : goal.After-self-1) → length c.clear.new.self ≡ end_of c.self.inside.units
 count c =
     ap (λ (marks : List Mark). length marks) (marks_are c)
-    ∙ length-replicate {A = Mark} (vec_len c.self.inside.marks) Inner
-    ∙ c.self.inside.marks.ok.0 ∙ c.self.invariant.count
+    ∙ length-replicate {A = Mark} (length c.self.inside.marks) Inner
+    ∙ c.self.invariant.count
 
-inner : (c : goal.After-self-1) → (at : ℕ) → mark_at c.fill.new.self.items at ≡ Inner
+inner : (c : goal.After-self-1) → (at : ℕ) → mark_at c.clear.new.self at ≡ Inner
 inner c at = ap (λ (marks : List Mark). mark_at marks at) (marks_are c)
-    ∙ all_alike (vec_len c.self.inside.marks) at
+    ∙ all_alike (length c.self.inside.marks) at
 
 pub invariant_of-self : goal.invariant_of-self
 invariant_of-self c =
     cleared_laid
     c.self.inside.units c.self.inside.words (replicate (suc largest_level) 0)
-    c.fill.new.self.items c.self.invariant.some c.self.invariant.most c.self.invariant.filled
+    c.clear.new.self c.self.invariant.some c.self.invariant.most c.self.invariant.filled
     (count c) (inner c) refl zero_heads c.self.invariant.are_blocks.are_words
 
-marks_are_then : (c : goal.After-list_units-arg-1) → c.fill.new.self.items ≡ replicate (vec_len c.self.inside.marks) Inner
-marks_are_then c = c.fill.ensures.items (λ y same. same)
+marks_are_then : (c : goal.After-list_units-arg-1) → c.clear.new.self ≡ replicate (length c.self.inside.marks) Inner
+marks_are_then c = c.clear.ensures
 
-count_then : (c : goal.After-list_units-arg-1) → length c.fill.new.self.items ≡ end_of c.self.inside.units
+count_then : (c : goal.After-list_units-arg-1) → length c.clear.new.self ≡ end_of c.self.inside.units
 count_then c =
     ap (λ (marks : List Mark). length marks) (marks_are_then c)
-    ∙ length-replicate {A = Mark} (vec_len c.self.inside.marks) Inner
-    ∙ c.self.inside.marks.ok.0 ∙ c.self.invariant.count
+    ∙ length-replicate {A = Mark} (length c.self.inside.marks) Inner
+    ∙ c.self.invariant.count
 
-inner_then : (c : goal.After-list_units-arg-1) → (at : ℕ) → mark_at c.fill.new.self.items at ≡ Inner
+inner_then : (c : goal.After-list_units-arg-1) → (at : ℕ) → mark_at c.clear.new.self at ≡ Inner
 inner_then c at = ap (λ (marks : List Mark). mark_at marks at) (marks_are_then c)
-    ∙ all_alike (vec_len c.self.inside.marks) at
+    ∙ all_alike (length c.self.inside.marks) at
 
 pub list_units-requires-clause-blocks : goal.list_units-requires-clause-blocks
 list_units-requires-clause-blocks c =
     cleared_blocks
     c.self.inside.units c.self.inside.words (replicate (suc largest_level) 0)
-    c.fill.new.self.items c.self.invariant.some c.self.invariant.most c.self.invariant.filled
+    c.clear.new.self c.self.invariant.some c.self.invariant.most c.self.invariant.filled
     (count_then c) (inner_then c) refl zero_heads c.self.invariant.are_blocks.are_words
 
 pub list_units-requires-clause-order : goal.list_units-requires-clause-order
 list_units-requires-clause-order c =
     cleared_order
     c.self.inside.units c.self.inside.words (replicate (suc largest_level) 0)
-    c.fill.new.self.items c.self.invariant.some c.self.invariant.most c.self.invariant.filled
+    c.clear.new.self c.self.invariant.some c.self.invariant.most c.self.invariant.filled
     (count_then c) (inner_then c) refl zero_heads c.self.invariant.are_blocks.are_words

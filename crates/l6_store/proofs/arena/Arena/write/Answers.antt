@@ -10,7 +10,7 @@ use Rattle.l6_store.proofs.Changed.{found_within, written_laid, written_blocks, 
 use Rattle.l6_store.proofs.arena.Arena.write.Goals as goal
 
 found : (c : goal.After-write)
-    → LiesIn (blocks_of c.self.inside.marks.items c.self.inside.words) c.args.place
+    → LiesIn (blocks_of c.self.inside.marks c.self.inside.words) c.args.place
 found c = subst (λ (l : Layout). LiesIn l.blocks c.args.place) (sym c.self.view_is) c.requires
 
 written : (c : goal.After-write)
@@ -36,31 +36,31 @@ blocks_by units words heads marks were now view place value small =
 pub write-requires-clause-index : goal.write-requires-clause-index
 write-requires-clause-index c =
     found_within c.self.inside.units c.self.inside.words c.self.inside.heads
-    c.self.inside.marks.items c.self.invariant c.args.place
+    c.self.inside.marks c.self.invariant c.args.place
     (subst (λ (l : Layout). LiesIn l.blocks c.args.place) (sym c.self.view_is) c.requires)
 
 pub invariant_of-self : goal.invariant_of-self
 invariant_of-self c =
-    subst (λ (words : List ℕ). IsLaid c.self.inside.units words c.self.inside.marks.items
+    subst (λ (words : List ℕ). IsLaid c.self.inside.units words c.self.inside.marks
     c.self.inside.heads) (sym (written c))
     (written_laid c.self.inside.units c.self.inside.words c.self.inside.heads
-    c.self.inside.marks.items c.self.invariant c.args.place (found c) c.args.word (small c))
+    c.self.inside.marks c.self.invariant c.args.place (found c) c.args.word (small c))
 
 pub returns-clause-blocks : goal.returns-clause-blocks
 returns-clause-blocks c = λ there.
-    ap (blocks_of c.self.inside.marks.items) (written c)
+    ap (blocks_of c.self.inside.marks) (written c)
     ∙ blocks_by c.self.inside.units c.self.inside.words c.self.inside.heads
-    c.self.inside.marks.items c.self.invariant c.args.self.now c.self.view_is c.args.place
+    c.self.inside.marks c.self.invariant c.args.self.now c.self.view_is c.args.place
     c.args.word (small c) there
 
 pub returns-clause-order : goal.returns-clause-order
 returns-clause-order c =
     ap (λ (words : List ℕ). order_of words c.self.inside.heads) (written c)
     ∙ written_order c.self.inside.units c.self.inside.words c.self.inside.heads
-    c.self.inside.marks.items c.self.invariant c.args.place (found c) c.args.word (small c)
+    c.self.inside.marks c.self.invariant c.args.place (found c) c.args.word (small c)
     ∙ ap (λ (l : Layout). l.order) c.self.view_is
 
 pub returns-clause-sound : goal.returns-clause-sound
 returns-clause-sound c =
-    sound c.self.inside.units c.write.new.self c.self.inside.heads c.self.inside.marks.items
+    sound c.self.inside.units c.write.new.self c.self.inside.heads c.self.inside.marks
     (invariant_of-self c)

@@ -1,0 +1,90 @@
+-- Words that become others, one page after another.
+use Rattle.std.proofs.Common.{◌≡◌, ℕ, ◌+◌, ◌-◌, ◌*◌, ◌/◌, ◌%◌, ◌<◌, ◌≤◌, Bool, false, List, length, get_or, take, drop, slice_range, refl, sym, ap, ◌∙◌, arith, inl, inr}
+use Rattle.std.proofs.lemmas.Bool.{cases_lt}
+use Rattle.std.proofs.lemmas.List.{get_or_past, get_or-take, get_or-drop, ext_get_or}
+use Rattle.l6_raw.specs.Words.{overwritten}
+use Rattle.l6_raw.specs.inner.Pages.{AreUnused}
+use Rattle.l6_raw.proofs.Overwriting.{get_or-overwritten_before, get_or-overwritten_in, get_or-overwritten_behind, length-overwritten, length-range}
+
+-- a word of so many from a place on
+in_range : (words : List ℕ) (place count k : ℕ) → k < count →
+    get_or (slice_range words place (place + count)) k 0 ≡ get_or words (place + k) 0
+in_range words place count k below =
+    let size : place + count - place ≡ count = omega arith in
+    ap (λ (n : ℕ). get_or (take n (drop place words)) k 0) size
+    ∙ get_or-take count (drop place words) k 0 below
+    ∙ get_or-drop place words k 0
+
+-- so far the words are the others, and behind they are as they were
+pub record AreTaken (was words now : List ℕ) (first : ℕ) : Type 0 where
+  pub long : length now ≡ length words
+  pub taken : (at : ℕ) → at < first → get_or now at 0 ≡ get_or words at 0
+  pub rest : (at : ℕ) → first ≤ at → get_or now at 0 ≡ get_or was at 0
+
+pub taken_none : (was words : List ℕ) → length was ≡ length words → AreTaken was words was 0
+taken_none was words long = record {
+  long = long;
+  taken = λ at below. absurd (omega (arith, below));
+  rest = λ at _. refl;
+}
+
+pub taken_all : (was words now : List ℕ) (first : ℕ) → AreTaken was words now first →
+    length words ≤ first → now ≡ words
+taken_all was words now first taken all =
+    ext_get_or 0 now words taken.long
+    (λ at below. taken.taken at (omega (arith, below, taken.long, all)))
+
+-- of a page so many words are taken, where the rest of it is the same in both
+pub taken_more : (was words now : List ℕ) (first count next : ℕ) → AreTaken was words now first →
+    first ≤ length words → first + count ≤ length words → first + count ≤ next →
+    ((at : ℕ) → first + count ≤ at → at < next → get_or was at 0 ≡ get_or words at 0) →
+    AreTaken was words (overwritten now first (slice_range words first (first + count))) next
+taken_more was words now first count next taken begun within past same =
+    let others : List ℕ = slice_range words first (first + count) in
+    let size = length-range words first count within in
+    let place : first ≤ length now = omega (arith, begun, taken.long) in
+    record {
+      long = length-overwritten now first others (omega (arith, size, within, taken.long))
+          ∙ taken.long;
+      taken = λ at below.
+          elim (cases_lt at first)
+          as (λ _. get_or (overwritten now first others) at 0 ≡ get_or words at 0) [
+            | inl before ↦
+                get_or-overwritten_before now first others at place before
+                ∙ taken.taken at before
+            | inr from ↦ elim (cases_lt at (first + count))
+                as (λ _. get_or (overwritten now first others) at 0 ≡ get_or words at 0) [
+                  | inl inside ↦
+                      let there : first + (at - first) ≡ at = omega (arith, from) in
+                      ap (λ (i : ℕ). get_or (overwritten now first others) i 0) (sym there)
+                      ∙ get_or-overwritten_in now first others (at - first) place
+                      (omega (arith, size, inside, from))
+                      ∙ in_range words first count (at - first) (omega (arith, inside, from))
+                      ∙ ap (λ (i : ℕ). get_or words i 0) there
+                  | inr behind ↦
+                      get_or-overwritten_behind now first others at place
+                      (omega (arith, size, behind))
+                      ∙ taken.rest at from ∙ same at behind below
+                ]
+          ];
+      rest = λ at after.
+          get_or-overwritten_behind now first others at place (omega (arith, size, after, past))
+          ∙ taken.rest at (omega (arith, after, past));
+    }
+
+-- behind the last word both are 0
+pub same_past : (was words : List ℕ) (at : ℕ) → length was ≡ length words → length words ≤ at →
+    get_or was at 0 ≡ get_or words at 0
+same_past was words at long past =
+    get_or_past was at 0 (omega (arith, long, past)) ∙ sym (get_or_past words at 0 past)
+
+-- and so they are behind the first word of a page that neither has used
+pub same_unused : (was words : List ℕ) (used also : List Bool) (number at : ℕ) →
+    AreUnused was used → AreUnused words also → get_or used number false ≡ false →
+    get_or also number false ≡ false → number * 1024 + 1 ≤ at → at < number * 1024 + 1024 →
+    get_or was at 0 ≡ get_or words at 0
+same_unused was words used also number at was_unused unused one other from below =
+    let here : number ≡ at / 1024 = omega (arith, from, below) in
+    let behind : at % 1024 ≡ 0 → ⊥ = λ none. omega (arith, from, below, none) in
+    was_unused.zeros at behind (ap (λ (n : ℕ). get_or used n false) (sym here) ∙ one)
+    ∙ sym (unused.zeros at behind (ap (λ (n : ℕ). get_or also n false) (sym here) ∙ other))

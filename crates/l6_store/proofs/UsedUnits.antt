@@ -1,0 +1,194 @@
+-- Units of which some are used.
+use Rattle.std.proofs.Common.{◌≡◌, ℕ, ◌+◌, ◌*◌, ◌/◌, ◌%◌, ◌<◌, ◌≤◌, Bool, true, false, List, length, get_or, set, replicate, None, Some, refl, ap, sym, ◌∙◌, subst, arith, inl, inr}
+use Rattle.std.specs.Prelude.{◌==◌, ◌||◌, not, slice_get, unwrap_or}
+use Rattle.std.proofs.lemmas.Bool.{cases_eq, cases_lt, ne_eqb}
+use Rattle.std.proofs.lemmas.List.{get_or-set_other, get_or-set_same, same_lists}
+use Rattle.std.proofs.lemmas.Option.{slice_get-get_or, slice_get_past, unwrap_or-slice_get}
+use Rattle.l6_store.specs.declared.mark.Mark.{Mark}
+use Rattle.l6_store.specs.declared.mark.Mark.TheVariants.{Inner}
+use Rattle.l6_store.specs.inner.Layout.{AreMarkSizes, mark_at, tag_of}
+use Rattle.l6_store.specs.inner.Tags.{size_by}
+use Rattle.l6_store.specs.inner.Units.{AreAlike, AreCopied, AreUnused, is_used}
+use Rattle.l6_store.proofs.Fresh.{all_alike}
+
+-- ---- lists that are taken over
+-- so far the entries are the others, and behind they are as they were
+pub record AreTaken {A : Type 0} (was others now : List A) (first : ℕ) : Type 0 where
+  pub long : length now ≡ length others
+  pub taken : (at : ℕ) → at < first → slice_get now at ≡ slice_get others at
+  pub rest : (at : ℕ) → first ≤ at → slice_get now at ≡ slice_get was at
+
+pub taken_none : {A : Type 0} (was others : List A) → length was ≡ length others →
+    AreTaken was others was 0
+taken_none was others long = record {
+  long = long;
+  taken = λ at below. absurd (omega (arith, below));
+  rest = λ at _. refl;
+}
+
+-- so many entries more are copied, and up to the next place the rest is the same in both
+pub taken_more : {A : Type 0} (was others old new : List A) (first count next : ℕ) →
+    AreTaken was others old first → AreCopied others old new first count → first + count ≤ next →
+    ((at : ℕ) → first + count ≤ at → at < next → slice_get was at ≡ slice_get others at) →
+    AreTaken was others new next
+taken_more was others old new first count next so_far copied past same = record {
+  long = copied.long ∙ so_far.long;
+  taken = λ at below.
+      elim (cases_lt at first) as (λ _. slice_get new at ≡ slice_get others at) [
+        | inl before ↦ copied.before at before ∙ so_far.taken at before
+        | inr from ↦ elim (cases_lt at (first + count))
+            as (λ _. slice_get new at ≡ slice_get others at) [
+              | inl inside ↦ copied.copied at from inside
+              | inr behind ↦
+                  copied.behind at behind ∙ so_far.rest at from ∙ same at behind below
+            ]
+      ];
+  rest = λ at after.
+      copied.behind at (omega (arith, after, past))
+      ∙ so_far.rest at (omega (arith, after, past));
+}
+
+pub taken_all : {A : Type 0} (was others now : List A) (first : ℕ) →
+    AreTaken was others now first → length others ≤ first → now ≡ others
+taken_all was others now first taken all =
+    same_lists now others taken.long
+    (λ at d below.
+    sym (unwrap_or-slice_get now at d)
+    ∙ ap (λ o. unwrap_or o d) (taken.taken at (omega (arith, below, taken.long, all)))
+    ∙ unwrap_or-slice_get others at d)
+
+-- behind the last entry both have none
+pub same_past : {A : Type 0} (was others : List A) (at : ℕ) → length was ≡ length others →
+    length others ≤ at → slice_get was at ≡ slice_get others at
+same_past was others at long past =
+    slice_get_past was at (omega (arith, long, past)) ∙ sym (slice_get_past others at past)
+
+-- and in a unit that neither has used they are the same behind its front
+pub same_unused : {A : Type 0} (was others : List A) (used other_used : List Bool)
+    (front unit at : ℕ) → AreAlike was others used other_used front →
+    get_or used unit false ≡ false → get_or other_used unit false ≡ false →
+    unit * 1024 + front ≤ at → at < unit * 1024 + 1024 → slice_get was at ≡ slice_get others at
+same_unused was others used other_used front unit at alike one other from below =
+    let here : unit ≡ at / 1024 = omega (arith, from, below) in
+    let behind : front ≤ at % 1024 = omega (arith, from, below) in
+    alike.same at behind (ap (λ (n : ℕ). get_or used n false) (sym here) ∙ one)
+    (ap (λ (n : ℕ). get_or other_used n false) (sym here) ∙ other)
+
+-- ---- units of marks
+-- of a new store
+pub fresh_unused : (places : ℕ) (used : List Bool) → AreUnused (replicate places Inner) used
+fresh_unused places used = record {
+  inner = λ place _ _. all_alike places place;
+  none = λ place _. ap (λ (m : Mark). size_by (tag_of m)) (all_alike places place);
+}
+
+-- and once a place is marked: its unit is used from then on, unless nothing but a first place is marked
+-- with no block
+pub set_unused : (marks : List Mark) (used now : List Bool) (place : ℕ) (mark : Mark) →
+    AreUnused marks used → place < length marks →
+    ((unit : ℕ) → get_or now unit false ≡ false → get_or used unit false ≡ false) →
+    (get_or now (place / 1024) false ≡ false →
+    (place % 1024 ≡ 0) × (size_by (tag_of mark) ≡ 0)) →
+    AreUnused (set marks place mark) now
+set_unused marks used now place mark unused within before here = record {
+  inner = λ at behind is.
+      elim (cases_eq at place) as (λ _. mark_at (set marks place mark) at ≡ Inner) [
+        | inl same ↦
+            let first = here (ap (λ (p : ℕ). get_or now (p / 1024) false) (sym same) ∙ is) in
+            absurd (omega (arith, behind, same, first.0))
+        | inr other ↦
+            get_or-set_other marks place at mark Inner (λ same. absurd (other same))
+            ∙ unused.inner at behind (before (at / 1024) is)
+      ];
+  none = λ at is.
+      elim (cases_eq at place)
+      as (λ _. size_by (tag_of (mark_at (set marks place mark) at)) ≡ 0) [
+        | inl same ↦
+            ap (λ (m : Mark). size_by (tag_of m))
+            (ap (mark_at (set marks place mark)) same
+            ∙ get_or-set_same marks place mark Inner within)
+            ∙ (here (ap (λ (p : ℕ). get_or now (p / 1024) false) (sym same) ∙ is)).1
+        | inr other ↦
+            ap (λ (m : Mark). size_by (tag_of m))
+            (get_or-set_other marks place at mark Inner (λ same. absurd (other same)))
+            ∙ unused.none at (before (at / 1024) is)
+      ];
+}
+
+pub zero_by : (n : ℕ) → not (n == 0) ≡ false → n ≡ 0
+zero_by n is = elim (cases_eq n 0) as (λ _. n ≡ 0) [
+  | inl same ↦ same
+  | inr other ↦ absurd (let both : true ≡ false = sym (ap not (ne_eqb n 0 other)) ∙ is in cc)
+]
+
+-- a flag that is set at a unit, where it was set or there is a reason
+or_left : (one other : Bool) → (one || other) ≡ false → one ≡ false
+or_left true other is = is
+or_left false other is = refl
+
+or_right : (one other : Bool) → (one || other) ≡ false → other ≡ false
+or_right true other is = absurd (let both : true ≡ false = is in cc)
+or_right false other is = is
+
+pub flag_before : (used : List Bool) (unit : ℕ) (flag : Bool) → unit < length used → (k : ℕ) →
+    get_or (set used unit (get_or used unit false || flag)) k false ≡ false →
+    get_or used k false ≡ false
+flag_before used unit flag within k is =
+    let now : List Bool = set used unit (get_or used unit false || flag) in
+    elim (cases_eq k unit) as (λ _. get_or used k false ≡ false) [
+      | inl same ↦
+          ap (λ (i : ℕ). get_or used i false) same
+          ∙ or_left (get_or used unit false) flag
+          (sym (get_or-set_same used unit (get_or used unit false || flag) false within)
+          ∙ ap (λ (i : ℕ). get_or now i false) (sym same) ∙ is)
+      | inr other ↦
+          sym (get_or-set_other used unit k (get_or used unit false || flag) false
+          (λ same. absurd (other same)))
+          ∙ is
+    ]
+
+pub flag_here : (used : List Bool) (unit : ℕ) (flag : Bool) → unit < length used →
+    get_or (set used unit (get_or used unit false || flag)) unit false ≡ false → flag ≡ false
+flag_here used unit flag within is =
+    or_right (get_or used unit false) flag
+    (sym (get_or-set_same used unit (get_or used unit false || flag) false within) ∙ is)
+
+-- so the marks of two stores are alike behind the first place of each unit that neither has used, ..
+pub alike_marks : (one other : List Mark) (used other_used : List Bool) →
+    length one ≡ length other → AreUnused one used → AreUnused other other_used →
+    AreAlike one other used other_used 1
+alike_marks one other used other_used long unused also = record {
+  same = λ place behind is is_other.
+      elim (cases_lt place (length one)) as (λ _. slice_get one place ≡ slice_get other place) [
+        | inl below ↦
+            slice_get-get_or one place Inner below
+            ∙ ap (λ (m : Mark). Some m)
+            (unused.inner place behind is ∙ sym (also.inner place behind is_other))
+            ∙ sym (slice_get-get_or other place Inner (omega (arith, below, long)))
+        | inr past ↦ same_past one other place long (omega (arith, past, long))
+      ];
+}
+
+-- .. and their sizes are alike in all of it
+pub alike_sizes : (marks other_marks : List Mark) (sizes other_sizes : List ℕ)
+    (used other_used : List Bool) → length marks ≡ length other_marks →
+    AreMarkSizes marks sizes → AreMarkSizes other_marks other_sizes →
+    AreUnused marks used → AreUnused other_marks other_used →
+    AreAlike sizes other_sizes used other_used 0
+alike_sizes marks other_marks sizes other_sizes used other_used long sized also_sized unused also =
+    let sizes_long : length sizes ≡ length other_sizes =
+    sized.count ∙ long ∙ sym also_sized.count in
+    record {
+      same = λ place _ is is_other.
+          elim (cases_lt place (length sizes))
+          as (λ _. slice_get sizes place ≡ slice_get other_sizes place) [
+            | inl below ↦
+                slice_get-get_or sizes place 0 below
+                ∙ ap (λ (n : ℕ). Some n)
+                (sized.each place ∙ unused.none place is
+                ∙ sym (also_sized.each place ∙ also.none place is_other))
+                ∙ sym (slice_get-get_or other_sizes place 0 (omega (arith, below, sizes_long)))
+            | inr past ↦
+                same_past sizes other_sizes place sizes_long (omega (arith, past, sizes_long))
+          ];
+    }

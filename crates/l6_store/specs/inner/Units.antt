@@ -1,0 +1,30 @@
+-- The units of a store, and which of them are used: what is known of the places of the others.
+use Rattle.std.specs.Prelude.{◌≡◌, ℕ, ◌+◌, ◌/◌, ◌%◌, ◌<◌, ◌≤◌, ◌⊎◌, List, Bool, false, length, slice_get, slice_index_or}
+use Rattle.l6_word.specs.Numerals.{unit_size}
+use Rattle.l6_store.specs.declared.mark.Mark.{Mark}
+use Rattle.l6_store.specs.declared.mark.Mark.TheVariants.{Inner}
+use Rattle.l6_store.specs.inner.Layout.{mark_at, tag_of}
+use Rattle.l6_store.specs.inner.Tags.{size_by}
+
+-- whether the unit of a place is used
+abbrev pub is_used : List Bool → ℕ → Bool
+is_used used place = slice_index_or used (place / unit_size) false
+
+-- in a unit that is not used no block begins, and nothing begins behind its first place
+pub record AreUnused (marks : List Mark) (used : List Bool) : Type 0 where
+  pub inner : (place : ℕ) → 1 ≤ place % unit_size → is_used used place ≡ false →
+      mark_at marks place ≡ Inner
+  pub none : (place : ℕ) → is_used used place ≡ false → size_by (tag_of (mark_at marks place)) ≡ 0
+
+-- two lists have the same entries behind the first places of each unit that neither has used
+pub record AreAlike {A : Type 0} (one other : List A) (used other_used : List Bool) (front : ℕ)
+    : Type 0 where
+  pub same : (place : ℕ) → front ≤ place % unit_size → is_used used place ≡ false →
+      is_used other_used place ≡ false → slice_get one place ≡ slice_get other place
+
+-- so many entries from a place on are those of another list, and no others change
+pub record AreCopied {A : Type 0} (others old new : List A) (place count : ℕ) : Type 0 where
+  pub long : length new ≡ length old
+  pub copied : (at : ℕ) → place ≤ at → at < place + count → slice_get new at ≡ slice_get others at
+  pub before : (at : ℕ) → at < place → slice_get new at ≡ slice_get old at
+  pub behind : (at : ℕ) → place + count ≤ at → slice_get new at ≡ slice_get old at

@@ -29,8 +29,7 @@ invariant_of-self c =
     let flag = c.if-place-ne0.self in
     let within : c.args.place < length marks =
     omega (arith, c.requires.place, ap (λ (ms : List Mark). length ms) c.self.view_is) in
-    let there : unit < length used = omega (arith, within, c.self.told, c.self.invariant.2) in
-    (
+    let there : unit < length used = omega (arith, within, c.self.told, c.self.invariant.2) in (
       set_sizes marks c.self.inside.sizes.items c.args.place c.args.mark c.size_at-size.result
           c.self.invariant.0 within c.size_at-size.ensures,
       set_unused marks used _ c.args.place c.args.mark c.self.invariant.1 within

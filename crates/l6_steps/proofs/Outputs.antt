@@ -1,5 +1,5 @@
 -- The output of a run grows.
-use Rattle.std.proofs.Common.{◌≡◌, ℕ, zero, suc, ◌+◌, ◌-◌, ◌^◌, ◌≤◌, Bool, true, false, cond, List, [], ◌∷◌, ◌++◌, length, map, take, replicate, Option, None, Some, Result, Ok, Err, refl, ap, sym, ◌∙◌, subst, arith, inl, inr, ok_or}
+use Rattle.std.proofs.Common.{◌≡◌, ℕ, zero, suc, ◌+◌, ◌-◌, ◌^◌, Bool, true, false, cond, List, [], ◌∷◌, ◌++◌, length, map, take, replicate, Option, None, Some, Result, Ok, Err, refl, ap, sym, ◌∙◌, subst, arith, inl, inr, ok_or}
 use Rattle.std.specs.Prelude.{IfOk, codes, decimal, nat_le, slice_index_or}
 use Rattle.std.proofs.Math.Nat.{suc-add, zero-add}
 use Rattle.std.proofs.lemmas.Bool.{cases_lt}
@@ -37,7 +37,7 @@ use Rattle.l6_steps.specs.Output.{BeginAlike, IsBeginning}
 use Rattle.l6_steps.specs.Row.{Action, condition, operation, exit, combine, deed_of, done, fail, print, row}
 use Rattle.l6_steps.specs.Stack.{has_room, pop, push}
 use Rattle.l6_steps.specs.State.{Memory, Setting, State, World, is_last}
-use Rattle.l6_steps.specs.Step.{action_at, deed_at, done_at, outcome}
+use Rattle.l6_steps.specs.Step.{action_at, done_at, outcome}
 use Rattle.l6_steps.proofs.Numbered.{moment_after-goes_on, moment_after-stays}
 use Rattle.l6_steps.proofs.Rows.{both, chosen}
 

@@ -5,7 +5,7 @@ use Rattle.std.proofs.lemmas.Nat.{pow_pos}
 use Rattle.std.specs.List.{slice_get}
 use Rattle.std.specs.Option.{IsSome, option_map, unwrap_or}
 use Rattle.std.specs.FinMap as map
-use Rattle.l6_word.specs.Numerals.{largest_level, unit_size}
+use Rattle.l6_word.specs.Numerals.{unit_size}
 use Rattle.l6_store.specs.Blocks.{Blocks, Fits, IsLive, LiesIn, block_at, end_of}
 
 some_of : (found : Option (List ℕ)) → IsSome found → found ≡ Some (unwrap_or found [])

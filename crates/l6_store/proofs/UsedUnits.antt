@@ -1,5 +1,5 @@
 -- Units of which some are used.
-use Rattle.std.proofs.Common.{◌≡◌, ℕ, ◌+◌, ◌*◌, ◌/◌, ◌%◌, ◌<◌, ◌≤◌, Bool, true, false, List, length, get_or, set, replicate, None, Some, refl, ap, sym, ◌∙◌, subst, arith, inl, inr}
+use Rattle.std.proofs.Common.{◌≡◌, ℕ, ◌/◌, ◌%◌, ◌<◌, ◌≤◌, Bool, true, false, List, length, get_or, set, replicate, Some, refl, ap, sym, ◌∙◌, arith, inl, inr}
 use Rattle.std.specs.Prelude.{◌==◌, ◌||◌, not, slice_get, unwrap_or}
 use Rattle.std.proofs.lemmas.Bool.{cases_eq, cases_lt, ne_eqb}
 use Rattle.std.proofs.lemmas.List.{get_or-set_other, get_or-set_same, same_lists}
@@ -8,7 +8,7 @@ use Rattle.l6_store.specs.declared.mark.Mark.{Mark}
 use Rattle.l6_store.specs.declared.mark.Mark.TheVariants.{Inner}
 use Rattle.l6_store.specs.inner.Layout.{AreMarkSizes, mark_at, tag_of}
 use Rattle.l6_store.specs.inner.Tags.{size_by}
-use Rattle.l6_store.specs.inner.Units.{AreAlike, AreCopied, AreUnused, is_used}
+use Rattle.l6_store.specs.inner.Units.{AreAlike, AreUnused}
 use Rattle.l6_store.proofs.Fresh.{all_alike}
 
 -- ---- lists that are taken over
@@ -17,36 +17,6 @@ pub record AreTaken {A : Type 0} (was others now : List A) (first : ℕ) : Type 
   pub long : length now ≡ length others
   pub taken : (at : ℕ) → at < first → slice_get now at ≡ slice_get others at
   pub rest : (at : ℕ) → first ≤ at → slice_get now at ≡ slice_get was at
-
-pub taken_none : {A : Type 0} (was others : List A) → length was ≡ length others →
-    AreTaken was others was 0
-taken_none was others long = record {
-  long = long;
-  taken = λ at below. absurd (omega (arith, below));
-  rest = λ at _. refl;
-}
-
--- so many entries more are copied, and up to the next place the rest is the same in both
-pub taken_more : {A : Type 0} (was others old new : List A) (first count next : ℕ) →
-    AreTaken was others old first → AreCopied others old new first count → first + count ≤ next →
-    ((at : ℕ) → first + count ≤ at → at < next → slice_get was at ≡ slice_get others at) →
-    AreTaken was others new next
-taken_more was others old new first count next so_far copied past same = record {
-  long = copied.long ∙ so_far.long;
-  taken = λ at below.
-      elim (cases_lt at first) as (λ _. slice_get new at ≡ slice_get others at) [
-        | inl before ↦ copied.before at before ∙ so_far.taken at before
-        | inr from ↦ elim (cases_lt at (first + count))
-            as (λ _. slice_get new at ≡ slice_get others at) [
-              | inl inside ↦ copied.copied at from inside
-              | inr behind ↦
-                  copied.behind at behind ∙ so_far.rest at from ∙ same at behind below
-            ]
-      ];
-  rest = λ at after.
-      copied.behind at (omega (arith, after, past))
-      ∙ so_far.rest at (omega (arith, after, past));
-}
 
 pub taken_all : {A : Type 0} (was others now : List A) (first : ℕ) →
     AreTaken was others now first → length others ≤ first → now ≡ others
@@ -62,17 +32,6 @@ pub same_past : {A : Type 0} (was others : List A) (at : ℕ) → length was ≡
     length others ≤ at → slice_get was at ≡ slice_get others at
 same_past was others at long past =
     slice_get_past was at (omega (arith, long, past)) ∙ sym (slice_get_past others at past)
-
--- and in a unit that neither has used they are the same behind its front
-pub same_unused : {A : Type 0} (was others : List A) (used other_used : List Bool)
-    (front unit at : ℕ) → AreAlike was others used other_used front →
-    get_or used unit false ≡ false → get_or other_used unit false ≡ false →
-    unit * 1024 + front ≤ at → at < unit * 1024 + 1024 → slice_get was at ≡ slice_get others at
-same_unused was others used other_used front unit at alike one other from below =
-    let here : unit ≡ at / 1024 = omega (arith, from, below) in
-    let behind : front ≤ at % 1024 = omega (arith, from, below) in
-    alike.same at behind (ap (λ (n : ℕ). get_or used n false) (sym here) ∙ one)
-    (ap (λ (n : ℕ). get_or other_used n false) (sym here) ∙ other)
 
 -- ---- units of marks
 -- of a new store
@@ -156,14 +115,14 @@ flag_here used unit flag within is =
 -- so the marks of two stores are alike behind the first place of each unit that neither has used, ..
 pub alike_marks : (one other : List Mark) (used other_used : List Bool) →
     length one ≡ length other → AreUnused one used → AreUnused other other_used →
-    AreAlike one other used other_used 1
+    AreAlike one other used other_used true
 alike_marks one other used other_used long unused also = record {
   same = λ place behind is is_other.
       elim (cases_lt place (length one)) as (λ _. slice_get one place ≡ slice_get other place) [
         | inl below ↦
             slice_get-get_or one place Inner below
             ∙ ap (λ (m : Mark). Some m)
-            (unused.inner place behind is ∙ sym (also.inner place behind is_other))
+            (unused.inner place (behind refl) is ∙ sym (also.inner place (behind refl) is_other))
             ∙ sym (slice_get-get_or other place Inner (omega (arith, below, long)))
         | inr past ↦ same_past one other place long (omega (arith, past, long))
       ];
@@ -174,7 +133,7 @@ pub alike_sizes : (marks other_marks : List Mark) (sizes other_sizes : List ℕ)
     (used other_used : List Bool) → length marks ≡ length other_marks →
     AreMarkSizes marks sizes → AreMarkSizes other_marks other_sizes →
     AreUnused marks used → AreUnused other_marks other_used →
-    AreAlike sizes other_sizes used other_used 0
+    AreAlike sizes other_sizes used other_used false
 alike_sizes marks other_marks sizes other_sizes used other_used long sized also_sized unused also =
     let sizes_long : length sizes ≡ length other_sizes =
     sized.count ∙ long ∙ sym also_sized.count in

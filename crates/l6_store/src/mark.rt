@@ -129,8 +129,14 @@ impl Marks {
         requires { length self.old ≡ length other.now }
         ensures { self.new ≡ other.now }
     {
-        take_units(&mut self.marks, &other.marks, &self.used, &other.used, 1);
-        take_units(&mut self.sizes, &other.sizes, &self.used, &other.used, 0);
+        take_units(&mut self.marks, &other.marks, &self.used, &other.used, true);
+        take_units(
+            &mut self.sizes,
+            &other.sizes,
+            &self.used,
+            &other.used,
+            false,
+        );
         self.used = other.used;
     }
 

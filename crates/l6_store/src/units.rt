@@ -1,7 +1,6 @@
 //! Lists with an entry for each place of a store, unit by unit.
 
 ghost use Rattle.std.specs.Prelude.{◌≡◌, ◌+◌, ◌≤◌, length};
-ghost use Rattle.l6_word.specs.Numerals.{unit_size};
 ghost use Rattle.l6_store.specs.Blocks.{end_of};
 ghost use Rattle.l6_store.specs.Numerals.{most_units};
 ghost use Rattle.l6_store.specs.inner.Units.{AreAlike, AreCopied};
@@ -15,31 +14,29 @@ pub(crate) const UNIT_PLACES: usize = UNIT_SIZE as usize;
 /// How many units the places of the largest store make, with those below the first unit.
 pub(crate) const UNITS: usize = MAX_UNITS as usize + 1;
 
-/// Overwrites all entries with as many others. Of a unit that is used in neither only so many entries
-/// at its front are copied: the others are the same already.
+/// Overwrites all entries with as many others. Of a unit that is used in neither only the first entry is
+/// copied, or none: the others are the same already.
 pub(crate) fn take_units<T: Copy>(
     entries: &mut [T],
     others: &[T],
     used: &[bool],
     other_used: &[bool],
-    front: usize,
+    first_too: bool,
 )
     requires long { length entries.old ≡ length others.now }
     requires most { length others.now ≤ end_of most_units }
     requires units { (length used.now ≡ most_units + 1) × (length other_used.now ≡ most_units + 1) }
-    requires front { front ≤ unit_size }
-    requires alike { AreAlike entries.old others.now used.now other_used.now front }
+    requires alike { AreAlike entries.old others.now used.now other_used.now first_too }
     ensures { entries.new ≡ others.now }
 {
     for unit in 0..others.len().div_ceil(UNIT_PLACES) {
         let place = unit * UNIT_PLACES;
-        let size = if used[unit] || other_used[unit] {
-            UNIT_PLACES
-        } else {
-            front
-        };
-        let count = size.min(others.len() - place);
-        copy_entries(entries, others, place, count);
+        if used[unit] || other_used[unit] {
+            let count = UNIT_PLACES.min(others.len() - place);
+            copy_entries(entries, others, place, count);
+        } else if first_too {
+            entries[place] = others[place];
+        }
     }
 }
 

@@ -1,5 +1,5 @@
 -- The units of a store, and which of them are used: what is known of the places of the others.
-use Rattle.std.specs.Prelude.{◌≡◌, ℕ, ◌+◌, ◌/◌, ◌%◌, ◌<◌, ◌≤◌, ◌⊎◌, List, Bool, false, length, slice_get, slice_index_or}
+use Rattle.std.specs.Prelude.{◌≡◌, ℕ, ◌+◌, ◌/◌, ◌%◌, ◌<◌, ◌≤◌, List, Bool, true, false, length, slice_get, slice_index_or}
 use Rattle.l6_word.specs.Numerals.{unit_size}
 use Rattle.l6_store.specs.declared.mark.Mark.{Mark}
 use Rattle.l6_store.specs.declared.mark.Mark.TheVariants.{Inner}
@@ -16,11 +16,12 @@ pub record AreUnused (marks : List Mark) (used : List Bool) : Type 0 where
       mark_at marks place ≡ Inner
   pub none : (place : ℕ) → is_used used place ≡ false → size_by (tag_of (mark_at marks place)) ≡ 0
 
--- two lists have the same entries behind the first places of each unit that neither has used
-pub record AreAlike {A : Type 0} (one other : List A) (used other_used : List Bool) (front : ℕ)
+-- two lists have the same entries in each unit that neither has used, but perhaps at its first place
+pub record AreAlike {A : Type 0} (one other : List A) (used other_used : List Bool) (but_first : Bool)
     : Type 0 where
-  pub same : (place : ℕ) → front ≤ place % unit_size → is_used used place ≡ false →
-      is_used other_used place ≡ false → slice_get one place ≡ slice_get other place
+  pub same : (place : ℕ) → (but_first ≡ true → 1 ≤ place % unit_size) →
+      is_used used place ≡ false → is_used other_used place ≡ false →
+      slice_get one place ≡ slice_get other place
 
 -- so many entries from a place on are those of another list, and no others change
 pub record AreCopied {A : Type 0} (others old new : List A) (place count : ℕ) : Type 0 where

@@ -1,4 +1,4 @@
-use Rattle.std.proofs.Common.{◌≡◌, ℕ, ◌*◌, ◌%◌, ◌^◌, ◌<◌, arith}
+use Rattle.std.proofs.Common.{◌≡◌, ◌*◌, ◌%◌, ◌^◌, ◌<◌, arith}
 use Rattle.std.proofs.lemmas.Nat.{one_shl, pow_below}
 use Rattle.l6_word.specs.Numerals.{largest_level, unit_size}
 use Rattle.l6_store.proofs.piece.buddy_of.Goals as goal

@@ -1,6 +1,5 @@
 use Rattle.std.proofs.Common.{◌≡◌, ℕ, ◌^◌, ◌≤◌, List, length, Option, sym, ap, ◌∙◌, subst}
 use Rattle.l6_store.specs.inner.Layout.{Layout, mark_at, tag_of}
-use Rattle.l6_store.specs.declared.mark.Mark.{Mark}
 use Rattle.std.specs.Option.{IsSome, IfSome, option_map}
 use Rattle.std.specs.FinMap as map
 use Rattle.l6_store.specs.Blocks.{IsLive}

@@ -1,10 +1,9 @@
-use Rattle.std.proofs.Common.{◌≡◌, ℕ, ◌+◌, ◌^◌, ◌<◌, ◌≤◌, get_or, Some, ap, ◌∙◌, arith}
+use Rattle.std.proofs.Common.{ℕ, ◌+◌, get_or, Some, ap, ◌∙◌, arith}
 use Rattle.std.proofs.lemmas.Nat.{pow_pos}
 use Rattle.std.specs.List.{slice_get}
-use Rattle.l6_word.specs.Numerals.{largest_level, unit_size}
+use Rattle.l6_word.specs.Numerals.{largest_level}
 use Rattle.l6_store.specs.Blocks.{block_at}
-use Rattle.l6_store.specs.inner.Layout.{Layout, mark_at}
-use Rattle.l6_store.specs.declared.mark.Mark.TheVariants.{Block}
+use Rattle.l6_store.specs.inner.Layout.{Layout}
 use Rattle.l6_store.proofs.Multiples.{size_le}
 use Rattle.l6_store.proofs.Marked.{block_word}
 use Rattle.l6_store.proofs.MarkSizes.{past_size, sized_block}

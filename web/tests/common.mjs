@@ -1,0 +1,49 @@
+// What the tests in node share: the module, how a job is given to it, and the count.
+
+import { readFileSync } from "node:fs";
+import { dirname, resolve } from "node:path";
+import { fileURLToPath } from "node:url";
+import { serve } from "../src/serve.js";
+
+export const WEB = resolve(dirname(fileURLToPath(import.meta.url)), "..");
+export const TOP = resolve(WEB, "..");
+export const MEMORY = 1 << 30;
+
+export function compiled(file = `${WEB}/out/l6.wasm`) {
+  return new WebAssembly.Module(readFileSync(file));
+}
+
+// Each character of a text is one byte.
+export function bytesOfText(text) {
+  return Uint8Array.from(Buffer.from(text, "latin1"));
+}
+
+export function serveText(module, words, stdin, limit = MEMORY) {
+  const answer = serve(module, { words, input: bytesOfText(stdin), limit });
+  const text = (bytes) => Buffer.from(bytes).toString("latin1");
+  return { ...answer, output: text(answer.output), errors: text(answer.errors) };
+}
+
+// Counts what passes and what fails.
+export class Tally {
+  passed = 0;
+  failed = 0;
+
+  count(name, isRight, tell) {
+    if (isRight) this.passed++;
+    else {
+      this.failed++;
+      console.log(`${name}: ${tell()}`);
+    }
+  }
+
+  same(name, got, want) {
+    const [one, other] = [JSON.stringify(got), JSON.stringify(want)];
+    this.count(name, one === other, () => `got ${one}, want ${other}`);
+  }
+
+  end() {
+    console.log(`${this.passed} passed, ${this.failed} failed`);
+    process.exit(this.failed ? 1 : 0);
+  }
+}

@@ -459,7 +459,7 @@ function conditionOf(at) {
   if (!at.condition) {
     const first = at.operations[0] ?? at.exit ?? { card: at.card, from: Math.max(1, at.label.length) };
     const card = at.label ? at.card : first.card;
-    return { kind: "condition", text: "", card, from: at.label ? 0 : first.from, to: at.label ? at.label.length : first.from, says: "no condition: on to the first operation" };
+    return { kind: "condition", text: "the statement begins", card, from: at.label ? 0 : first.from, to: at.label ? at.label.length : first.from, says: "(no condition)" };
   }
   const last = at.tests.at(-1);
   const sameCard = last.card === at.condition.card;

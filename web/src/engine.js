@@ -3,13 +3,6 @@
 // Why a job has no answer: the reader stopped it.
 export class Stopped extends Error {}
 
-// Unpacks bytes that are gzip in base64.
-export async function unpacked(text) {
-  const bytes = Uint8Array.from(atob(text.trim()), (it) => it.charCodeAt(0));
-  const stream = new Blob([bytes]).stream().pipeThrough(new DecompressionStream("gzip"));
-  return new Uint8Array(await new Response(stream).arrayBuffer());
-}
-
 // A character is one byte, as the program reads it; one that has no byte is none that cards have, either.
 export function bytesOf(text) {
   const bytes = new Uint8Array(text.length);

@@ -1,0 +1,632 @@
+// The page: what the reader does, and what is then shown.
+
+import { changesOf, shortened } from "./changes.js";
+import { actionAt, readDeck } from "./deck.js";
+import { byId, make } from "./dom.js";
+import { Drawing } from "./drawing.js";
+import { Editor } from "./editor.js";
+import { bytesOf, Engine, Stopped } from "./engine.js";
+import { linkOf, readLink } from "./links.js";
+import { showBugs, showChain, showFields, showWords } from "./panels.js";
+import { Papers, save } from "./papers.js";
+import { job, partsOf, Refused, Session } from "./session.js";
+import { Strip } from "./strip.js";
+import { unpacked } from "./unpack.js";
+import { count, told } from "./word.js";
+
+const SHORT_RUN = 2_000_000; // steps of a run that is made ahead, to know how many states there are
+const CHECK_AFTER = 250; // milliseconds without a key, until the deck is assembled
+const RANGES = { store: [1, 255], steps: [0, 1_000_000_000], output: [0, 16_777_216], memory: [1, 2048] };
+
+class Page {
+  constructor(engine, examples) {
+    this.engine = engine;
+    this.examples = examples;
+    this.session = null;
+    this.view = null; // that is shown
+    this.chosen = null; // the place of a block
+    this.playing = null;
+    this.waiting = null; // what is to be done once the engine has answered
+    this.isBusy = false;
+    this.editor = new Editor({ text: byId("deck"), under: byId("under"), gutter: byId("gutter"), ruler: byId("ruler") }, (statement, runs) => (runs ? this.runTo(statement) : this.toggle(statement)));
+    this.drawing = new Drawing(byId("drawing"), (place) => this.chooseBlock(place));
+    this.strip = new Strip({ text: byId("store-text"), units: byId("units"), strip: byId("strip"), levels: byId("levels"), bySize: byId("by-size") }, (place) => this.chooseBlock(place));
+    this.papers = new Papers({
+      job: () => this.job(), ask: (words, input) => this.ask(words, input),
+      words: (verb) => new Session(null, this.job()).words(verb), exchanges: () => this.session?.exchanges ?? [],
+    });
+    this.fillMenu();
+    this.listen();
+  }
+
+  // ---- The job
+
+  job() {
+    return { deck: byId("deck").value, input: byId("input").value, options: this.options() };
+  }
+
+  options() {
+    const value = (name) => {
+      const [least, most] = RANGES[name];
+      const number = Math.floor(Number(byId(name).value));
+      return Math.min(most, Math.max(least, Number.isFinite(number) ? number : least));
+    };
+    return { store: value("store"), steps: value("steps"), output: value("output") };
+  }
+
+  ask(words, input) {
+    const memory = Math.min(2048, Math.max(1, Number(byId("memory").value) || 1));
+    return this.engine.run(words, input, memory * 2 ** 20);
+  }
+
+  // The session of the job as it stands; another one where the deck, the input or an option was changed.
+  current() {
+    const now = this.job();
+    const key = JSON.stringify(now);
+    if (!this.session || this.key !== key) {
+      this.session = new Session((words, input) => this.ask(words, input), now);
+      this.key = key;
+      this.view = null;
+      this.drawing.forget();
+      this.strip.unit = null;
+      this.strip.latest = undefined;
+    }
+    return this.session;
+  }
+
+  // ---- What the reader asks for
+
+  // Has something done with the session, if nothing else is; else it is done next, in the place of what waited.
+  async act(what) {
+    if (this.isBusy) {
+      this.waiting = what;
+      return;
+    }
+    this.setBusy(true);
+    try {
+      await what(this.current());
+    } catch (error) {
+      this.trouble(error);
+    }
+    this.setBusy(false);
+    const next = this.waiting;
+    this.waiting = null;
+    if (next) await this.act(next);
+  }
+
+  setBusy(isBusy) {
+    this.isBusy = isBusy;
+    clearTimeout(this.busyTimer);
+    if (isBusy) this.busyTimer = setTimeout(() => this.tellBusy(), 150);
+    else {
+      byId("stop").disabled = this.playing === null;
+      document.body.classList.remove("busy");
+      if (byId("told").textContent === "running ..") byId("told").textContent = "";
+    }
+  }
+
+  tellBusy() {
+    byId("stop").disabled = false;
+    document.body.classList.add("busy");
+    byId("told").textContent = "running ..";
+  }
+
+  trouble(error) {
+    this.pause();
+    if (error instanceof Stopped) {
+      this.tell("stopped");
+    } else if (error instanceof Refused) {
+      this.showFault(error.message);
+      this.clear(error.message);
+    } else {
+      this.tell(error.message);
+      this.clear(error.message);
+    }
+  }
+
+  run() {
+    this.pause();
+    return this.act(async (session) => {
+      const { ending, milliseconds } = await session.run();
+      this.view = null;
+      this.show(await session.view(session.last), null);
+      this.tell(`${count(ending.steps, "step")} in ${milliseconds < 10 ? milliseconds.toFixed(1) : told(Math.round(milliseconds))} ms`);
+    });
+  }
+
+  // Goes to the state that is told by the number of the one that is shown, or by the session.
+  goTo(find) {
+    return this.act(async (session) => {
+      if (session.options.steps <= SHORT_RUN) await session.run();
+      const shown = this.view ?? (await session.view(0));
+      const view = await find(session, shown.state.number);
+      const isStep = Math.abs(view.state.number - shown.state.number) <= 1;
+      this.show(view, this.view || isStep ? shown : null);
+    });
+  }
+
+  step() {
+    return this.goTo((session, at) => session.view(at + 1));
+  }
+
+  back() {
+    return this.goTo((session, at) => session.view(Math.max(0, at - 1)));
+  }
+
+  state(number) {
+    return this.goTo((session) => session.view(number));
+  }
+
+  end() {
+    return this.goTo(async (session) => {
+      await session.run();
+      return session.view(session.last);
+    });
+  }
+
+  nextMark() {
+    return this.withMarks((session, at, marks) => session.go(at, marks));
+  }
+
+  markBefore() {
+    return this.withMarks((session, at, marks) => session.goBack(at, marks));
+  }
+
+  withMarks(find) {
+    const marks = [...this.editor.marks].filter((it) => it <= this.editor.deck.statements.length).sort((a, b) => a - b);
+    if (!marks.length) return this.tell("No statement is marked: click the number of one.");
+    return this.goTo((session, at) => find(session, at, marks));
+  }
+
+  runTo(statement) {
+    return this.goTo((session, at) => session.go(at, [statement]));
+  }
+
+  toggle(statement) {
+    const { marks } = this.editor;
+    if (!marks.delete(statement)) marks.add(statement);
+    this.editor.draw();
+    this.tell(`statement ${statement} is ${marks.has(statement) ? "marked" : "not marked any more"}`);
+  }
+
+  play() {
+    if (this.playing !== null) return this.pause();
+    const beat = async () => {
+      await this.step();
+      if (this.playing === null) return;
+      if (this.view?.state.ending) return this.pause();
+      this.playing = setTimeout(beat, Number(byId("speed").value));
+    };
+    this.playing = setTimeout(beat, 0);
+    document.body.classList.toggle("quick", Number(byId("speed").value) < 300);
+    this.showPlaying();
+  }
+
+  pause() {
+    clearTimeout(this.playing);
+    this.playing = null;
+    document.body.classList.remove("quick");
+    this.showPlaying();
+  }
+
+  showPlaying() {
+    const button = byId("play");
+    button.querySelector("use").setAttribute("href", this.playing === null ? "#i-play" : "#i-pause");
+    button.querySelector("span").textContent = this.playing === null ? "Play" : "Pause";
+    if (!this.isBusy) byId("stop").disabled = this.playing === null;
+  }
+
+  stop() {
+    this.pause();
+    this.waiting = null;
+    if (this.engine.isBusy) this.engine.stop();
+  }
+
+  // ---- What is shown
+
+  show(view, before) {
+    const old = before && before.state.number !== view.state.number ? before : null;
+    this.before = old;
+    this.view = view;
+    const { state } = view;
+    byId("empty").textContent = view.draw.blocks.size || view.store.used ? "" : "No block is in use.";
+    this.drawing.show(view, old);
+    this.showLegend();
+    this.strip.show(view, old);
+    showBugs(byId("bugs"), byId("amounts"), view, old, (place) => this.chooseBlock(place));
+    showFields(byId("fields"), view, old, (name) => this.drawing.colourOf(name));
+    this.showDetails();
+    this.showPrinted(view, old);
+    const action = state.ending && state.ending !== "TRAP" ? null : actionAt(this.editor.deck, state.statement, state.action);
+    this.editor.point(action && { ...action, statement: state.statement });
+    byId("where").textContent = state.line;
+    byId("where").parentElement.classList.toggle("trap", state.ending === "TRAP");
+    byId("next").replaceChildren(...(action ? [state.ending ? "At: " : "Next: ", make("code", {}, action.text || "—"), ` ${action.says}`] : []));
+    const changes = changesOf(old, view, this.session.input);
+    this.showChanges(changes, old);
+    this.showNumbers();
+    byId("spoken").textContent = `${state.line}. ${action ? `Next ${action.text}, ${action.says}. ` : ""}${shortened(changes).join("; ")}`;
+    this.checkExercise();
+  }
+
+  showChanges(changes, before) {
+    const parts = shortened(changes).flatMap((it, index) => [index ? " · " : "", it]);
+    const far = before && Math.abs(before.state.number - this.view.state.number) > 1 ? `since state ${told(before.state.number)}: ` : "";
+    byId("changes").replaceChildren(...(parts.length ? [make("b", {}, "Changed "), far, ...parts] : []));
+    byId("changes").title = changes.slice(0, 60).join("\n");
+  }
+
+  showNumbers() {
+    const { number } = this.view.state;
+    const { last } = this.session;
+    const most = last ?? Math.max(1000, 2 * number);
+    for (const [name, value] of [["max", most], ["value", number]]) byId("slider")[name] = value;
+    byId("number").value = number;
+    byId("of").textContent = last === null ? "of ?" : `of ${told(last)}`;
+    byId("slider").setAttribute("aria-valuetext", `state ${number}${last === null ? "" : ` of ${last}`}`);
+    byId("step").disabled = byId("end").disabled = last !== null && number >= last;
+    byId("back").disabled = byId("start").disabled = number === 0;
+  }
+
+  // What is printed up to the state that is shown; what came last is marked.
+  showPrinted(view, before) {
+    const pre = byId("printed");
+    const old = before && before.amounts.output < view.amounts.output && view.output.startsWith(before.output) ? before.output.length : view.output.length;
+    const ending = view.state.ending ? `${view.output && !view.output.endsWith("\n") ? "\n" : ""}${view.state.line}` : "";
+    pre.replaceChildren(view.output.slice(0, old), make("span", { class: "fresh" }, view.output.slice(old)), make("span", { class: "ending" }, ending));
+    byId("printed-label").textContent = view.state.ending ? "Printed" : `Printed so far`;
+    pre.scrollTop = pre.scrollHeight;
+  }
+
+  // The fields with links, each a button that turns the direction of its links.
+  showLegend() {
+    const { windows, ways, isBox } = this.drawing.graph;
+    byId("legend").replaceChildren(...windows.map((window) => {
+      const way = ways.get(window.key);
+      const colour = this.drawing.colourOf(window.name);
+      if (!way) return isBox ? "" : make("span", { class: colour }, window.name);
+      return make("button", {
+        type: "button", class: colour, title: `Links of ${window.name} lead ${way.down ? "down" : "to the right"}: click to turn`,
+        onclick: () => this.turn(window, way),
+      }, `${window.name} ${way.down ? "↓" : "→"}`);
+    }));
+  }
+
+  turn(window, way) {
+    for (const name of window.names) this.drawing.directions.set(name, way.down ? "right" : "down");
+    this.redraw();
+  }
+
+  redraw() {
+    if (!this.view) return;
+    this.drawing.show(this.view, this.before);
+    this.showLegend();
+  }
+
+  async chooseBlock(place) {
+    this.chosen = place;
+    byId("place").value = place ?? "";
+    byId("chain").value = "";
+    await this.showDetails();
+  }
+
+  // The words of the block that is chosen, or of that in which the chain ends.
+  async showDetails() {
+    const { view, session } = this;
+    if (!view) return;
+    const colour = (name) => this.drawing.colourOf(name);
+    const chain = byId("chain").value.trim();
+    try {
+      const missing = showChain(byId("led"), chain, view, (place) => this.chooseBlock(place));
+      if (missing !== null) {
+        await session.addBlock(view, missing);
+        return this.view === view ? this.showDetails() : undefined;
+      }
+      const known = view.store.pieces.some((it) => !it.isFree && it.place === this.chosen);
+      if (known) await session.addBlock(view, this.chosen);
+    } catch (error) {
+      return this.trouble(error);
+    }
+    if (this.view !== view) return undefined;
+    this.drawing.mark(this.chosen);
+    this.strip.mark(this.chosen);
+    return showWords(byId("words"), this.chosen, view, this.before, colour);
+  }
+
+  // Nothing is shown of a run.
+  clear(why) {
+    this.view = this.before = null;
+    this.drawing.empty(why);
+    this.strip.forget();
+    this.editor.point(null);
+    for (const id of ["next", "changes", "bugs", "fields", "words", "led", "legend", "printed"]) byId(id).replaceChildren();
+    byId("amounts").textContent = "";
+    byId("where").textContent = "Not run yet";
+    byId("where").parentElement.classList.remove("trap");
+    byId("empty").replaceChildren(make("div", {}, make("b", {}, why), make("br"), "Run goes to the end, Step goes on by one step."));
+    byId("of").textContent = "";
+    byId("slider").max = byId("slider").value = byId("number").value = 0;
+    for (const id of ["step", "end", "back", "start"]) byId(id).disabled = false;
+  }
+
+  tell(text) {
+    byId("told").textContent = text;
+    byId("spoken").textContent = text;
+  }
+
+  // ---- The deck
+
+  // The deck was changed: what was shown of a run is shown no more.
+  changed() {
+    this.pause();
+    this.splitJob();
+    this.readDeck();
+    if (this.view || this.session) {
+      this.session = null;
+      this.clear("The deck has changed.");
+    }
+    clearTimeout(this.checkTimer);
+    this.checkTimer = setTimeout(() => this.check(), CHECK_AFTER);
+  }
+
+  readDeck() {
+    this.editor.read(readDeck(byId("deck").value));
+  }
+
+  // A whole job that was pasted into the deck is put into its boxes.
+  splitJob() {
+    const text = byId("deck").value;
+    if (!text.includes("$")) return;
+    const { deck, commands, input } = partsOf(text);
+    if (deck === text) return;
+    byId("deck").value = deck;
+    if (input) byId("input").value = input;
+    if (commands) byId("commands").value = commands;
+    this.tell("The input has a box of its own, and commands stand behind “Listing, image & session”.");
+  }
+
+  // Assembles the deck, and tells its fault.
+  async check() {
+    if (this.isBusy) return;
+    const { deck } = this.job();
+    try {
+      const answer = await this.ask(["asm"], bytesOf(job(deck, null, "")));
+      if (byId("deck").value === deck) this.showFault(answer.status === 0 ? "" : answer.errors.trim());
+    } catch (error) {
+      this.tell(error.message);
+    }
+  }
+
+  // The program's own line, and the card that it tells, with what is most likely meant.
+  showFault(line) {
+    const fault = byId("fault");
+    fault.hidden = line === "";
+    const card = Number(/^l6: card (\d+): /.exec(line)?.[1] ?? 0) - 1;
+    const own = this.editor.deck.fault;
+    const isSame = own && own.card === card && line.endsWith(own.kind);
+    this.editor.blame(card < 0 ? null : isSame ? own : { card, from: 0, to: 72 });
+    if (!line) return;
+    fault.replaceChildren(make("code", {}, line), isSame ? ` — ${own.why}` : "");
+    if (card >= 0) this.editor.reveal(card);
+  }
+
+  put({ deck, input = "", commands = "", options = {}, marks = [] }) {
+    this.pause();
+    byId("deck").value = deck;
+    byId("input").value = input;
+    byId("commands").value = commands;
+    for (const [name, value] of Object.entries({ store: 8, steps: 1_000_000, output: 1_048_576, ...options })) byId(name).value = value;
+    this.editor.marks = new Set(marks);
+    this.editor.text.scrollTop = 0;
+    this.session = null;
+    this.chosen = null;
+    byId("place").value = byId("chain").value = "";
+    this.readDeck();
+    this.clear("Not run yet");
+    this.tell("");
+    this.check();
+  }
+
+  // ---- Examples, files, links
+
+  fillMenu() {
+    byId("example").replaceChildren(make("option", { value: "" }, "Examples and exercises .."), ...this.examples.map(({ name, items }) =>
+      make("optgroup", { label: name }, ...items.map((it) => make("option", { value: it.key }, it.title)))));
+  }
+
+  find(key) {
+    return this.examples.flatMap((it) => it.items).find((it) => it.key === key);
+  }
+
+  openExample(key) {
+    const example = this.find(key);
+    if (!example) return false;
+    this.example = example;
+    byId("example").value = key;
+    this.put(example);
+    this.showExercise();
+    return true;
+  }
+
+  showExercise() {
+    const frame = byId("exercise");
+    const { task, printout } = this.example ?? {};
+    frame.hidden = !task;
+    if (task) frame.replaceChildren(make("b", {}, "Exercise "), task, make("pre", {}, `It is to print:\n${printout}`), make("span", { class: "right-answer", id: "verdict" }));
+  }
+
+  // Whether the printout is that which the exercise asks for.
+  checkExercise() {
+    if (!this.example?.task || !this.view?.state.ending) return;
+    const whole = `${this.view.output.trimEnd()}`;
+    const isRight = whole === this.example.printout.trimEnd() && this.view.state.ending === "DONE";
+    byId("verdict").textContent = isRight ? "✓ Just this is printed." : "";
+    if (isRight) this.tell("The exercise is solved.");
+  }
+
+  async openFile(file) {
+    const bytes = new Uint8Array(await file.arrayBuffer());
+    if (bytes.length > 16_777_216) return this.tell("The file is longer than a job may be.");
+    let text;
+    try {
+      text = new TextDecoder("utf-8", { fatal: true, ignoreBOM: false }).decode(bytes);
+    } catch {
+      text = new TextDecoder("latin1").decode(bytes);
+    }
+    this.example = null;
+    byId("example").value = "";
+    this.put(partsOf(text));
+    this.showExercise();
+    return this.tell(`opened ${file.name}`);
+  }
+
+  saveFile() {
+    const { deck, input } = this.job();
+    save(`${this.example?.key ?? "my"}.deck`, job(deck, byId("commands").value || null, input));
+  }
+
+  async makeLink() {
+    const now = this.job();
+    const { example } = this;
+    const isSame = example && example.deck === now.deck && (example.input ?? "") === now.input && JSON.stringify(now.options) === JSON.stringify({ store: 8, steps: 1_000_000, output: 1_048_576, ...example.options });
+    const link = await linkOf({ ...now, example: isSame ? example.key : null, marks: [...this.editor.marks].sort((a, b) => a - b), number: this.view ? this.view.state.number : null });
+    history.replaceState(null, "", link);
+    try {
+      await navigator.clipboard.writeText(location.href);
+      this.tell("The link is copied, and stands in the address.");
+    } catch {
+      this.tell("The link stands in the address.");
+    }
+  }
+
+  // Opens what a link says. An example is shown at its state; a deck of someone else is not run until it is asked for.
+  async openLink() {
+    const link = await readLink(location.hash);
+    if (!link) return false;
+    if (link.example) {
+      if (!this.openExample(link.example)) return false;
+      if (link.marks.length) this.editor.marks = new Set(link.marks);
+      this.editor.draw();
+      if (link.number !== null) await this.state(link.number);
+      return true;
+    }
+    this.example = null;
+    byId("example").value = "";
+    this.put(link);
+    this.showExercise();
+    if (link.number !== null) {
+      const go = make("button", { type: "button", class: "main", onclick: () => this.state(link.number) }, `Go to state ${told(link.number)}`);
+      byId("empty").replaceChildren(make("div", {}, make("b", {}, "This deck came with the link, and was not run."), make("br"), go));
+    }
+    return true;
+  }
+
+  // ---- Events
+
+  listen() {
+    const on = (id, event, what) => byId(id).addEventListener(event, what);
+    const buttons = {
+      run: () => this.run(), stop: () => this.stop(), start: () => this.state(0), back: () => this.back(), play: () => this.play(), step: () => this.step(), end: () => this.end(),
+      "mark-back": () => this.markBefore(), "mark-next": () => this.nextMark(), "to-cursor": () => this.runTo(this.editor.statementAtCursor()),
+      open: () => byId("file").click(), save: () => this.saveFile(), link: () => this.makeLink(), papers: () => this.papers.open(this.papers.tab), help: () => byId("help-dialog").showModal(),
+    };
+    for (const [id, what] of Object.entries(buttons)) on(id, "click", what);
+    on("deck", "input", () => this.changed());
+    on("input", "input", () => this.inputChanged());
+    for (const name of Object.keys(RANGES)) on(name, "change", () => this.optionChanged());
+    on("slider", "input", () => this.state(Number(byId("slider").value)));
+    on("number", "change", () => this.state(Math.max(0, Math.min(1_000_000_001, Number(byId("number").value) || 0))));
+    on("example", "change", () => this.chooseExample(byId("example").value));
+    on("file", "change", () => byId("file").files[0] && this.openFile(byId("file").files[0]));
+    on("place", "input", () => this.placeTyped());
+    on("chain", "input", () => this.showDetails());
+    on("detail", "change", () => { this.drawing.detail = byId("detail").value; this.redraw(); });
+    on("zoom", "input", () => { this.drawing.zoom = Number(byId("zoom").value) / 100; this.drawing.fit(); });
+    document.addEventListener("keydown", (event) => this.key(event));
+    window.addEventListener("hashchange", () => this.openLink());
+    new ResizeObserver(() => this.resized()).observe(byId("drawing"));
+    matchMedia("(prefers-color-scheme: dark)").addEventListener("change", () => this.strip.draw());
+    document.addEventListener("dragover", (event) => event.preventDefault());
+    document.addEventListener("drop", (event) => {
+      event.preventDefault();
+      if (event.dataTransfer.files[0]) this.openFile(event.dataTransfer.files[0]);
+    });
+  }
+
+  chooseExample(key) {
+    if (!key) return;
+    history.replaceState(null, "", `#${key}`);
+    this.openExample(key);
+  }
+
+  inputChanged() {
+    this.pause();
+    if (this.view || this.session) {
+      this.session = null;
+      this.clear("The input has changed.");
+    }
+  }
+
+  optionChanged() {
+    const options = { ...this.options(), memory: Math.min(2048, Math.max(1, Number(byId("memory").value) || 1)) };
+    const wrong = Object.keys(RANGES).filter((name) => Number(byId(name).value) !== options[name]);
+    for (const name of wrong) byId(name).value = options[name];
+    byId("options-note").textContent = wrong.length ? `${wrong.join(", ")}: put back into its range` : "";
+    if (this.view || this.session) {
+      this.session = null;
+      this.clear("An option has changed.");
+    }
+  }
+
+  placeTyped() {
+    const value = byId("place").value;
+    this.chosen = value === "" ? null : Number(value);
+    byId("chain").value = "";
+    this.showDetails();
+  }
+
+  resized() {
+    clearTimeout(this.resizeTimer);
+    this.resizeTimer = setTimeout(() => {
+      if (!this.view) return;
+      this.redraw();
+      this.strip.draw();
+    }, 120);
+  }
+
+  key(event) {
+    if (document.querySelector("dialog[open]")) return;
+    const { key } = event;
+    const isTyping = /^(TEXTAREA|SELECT)$/.test(event.target.tagName) || (event.target.tagName === "INPUT" && event.target.type !== "checkbox");
+    const everywhere = {
+      "Ctrl Enter": () => this.run(), "Meta Enter": () => this.run(), F8: () => this.step(), "Shift F8": () => this.back(), F9: () => this.toggle(this.editor.statementAtCursor()),
+      Escape: () => (this.engine.isBusy || this.playing !== null ? this.stop() : isTyping && event.target.blur()),
+    };
+    const outside = {
+      ArrowRight: () => this.step(), n: () => this.step(), ArrowLeft: () => this.back(), p: () => this.back(), " ": () => this.play(),
+      g: () => this.nextMark(), b: () => this.markBefore(), r: () => this.runTo(this.editor.statementAtCursor()),
+      m: () => this.view && this.view.state.statement !== undefined && this.toggle(this.view.state.statement),
+      Home: () => this.state(0), End: () => this.end(), e: () => byId("deck").focus(), d: () => this.drawing.groups.get(this.drawing.focused ?? this.drawing.groups.keys().next().value)?.focus(),
+    };
+    const name = [event.ctrlKey && "Ctrl", event.metaKey && "Meta", event.shiftKey && key.length > 1 && "Shift", key].filter((it) => it).join(" ");
+    const isButton = ["BUTTON", "SUMMARY"].includes(event.target.tagName) && (key === " " || key === "Enter");
+    const what = everywhere[name] ?? (isTyping || isButton || event.altKey ? null : outside[name] ?? outside[name.toLowerCase()]);
+    if (!what) return;
+    event.preventDefault();
+    what();
+  }
+}
+
+async function begin() {
+  const { worker, examples } = window.l6Texts;
+  const bytes = await unpacked(byId("module").textContent);
+  const engine = new Engine(await WebAssembly.compile(bytes), worker);
+  const page = new Page(engine, examples);
+  window.l6 = page; // (for tests, and for whoever looks inside)
+  if (!(await page.openLink())) page.openExample("first");
+  document.body.dataset.ready = "yes";
+}
+
+begin().catch((error) => {
+  byId("told").textContent = `The page can't begin: ${error.message}. It needs a browser of 2023 or later.`;
+});

@@ -8,7 +8,9 @@ import { GRID, HEAD, ROW } from "./shape.js";
 import { count, told } from "./word.js";
 
 const COLOURS = 8;
-const SCALES = [1, 0.85, 0.72, 0.6]; // how small a drawing may get to be seen whole
+const SCALES = [1, 0.86, 0.74, 0.64]; // how small a drawing may get to be seen whole
+const LONG_SCALE = 0.8; // of one that is not seen whole in any case
+const LOST_WIDTH = 324; // of what is said of them
 const PILL_STEP = 26;
 
 export class Drawing {
@@ -75,9 +77,14 @@ export class Drawing {
   // Places the blocks in as much room as lets the whole be seen, as far as it can then be read.
   place(graph) {
     const { clientWidth, clientHeight } = this.frame;
-    for (const scale of SCALES) {
+    const fits = (scale) => {
       this.placeIn(graph, Math.max(360, Math.floor((clientWidth - 10) / scale)));
-      if (this.size.height * scale <= clientHeight && this.size.width * scale <= clientWidth) break;
+      return this.size.height * scale <= clientHeight && this.size.width * scale <= clientWidth;
+    };
+    this.scale = SCALES.find(fits) ?? LONG_SCALE;
+    if (this.scale === LONG_SCALE) {
+      fits(LONG_SCALE);
+      this.scale = Math.max(SCALES.at(-1), Math.min(LONG_SCALE, (clientWidth - 10) / this.size.width));
     }
     this.layer.notes.replaceChildren(...this.notes.map((it) => svg("text", { x: it.x, y: it.y, class: `note ${it.kind}` }, it.text)));
   }
@@ -85,20 +92,24 @@ export class Drawing {
   // Places what is reached, and below it what is lost.
   placeIn(graph, room) {
     const bugs = new Map(graph.bugs.map((it) => [it.name, it.place]));
-    const reached = arrange(graph.blocks.filter((it) => !it.isLost), bugs, room);
+    const reached = arrange(graph.blocks.filter((it) => !it.isLost), bugs, room, graph.isBox);
     const lost = graph.blocks.filter((it) => it.isLost);
     this.notes = [];
     this.size = { width: reached.width, height: lost.length === graph.blocks.length ? GRID * 2 : reached.height };
     const places = reached.places;
-    if (lost.length) {
-      const below = arrange(lost, new Map(), room);
-      const top = this.size.height - GRID;
-      this.notes.push({ x: GRID * 2, y: top + GRID * 2, text: `Lost: no bug and no field leads to ${lost.length === 1 ? "it" : "these"}`, kind: "lost" });
-      below.places.forEach((at, place) => places.set(place, { ...at, y: at.y + top }));
-      this.size = { width: Math.max(this.size.width, below.width, 400), height: top + below.height };
-    }
+    if (lost.length) this.placeLost(lost, places, room);
     this.noteHidden();
     for (const block of graph.blocks) Object.assign(block, places.get(block.place));
+  }
+
+  // Lost blocks stand beside those that are reached, or below them where there is no room.
+  placeLost(lost, places, room) {
+    const own = arrange(lost, new Map(), room, this.graph.isBox);
+    const isBeside = this.size.width + Math.max(own.width, LOST_WIDTH) <= room && this.size.height > GRID * 2;
+    const [left, top] = isBeside ? [this.size.width, GRID] : [0, this.size.height - GRID];
+    this.notes.push({ x: left + GRID * 2, y: top + GRID * 2, text: `Lost: no bug and no field leads to ${lost.length === 1 ? "it" : "these"}`, kind: "lost" });
+    own.places.forEach((at, place) => places.set(place, { ...at, x: at.x + left, y: at.y + top }));
+    this.size = { width: Math.max(this.size.width, left + Math.max(own.width, LOST_WIDTH)), height: Math.max(this.size.height, top + own.height) };
   }
 
   noteHidden() {
@@ -154,14 +165,11 @@ export class Drawing {
     if (row.note) return [svg("text", { x: shape.width / 2, y: row.y + 16, class: "rest", "text-anchor": "middle" }, row.note)];
     const parts = row.y > HEAD ? [svg("line", { class: "between", x1: 0, x2: shape.width, y1: row.y, y2: row.y })] : [];
     if (shape.isBox) parts.push(svg("text", { x: shape.width / 2, y: row.y + 16, class: "value", "text-anchor": "middle" }, shape.text));
-    for (const cell of row.cells) parts.push(this.cellOf(cell, row, shape));
+    else for (const cell of row.cells) parts.push(this.cellOf(cell, row));
     return parts;
   }
 
-  cellOf(cell, row, shape) {
-    if (shape.isBox) {
-      return svg("circle", { class: `dot ${this.colourOf(cell.name)}`, cx: cell.x + cell.width / 2, cy: shape.height, r: 2.5 });
-    }
+  cellOf(cell, row) {
     const colour = cell.name ? this.colourOf(cell.name) : "plain";
     const parts = [svg("rect", { class: "window", x: cell.x + 1, y: row.y + 1, width: Math.max(2, cell.width - 2), height: ROW - 2, rx: 2 })];
     parts.push(...textsOfCell(cell, row.y));
@@ -174,7 +182,7 @@ export class Drawing {
     const pills = new Map();
     for (const bug of graph.bugs) pills.set(bug.place, (pills.get(bug.place) ?? 0) + 1);
     const boxes = graph.blocks.flatMap((it) => [it, ...(pills.has(it.place) ? [{ x: it.x, y: it.y - GRID * 2, width: Math.max(GRID, Math.ceil((pills.get(it.place) * PILL_STEP - GRID) / GRID) * GRID), height: GRID * 2 }] : [])]);
-    const router = new Router(this.size.width + GRID * 4, this.size.height + GRID * 4, boxes);
+    const router = new Router(this.size.width - GRID * 2, this.size.height - GRID * 2, boxes);
     const arrows = [];
     for (const block of graph.blocks) {
       for (const link of block.links) if (known.has(link.target)) arrows.push({ block, link, to: known.get(link.target) });
@@ -199,8 +207,7 @@ export class Drawing {
   // Fits the drawing into its frame, as far as it can be read.
   fit() {
     const { width, height } = this.size ?? { width: 10, height: 10 };
-    const { clientWidth, clientHeight } = this.frame;
-    const scale = Math.max(SCALES.at(-1), Math.min(1, (clientWidth - 10) / width, (clientHeight - 10) / height)) * (this.zoom ?? 1);
+    const scale = (this.scale ?? 1) * (this.zoom ?? 1);
     this.picture.setAttribute("viewBox", `0 0 ${width} ${height}`);
     this.picture.setAttribute("width", Math.floor(width * scale));
     this.picture.setAttribute("height", Math.floor(height * scale));
@@ -295,7 +302,7 @@ function startsOf(block, link) {
   return [
     ...(last || !first ? [{ x: block.x + shape.width, y, direction: 0, cost: last ? 0 : 5, inner: { x: right, y } }] : []),
     ...(first || !last ? [{ x: block.x, y, direction: 2, cost: first ? 0 : 5, inner: { x: first ? right > left + 30 ? left : left : left, y } }] : []),
-    ...(isLast ? [{ x: middle, y: block.y + shape.height, direction: 1, cost: 2, inner: { x: middle, y } }] : []),
+    ...(isLast ? [{ x: middle, y: block.y + shape.height, direction: 1, cost: 24, inner: { x: middle, y } }] : []),
   ];
 }
 
@@ -308,7 +315,7 @@ function endsOf(block, link, bugs) {
   const [side, top] = link.down ? [4, 0] : [0, 3];
   return [
     { x: block.x, y, direction: 0, cost: side },
-    { x: block.x + block.width, y, direction: 2, cost: side + 2 },
+    { x: block.x + block.width, y, direction: 2, cost: side + 6 },
     ...tops.map((x, index) => ({ x, y: block.y, direction: 1, cost: top + index })),
   ];
 }

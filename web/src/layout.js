@@ -4,20 +4,20 @@
 
 import { GRID } from "./shape.js";
 
-const GAP = GRID * 3; // between blocks side by side
-const FALL = GRID * 4; // between a block and what is below it
+const GAPS = { card: { side: GRID * 3, below: GRID * 4 }, box: { side: GRID * 2, below: GRID * 3 } }; // between blocks
 const MARGIN = GRID * 2;
 const PILL = GRID * 2; // the height of a bug above its block
 
 // Places the blocks: `blocks` have a place, width, height and links, each with the key of its window, a target
 // and whether it leads `down`. Answers the place of each by its block's place, and the size of all.
-export function arrange(blocks, bugs, room) {
+export function arrange(blocks, bugs, room, isBox) {
+  const gaps = isBox ? GAPS.box : GAPS.card;
   const known = new Map(blocks.map((it) => [it.place, it]));
   const rows = forest(known, bugs, blocks);
   const found = new Map();
-  const inner = room - 2 * MARGIN;
-  const size = flow(rows.map((row) => boxOfRow(row, inner)), inner, MARGIN, MARGIN + PILL, found);
-  return { places: found, width: size.width + 2 * MARGIN, height: size.height + 2 * MARGIN + PILL };
+  const inner = room - 2 * MARGIN - GRID;
+  const size = flow(rows.map((row) => boxOfRow(row, inner, gaps)), inner, gaps, MARGIN, MARGIN + PILL, found);
+  return { places: found, width: size.width + 2 * MARGIN + GRID, height: size.height + 2 * MARGIN + PILL };
 }
 
 // ---- Which block hangs below which
@@ -87,11 +87,11 @@ function rowFrom(start, known, seen) {
 // ---- Where it stands
 
 // A box: its size, where its first block's middle is, and how it is put somewhere.
-function boxOfRow(row, room) {
-  const items = row.map((item) => boxOfItem(item, room));
+function boxOfRow(row, room, gaps) {
+  const items = row.map((item) => boxOfItem(item, room, gaps));
   if (items.length === 1) return items[0];
   const found = new Map();
-  const size = flow(items, room, 0, 0, found);
+  const size = flow(items, room, gaps, 0, 0, found);
   return {
     width: size.width, height: size.height, middle: items[0].middle,
     put: (x, y, into) => found.forEach((at, place) => into.set(place, { ...at, x: at.x + x, y: at.y + y })),
@@ -99,10 +99,10 @@ function boxOfRow(row, room) {
 }
 
 // A block with the rows below it, of which it stands above the middle.
-function boxOfItem({ block, below }, room) {
+function boxOfItem({ block, below }, room, gaps) {
   if (!below.length) return leaf(block);
-  const boxes = below.map((row) => boxOfRow(row, room));
-  const total = boxes.reduce((sum, it) => sum + it.width, 0) + GAP * (boxes.length - 1);
+  const boxes = below.map((row) => boxOfRow(row, room, gaps));
+  const total = boxes.reduce((sum, it) => sum + it.width, 0) + gaps.side * (boxes.length - 1);
   const first = boxes[0].middle;
   const last = total - boxes.at(-1).width + boxes.at(-1).middle;
   let middle = snap((first + last) / 2);
@@ -111,13 +111,13 @@ function boxOfItem({ block, below }, room) {
   const left = Math.min(0, middle - block.width / 2);
   const right = Math.max(total, middle + block.width / 2);
   return {
-    width: right - left, height: block.height + FALL + PILL + Math.max(...boxes.map((it) => it.height)), middle: middle - left,
+    width: right - left, height: block.height + gaps.below + PILL + Math.max(...boxes.map((it) => it.height)), middle: middle - left,
     put: (x, y, into) => {
       into.set(block.place, { x: x + snap(middle - left - block.width / 2), y, width: block.width, height: block.height });
       let at = x - left;
       for (const box of boxes) {
-        box.put(at, y + block.height + FALL + PILL - GRID, into);
-        at += box.width + GAP;
+        box.put(at, y + block.height + gaps.below + PILL - GRID, into);
+        at += box.width + gaps.side;
       }
     },
   };
@@ -135,16 +135,16 @@ function snap(size) {
 }
 
 // Puts boxes one behind another, in lines that are no wider than there is room; the size of all.
-function flow(boxes, room, left, top, into) {
+function flow(boxes, room, gaps, left, top, into) {
   let [x, y, height, width] = [left, top, 0, 0];
   for (const box of boxes) {
     if (x > left && x + box.width > left + room) {
-      [x, y, height] = [left, y + height + FALL, 0];
+      [x, y, height] = [left, y + height + gaps.below, 0];
     }
     box.put(x, y, into);
     width = Math.max(width, x + box.width);
     height = Math.max(height, box.height);
-    x += box.width + GAP;
+    x += box.width + gaps.side;
   }
   return { width: width - left, height: y + height - top };
 }

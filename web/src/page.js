@@ -280,11 +280,11 @@ class Page {
 
   // The fields with links, each a button that turns the direction of its links.
   showLegend() {
-    const { windows, ways, isBox } = this.drawing.graph;
+    const { windows, ways } = this.drawing.graph;
     byId("legend").replaceChildren(...windows.map((window) => {
       const way = ways.get(window.key);
       const colour = this.drawing.colourOf(window.name);
-      if (!way) return isBox ? "" : make("span", { class: colour }, window.name);
+      if (!way) return make("span", { class: colour }, window.name);
       return make("button", {
         type: "button", class: colour, title: `Links of ${window.name} lead ${way.down ? "down" : "to the right"}: click to turn`,
         onclick: () => this.turn(window, way),
@@ -458,9 +458,12 @@ class Page {
   // Whether the printout is that which the exercise asks for.
   checkExercise() {
     if (!this.example?.task || !this.view?.state.ending) return;
-    const whole = `${this.view.output.trimEnd()}`;
-    const isRight = whole === this.example.printout.trimEnd() && this.view.state.ending === "DONE";
-    byId("verdict").textContent = isRight ? "✓ Just this is printed." : "";
+    const [lines, wanted] = [this.view.output.trimEnd().split("\n"), this.example.printout.trimEnd().split("\n")];
+    const wrong = wanted.findIndex((line, index) => line !== lines[index]);
+    const isRight = wrong < 0 && lines.length === wanted.length && this.view.state.ending === "DONE";
+    const first = wrong < 0 ? "more is printed, or the run does not end by DONE" : `line ${wrong + 1} is “${lines[wrong] ?? ""}” and not “${wanted[wrong]}”`;
+    byId("verdict").textContent = isRight ? "✓ Just this is printed." : `Not yet: ${first}.`;
+    byId("verdict").className = isRight ? "right-answer" : "wrong-answer";
     if (isRight) this.tell("The exercise is solved.");
   }
 

@@ -3,9 +3,9 @@
 import { GRID } from "./shape.js";
 
 const TURN = 3; // what a corner costs, in steps of the grid
-const SHARED = 5; // what it costs to run where another arrow runs
+const SHARED = 8; // what it costs to run where another arrow runs
 const CROSSED = 2;
-const NEAR = 1; // beside a block
+const NEAR = 0.15; // beside a block
 const DIRECTIONS = [[1, 0], [0, 1], [-1, 0], [0, -1]]; // right, down, left, up
 const BLOCKED = 255;
 
@@ -49,7 +49,7 @@ export class Router {
     const goals = new Map();
     for (const end of ends) {
       const at = this.stepFrom(end, -1);
-      if (at) goals.set(at.index * 4 + end.direction, { ...end, at });
+      if (at && this.ground[at.index] !== BLOCKED) goals.set(at.index, { ...end, at });
     }
     const heap = new Heap();
     for (const start of starts) {
@@ -59,8 +59,8 @@ export class Router {
     for (let state; (state = heap.pop()) !== undefined; ) {
       if (this.isDone(state)) continue;
       this.done(state);
-      const goal = goals.get(state);
-      if (goal) return this.points(state, starts, goal);
+      const goal = goals.get((state - (state % 4)) / 4);
+      if (goal && state % 4 !== (goal.direction + 2) % 4) return this.points(state, starts, goal);
       this.spread(heap, state, goals);
     }
     return null;

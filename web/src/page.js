@@ -63,9 +63,9 @@ class Page {
   current() {
     const now = this.job();
     const key = JSON.stringify(now);
-    if (!this.session || this.key !== key) {
+    if (!this.session || this.sessionKey !== key) {
       this.session = new Session((words, input) => this.ask(words, input), now);
-      this.key = key;
+      this.sessionKey = key;
       this.view = null;
       this.drawing.forget();
       this.strip.unit = null;

@@ -8,7 +8,7 @@ const MOST_TOLD = 7;
 
 // The sentences; where the states are neighbours it is told how often the store halved or joined pieces, too.
 export function changesOf(before, view, input) {
-  if (!before) return [];
+  if (!before) return endings(view);
   const isStep = Math.abs(view.state.number - before.state.number) === 1;
   return [
     ...endings(view),

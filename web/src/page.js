@@ -422,6 +422,7 @@ class Page {
     this.chosen = null;
     byId("place").value = byId("chain").value = "";
     this.readDeck();
+    this.showFault("");
     this.clear("Not run yet");
     this.tell("");
     this.check();
@@ -443,6 +444,7 @@ class Page {
     if (!example) return false;
     this.example = example;
     byId("example").value = key;
+    if (example.bySize) byId("by-size").checked = true;
     this.put(example);
     this.showExercise();
     return true;

@@ -6,14 +6,18 @@ import { findPiece } from "./pieces.js";
 import { lanesOf, windowsOf } from "./shape.js";
 import { characterOf, count, likelyText, octal, seenThrough, WORD_BITS, widthOf } from "./word.js";
 
+const MOST_BESIDE = 9_999_999; // a number with a text beside which its octal digits have room
+
 // The bugs that are not 0, or were not before.
 export function showBugs(table, amounts, view, before, choose) {
   const names = [...new Set([...view.bugs.keys(), ...(before?.bugs.keys() ?? [])])].sort();
   table.replaceChildren(...names.map((name) => {
     const value = view.bugs.get(name) ?? 0;
     const isChanged = before && (before.bugs.get(name) ?? 0) !== value;
-    return make("tr", { class: isChanged ? "changed" : "" },
-      make("td", {}, name), make("td", { class: "number" }, String(value)), make("td", {}, hintOf(value, view, choose)), make("td", { class: "octal" }, octal(value)));
+    const hint = hintOf(value, view, choose);
+    const isWide = value > MOST_BESIDE && hint.textContent !== ""; // (then there is no room for the octal digits)
+    return make("tr", { class: isChanged ? "changed" : "", title: `${name} is ${octal(value)} in octal` },
+      make("td", {}, name), make("td", { class: "number" }, String(value)), make("td", {}, hint), isWide ? "" : make("td", { class: "octal" }, octal(value)));
   }));
   if (!names.length) table.append(make("tr", {}, make("td", { class: "octal" }, "All bugs are 0.")));
   const { contents, definitions, returns, input } = view.amounts;

@@ -200,7 +200,6 @@ def blocks_and_chains(page: Page) -> None:
     page.browser.value("(e => { e.value = 'annv'; e.dispatchEvent(new Event('input')); })(document.getElementById('chain'))")
     page.has("a chain that leads too far", page.text("led"), "trap 2")
     page.open("#store@0")
-    page.browser.click("#by-size")
     page.do("l6.step()")
     page.do("l6.step()")
     page.has("halvings", page.text("changes"), "a free piece of 1,024 was halved 10 times")

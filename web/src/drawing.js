@@ -34,7 +34,7 @@ export class Drawing {
   heads() {
     const names = [...Array(COLOURS).keys()].map((it) => `f${it}`).concat("new");
     return svg("defs", {}, ...names.map((name) =>
-      svg("marker", { id: `head-${name}`, class: `head ${name}`, viewBox: "0 0 8 8", refX: 7, refY: 4, markerWidth: 7, markerHeight: 7, orient: "auto-start-reverse" },
+      svg("marker", { id: `head-${name}`, class: `head ${name}`, viewBox: "0 0 8 8", refX: 7, refY: 4, markerUnits: "userSpaceOnUse", markerWidth: 11, markerHeight: 11, orient: "auto-start-reverse" },
         svg("path", { d: "M0.5 0.5L7.5 4L0.5 7.5Z" }))));
   }
 
@@ -139,9 +139,12 @@ export class Drawing {
       group.replaceChildren(...this.partsOf(block, pills.get(block.place) ?? []));
     }
     this.groups = kept;
+    const hadFocus = this.layer.blocks.contains(document.activeElement);
     this.layer.blocks.replaceChildren(...kept.values());
+    for (const group of kept.values()) group.setAttribute("tabindex", -1);
     const first = kept.get(this.focused) ?? kept.values().next().value;
     first?.setAttribute("tabindex", 0);
+    if (hadFocus) first?.focus({ preventScroll: true });
   }
 
   // What a block is made of, seen from its upper left corner.

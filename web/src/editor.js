@@ -112,9 +112,13 @@ export class Editor {
     }
   }
 
+  cardOfCursor() {
+    return this.text.value.slice(0, this.text.selectionStart).split("\n").length - 1;
+  }
+
   // The statement in which the cursor stands, or that behind it.
   statementAtCursor() {
-    const card = this.text.value.slice(0, this.text.selectionStart).split("\n").length - 1;
+    const card = this.cardOfCursor();
     for (let at = card; at < this.deck.cards.length; at++) if (this.deck.cards[at] >= 0) return this.deck.cards[at];
     return this.deck.statements.length; // the DONE behind every deck
   }

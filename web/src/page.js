@@ -15,7 +15,8 @@ import { unpacked } from "./unpack.js";
 import { count, told } from "./word.js";
 
 const SHORT_RUN = 2_000_000; // steps of a run that is made ahead, to know how many states there are
-const CHECK_AFTER = 250; // milliseconds without a key, until the deck is assembled
+const CHECK_AFTER = 300; // milliseconds without a key, until the deck is assembled
+const BLAME_AFTER = 1500; // and until a fault is told of the card that is being typed
 const RANGES = { store: [1, 255], steps: [0, 1_000_000_000], output: [0, 16_777_216], memory: [1, 2048] };
 
 class Page {
@@ -365,8 +366,13 @@ class Page {
       this.session = null;
       this.clear("The deck has changed.");
     }
+    this.typed = performance.now();
+    this.checkLater(CHECK_AFTER);
+  }
+
+  checkLater(milliseconds) {
     clearTimeout(this.checkTimer);
-    this.checkTimer = setTimeout(() => this.check(), CHECK_AFTER);
+    this.checkTimer = setTimeout(() => this.check(), milliseconds);
   }
 
   readDeck() {
@@ -391,7 +397,11 @@ class Page {
     const { deck } = this.job();
     try {
       const answer = await this.ask(["asm"], bytesOf(job(deck, null, "")));
-      if (byId("deck").value === deck) this.showFault(answer.status === 0 ? "" : answer.errors.trim());
+      if (byId("deck").value !== deck) return;
+      const line = answer.status === 0 ? "" : answer.errors.trim();
+      const isTyping = performance.now() - (this.typed ?? -BLAME_AFTER) < BLAME_AFTER && cardToldBy(line) === this.editor.cardOfCursor();
+      this.showFault(isTyping ? "" : line);
+      if (isTyping) this.checkLater(BLAME_AFTER);
     } catch (error) {
       this.tell(error.message);
     }
@@ -401,7 +411,7 @@ class Page {
   showFault(line) {
     const fault = byId("fault");
     fault.hidden = line === "";
-    const card = Number(/^l6: card (\d+): /.exec(line)?.[1] ?? 0) - 1;
+    const card = cardToldBy(line);
     const own = this.editor.deck.fault;
     const isSame = own && own.card === card && line.endsWith(own.kind);
     this.editor.blame(card < 0 ? null : isSame ? own : { card, from: 0, to: 72 });
@@ -620,6 +630,11 @@ class Page {
     event.preventDefault();
     what();
   }
+}
+
+// The card that a fault's line tells, counted from 0, or -1.
+function cardToldBy(line) {
+  return Number(/^l6: card (\d+): /.exec(line)?.[1] ?? 0) - 1;
 }
 
 async function begin() {

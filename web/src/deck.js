@@ -473,6 +473,12 @@ function exitMeaning(exit) {
   return `goes to ${exit}`;
 }
 
+// The operation in which a column of a card stands, or null.
+export function groupAt(deck, card, column) {
+  const statement = deck.statements[deck.cards[card]];
+  return statement?.operations.find((it) => it.card === card && it.from < column && column <= it.to) ?? null;
+}
+
 const RESULTS = {
   E: (c, x) => `${c} becomes ${x}`, A: (c, x) => `adds ${x} to ${c}`, S: (c, x) => `takes ${x} from ${c}`, M: (c, x) => `multiplies ${c} by ${x}`,
   V: (c, x) => `${c} becomes the quotient of ${c} by ${x}`, Y: (c, x) => `${c} becomes the remainder of ${c} by ${x}`,

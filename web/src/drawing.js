@@ -8,7 +8,7 @@ import { GRID, HEAD, ROW } from "./shape.js";
 import { count, told } from "./word.js";
 
 const COLOURS = 8;
-const SCALES = [1, 0.86, 0.74, 0.64]; // how small a drawing may get to be seen whole
+const SCALES = [1.25, 1, 0.86, 0.74, 0.64]; // how large a drawing is, and how small it may get to be seen whole
 const LONG_SCALE = 0.8; // of one that is not seen whole in any case
 const LOST_WIDTH = 324; // of what is said of them
 const PILL_STEP = 26;
@@ -185,7 +185,7 @@ export class Drawing {
     const pills = new Map();
     for (const bug of graph.bugs) pills.set(bug.place, (pills.get(bug.place) ?? 0) + 1);
     const boxes = graph.blocks.flatMap((it) => [it, ...(pills.has(it.place) ? [{ x: it.x, y: it.y - GRID * 2, width: Math.max(GRID, Math.ceil((pills.get(it.place) * PILL_STEP - GRID) / GRID) * GRID), height: GRID * 2 }] : [])]);
-    const router = new Router(this.size.width - GRID * 2, this.size.height - GRID * 2, boxes);
+    const router = new Router(this.size.width, this.size.height, boxes);
     const arrows = [];
     for (const block of graph.blocks) {
       for (const link of block.links) if (known.has(link.target)) arrows.push({ block, link, to: known.get(link.target) });

@@ -112,13 +112,15 @@ export class Editor {
     }
   }
 
-  cardOfCursor() {
-    return this.text.value.slice(0, this.text.selectionStart).split("\n").length - 1;
+  // The card and the column of the cursor, counted from 0.
+  cursor() {
+    const before = this.text.value.slice(0, this.text.selectionStart).split("\n");
+    return { card: before.length - 1, column: before.at(-1).length };
   }
 
   // The statement in which the cursor stands, or that behind it.
   statementAtCursor() {
-    const card = this.cardOfCursor();
+    const { card } = this.cursor();
     for (let at = card; at < this.deck.cards.length; at++) if (this.deck.cards[at] >= 0) return this.deck.cards[at];
     return this.deck.statements.length; // the DONE behind every deck
   }

@@ -5,7 +5,7 @@
 import { GRID } from "./shape.js";
 
 const GAPS = { card: { side: GRID * 3, below: GRID * 4 }, box: { side: GRID * 2, below: GRID * 3 } }; // between blocks
-const MARGIN = GRID * 2;
+const MARGIN = GRID * 3;
 const PILL = GRID * 2; // the height of a bug above its block
 
 // Places the blocks: `blocks` have a place, width, height and links, each with the key of its window, a target
@@ -15,9 +15,9 @@ export function arrange(blocks, bugs, room, isBox) {
   const known = new Map(blocks.map((it) => [it.place, it]));
   const rows = forest(known, bugs, blocks);
   const found = new Map();
-  const inner = room - 2 * MARGIN - GRID;
+  const inner = room - 2 * MARGIN;
   const size = flow(rows.map((row) => boxOfRow(row, inner, gaps)), inner, gaps, MARGIN, MARGIN + PILL, found);
-  return { places: found, width: size.width + 2 * MARGIN + GRID, height: size.height + 2 * MARGIN + PILL };
+  return { places: found, width: size.width + 2 * MARGIN, height: size.height + 2 * MARGIN + PILL };
 }
 
 // ---- Which block hangs below which

@@ -1,7 +1,7 @@
 // The page: what the reader does, and what is then shown.
 
 import { changesOf, shortened } from "./changes.js";
-import { actionAt, readDeck } from "./deck.js";
+import { actionAt, groupAt, meaningOf, readDeck } from "./deck.js";
 import { byId, make } from "./dom.js";
 import { Drawing } from "./drawing.js";
 import { Editor } from "./editor.js";
@@ -9,6 +9,7 @@ import { bytesOf, Engine, Stopped } from "./engine.js";
 import { linkOf, readLink } from "./links.js";
 import { showBugs, showChain, showFields, showWords } from "./panels.js";
 import { Papers, save } from "./papers.js";
+import { referenceOf } from "./reference.js";
 import { job, partsOf, Refused, Session } from "./session.js";
 import { Strip } from "./strip.js";
 import { unpacked } from "./unpack.js";
@@ -31,11 +32,12 @@ class Page {
     this.isBusy = false;
     this.editor = new Editor({ text: byId("deck"), under: byId("under"), gutter: byId("gutter"), ruler: byId("ruler") }, (statement, runs) => (runs ? this.runTo(statement) : this.toggle(statement)));
     this.drawing = new Drawing(byId("drawing"), (place) => this.chooseBlock(place));
-    this.strip = new Strip({ text: byId("store-text"), units: byId("units"), strip: byId("strip"), levels: byId("levels"), bySize: byId("by-size") }, (place) => this.chooseBlock(place));
+    this.strip = new Strip({ text: byId("store-text"), units: byId("units"), strip: byId("strip"), levels: byId("levels"), bySize: byId("by-size"), unitBox: byId("unit") }, (place) => this.chooseBlock(place));
     this.papers = new Papers({
       job: () => this.job(), ask: (words, input) => this.ask(words, input),
       words: (verb) => new Session(null, this.job()).words(verb), exchanges: () => this.session?.exchanges ?? [],
     });
+    byId("reference").append(...referenceOf());
     this.fillMenu();
     this.listen();
   }
@@ -379,6 +381,14 @@ class Page {
     this.editor.read(readDeck(byId("deck").value));
   }
 
+  // While nothing is run: what the group says in which the cursor stands.
+  explainCursor() {
+    if (this.view || document.activeElement !== this.editor.text) return;
+    const { card, column } = this.editor.cursor();
+    const group = groupAt(this.editor.deck, card, column);
+    byId("next").replaceChildren(...(group ? [make("code", {}, `(${group.text})`), ` ${meaningOf(group.elements, group.text)}`] : []));
+  }
+
   // A whole job that was pasted into the deck is put into its boxes.
   splitJob() {
     const text = byId("deck").value;
@@ -399,7 +409,7 @@ class Page {
       const answer = await this.ask(["asm"], bytesOf(job(deck, null, "")));
       if (byId("deck").value !== deck) return;
       const line = answer.status === 0 ? "" : answer.errors.trim();
-      const isTyping = performance.now() - (this.typed ?? -BLAME_AFTER) < BLAME_AFTER && cardToldBy(line) === this.editor.cardOfCursor();
+      const isTyping = performance.now() - (this.typed ?? -BLAME_AFTER) < BLAME_AFTER && cardToldBy(line) === this.editor.cursor().card;
       this.showFault(isTyping ? "" : line);
       if (isTyping) this.checkLater(BLAME_AFTER);
     } catch (error) {
@@ -558,6 +568,7 @@ class Page {
     on("detail", "change", () => { this.drawing.detail = byId("detail").value; this.redraw(); });
     on("zoom", "input", () => { this.drawing.zoom = Number(byId("zoom").value) / 100; this.drawing.fit(); });
     document.addEventListener("keydown", (event) => this.key(event));
+    document.addEventListener("selectionchange", () => this.explainCursor());
     window.addEventListener("hashchange", () => this.openLink());
     new ResizeObserver(() => this.resized()).observe(byId("drawing"));
     matchMedia("(prefers-color-scheme: dark)").addEventListener("change", () => this.strip.draw());

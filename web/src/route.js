@@ -12,8 +12,8 @@ const BLOCKED = 255;
 // A grid over a drawing, in which ways are found one after another.
 export class Router {
   constructor(width, height, boxes) {
-    this.columns = Math.ceil(width / GRID) + 2;
-    this.lines = Math.ceil(height / GRID) + 2;
+    this.columns = Math.ceil(width / GRID);
+    this.lines = Math.ceil(height / GRID);
     const size = this.columns * this.lines;
     this.ground = new Uint8Array(size);
     this.used = [new Uint8Array(size), new Uint8Array(size)]; // by arrows that run across, and up or down
@@ -39,7 +39,7 @@ export class Router {
   }
 
   has(column, line) {
-    return column >= 0 && line >= 0 && column < this.columns && line < this.lines;
+    return column > 0 && line > 0 && column < this.columns && line < this.lines; // (not on the edge)
   }
 
   // The points of the way from one of the starts to one of the ends: each has a point at a block's side, the

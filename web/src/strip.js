@@ -10,15 +10,16 @@ const LEVELS_LEFT = 34; // for the sizes
 const FEW = 90; // pieces that can be drawn wider than to scale
 
 export class Strip {
-  constructor({ text, units, strip, levels, bySize }, choose) {
-    Object.assign(this, { text, units, strip, levels, bySize, choose });
+  constructor({ text, units, strip, levels, bySize, unitBox }, choose) {
+    Object.assign(this, { text, units, strip, levels, bySize, unitBox, choose });
     this.unit = null; // that the reader chose, or null
     this.chosen = null;
     bySize.addEventListener("change", () => this.draw());
     strip.addEventListener("click", (event) => this.pick(event));
     levels.addEventListener("click", (event) => this.pick(event));
     for (const canvas of [strip, levels]) canvas.addEventListener("mousemove", (event) => this.hint(event));
-    units.addEventListener("click", (event) => this.pickUnit(event));
+    units.addEventListener("click", (event) => this.pickUnit(Math.floor((event.offsetX / units.clientWidth) * this.count)));
+    unitBox.addEventListener("input", () => unitBox.value && this.pickUnit(Number(unitBox.value) - 1));
   }
 
   show(view, before) {
@@ -39,7 +40,7 @@ export class Strip {
   forget() {
     Object.assign(this, { view: null, before: null, unit: null, chosen: null });
     this.text.textContent = "";
-    this.units.hidden = this.levels.hidden = true;
+    this.units.hidden = this.levels.hidden = this.unitBox.parentElement.hidden = true;
     this.strip.hidden = false;
     paint(this.strip);
   }
@@ -53,7 +54,9 @@ export class Strip {
     this.part = this.partShown();
     this.pieces = piecesBetween(store, this.part.begin, this.part.end);
     this.old = this.before ? new Set(piecesBetween(this.before.store, this.part.begin, this.part.end).map(keyOf)) : null;
-    this.units.hidden = this.count === 1;
+    this.units.hidden = this.unitBox.parentElement.hidden = this.count === 1;
+    this.unitBox.max = this.count;
+    this.unitBox.value = this.part.unit + 1;
     if (this.count > 1) this.drawUnits();
     this.levels.hidden = !this.bySize.checked;
     this.strip.hidden = this.bySize.checked;
@@ -180,9 +183,9 @@ export class Strip {
     event.currentTarget.title = free || `block ${piece.place}, ${count(piece.size, "word")}${piece.isLost ? ", lost" : ""}`;
   }
 
-  pickUnit(event) {
-    const unit = Math.floor((event.offsetX / this.units.clientWidth) * this.count);
-    this.unit = this.unit === unit ? null : unit;
+  pickUnit(unit) {
+    if (!this.view || unit < 0 || unit >= this.count) return;
+    this.unit = unit;
     this.draw();
   }
 }

@@ -148,6 +148,10 @@ def while_typing(page: Page) -> None:
     page.browser.wait("!document.getElementById('fault').hidden")
     page.has("the fault is told", page.text("fault"), "Q is none")
     page.same("a statement has its number", page.browser.value("document.querySelector('#gutter button').textContent"), "0")
+    page.put(" (A,GT,4)\n")
+    page.browser.value("document.getElementById('deck').focus(), document.getElementById('deck').setSelectionRange(4, 4)")
+    page.browser.wait("document.getElementById('next').textContent !== ''")
+    page.has("what a group says", page.text("next"), "gets a block for 4 words")
     page.put("* " + "x" * 70 + "\n")
     page.right("72 columns fit", page.browser.value("(e => e.scrollWidth <= e.clientWidth)(document.getElementById('deck'))"))
     page.put(" (A,PD)\n$INPUT\nAB\n")
@@ -277,6 +281,35 @@ def examples(page: Page) -> None:
 
 
 @trial
+def drawings(page: Page) -> None:
+    """No arrow goes through a block that it does not begin in, and a unit of the store can be chosen by keys."""
+    page.open()
+    for name, state in PICTURES.items():
+        page.browser.value(f"l6.openExample({json.dumps(name)})")
+        page.do(f"l6.state({state})")
+        page.same(f"arrows of {name}", page.browser.value(CROSSINGS), [])
+    page.browser.value("l6.openExample('full')")
+    page.do("l6.state(30000)")
+    page.browser.value("(e => { e.value = 3; e.dispatchEvent(new Event('input')); })(document.getElementById('unit'))")
+    page.has("the third unit", page.browser.value("document.getElementById('strip').getAttribute('aria-label')"), "3072 block of 1")
+
+
+# The arrows that go through blocks: points on their paths that lie in one.
+CROSSINGS = """(() => {
+    const found = [];
+    for (const arrow of document.querySelectorAll('.arrow')) {
+        const path = arrow.querySelector('path');
+        for (let at = 0; at < path.getTotalLength(); at += 3) {
+            const { x, y } = path.getPointAtLength(at);
+            const block = l6.drawing.graph.blocks.find(b => x > b.x + 1 && x < b.x + b.width - 1 && y > b.y + 1 && y < b.y + b.height - 1);
+            if (block && String(block.place) !== arrow.dataset.from) { found.push(`${arrow.dataset.from} to ${arrow.dataset.to} through ${block.place}`); break; }
+        }
+    }
+    return found;
+})()"""
+
+
+@trial
 def exercises(page: Page) -> None:
     page.open("#exercise-1")
     page.click("run")
@@ -376,7 +409,7 @@ CONTRASTS = """(() => {
     const light = ([r, g, b]) => [r, g, b].map(v => v / 255).map(v => v <= 0.03928 ? v / 12.92 : ((v + 0.055) / 1.055) ** 2.4).reduce((s, v, i) => s + v * [0.2126, 0.7152, 0.0722][i], 0);
     const behind = (e) => { for (; e; e = e.parentElement) { const c = rgb(getComputedStyle(e).backgroundColor); if (c[3] === 255) return c; } return [255, 255, 255]; };
     const bad = [];
-    for (const e of document.querySelectorAll('header *, .controls *, .now *, .tools *, .store *, .details *, .paper *, .fault, .exercise *')) {
+    for (const e of document.querySelectorAll('header *, .controls *, .now *, .tools *, .store *, .details *, .paper *, .fault, .exercise *, .gutter *, .ruler *')) {
         if (![...e.childNodes].some(n => n.nodeType === 3 && n.textContent.trim()) || !e.getClientRects().length || e.closest('button:disabled, .hidden')) continue;
         const [a, b] = [light(rgb(getComputedStyle(e).color)), light(behind(e))];
         const ratio = (Math.max(a, b) + 0.05) / (Math.min(a, b) + 0.05);

@@ -1,8 +1,8 @@
 // What is another in a state than in the one that was shown before, in sentences.
 
-import { freePieceWith } from "./pieces.js";
-import { windowsOf } from "./shape.js";
-import { count, seenThrough, told } from "./word.js";
+import {freePieceWith} from "./pieces.js";
+import {windowsOf} from "./shape.js";
+import {count, seenThrough, told} from "./word.js";
 
 const MOST_TOLD = 7;
 
@@ -26,9 +26,13 @@ export function shortened(changes) {
   return [...changes.slice(0, MOST_TOLD - 1), `and ${changes.length - MOST_TOLD + 1} more changes`];
 }
 
-const ENDINGS = { DONE: "the run is done", FAIL: "the run has failed", LIMIT: "the run has made all the steps it may" };
+const ENDINGS = {
+  DONE: "the run is done",
+  FAIL: "the run has failed",
+  LIMIT: "the run has made all the steps it may"
+};
 
-function endings({ state }) {
+function endings({state}) {
   if (!state.ending) return [];
   if (state.ending === "TRAP") return [TRAPS[/TRAP (\d+)/.exec(state.line)[1]] ?? "the run has trapped"];
   return [ENDINGS[state.ending]];
@@ -57,12 +61,14 @@ function blocksOf(before, view, isStep) {
   const found = [];
   for (const [place, block] of now) {
     const was = old.get(place);
-    if (was?.size !== block.size) found.push(`got ${count(block.size, "word")} at ${place}${isStep ? halved(before, block) : ""}`);
+    if (was?.size !== block.size)
+      found.push(`got ${count(block.size, "word")} at ${place}${isStep ? halved(before, block) : ""}`);
     if (block.isLost && !was?.isLost) found.push(`block ${place} is lost: nothing leads to it`);
     if (!block.isLost && was?.isLost) found.push(`block ${place} is lost no more`);
   }
   for (const [place, block] of old) {
-    if (now.get(place)?.size !== block.size) found.push(`freed ${count(block.size, "word")} at ${place}${isStep ? joined(view, block) : ""}`);
+    if (now.get(place)?.size !== block.size)
+      found.push(`freed ${count(block.size, "word")} at ${place}${isStep ? joined(view, block) : ""}`);
   }
   return found;
 }
@@ -105,9 +111,14 @@ function wordsOf(before, view) {
     if (!words || !old || old.length !== words.length) continue;
     words.forEach((word, index) => {
       if (word === old[index]) return;
-      const own = windows.filter((it) => it.word === index && seenThrough(word, it) !== seenThrough(old[index], it));
-      if (own.length) for (const it of own) found.push(`${it.name} of ${place} was ${seenThrough(old[index], it)}, is ${seenThrough(word, it)}`);
-      else found.push(`word ${index} of ${place} is another`);
+      const own =
+        windows.filter((it) => it.word === index && seenThrough(word, it) !== seenThrough(old[index], it));
+      if (own.length)
+        for (const it of own)
+          found.push(`${it.name} of ${place} was ${seenThrough(old[index], it)}, is ${seenThrough(word, it)}`
+          );
+      else
+        found.push(`word ${index} of ${place} is another`);
     });
   }
   return found;
@@ -122,7 +133,9 @@ function amountsOf(before, view, input) {
   };
   change("contents", "content");
   change("definitions", "definition");
-  if (is.returns !== was.returns) found.push(is.returns > was.returns ? `called: ${count(is.returns, "return")} ${is.returns === 1 ? "waits" : "wait"}` : "returned");
+  if (is.returns !== was.returns)
+    found
+      .push(is.returns > was.returns ? `called: ${count(is.returns, "return")} ${is.returns === 1 ? "waits" : "wait"}` : "returned");
   if (is.input > was.input) found.push(`took ${takenOf(input, was.input, is.input)} from the input`);
   if (is.output > was.output) found.push(`printed ${quoted(view.output.slice(was.output))}`);
   return found;

@@ -21,7 +21,7 @@ export class Engine {
   // The module is compiled already, and the script is that of the worker.
   constructor(module, script) {
     this.module = module;
-    this.address = URL.createObjectURL(new Blob([script], { type: "text/javascript" }));
+    this.address = URL.createObjectURL(new Blob([script], {type: "text/javascript"}));
     this.waiting = new Map();
     this.number = 0;
     this.begin();
@@ -29,17 +29,17 @@ export class Engine {
 
   begin() {
     this.worker = new Worker(this.address);
-    this.worker.onmessage = ({ data }) => this.settle(data);
+    this.worker.onmessage = ({data}) => this.settle(data);
     this.worker.onerror = (event) => this.fail(new Error(event.message));
-    this.worker.postMessage({ module: this.module });
+    this.worker.postMessage({module: this.module});
   }
 
   // Has a job done: the words of the command line, and what standard input has, as bytes.
   run(words, input, limit) {
     const number = ++this.number;
     return new Promise((resolve, reject) => {
-      this.waiting.set(number, { resolve, reject });
-      this.worker.postMessage({ number, words, input, limit });
+      this.waiting.set(number, {resolve, reject});
+      this.worker.postMessage({number, words, input, limit});
     });
   }
 
@@ -47,11 +47,13 @@ export class Engine {
     return this.waiting.size > 0;
   }
 
-  settle({ number, answer, broken }) {
+  settle({number, answer, broken}) {
     const job = this.waiting.get(number);
     this.waiting.delete(number);
-    if (broken) job.reject(new Error(broken));
-    else job.resolve({ ...answer, output: textOfBytes(answer.output), errors: textOfBytes(answer.errors) });
+    if (broken)
+      job.reject(new Error(broken));
+    else
+      job.resolve({...answer, output: textOfBytes(answer.output), errors: textOfBytes(answer.errors)});
   }
 
   // Ends what is being done, and begins anew.

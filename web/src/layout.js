@@ -2,9 +2,12 @@
 // of others lead down to parts that stand side by side. So a list is a line, a tree goes down, and a list of
 // lists has each list below its head.
 
-import { GRID } from "./shape.js";
+import {GRID} from "./shape.js";
 
-const GAPS = { card: { side: GRID * 3, below: GRID * 4 }, box: { side: GRID * 2, below: GRID * 3 } }; // between blocks
+const GAPS = {
+  card: {side: GRID * 3, below: GRID * 4},
+  box: {side: GRID * 2, below: GRID * 3}
+}; // between blocks
 const MARGIN = GRID * 3;
 const PILL = GRID * 2; // the height of a bug above its block
 
@@ -17,7 +20,7 @@ export function arrange(blocks, bugs, room, isBox) {
   const found = new Map();
   const inner = room - 2 * MARGIN;
   const size = flow(rows.map((row) => boxOfRow(row, inner, gaps)), inner, gaps, MARGIN, MARGIN + PILL, found);
-  return { places: found, width: size.width + 2 * MARGIN, height: size.height + 2 * MARGIN + PILL };
+  return {places: found, width: size.width + 2 * MARGIN, height: size.height + 2 * MARGIN + PILL};
 }
 
 // ---- Which block hangs below which
@@ -37,7 +40,9 @@ function forest(known, bugs, blocks) {
 // bug leads, and of several the one from which most can be reached.
 function rootsOf(known, bugs, blocks) {
   const led = new Set();
-  for (const block of blocks) for (const link of block.links) if (link.target !== block.place) led.add(link.target);
+  for (const block of blocks)
+    for (const link of block.links)
+      if (link.target !== block.place) led.add(link.target);
   const order = new Map();
   [...bugs.values()].forEach((place, index) => order.has(place) || order.set(place, index));
   const rank = (block) => order.get(block.place) ?? bugs.size;
@@ -50,7 +55,9 @@ function rootsOf(known, bugs, blocks) {
 
 function reachOf(block, known) {
   const met = new Set([block.place]);
-  for (const place of met) for (const link of known.get(place).links) if (known.has(link.target)) met.add(link.target);
+  for (const place of met)
+    for (const link of known.get(place).links)
+      if (known.has(link.target)) met.add(link.target);
   return met.size;
 }
 
@@ -75,9 +82,9 @@ function grow(root, known, seen) {
 
 function rowFrom(start, known, seen) {
   const row = [];
-  for (let block = start; block && !seen.has(block.place); ) {
+  for (let block = start; block && !seen.has(block.place);) {
     seen.add(block.place);
-    row.push({ block, below: [] });
+    row.push({block, below: []});
     const link = block.links.find((it) => !it.down && known.has(it.target) && !seen.has(it.target));
     block = link && known.get(link.target);
   }
@@ -93,13 +100,15 @@ function boxOfRow(row, room, gaps) {
   const found = new Map();
   const size = flow(items, room, gaps, 0, 0, found);
   return {
-    width: size.width, height: size.height, middle: items[0].middle,
-    put: (x, y, into) => found.forEach((at, place) => into.set(place, { ...at, x: at.x + x, y: at.y + y })),
+    width: size.width,
+    height: size.height,
+    middle: items[0].middle,
+    put: (x, y, into) => found.forEach((at, place) => into.set(place, {...at, x: at.x + x, y: at.y + y})),
   };
 }
 
 // A block with the rows below it, of which it stands above the middle.
-function boxOfItem({ block, below }, room, gaps) {
+function boxOfItem({block, below}, room, gaps) {
   if (!below.length) return leaf(block);
   const boxes = below.map((row) => boxOfRow(row, room, gaps));
   const total = boxes.reduce((sum, it) => sum + it.width, 0) + gaps.side * (boxes.length - 1);
@@ -111,9 +120,14 @@ function boxOfItem({ block, below }, room, gaps) {
   const left = Math.min(0, middle - block.width / 2);
   const right = Math.max(total, middle + block.width / 2);
   return {
-    width: right - left, height: block.height + gaps.below + PILL + Math.max(...boxes.map((it) => it.height)), middle: middle - left,
+    width: right - left,
+    height: block.height + gaps.below + PILL + Math.max(...boxes.map((it) => it.height)),
+    middle: middle - left,
     put: (x, y, into) => {
-      into.set(block.place, { x: x + snap(middle - left - block.width / 2), y, width: block.width, height: block.height });
+      into.set(
+        block.place,
+        {x: x + snap(middle - left - block.width / 2), y, width: block.width, height: block.height}
+      );
       let at = x - left;
       for (const box of boxes) {
         box.put(at, y + block.height + gaps.below + PILL - GRID, into);
@@ -125,8 +139,10 @@ function boxOfItem({ block, below }, room, gaps) {
 
 function leaf(block) {
   return {
-    width: block.width, height: block.height, middle: block.width / 2,
-    put: (x, y, into) => into.set(block.place, { x, y, width: block.width, height: block.height }),
+    width: block.width,
+    height: block.height,
+    middle: block.width / 2,
+    put: (x, y, into) => into.set(block.place, {x, y, width: block.width, height: block.height}),
   };
 }
 
@@ -146,5 +162,5 @@ function flow(boxes, room, gaps, left, top, into) {
     height = Math.max(height, box.height);
     x += box.width + gaps.side;
   }
-  return { width: width - left, height: y + height - top };
+  return {width: width - left, height: y + height - top};
 }

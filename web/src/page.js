@@ -1,41 +1,61 @@
 // The page: what the reader does, and what is then shown.
 
-import { changesOf, shortened } from "./changes.js";
-import { actionAt, groupAt, meaningOf, readDeck } from "./deck.js";
-import { byId, make } from "./dom.js";
-import { Drawing } from "./drawing.js";
-import { Editor } from "./editor.js";
-import { bytesOf, Engine, Stopped } from "./engine.js";
-import { linkOf, readLink } from "./links.js";
-import { showBugs, showChain, showFields, showWords } from "./panels.js";
-import { Papers, save } from "./papers.js";
-import { referenceOf } from "./reference.js";
-import { job, partsOf, Refused, Session } from "./session.js";
-import { Strip } from "./strip.js";
-import { unpacked } from "./unpack.js";
-import { count, told } from "./word.js";
+import {changesOf, shortened} from "./changes.js";
+import {actionAt, groupAt, meaningOf, readDeck} from "./deck.js";
+import {byId, make} from "./dom.js";
+import {Drawing} from "./drawing.js";
+import {Editor} from "./editor.js";
+import {bytesOf, Engine, Stopped} from "./engine.js";
+import {linkOf, readLink} from "./links.js";
+import {showBugs, showChain, showFields, showWords} from "./panels.js";
+import {Papers, save} from "./papers.js";
+import {referenceOf} from "./reference.js";
+import {job, partsOf, Refused, Session} from "./session.js";
+import {Strip} from "./strip.js";
+import {unpacked} from "./unpack.js";
+import {count, told} from "./word.js";
 
 const SHORT_RUN = 2_000_000; // steps of a run that is made ahead, to know how many states there are
-const CHECK_AFTER = 300; // milliseconds without a key, until the deck is assembled
-const BLAME_AFTER = 1500; // and until a fault is told of the card that is being typed
-const RANGES = { store: [1, 255], steps: [0, 1_000_000_000], output: [0, 16_777_216], memory: [1, 2048] };
+const CHECK_AFTER = 300;     // milliseconds without a key, until the deck is assembled
+const BLAME_AFTER = 1500;    // and until a fault is told of the card that is being typed
+const RANGES = {
+  store: [1, 255],
+  steps: [0, 1_000_000_000],
+  output: [0, 16_777_216],
+  memory: [1, 2048]
+};
 
 class Page {
   constructor(engine, examples) {
     this.engine = engine;
     this.examples = examples;
     this.session = null;
-    this.view = null; // that is shown
+    this.view = null;   // that is shown
     this.chosen = null; // the place of a block
     this.playing = null;
     this.waiting = null; // what is to be done once the engine has answered
     this.isBusy = false;
-    this.editor = new Editor({ text: byId("deck"), under: byId("under"), gutter: byId("gutter"), ruler: byId("ruler") }, (statement, runs) => (runs ? this.runTo(statement) : this.toggle(statement)));
+    this.editor = new Editor(
+      {text: byId("deck"), under: byId("under"), gutter: byId("gutter"), ruler: byId("ruler")},
+      (statement, runs) => (runs ? this.runTo(statement) : this.toggle(statement))
+    );
     this.drawing = new Drawing(byId("drawing"), (place) => this.chooseBlock(place));
-    this.strip = new Strip({ text: byId("store-text"), units: byId("units"), strip: byId("strip"), levels: byId("levels"), bySize: byId("by-size"), unitBox: byId("unit") }, (place) => this.chooseBlock(place));
+    this.strip = new Strip(
+      {
+        text: byId("store-text"),
+        units: byId("units"),
+        strip: byId("strip"),
+        levels: byId("levels"),
+        bySize: byId("by-size"),
+        unitBox: byId("unit")
+      },
+      (place) => this.chooseBlock(place)
+    );
     this.papers = new Papers({
-      job: () => this.job(), ask: (words, input) => this.ask(words, input),
-      words: (verb) => new Session(null, this.job()).words(verb), exchanges: () => this.session?.exchanges ?? [],
+      job: () => this.job(),
+      ask: (words, input) => this.ask(words, input),
+      words: (verb) => new Session(null, this.job()).words(verb),
+      exchanges: () => this.session?.exchanges ?? [],
     });
     byId("reference").append(...referenceOf());
     this.fillMenu();
@@ -45,7 +65,7 @@ class Page {
   // ---- The job
 
   job() {
-    return { deck: byId("deck").value, input: byId("input").value, options: this.options() };
+    return {deck: byId("deck").value, input: byId("input").value, options: this.options()};
   }
 
   options() {
@@ -54,7 +74,7 @@ class Page {
       const number = Math.floor(Number(byId(name).value));
       return Math.min(most, Math.max(least, Number.isFinite(number) ? number : least));
     };
-    return { store: value("store"), steps: value("steps"), output: value("output") };
+    return {store: value("store"), steps: value("steps"), output: value("output")};
   }
 
   ask(words, input) {
@@ -100,7 +120,8 @@ class Page {
   setBusy(isBusy) {
     this.isBusy = isBusy;
     clearTimeout(this.busyTimer);
-    if (isBusy) this.busyTimer = setTimeout(() => this.tellBusy(), 150);
+    if (isBusy)
+      this.busyTimer = setTimeout(() => this.tellBusy(), 150);
     else {
       byId("stop").disabled = this.playing === null;
       document.body.classList.remove("busy");
@@ -130,10 +151,11 @@ class Page {
   run() {
     this.pause();
     return this.act(async (session) => {
-      const { ending, milliseconds } = await session.run();
+      const {ending, milliseconds} = await session.run();
       this.view = null;
       this.show(await session.view(session.last), null);
-      this.tell(`${count(ending.steps, "step")} in ${milliseconds < 10 ? milliseconds.toFixed(1) : told(Math.round(milliseconds))} ms`);
+      this.tell(`${count(ending.steps, "step")} in ${
+        milliseconds < 10 ? milliseconds.toFixed(1) : told(Math.round(milliseconds))} ms`);
     });
   }
 
@@ -176,7 +198,8 @@ class Page {
   }
 
   withMarks(find) {
-    const marks = [...this.editor.marks].filter((it) => it <= this.editor.deck.statements.length).sort((a, b) => a - b);
+    const marks =
+      [...this.editor.marks].filter((it) => it <= this.editor.deck.statements.length).sort((a, b) => a - b);
     if (!marks.length) return this.tell("No statement is marked: click the number of one.");
     return this.goTo((session, at) => find(session, at, marks));
   }
@@ -186,7 +209,7 @@ class Page {
   }
 
   toggle(statement) {
-    const { marks } = this.editor;
+    const {marks} = this.editor;
     if (!marks.delete(statement)) marks.add(statement);
     this.editor.draw();
     this.tell(`statement ${statement} is ${marks.has(statement) ? "marked" : "not marked any more"}`);
@@ -231,7 +254,7 @@ class Page {
     const old = before && before.state.number !== view.state.number ? before : null;
     this.before = old;
     this.view = view;
-    const { state } = view;
+    const {state} = view;
     byId("empty").textContent = view.draw.blocks.size || view.store.used ? "" : "No block is in use.";
     this.drawing.show(view, old);
     this.showLegend();
@@ -240,28 +263,36 @@ class Page {
     showFields(byId("fields"), view, old, (name) => this.drawing.colourOf(name));
     this.showDetails();
     this.showPrinted(view, old);
-    const action = state.ending && state.ending !== "TRAP" ? null : actionAt(this.editor.deck, state.statement, state.action);
-    this.editor.point(action && { ...action, statement: state.statement });
+    const action = state.ending && state.ending !== "TRAP" ?
+      null :
+      actionAt(this.editor.deck, state.statement, state.action);
+    this.editor.point(action && {...action, statement: state.statement});
     byId("where").textContent = state.line;
     byId("where").parentElement.classList.toggle("trap", state.ending === "TRAP");
-    byId("next").replaceChildren(...(action ? [state.ending ? "At: " : "Next: ", make("code", {}, action.text || "—"), ` ${action.says}`] : []));
+    byId("next").replaceChildren(...(
+      action ? [state.ending ? "At: " : "Next: ", make("code", {}, action.text || "—"), ` ${action.says}`] :
+               []
+    ));
     const changes = changesOf(old, view, this.session.input);
     this.showChanges(changes, old);
     this.showNumbers();
-    byId("spoken").textContent = `${state.line}. ${action ? `Next ${action.text}, ${action.says}. ` : ""}${shortened(changes).join("; ")}`;
+    byId("spoken").textContent = `${state.line}. ${action ? `Next ${action.text}, ${action.says}. ` : ""}${
+      shortened(changes).join("; ")}`;
     this.checkExercise();
   }
 
   showChanges(changes, before) {
     const parts = shortened(changes).flatMap((it, index) => [index ? " · " : "", it]);
-    const far = before && Math.abs(before.state.number - this.view.state.number) > 1 ? `since state ${told(before.state.number)}: ` : "";
+    const far = before && Math.abs(before.state.number - this.view.state.number) > 1 ?
+      `since state ${told(before.state.number)}: ` :
+      "";
     byId("changes").replaceChildren(...(parts.length ? [make("b", {}, "Changed "), far, ...parts] : []));
     byId("changes").title = changes.slice(0, 60).join("\n");
   }
 
   showNumbers() {
-    const { number } = this.view.state;
-    const { last } = this.session;
+    const {number} = this.view.state;
+    const {last} = this.session;
     const most = last ?? Math.max(1000, 2 * number);
     for (const [name, value] of [["max", most], ["value", number]]) byId("slider")[name] = value;
     byId("number").value = number;
@@ -274,24 +305,36 @@ class Page {
   // What is printed up to the state that is shown; what came last is marked.
   showPrinted(view, before) {
     const pre = byId("printed");
-    const old = before && before.amounts.output < view.amounts.output && view.output.startsWith(before.output) ? before.output.length : view.output.length;
-    const ending = view.state.ending ? `${view.output && !view.output.endsWith("\n") ? "\n" : ""}${view.state.line}` : "";
-    pre.replaceChildren(view.output.slice(0, old), make("span", { class: "fresh" }, view.output.slice(old)), make("span", { class: "ending" }, ending));
+    const old =
+      before && before.amounts.output < view.amounts.output && view.output.startsWith(before.output) ?
+      before.output.length :
+      view.output.length;
+    const ending =
+      view.state.ending ? `${view.output && !view.output.endsWith("\n") ? "\n" : ""}${view.state.line}` : "";
+    pre.replaceChildren(
+      view.output.slice(0, old), make("span", {class: "fresh"}, view.output.slice(old)),
+      make("span", {class: "ending"}, ending)
+    );
     byId("printed-label").textContent = view.state.ending ? "Printed" : `Printed so far`;
     pre.scrollTop = pre.scrollHeight;
   }
 
   // The fields with links, each a button that turns the direction of its links.
   showLegend() {
-    const { windows, ways } = this.drawing.graph;
+    const {windows, ways} = this.drawing.graph;
     byId("legend").replaceChildren(...windows.map((window) => {
       const way = ways.get(window.key);
       const colour = this.drawing.colourOf(window.name);
-      if (!way) return make("span", { class: colour }, window.name);
-      return make("button", {
-        type: "button", class: colour, title: `Links of ${window.name} lead ${way.down ? "down" : "to the right"}: click to turn`,
-        onclick: () => this.turn(window, way),
-      }, `${window.name} ${way.down ? "↓" : "→"}`);
+      if (!way) return make("span", {class: colour}, window.name);
+      return make(
+        "button", {
+          type: "button",
+          class: colour,
+          title: `Links of ${window.name} lead ${way.down ? "down" : "to the right"}: click to turn`,
+          onclick: () => this.turn(window, way),
+        },
+        `${window.name} ${way.down ? "↓" : "→"}`
+      );
     }));
   }
 
@@ -315,7 +358,7 @@ class Page {
 
   // The words of the block that is chosen, or of that in which the chain ends.
   async showDetails() {
-    const { view, session } = this;
+    const {view, session} = this;
     if (!view) return;
     const colour = (name) => this.drawing.colourOf(name);
     const chain = byId("chain").value.trim();
@@ -342,11 +385,14 @@ class Page {
     this.drawing.empty(why);
     this.strip.forget();
     this.editor.point(null);
-    for (const id of ["next", "changes", "bugs", "fields", "words", "led", "legend", "printed"]) byId(id).replaceChildren();
+    for (const id of ["next", "changes", "bugs", "fields", "words", "led", "legend", "printed"])
+      byId(id).replaceChildren();
     byId("amounts").textContent = "";
     byId("where").textContent = "Not run yet";
     byId("where").parentElement.classList.remove("trap");
-    byId("empty").replaceChildren(make("div", {}, make("b", {}, why), make("br"), "Run goes to the end, Step goes on by one step."));
+    byId("empty").replaceChildren(
+      make("div", {}, make("b", {}, why), make("br"), "Run goes to the end, Step goes on by one step.")
+    );
     byId("of").textContent = "";
     byId("slider").max = byId("slider").value = byId("number").value = 0;
     for (const id of ["step", "end", "back", "start"]) byId(id).disabled = false;
@@ -384,16 +430,18 @@ class Page {
   // While nothing is run: what the group says in which the cursor stands.
   explainCursor() {
     if (this.view || document.activeElement !== this.editor.text) return;
-    const { card, column } = this.editor.cursor();
+    const {card, column} = this.editor.cursor();
     const group = groupAt(this.editor.deck, card, column);
-    byId("next").replaceChildren(...(group ? [make("code", {}, `(${group.text})`), ` ${meaningOf(group.elements, group.text)}`] : []));
+    byId("next").replaceChildren(
+      ...(group ? [make("code", {}, `(${group.text})`), ` ${meaningOf(group.elements, group.text)}`] : [])
+    );
   }
 
   // A whole job that was pasted into the deck is put into its boxes.
   splitJob() {
     const text = byId("deck").value;
     if (!text.includes("$")) return;
-    const { deck, commands, input } = partsOf(text);
+    const {deck, commands, input} = partsOf(text);
     if (deck === text) return;
     byId("deck").value = deck;
     if (input) byId("input").value = input;
@@ -404,12 +452,13 @@ class Page {
   // Assembles the deck, and tells its fault.
   async check() {
     if (this.isBusy) return;
-    const { deck } = this.job();
+    const {deck} = this.job();
     try {
       const answer = await this.ask(["asm"], bytesOf(job(deck, null, "")));
       if (byId("deck").value !== deck) return;
       const line = answer.status === 0 ? "" : answer.errors.trim();
-      const isTyping = performance.now() - (this.typed ?? -BLAME_AFTER) < BLAME_AFTER && cardToldBy(line) === this.editor.cursor().card;
+      const isTyping = performance.now() - (this.typed ?? -BLAME_AFTER) < BLAME_AFTER &&
+        cardToldBy(line) === this.editor.cursor().card;
       this.showFault(isTyping ? "" : line);
       if (isTyping) this.checkLater(BLAME_AFTER);
     } catch (error) {
@@ -424,18 +473,19 @@ class Page {
     const card = cardToldBy(line);
     const own = this.editor.deck.fault;
     const isSame = own && own.card === card && line.endsWith(own.kind);
-    this.editor.blame(card < 0 ? null : isSame ? own : { card, from: 0, to: 72 });
+    this.editor.blame(card < 0 ? null : isSame ? own : {card, from: 0, to: 72});
     if (!line) return;
     fault.replaceChildren(make("code", {}, line), isSame ? ` — ${own.why}` : "");
     if (card >= 0) this.editor.reveal(card);
   }
 
-  put({ deck, input = "", commands = "", options = {}, marks = [] }) {
+  put({deck, input = "", commands = "", options = {}, marks = []}) {
     this.pause();
     byId("deck").value = deck;
     byId("input").value = input;
     byId("commands").value = commands;
-    for (const [name, value] of Object.entries({ store: 8, steps: 1_000_000, output: 1_048_576, ...options })) byId(name).value = value;
+    for (const [name, value] of Object.entries({store: 8, steps: 1_000_000, output: 1_048_576, ...options}))
+      byId(name).value = value;
     this.editor.marks = new Set(marks);
     this.editor.text.scrollTop = 0;
     this.session = null;
@@ -451,8 +501,13 @@ class Page {
   // ---- Examples, files, links
 
   fillMenu() {
-    byId("example").replaceChildren(make("option", { value: "" }, "Examples and exercises .."), ...this.examples.map(({ name, items }) =>
-      make("optgroup", { label: name }, ...items.map((it) => make("option", { value: it.key }, it.title)))));
+    byId("example").replaceChildren(
+      make("option", {value: ""}, "Examples and exercises .."),
+      ...this.examples.map(
+        ({name, items}) =>
+          make("optgroup", {label: name}, ...items.map((it) => make("option", {value: it.key}, it.title)))
+      )
+    );
   }
 
   find(key) {
@@ -472,18 +527,24 @@ class Page {
 
   showExercise() {
     const frame = byId("exercise");
-    const { task, printout } = this.example ?? {};
+    const {task, printout} = this.example ?? {};
     frame.hidden = !task;
-    if (task) frame.replaceChildren(make("b", {}, "Exercise "), task, make("pre", {}, `It is to print:\n${printout}`), make("span", { class: "right-answer", id: "verdict" }));
+    if (task)
+      frame.replaceChildren(
+        make("b", {}, "Exercise "), task, make("pre", {}, `It is to print:\n${printout}`),
+        make("span", {class: "right-answer", id: "verdict"})
+      );
   }
 
   // Whether the printout is that which the exercise asks for.
   checkExercise() {
     if (!this.example?.task || !this.view?.state.ending) return;
-    const [lines, wanted] = [this.view.output.trimEnd().split("\n"), this.example.printout.trimEnd().split("\n")];
+    const [lines, wanted] =
+      [this.view.output.trimEnd().split("\n"), this.example.printout.trimEnd().split("\n")];
     const wrong = wanted.findIndex((line, index) => line !== lines[index]);
     const isRight = wrong < 0 && lines.length === wanted.length && this.view.state.ending === "DONE";
-    const first = wrong < 0 ? "more is printed, or the run does not end by DONE" : `line ${wrong + 1} is “${lines[wrong] ?? ""}” and not “${wanted[wrong]}”`;
+    const first = wrong < 0 ? "more is printed, or the run does not end by DONE" :
+                              `line ${wrong + 1} is “${lines[wrong] ?? ""}” and not “${wanted[wrong]}”`;
     byId("verdict").textContent = isRight ? "✓ Just this is printed." : `Not yet: ${first}.`;
     byId("verdict").className = isRight ? "right-answer" : "wrong-answer";
     if (isRight) this.tell("The exercise is solved.");
@@ -494,7 +555,7 @@ class Page {
     if (bytes.length > 16_777_216) return this.tell("The file is longer than a job may be.");
     let text;
     try {
-      text = new TextDecoder("utf-8", { fatal: true, ignoreBOM: false }).decode(bytes);
+      text = new TextDecoder("utf-8", {fatal: true, ignoreBOM: false}).decode(bytes);
     } catch {
       text = new TextDecoder("latin1").decode(bytes);
     }
@@ -506,15 +567,22 @@ class Page {
   }
 
   saveFile() {
-    const { deck, input } = this.job();
+    const {deck, input} = this.job();
     save(`${this.example?.key ?? "my"}.deck`, job(deck, byId("commands").value || null, input));
   }
 
   async makeLink() {
     const now = this.job();
-    const { example } = this;
-    const isSame = example && example.deck === now.deck && (example.input ?? "") === now.input && JSON.stringify(now.options) === JSON.stringify({ store: 8, steps: 1_000_000, output: 1_048_576, ...example.options });
-    const link = await linkOf({ ...now, example: isSame ? example.key : null, marks: [...this.editor.marks].sort((a, b) => a - b), number: this.view ? this.view.state.number : null });
+    const {example} = this;
+    const isSame = example && example.deck === now.deck && (example.input ?? "") === now.input &&
+      JSON.stringify(now.options) ===
+        JSON.stringify({store: 8, steps: 1_000_000, output: 1_048_576, ...example.options});
+    const link = await linkOf({
+      ...now,
+      example: isSame ? example.key : null,
+      marks: [...this.editor.marks].sort((a, b) => a - b),
+      number: this.view ? this.view.state.number : null
+    });
     history.replaceState(null, "", link);
     try {
       await navigator.clipboard.writeText(location.href);
@@ -540,8 +608,13 @@ class Page {
     this.put(link);
     this.showExercise();
     if (link.number !== null) {
-      const go = make("button", { type: "button", class: "main", onclick: () => this.state(link.number) }, `Go to state ${told(link.number)}`);
-      byId("empty").replaceChildren(make("div", {}, make("b", {}, "This deck came with the link, and was not run."), make("br"), go));
+      const go = make(
+        "button", {type: "button", class: "main", onclick: () => this.state(link.number)},
+        `Go to state ${told(link.number)}`
+      );
+      byId("empty").replaceChildren(
+        make("div", {}, make("b", {}, "This deck came with the link, and was not run."), make("br"), go)
+      );
     }
     return true;
   }
@@ -551,22 +624,43 @@ class Page {
   listen() {
     const on = (id, event, what) => byId(id).addEventListener(event, what);
     const buttons = {
-      run: () => this.run(), stop: () => this.stop(), start: () => this.state(0), back: () => this.back(), play: () => this.play(), step: () => this.step(), end: () => this.end(),
-      "mark-back": () => this.markBefore(), "mark-next": () => this.nextMark(), "to-cursor": () => this.runTo(this.editor.statementAtCursor()),
-      open: () => byId("file").click(), save: () => this.saveFile(), link: () => this.makeLink(), papers: () => this.papers.open(this.papers.tab), help: () => byId("help-dialog").showModal(),
+      run: () => this.run(),
+      stop: () => this.stop(),
+      start: () => this.state(0),
+      back: () => this.back(),
+      play: () => this.play(),
+      step: () => this.step(),
+      end: () => this.end(),
+      "mark-back": () => this.markBefore(),
+      "mark-next": () => this.nextMark(),
+      "to-cursor": () => this.runTo(this.editor.statementAtCursor()),
+      open: () => byId("file").click(),
+      save: () => this.saveFile(),
+      link: () => this.makeLink(),
+      papers: () => this.papers.open(this.papers.tab),
+      help: () => byId("help-dialog").showModal(),
     };
     for (const [id, what] of Object.entries(buttons)) on(id, "click", what);
     on("deck", "input", () => this.changed());
     on("input", "input", () => this.inputChanged());
     for (const name of Object.keys(RANGES)) on(name, "change", () => this.optionChanged());
     on("slider", "input", () => this.state(Number(byId("slider").value)));
-    on("number", "change", () => this.state(Math.max(0, Math.min(1_000_000_001, Number(byId("number").value) || 0))));
+    on(
+      "number", "change",
+      () => this.state(Math.max(0, Math.min(1_000_000_001, Number(byId("number").value) || 0)))
+    );
     on("example", "change", () => this.chooseExample(byId("example").value));
     on("file", "change", () => byId("file").files[0] && this.openFile(byId("file").files[0]));
     on("place", "input", () => this.placeTyped());
     on("chain", "input", () => this.showDetails());
-    on("detail", "change", () => { this.drawing.detail = byId("detail").value; this.redraw(); });
-    on("zoom", "input", () => { this.drawing.zoom = Number(byId("zoom").value) / 100; this.drawing.fit(); });
+    on("detail", "change", () => {
+      this.drawing.detail = byId("detail").value;
+      this.redraw();
+    });
+    on("zoom", "input", () => {
+      this.drawing.zoom = Number(byId("zoom").value) / 100;
+      this.drawing.fit();
+    });
     document.addEventListener("keydown", (event) => this.key(event));
     document.addEventListener("selectionchange", () => this.explainCursor());
     window.addEventListener("hashchange", () => this.openLink());
@@ -594,7 +688,10 @@ class Page {
   }
 
   optionChanged() {
-    const options = { ...this.options(), memory: Math.min(2048, Math.max(1, Number(byId("memory").value) || 1)) };
+    const options = {
+      ...this.options(),
+      memory: Math.min(2048, Math.max(1, Number(byId("memory").value) || 1))
+    };
     const wrong = Object.keys(RANGES).filter((name) => Number(byId(name).value) !== options[name]);
     for (const name of wrong) byId(name).value = options[name];
     byId("options-note").textContent = wrong.length ? `${wrong.join(", ")}: put back into its range` : "";
@@ -622,21 +719,41 @@ class Page {
 
   key(event) {
     if (document.querySelector("dialog[open]")) return;
-    const { key } = event;
-    const isTyping = /^(TEXTAREA|SELECT)$/.test(event.target.tagName) || (event.target.tagName === "INPUT" && event.target.type !== "checkbox");
+    const {key} = event;
+    const isTyping = /^(TEXTAREA|SELECT)$/.test(event.target.tagName) ||
+      (event.target.tagName === "INPUT" && event.target.type !== "checkbox");
     const everywhere = {
-      "Ctrl Enter": () => this.run(), "Meta Enter": () => this.run(), F8: () => this.step(), "Shift F8": () => this.back(), F9: () => this.toggle(this.editor.statementAtCursor()),
-      Escape: () => (this.engine.isBusy || this.playing !== null ? this.stop() : isTyping && event.target.blur()),
+      "Ctrl Enter": () => this.run(),
+      "Meta Enter": () => this.run(),
+      F8: () => this.step(),
+      "Shift F8": () => this.back(),
+      F9: () => this.toggle(this.editor.statementAtCursor()),
+      Escape: () =>
+        (this.engine.isBusy || this.playing !== null ? this.stop() : isTyping && event.target.blur()),
     };
     const outside = {
-      ArrowRight: () => this.step(), n: () => this.step(), ArrowLeft: () => this.back(), p: () => this.back(), " ": () => this.play(),
-      g: () => this.nextMark(), b: () => this.markBefore(), r: () => this.runTo(this.editor.statementAtCursor()),
+      ArrowRight: () => this.step(),
+      n: () => this.step(),
+      ArrowLeft: () => this.back(),
+      p: () => this.back(),
+      " ": () => this.play(),
+      g: () => this.nextMark(),
+      b: () => this.markBefore(),
+      r: () => this.runTo(this.editor.statementAtCursor()),
       m: () => this.view && this.view.state.statement !== undefined && this.toggle(this.view.state.statement),
-      Home: () => this.state(0), End: () => this.end(), e: () => byId("deck").focus(), d: () => this.drawing.groups.get(this.drawing.focused ?? this.drawing.groups.keys().next().value)?.focus(),
+      Home: () => this.state(0),
+      End: () => this.end(),
+      e: () => byId("deck").focus(),
+      d: () =>
+        this.drawing.groups.get(this.drawing.focused ?? this.drawing.groups.keys().next().value)?.focus(),
     };
-    const name = [event.ctrlKey && "Ctrl", event.metaKey && "Meta", event.shiftKey && key.length > 1 && "Shift", key].filter((it) => it).join(" ");
+    const name =
+      [event.ctrlKey && "Ctrl", event.metaKey && "Meta", event.shiftKey && key.length > 1 && "Shift", key]
+        .filter((it) => it)
+        .join(" ");
     const isButton = ["BUTTON", "SUMMARY"].includes(event.target.tagName) && (key === " " || key === "Enter");
-    const what = everywhere[name] ?? (isTyping || isButton || event.altKey ? null : outside[name] ?? outside[name.toLowerCase()]);
+    const what = everywhere[name] ??
+      (isTyping || isButton || event.altKey ? null : outside[name] ?? outside[name.toLowerCase()]);
     if (!what) return;
     event.preventDefault();
     what();
@@ -649,7 +766,7 @@ function cardToldBy(line) {
 }
 
 async function begin() {
-  const { worker, examples } = window.l6Texts;
+  const {worker, examples} = window.l6Texts;
   const bytes = await unpacked(byId("module").textContent);
   const engine = new Engine(await WebAssembly.compile(bytes), worker);
   const page = new Page(engine, examples);

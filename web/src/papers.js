@@ -1,9 +1,9 @@
 // The dialog with what the program writes: printout, listing, image, the answers to commands of the reader's own,
 // and what the page asked last. Each can be downloaded.
 
-import { byId, make } from "./dom.js";
-import { bytesOf } from "./engine.js";
-import { job } from "./session.js";
+import {byId, make} from "./dom.js";
+import {bytesOf} from "./engine.js";
+import {job} from "./session.js";
 
 const TABS = [
   ["printout", "Printout", "printout.txt"],
@@ -21,9 +21,20 @@ export class Papers {
     this.text = "";
     this.tab = "printout";
     this.dialog = byId("papers-dialog");
-    byId("tabs").replaceChildren(...TABS.map(([key, name]) =>
-      make("button", { type: "button", role: "tab", id: `tab-${key}`, "aria-controls": "paper", onclick: () => this.open(key) }, name)));
-    byId("download").addEventListener("click", () => save(TABS.find(([key]) => key === this.tab)[2], this.text));
+    byId("tabs").replaceChildren(...TABS.map(
+      ([key, name]) => make(
+        "button", {
+          type: "button",
+          role: "tab",
+          id: `tab-${key}`,
+          "aria-controls": "paper",
+          onclick: () => this.open(key)
+        },
+        name
+      )
+    ));
+    byId("download"
+    ).addEventListener("click", () => save(TABS.find(([key]) => key === this.tab)[2], this.text));
     byId("copy").addEventListener("click", () => this.copy());
     byId("obey").addEventListener("click", () => this.open("session"));
   }
@@ -35,7 +46,7 @@ export class Papers {
     byId("commands-part").hidden = tab !== "session";
     this.put("", "..");
     try {
-      const { text, note } = await this.read(tab);
+      const {text, note} = await this.read(tab);
       this.put(text, note);
     } catch (error) {
       this.put("", error.message);
@@ -44,19 +55,28 @@ export class Papers {
 
   put(text, note) {
     this.text = text;
-    byId("paper").textContent = text.length > MOST_SHOWN ? `${text.slice(0, MOST_SHOWN)}\n.. (the download has all)` : text;
+    byId("paper").textContent =
+      text.length > MOST_SHOWN ? `${text.slice(0, MOST_SHOWN)}\n.. (the download has all)` : text;
     byId("paper-note").textContent = note;
   }
 
   async read(tab) {
-    const { deck, input } = this.source.job();
-    if (tab === "asked") return { text: this.source.exchanges().map(({ asked, answered }) => `${asked}\n----\n${answered}`).join("\n========\n"), note: "What the page asked the debugger last, and its answers" };
-    const words = { listing: ["list"], image: ["asm"] }[tab];
+    const {deck, input} = this.source.job();
+    if (tab === "asked")
+      return {
+        text: this.source.exchanges().map(
+                                       ({asked, answered}) => `${asked}\n----\n${answered}`
+        ).join("\n========\n"),
+        note: "What the page asked the debugger last, and its answers"
+      };
+    const words = {listing: ["list"], image: ["asm"]}[tab];
     const commands = byId("commands").value;
-    const answer = words ? await this.source.ask(words, bytesOf(job(deck, null, "")))
-      : tab === "session" ? await this.source.ask(this.source.words("debug"), bytesOf(job(deck, commands, input)))
-      : await this.source.ask(this.source.words("run"), bytesOf(job(deck, null, input)));
-    return { text: answer.output, note: answer.errors.trim() || `exit status ${answer.status}` };
+    const answer = words ?
+      await this.source.ask(words, bytesOf(job(deck, null, ""))) :
+      tab === "session" ?
+      await this.source.ask(this.source.words("debug"), bytesOf(job(deck, commands, input))) :
+      await this.source.ask(this.source.words("run"), bytesOf(job(deck, null, input)));
+    return {text: answer.output, note: answer.errors.trim() || `exit status ${answer.status}`};
   }
 
   async copy() {
@@ -67,7 +87,7 @@ export class Papers {
 
 // Has the browser save a text as a file, a byte for each character.
 export function save(name, text) {
-  const address = URL.createObjectURL(new Blob([bytesOf(text)], { type: "text/plain" }));
-  make("a", { href: address, download: name }).click();
+  const address = URL.createObjectURL(new Blob([bytesOf(text)], {type: "text/plain"}));
+  make("a", {href: address, download: name}).click();
   setTimeout(() => URL.revokeObjectURL(address), 10_000);
 }

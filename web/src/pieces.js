@@ -2,7 +2,7 @@
 // determined by these: they are aligned, have sizes that are powers of two, and no two buddies are both free
 // (which is proved of the store), so they are the largest aligned pieces that fit into the runs.
 
-import { UNIT } from "./word.js";
+import {UNIT} from "./word.js";
 
 // The pieces from one place on and before another: blocks, and free pieces.
 export function piecesBetween(store, begin, end) {
@@ -10,8 +10,10 @@ export function piecesBetween(store, begin, end) {
   for (const piece of store.pieces) {
     if (piece.place + piece.size <= begin) continue;
     if (piece.place >= end) break;
-    if (!piece.isFree) pieces.push(piece);
-    else for (const free of freePieces(piece, begin, end)) pieces.push(free);
+    if (!piece.isFree)
+      pieces.push(piece);
+    else
+      for (const free of freePieces(piece, begin, end)) pieces.push(free);
   }
   return pieces;
 }
@@ -23,7 +25,7 @@ function* freePieces(run, begin, end) {
   if (place < begin) place = Math.max(place, begin - (begin % UNIT));
   while (place < stop) {
     const size = sizeAt(place, run.place + run.size - place);
-    if (place + size > begin) yield { place, size, isFree: true };
+    if (place + size > begin) yield {place, size, isFree: true};
     place += size;
   }
 }
@@ -39,7 +41,8 @@ function sizeAt(place, room) {
 export function freePieceWith(store, place) {
   const run = findPiece(store, place);
   if (!run?.isFree) return 0;
-  for (const piece of freePieces(run, place, place + 1)) if (piece.place + piece.size > place) return piece.size;
+  for (const piece of freePieces(run, place, place + 1))
+    if (piece.place + piece.size > place) return piece.size;
   return 0;
 }
 
@@ -49,9 +52,12 @@ export function findPiece(store, place) {
   while (low <= high) {
     const middle = (low + high) >> 1;
     const piece = store.pieces[middle];
-    if (place < piece.place) high = middle - 1;
-    else if (place >= piece.place + piece.size) low = middle + 1;
-    else return piece;
+    if (place < piece.place)
+      high = middle - 1;
+    else if (place >= piece.place + piece.size)
+      low = middle + 1;
+    else
+      return piece;
   }
   return null;
 }

@@ -1,11 +1,11 @@
 // The ways of arrows: along a grid, round the blocks, with few corners, and beside one another.
 
-import { GRID } from "./shape.js";
+import {GRID} from "./shape.js";
 
-const TURN = 3; // what a corner costs, in steps of the grid
+const TURN = 3;   // what a corner costs, in steps of the grid
 const SHARED = 8; // what it costs to run where another arrow runs
 const CROSSED = 2;
-const NEAR = 0.15; // beside a block
+const NEAR = 0.15;                                     // beside a block
 const DIRECTIONS = [[1, 0], [0, 1], [-1, 0], [0, -1]]; // right, down, left, up
 const BLOCKED = 255;
 
@@ -24,7 +24,7 @@ export class Router {
     for (const box of boxes) this.block(box);
   }
 
-  block({ x, y, width, height }) {
+  block({x, y, width, height}) {
     const [left, top] = [Math.round(x / GRID), Math.round(y / GRID)];
     const [right, bottom] = [Math.round((x + width) / GRID), Math.round((y + height) / GRID)];
     for (let line = top - 1; line <= bottom + 1; line++) {
@@ -32,8 +32,10 @@ export class Router {
         if (!this.has(column, line)) continue;
         const isInside = column >= left && column <= right && line >= top && line <= bottom;
         const at = line * this.columns + column;
-        if (isInside) this.ground[at] = BLOCKED;
-        else if (this.ground[at] === 0) this.ground[at] = 1;
+        if (isInside)
+          this.ground[at] = BLOCKED;
+        else if (this.ground[at] === 0)
+          this.ground[at] = 1;
       }
     }
   }
@@ -49,14 +51,15 @@ export class Router {
     const goals = new Map();
     for (const end of ends) {
       const at = this.stepFrom(end, -1);
-      if (at && this.ground[at.index] !== BLOCKED) goals.set(at.index, { ...end, at });
+      if (at && this.ground[at.index] !== BLOCKED) goals.set(at.index, {...end, at});
     }
     const heap = new Heap();
     for (const start of starts) {
       const at = this.stepFrom(start, 1);
-      if (at && this.ground[at.index] !== BLOCKED) this.offer(heap, at.index * 4 + start.direction, start.cost ?? 0, -1 - starts.indexOf(start), goals);
+      if (at && this.ground[at.index] !== BLOCKED)
+        this.offer(heap, at.index * 4 + start.direction, start.cost ?? 0, -1 - starts.indexOf(start), goals);
     }
-    for (let state; (state = heap.pop()) !== undefined; ) {
+    for (let state; (state = heap.pop()) !== undefined;) {
       if (this.isDone(state)) continue;
       this.done(state);
       const goal = goals.get((state - (state % 4)) / 4);
@@ -67,11 +70,11 @@ export class Router {
   }
 
   // The grid's point a step outside of the block.
-  stepFrom({ x, y, direction }, sign) {
+  stepFrom({x, y, direction}, sign) {
     const [dx, dy] = DIRECTIONS[direction];
     const column = Math.round(x / GRID) + sign * dx;
     const line = Math.round(y / GRID) + sign * dy;
-    return this.has(column, line) ? { index: line * this.columns + column, column, line } : null;
+    return this.has(column, line) ? {index: line * this.columns + column, column, line} : null;
   }
 
   spread(heap, state, goals) {
@@ -85,7 +88,8 @@ export class Router {
       const to = (line + dy) * this.columns + column + dx;
       if (this.ground[to] === BLOCKED) continue;
       const along = next % 2;
-      const price = 1 + (next === direction ? 0 : TURN) + this.ground[to] * NEAR + (this.used[along][to] ? SHARED : 0) + (this.used[1 - along][to] ? CROSSED : 0);
+      const price = 1 + (next === direction ? 0 : TURN) + this.ground[to] * NEAR +
+        (this.used[along][to] ? SHARED : 0) + (this.used[1 - along][to] ? CROSSED : 0);
       this.offer(heap, to * 4 + next, this.cost[state] + price, state, goals);
     }
   }
@@ -104,7 +108,8 @@ export class Router {
     const index = (state - (state % 4)) / 4;
     const [column, line] = [index % this.columns, Math.floor(index / this.columns)];
     let best = Infinity;
-    for (const { at, cost } of goals.values()) best = Math.min(best, Math.abs(at.column - column) + Math.abs(at.line - line) + (cost ?? 0));
+    for (const {at, cost} of goals.values())
+      best = Math.min(best, Math.abs(at.column - column) + Math.abs(at.line - line) + (cost ?? 0));
     return best;
   }
 
@@ -122,10 +127,13 @@ export class Router {
     for (; at >= 0; at = this.from[at]) {
       const index = (at - (at % 4)) / 4;
       this.used[at % 2][index] = 1;
-      cells.push({ x: (index % this.columns) * GRID, y: Math.floor(index / this.columns) * GRID });
+      cells.push({x: (index % this.columns) * GRID, y: Math.floor(index / this.columns) * GRID});
     }
     const start = starts[-1 - at];
-    return straight([...(start.inner ? [start.inner] : []), { x: start.x, y: start.y }, ...cells.reverse(), { x: goal.x, y: goal.y }]);
+    return straight([
+      ...(start.inner ? [start.inner] : []), {x: start.x, y: start.y}, ...cells.reverse(),
+      {x: goal.x, y: goal.y}
+    ]);
   }
 }
 
@@ -158,7 +166,7 @@ function distance(a, b) {
 function towards(from, to, by) {
   const length = Math.hypot(to.x - from.x, to.y - from.y) || 1;
   const at = (a, b) => Math.round((a + ((b - a) * by) / length) * 10) / 10;
-  return { x: at(from.x, to.x), y: at(from.y, to.y) };
+  return {x: at(from.x, to.x), y: at(from.y, to.y)};
 }
 
 // A heap of numbers with the least price first.
@@ -169,7 +177,7 @@ class Heap {
   }
 
   push(price, state) {
-    const { prices, states } = this;
+    const {prices, states} = this;
     let at = prices.length;
     while (at > 0) {
       const up = (at - 1) >> 1;
@@ -183,7 +191,7 @@ class Heap {
   }
 
   pop() {
-    const { prices, states } = this;
+    const {prices, states} = this;
     if (!states.length) return undefined;
     const first = states[0];
     const [price, state] = [prices.pop(), states.pop()];

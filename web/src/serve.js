@@ -2,7 +2,7 @@
 
 // The words are texts, the input bytes; the limit is the most bytes of memory that the program may have.
 // Answers the exit status and what went to the two outputs, as bytes.
-export function serve(module, { words, input, limit }) {
+export function serve(module, {words, input, limit}) {
   const begun = performance.now();
   const host = new WebAssembly.Instance(module).exports;
   const put = (bytes, address) => {
@@ -21,5 +21,11 @@ export function serve(module, { words, input, limit }) {
     return new Uint8Array(host.memory.buffer).slice(address, address + size);
   };
   const [output, errors] = [taken(0), taken(1)];
-  return { status, output, errors, memory: host.memory.buffer.byteLength, milliseconds: performance.now() - begun };
+  return {
+    status,
+    output,
+    errors,
+    memory: host.memory.buffer.byteLength,
+    milliseconds: performance.now() - begun
+  };
 }

@@ -3,16 +3,16 @@
 // A question is a whole job that begins at state 0. To come to state 100,000,000 takes a second or two, and
 // each state there is cheap: so the states around the one that is wanted are asked for at the same time.
 
-import { bytesOf } from "./engine.js";
-import { stateOf, Transcript } from "./transcript.js";
-import { choose } from "./choice.js";
+import {choose} from "./choice.js";
+import {bytesOf} from "./engine.js";
+import {stateOf, Transcript} from "./transcript.js";
 
-const FAR = 1_000_000; // the state from which on the way there takes longer than the answers
-const MOST_KEPT = 24_000_000; // characters of answers whose states are kept
+const FAR = 1_000_000;         // the state from which on the way there takes longer than the answers
+const MOST_KEPT = 24_000_000;  // characters of answers whose states are kept
 const MOST_ANSWER = 3_000_000; // characters of the answers to one question, about
-const MOST_OUT = 200_000; // characters of output that are shown
-const SHORT_WAY = 4096; // states that are gone through for the mark before
-const MOST_GOES = 100_000; // in one question
+const MOST_OUT = 200_000;      // characters of output that are shown
+const SHORT_WAY = 4096;        // states that are gone through for the mark before
+const MOST_GOES = 100_000;     // in one question
 
 // Why there is no state: the program refused the job, or memory ran out in the midst.
 export class Refused extends Error {
@@ -24,19 +24,19 @@ export class Refused extends Error {
 
 export class Session {
   // `ask` has the engine do a job: the words of the command line, and the bytes of standard input.
-  constructor(ask, { deck, input, options }) {
-    Object.assign(this, { ask, deck, input, options });
+  constructor(ask, {deck, input, options}) {
+    Object.assign(this, {ask, deck, input, options});
     this.views = new Map();
     this.kept = 0;
-    this.output = ""; // as far as it is known
+    this.output = "";     // as far as it is known
     this.printout = null; // what `run` prints, once it was asked
-    this.last = null; // the last state's number, once it is known
-    this.size = 2000; // characters that a state took lately
-    this.exchanges = []; // what was asked and answered last
+    this.last = null;     // the last state's number, once it is known
+    this.size = 2000;     // characters that a state took lately
+    this.exchanges = [];  // what was asked and answered last
   }
 
   words(verb, more = {}) {
-    const { store, steps, output } = { ...this.options, ...more };
+    const {store, steps, output} = {...this.options, ...more};
     return [verb, "--store", String(store), "--steps", String(steps), "--output", String(output)];
   }
 
@@ -47,7 +47,7 @@ export class Session {
       if (answer.status > 3) throw new Refused(answer);
       const lines = answer.output.trimEnd();
       const ending = stateOf(lines.slice(lines.lastIndexOf("\n") + 1));
-      this.printout = { text: answer.output, ending, milliseconds: answer.milliseconds };
+      this.printout = {text: answer.output, ending, milliseconds: answer.milliseconds};
       this.last = ending.number;
     }
     return this.printout;
@@ -70,7 +70,7 @@ export class Session {
   async fetch(number, more = []) {
     const room = Math.max(1, Math.min(number < FAR ? 6 : 60, Math.floor(MOST_ANSWER / this.size)));
     const before = Math.min(number, Math.floor(room / 4));
-    const states = { first: number - before, count: room };
+    const states = {first: number - before, count: room};
     const views = await this.look([`step ${states.first}`, ...more], states.count);
     await this.addWords(views);
     views.forEach((view) => this.keep(view));
@@ -85,12 +85,18 @@ export class Session {
     }
     commands.push("out");
     const transcript = await this.question(commands);
-    for (const command of way) if (!command.startsWith("block")) transcript.line();
+    for (const command of way)
+      if (!command.startsWith("block")) transcript.line();
     const views = [];
     for (let state = 0; state < count; state++) {
       if (state > 0) transcript.line();
       const begun = transcript.place;
-      const view = { ...transcript.show(), fields: transcript.fields(), draw: transcript.draw(), store: transcript.store() };
+      const view = {
+        ...transcript.show(),
+        fields: transcript.fields(),
+        draw: transcript.draw(),
+        store: transcript.store()
+      };
       if (views.at(-1)?.state.number === view.state.number) continue;
       view.cost = transcript.place - begun;
       views.push(view);
@@ -179,19 +185,20 @@ export class Session {
     let begin = from;
     let last = null;
     for (;;) {
-      const start = Math.max(0, begin - 1); // (a `go` always goes on, and the first state may stand at a mark)
+      const start =
+        Math.max(0, begin - 1); // (a `go` always goes on, and the first state may stand at a mark)
       const goes = Math.min(MOST_GOES, to - start + 1);
       const way = [`step ${start}`, ...marks.map((it) => `break ${it}`), ...Array(goes).fill("go")];
-      const transcript = await this.question(way, { steps: Math.min(this.options.steps, to) });
+      const transcript = await this.question(way, {steps: Math.min(this.options.steps, to)});
       let state = stateOf(transcript.line());
       if (start === 0 && state.action === 0 && marks.includes(state.statement) && to > 0) last ??= 0;
       for (let mark = 0; mark < marks.length; mark++) transcript.line();
       for (let go = 0; go < goes && !state.ending; go++) {
         state = stateOf(transcript.line());
         if (!state.ending && state.number < to) last = state.number;
-        if (state.number >= to) return { last };
+        if (state.number >= to) return {last};
       }
-      if (state.ending) return { last };
+      if (state.ending) return {last};
       begin = state.number + 1;
     }
   }
@@ -206,7 +213,11 @@ export class Session {
   }
 
   remember(asked, answer) {
-    this.exchanges.push({ asked: asked.slice(0, 20_000), answered: answer.output.slice(0, 100_000), milliseconds: answer.milliseconds });
+    this.exchanges.push({
+      asked: asked.slice(0, 20_000),
+      answered: answer.output.slice(0, 100_000),
+      milliseconds: answer.milliseconds
+    });
     if (this.exchanges.length > 2) this.exchanges.shift();
   }
 

@@ -1,34 +1,37 @@
 // The store as a strip: its units, and of one of them each block and each free piece, to scale.
 
-import { freePieceWith, findPiece, piecesBetween } from "./pieces.js";
-import { count, told, UNIT } from "./word.js";
+import {findPiece, freePieceWith, piecesBetween} from "./pieces.js";
+import {count, told, UNIT} from "./word.js";
 
 const LEAST_PART = 32; // words
 const LEVELS = 11;
 const LEVELS_HEIGHT = 176; // as in the style
-const LEVELS_LEFT = 34; // for the sizes
-const FEW = 90; // pieces that can be drawn wider than to scale
+const LEVELS_LEFT = 34;    // for the sizes
+const FEW = 90;            // pieces that can be drawn wider than to scale
 
 export class Strip {
-  constructor({ text, units, strip, levels, bySize, unitBox }, choose) {
-    Object.assign(this, { text, units, strip, levels, bySize, unitBox, choose });
+  constructor({text, units, strip, levels, bySize, unitBox}, choose) {
+    Object.assign(this, {text, units, strip, levels, bySize, unitBox, choose});
     this.unit = null; // that the reader chose, or null
     this.chosen = null;
     bySize.addEventListener("change", () => this.draw());
     strip.addEventListener("click", (event) => this.pick(event));
     levels.addEventListener("click", (event) => this.pick(event));
     for (const canvas of [strip, levels]) canvas.addEventListener("mousemove", (event) => this.hint(event));
-    units.addEventListener("click", (event) => this.pickUnit(Math.floor((event.offsetX / units.clientWidth) * this.count)));
+    units.addEventListener(
+      "click", (event) => this.pickUnit(Math.floor((event.offsetX / units.clientWidth) * this.count))
+    );
     unitBox.addEventListener("input", () => unitBox.value && this.pickUnit(Number(unitBox.value) - 1));
   }
 
   show(view, before) {
-    Object.assign(this, { view, before });
-    const { store } = view;
+    Object.assign(this, {view, before});
+    const {store} = view;
     const blocks = store.pieces.filter((it) => !it.isFree);
     const lost = blocks.filter((it) => it.isLost).length;
     const lostText = lost ? `, ${told(lost)} lost` : "";
-    this.text.textContent = `${count(blocks.length, "block")}${lostText}; ${count(store.used, "word")} used, ${told(store.free)} free`;
+    this.text.textContent = `${count(blocks.length, "block")}${lostText}; ${
+      count(store.used, "word")} used, ${told(store.free)} free`;
     this.draw();
   }
 
@@ -38,7 +41,7 @@ export class Strip {
   }
 
   forget() {
-    Object.assign(this, { view: null, before: null, unit: null, chosen: null });
+    Object.assign(this, {view: null, before: null, unit: null, chosen: null});
     this.text.textContent = "";
     this.units.hidden = this.levels.hidden = this.unitBox.parentElement.hidden = true;
     this.strip.hidden = false;
@@ -47,28 +50,32 @@ export class Strip {
 
   draw() {
     if (!this.view) return;
-    const { store } = this.view;
+    const {store} = this.view;
     this.begin = store.pieces[0].place;
     const last = store.pieces.at(-1);
     this.count = (last.place + last.size - this.begin) / UNIT;
     this.part = this.partShown();
     this.pieces = piecesBetween(store, this.part.begin, this.part.end);
-    this.old = this.before ? new Set(piecesBetween(this.before.store, this.part.begin, this.part.end).map(keyOf)) : null;
+    this.old = this.before ?
+      new Set(piecesBetween(this.before.store, this.part.begin, this.part.end).map(keyOf)) :
+      null;
     this.units.hidden = this.unitBox.parentElement.hidden = this.count === 1;
     this.unitBox.max = this.count;
     this.unitBox.value = this.part.unit + 1;
     if (this.count > 1) this.drawUnits();
     this.levels.hidden = !this.bySize.checked;
     this.strip.hidden = this.bySize.checked;
-    if (this.bySize.checked) this.drawLevels();
-    else this.drawStrip();
+    if (this.bySize.checked)
+      this.drawLevels();
+    else
+      this.drawStrip();
     this.strip.setAttribute("aria-label", this.textOf());
   }
 
   // The unit that is shown, or the part of it that has all of its blocks: that of the reader, or that in which
   // something has changed last, or the first with a block.
   partShown() {
-    const { store } = this.view;
+    const {store} = this.view;
     const changed = this.unit === null && this.before ? firstChange(this.before.store, store) : null;
     if (changed !== null) this.latest = Math.floor((changed - this.begin) / UNIT);
     const first = store.pieces.find((it) => !it.isFree);
@@ -80,13 +87,13 @@ export class Strip {
     let size = LEAST_PART;
     while (size < reach) size *= 2;
     if (this.bySize.checked || size > UNIT) size = UNIT;
-    return { unit, begin, end: begin + size };
+    return {unit, begin, end: begin + size};
   }
 
   drawUnits() {
     const pen = paint(this.units);
     const width = pen.width / this.count;
-    const { store } = this.view;
+    const {store} = this.view;
     pen.fill("--free", 0, 0, pen.width, 12);
     let from = 0;
     const at = (place) => ((place - this.begin) / UNIT) * width;
@@ -98,9 +105,12 @@ export class Strip {
       pen.fill(piece.isLost ? "--lost" : "--block", x, 2, Math.max(0.6, end - x), 8);
       from = end;
     }
-    for (let unit = 1; unit < this.count && width > 4; unit++) pen.fill("--paper", unit * width - 0.5, 0, 1, 12);
+    for (let unit = 1; unit < this.count && width > 4; unit++)
+      pen.fill("--paper", unit * width - 0.5, 0, 1, 12);
     pen.frame("--accent", this.part.unit * width + 1, 1, Math.max(3, width - 2), 10, 2);
-    this.units.setAttribute("aria-label", `${count(this.count, "unit")} of 1,024 words; unit ${this.part.unit + 1} is shown below`);
+    this.units.setAttribute(
+      "aria-label", `${count(this.count, "unit")} of 1,024 words; unit ${this.part.unit + 1} is shown below`
+    );
   }
 
   drawStrip() {
@@ -110,27 +120,37 @@ export class Strip {
       const box = this.boxOf(piece, 2, 30);
       this.drawPiece(pen, piece, box);
       const size = String(piece.size);
-      if (box.width > size.length * 7 + 4) pen.text(piece.isFree ? "--soft" : "--block-ink", size, box.x + box.width / 2, 21, piece.isFree ? 11 : 12);
-      if (box.width > 34) pen.text(piece.isFree ? "--faint" : "--block-ink", String(piece.place), box.x + 3, 10, 8.5, "left");
+      if (box.width > size.length * 7 + 4)
+        pen.text(
+          piece.isFree ? "--soft" : "--block-ink", size, box.x + box.width / 2, 21, piece.isFree ? 11 : 12
+        );
+      if (box.width > 34)
+        pen.text(piece.isFree ? "--faint" : "--block-ink", String(piece.place), box.x + 3, 10, 8.5, "left");
     }
-    const rest = this.part.end - this.part.begin < UNIT ? `.. free up to ${told(this.part.begin + UNIT - 1)}` : "";
+    const rest =
+      this.part.end - this.part.begin < UNIT ? `.. free up to ${told(this.part.begin + UNIT - 1)}` : "";
     pen.text("--soft", told(this.part.begin), 0, 42, 9.5, "left");
     pen.text("--soft", rest || told(this.part.end - 1), pen.width, 42, 9.5, "right");
   }
 
   boxOf(piece, y, height) {
     const x = Math.max(0, (piece.place - this.part.begin) * this.scale);
-    const end = Math.min((piece.place + piece.size - this.part.begin) * this.scale, (this.part.end - this.part.begin) * this.scale);
-    return { x, y, width: end - x, height };
+    const end = Math.min(
+      (piece.place + piece.size - this.part.begin) * this.scale,
+      (this.part.end - this.part.begin) * this.scale
+    );
+    return {x, y, width: end - x, height};
   }
 
-  drawPiece(pen, piece, { x, y, width, height }) {
+  drawPiece(pen, piece, {x, y, width, height}) {
     const gap = width > 3 ? 1 : 0;
     const colour = piece.isFree ? "--free" : piece.isLost ? "--lost" : "--block";
     pen.fill(colour, x, y, Math.max(0.7, width - gap), height);
     if (piece.isLost) pen.hatch("--paper", x, y, width - gap, height);
-    if (this.old && !this.old.has(keyOf(piece))) pen.frame("--changed", x + 1, y + 1, Math.max(2, width - gap - 2), height - 2, 2.5);
-    if (!piece.isFree && piece.place === this.chosen) pen.frame("--ink", x + 1, y + 1, Math.max(2, width - gap - 2), height - 2, 2.5);
+    if (this.old && !this.old.has(keyOf(piece)))
+      pen.frame("--changed", x + 1, y + 1, Math.max(2, width - gap - 2), height - 2, 2.5);
+    if (!piece.isFree && piece.place === this.chosen)
+      pen.frame("--ink", x + 1, y + 1, Math.max(2, width - gap - 2), height - 2, 2.5);
   }
 
   // Each piece in the line of its size: 1,024 above, 1 below. What was halved stands above its halves as a frame.
@@ -140,29 +160,44 @@ export class Strip {
     const height = LEVELS_HEIGHT / LEVELS;
     this.widths = widthsOf(this.pieces, pen.width - LEVELS_LEFT);
     const line = (size) => (LEVELS - 1 - Math.log2(size)) * height + 1;
-    for (let size = 1; size <= UNIT; size *= 2) pen.text("--soft", told(size), LEVELS_LEFT - 6, line(size) + height - 4.5, 9.5, "right");
-    for (const [key, { from, to }] of halvedOf(this.pieces, this.widths)) {
+    for (let size = 1; size <= UNIT; size *= 2)
+      pen.text("--soft", told(size), LEVELS_LEFT - 6, line(size) + height - 4.5, 9.5, "right");
+    for (const [key, {from, to}] of halvedOf(this.pieces, this.widths)) {
       const size = Number(key.split(" ")[1]);
-      pen.frame("--line", LEVELS_LEFT + from + 0.5, line(size) + 0.5, Math.max(1, to - from - 2), height - 2.5, 1);
+      pen.frame(
+        "--line", LEVELS_LEFT + from + 0.5, line(size) + 0.5, Math.max(1, to - from - 2), height - 2.5, 1
+      );
     }
     this.pieces.forEach((piece, index) => {
-      const { from, to } = this.widths[index];
-      const box = { x: LEVELS_LEFT + from, y: line(piece.size), width: to - from, height: height - 2 };
+      const {from, to} = this.widths[index];
+      const box = {x: LEVELS_LEFT + from, y: line(piece.size), width: to - from, height: height - 2};
       this.drawPiece(pen, piece, box);
-      if (box.width > 34) pen.text(piece.isFree ? "--soft" : "--block-ink", String(piece.place), box.x + box.width / 2, box.y + height - 5, 10);
+      if (box.width > 34)
+        pen.text(
+          piece.isFree ? "--soft" : "--block-ink", String(piece.place), box.x + box.width / 2,
+          box.y + height - 5, 10
+        );
     });
-    this.levels.setAttribute("aria-label", `The pieces of unit ${this.part.unit + 1} by their sizes. ${this.textOf()}`);
+    this.levels.setAttribute(
+      "aria-label", `The pieces of unit ${this.part.unit + 1} by their sizes. ${this.textOf()}`
+    );
   }
 
   textOf() {
-    const parts = this.pieces.slice(0, 40).map((it) => `${it.place} ${it.isFree ? "free" : it.isLost ? "lost block" : "block"} of ${it.size}`);
-    return `${parts.join(", ")}${this.pieces.length > 40 ? ` and ${this.pieces.length - 40} more pieces` : ""}`;
+    const parts = this.pieces.slice(0, 40).map(
+      (it) => `${it.place} ${
+        it.isFree   ? "free" :
+          it.isLost ? "lost block" :
+                      "block"} of ${it.size}`
+    );
+    return `${parts.join(", ")}${
+      this.pieces.length > 40 ? ` and ${this.pieces.length - 40} more pieces` : ""}`;
   }
 
   placeAt(event) {
     if (event.currentTarget === this.levels) {
       const at = event.offsetX - LEVELS_LEFT;
-      const index = this.widths.findIndex(({ from, to }) => at >= from && at < to);
+      const index = this.widths.findIndex(({from, to}) => at >= from && at < to);
       return this.pieces[index]?.place ?? this.part.begin;
     }
     const words = this.part.end - this.part.begin;
@@ -179,8 +214,10 @@ export class Strip {
     const place = this.placeAt(event);
     const piece = findPiece(this.view.store, place);
     if (!piece) return;
-    const free = piece.isFree ? `${place}: in a free piece of ${told(freePieceWith(this.view.store, place))}` : "";
-    event.currentTarget.title = free || `block ${piece.place}, ${count(piece.size, "word")}${piece.isLost ? ", lost" : ""}`;
+    const free =
+      piece.isFree ? `${place}: in a free piece of ${told(freePieceWith(this.view.store, place))}` : "";
+    event.currentTarget.title =
+      free || `block ${piece.place}, ${count(piece.size, "word")}${piece.isLost ? ", lost" : ""}`;
   }
 
   pickUnit(unit) {
@@ -198,7 +235,7 @@ function widthsOf(pieces, room) {
   return pieces.map((piece) => {
     const from = at;
     at += (weight(piece) / whole) * room;
-    return { from, to: at };
+    return {from, to: at};
   });
 }
 
@@ -208,8 +245,8 @@ function halvedOf(pieces, widths) {
   pieces.forEach((piece, index) => {
     for (let size = piece.size * 2; size <= UNIT; size *= 2) {
       const key = `${piece.place - (piece.place % size)} ${size}`;
-      const { from, to } = halved.get(key) ?? { from: widths[index].from };
-      halved.set(key, { from, to: widths[index].to ?? to });
+      const {from, to} = halved.get(key) ?? {from: widths[index].from};
+      halved.set(key, {from, to: widths[index].to ?? to});
     }
   });
   return halved;

@@ -33,13 +33,14 @@ export class Transcript {
   show() {
     const state = this.state();
     const bugs = new Map();
-    for (let found; (found = /^([A-Z]) [0-7]{12} (\d+)$/.exec(this.peek())); ) {
+    for (let found; (found = /^([A-Z]) [0-7]{12} (\d+)$/.exec(this.peek()));) {
       bugs.set(found[1], Number(found[2]));
       this.line();
     }
-    const found = /^CONTENTS (\d+) DEFINITIONS (\d+) RETURNS (\d+) INPUT (\d+) OUTPUT (\d+)$/.exec(this.line());
+    const found =
+      /^CONTENTS (\d+) DEFINITIONS (\d+) RETURNS (\d+) INPUT (\d+) OUTPUT (\d+)$/.exec(this.line());
     const [contents, definitions, returns, input, output] = found.slice(1).map(Number);
-    return { state, bugs, amounts: { contents, definitions, returns, input, output } };
+    return {state, bugs, amounts: {contents, definitions, returns, input, output}};
   }
 
   // The answer to `fields`: the windows by their names.
@@ -49,9 +50,9 @@ export class Transcript {
       this.line();
       return fields;
     }
-    for (let found; (found = /^([0-9A-Z]) (\d+) (\d+) (\d+)$/.exec(this.peek())); ) {
+    for (let found; (found = /^([0-9A-Z]) (\d+) (\d+) (\d+)$/.exec(this.peek()));) {
       const [word, first, last] = found.slice(2).map(Number);
-      fields.set(found[1], { word, first, last });
+      fields.set(found[1], {word, first, last});
       this.line();
     }
     return fields;
@@ -61,7 +62,7 @@ export class Transcript {
   block() {
     const found = /^BLOCK \d+ SIZE (\d+)$/.exec(this.line());
     if (!found) return null;
-    return Array.from({ length: Number(found[1]) }, () => parseInt(this.line().trim().split(" ")[1], 8));
+    return Array.from({length: Number(found[1])}, () => parseInt(this.line().trim().split(" ")[1], 8));
   }
 
   // The answer to `draw`: the bugs that lead to blocks, and of each block that is reached where its fields lead.
@@ -74,13 +75,13 @@ export class Transcript {
       if (line.startsWith("BLOCK ")) {
         const [, place, , size] = line.split(" ");
         links = [];
-        blocks.set(Number(place), { place: Number(place), size: Number(size), links });
+        blocks.set(Number(place), {place: Number(place), size: Number(size), links});
       } else if (line.startsWith("  ")) {
-        links.push({ field: line[2], target: Number(line.slice(7)) });
+        links.push({field: line[2], target: Number(line.slice(7))});
       } else if (line.includes("->")) {
         bugs.set(line[0], Number(line.slice(5)));
       } else {
-        return { bugs, blocks };
+        return {bugs, blocks};
       }
     }
   }
@@ -90,8 +91,13 @@ export class Transcript {
     const pieces = [];
     for (;;) {
       const words = this.line().split(" ");
-      if (words[1] === "WORDS") return { pieces, used: Number(words[0]), free: Number(words[3]) };
-      pieces.push({ place: Number(words[0]), size: Number(words[2]), isFree: words[1] === "FREE", isLost: words[3] === "LOST" });
+      if (words[1] === "WORDS") return {pieces, used: Number(words[0]), free: Number(words[3])};
+      pieces.push({
+        place: Number(words[0]),
+        size: Number(words[2]),
+        isFree: words[1] === "FREE",
+        isLost: words[3] === "LOST"
+      });
     }
   }
 
@@ -109,6 +115,6 @@ export function stateOf(line) {
   const steps = Number(/AFTER (\d+) STEPS$/.exec(line)?.[1]);
   const at = /AT (\d+)\.(\d+) /.exec(line);
   const ending = /^== (\w+)/.exec(line)?.[1] ?? "";
-  const place = at ? { statement: Number(at[1]), action: Number(at[2]) } : {};
-  return { line, steps, ending, number: steps + (ending === "TRAP" ? 1 : 0), ...place };
+  const place = at ? {statement: Number(at[1]), action: Number(at[2])} : {};
+  return {line, steps, ending, number: steps + (ending === "TRAP" ? 1 : 0), ...place};
 }

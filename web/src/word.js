@@ -2,7 +2,7 @@
 
 export const WORD_BITS = 36;
 export const MOST = 2 ** WORD_BITS; // the first number that is no word
-export const UNIT = 1024; // words of a unit; the first unit begins at this place
+export const UNIT = 1024;           // words of a unit; the first unit begins at this place
 
 // Twelve octal digits.
 export function octal(word) {

@@ -1,10 +1,11 @@
 // What the tests in node share: the module, how a job is given to it, and the count.
 
-import { readFileSync } from "node:fs";
-import { dirname, resolve } from "node:path";
-import { fileURLToPath } from "node:url";
-import { gunzipSync } from "node:zlib";
-import { serve } from "../src/serve.js";
+import {readFileSync} from "node:fs";
+import {dirname, resolve} from "node:path";
+import {fileURLToPath} from "node:url";
+import {gunzipSync} from "node:zlib";
+
+import {serve} from "../src/serve.js";
 
 export const WEB = resolve(dirname(fileURLToPath(import.meta.url)), "..");
 export const TOP = resolve(WEB, "..");
@@ -23,9 +24,9 @@ export function bytesOfText(text) {
 }
 
 export function serveText(module, words, stdin, limit = MEMORY) {
-  const answer = serve(module, { words, input: bytesOfText(stdin), limit });
+  const answer = serve(module, {words, input: bytesOfText(stdin), limit});
   const text = (bytes) => Buffer.from(bytes).toString("latin1");
-  return { ...answer, output: text(answer.output), errors: text(answer.errors) };
+  return {...answer, output: text(answer.output), errors: text(answer.errors)};
 }
 
 // Counts what passes and what fails.
@@ -34,7 +35,8 @@ export class Tally {
   failed = 0;
 
   count(name, isRight, tell) {
-    if (isRight) this.passed++;
+    if (isRight)
+      this.passed++;
     else {
       this.failed++;
       console.log(`${name}: ${tell()}`);

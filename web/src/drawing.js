@@ -297,6 +297,12 @@ export class Drawing {
     this.picture.setAttribute("height", Math.floor(height * scale));
   }
 
+  // Puts the focus on the block that had it last, or on the first.
+  focusBlock() {
+    const group = this.groups.get(this.focused) ?? this.groups.values().next().value;
+    group?.focus();
+  }
+
   pick(place) {
     this.mark(place);
     this.choose(place);

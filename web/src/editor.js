@@ -1,8 +1,8 @@
 // The deck as a text that is edited, and that is marked where the run is. What is marked lies below the text, and
 // the numbers of cards and statements beside it; of both only what is in sight is made.
 
-import {COLUMNS} from "./deck.js";
 import {make} from "./dom.js";
+import {COLUMNS} from "./fault.js";
 
 const PAD = 4; // above the first line, in pixels
 const INDENT = 2;

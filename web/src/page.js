@@ -1,18 +1,16 @@
 // The page: what the reader does, and what is then shown.
 
-import {changesOf, shortened} from "./changes.js";
-import {actionAt, groupAt, meaningOf, readDeck} from "./deck.js";
+import {readDeck} from "./deck.js";
 import {byId, make} from "./dom.js";
-import {Drawing} from "./drawing.js";
 import {Editor} from "./editor.js";
 import {bytesOf, Engine, Stopped} from "./engine.js";
 import {linkOf, readLink} from "./links.js";
-import {showBugs, showChain, showFields, showWords} from "./panels.js";
+import {groupAt, meaningOf} from "./meaning.js";
 import {Papers, save} from "./papers.js";
 import {referenceOf} from "./reference.js";
 import {job, partsOf, Refused, Session} from "./session.js";
-import {Strip} from "./strip.js";
 import {unpacked} from "./unpack.js";
+import {Viewer} from "./viewer.js";
 import {count, told} from "./word.js";
 
 const SHORT_RUN = 2_000_000; // steps of a run that is made ahead, to know how many states there are
@@ -30,8 +28,6 @@ class Page {
     this.engine = engine;
     this.examples = examples;
     this.session = null;
-    this.view = null;   // that is shown
-    this.chosen = null; // the place of a block
     this.playing = null;
     this.waiting = null; // what is to be done once the engine has answered
     this.isBusy = false;
@@ -39,18 +35,7 @@ class Page {
       {text: byId("deck"), under: byId("under"), gutter: byId("gutter"), ruler: byId("ruler")},
       (statement, runs) => (runs ? this.runTo(statement) : this.toggle(statement))
     );
-    this.drawing = new Drawing(byId("drawing"), (place) => this.chooseBlock(place));
-    this.strip = new Strip(
-      {
-        text: byId("store-text"),
-        units: byId("units"),
-        strip: byId("strip"),
-        levels: byId("levels"),
-        bySize: byId("by-size"),
-        unitBox: byId("unit")
-      },
-      (place) => this.chooseBlock(place)
-    );
+    this.viewer = new Viewer(this.editor, (error) => this.trouble(error));
     this.papers = new Papers({
       job: () => this.job(),
       ask: (words, input) => this.ask(words, input),
@@ -89,10 +74,7 @@ class Page {
     if (!this.session || this.sessionKey !== key) {
       this.session = new Session((words, input) => this.ask(words, input), now);
       this.sessionKey = key;
-      this.view = null;
-      this.drawing.forget();
-      this.strip.unit = null;
-      this.strip.latest = undefined;
+      this.viewer.forget();
     }
     return this.session;
   }
@@ -152,8 +134,9 @@ class Page {
     this.pause();
     return this.act(async (session) => {
       const {ending, milliseconds} = await session.run();
-      this.view = null;
-      this.show(await session.view(session.last), null);
+      const view = await session.view(session.last);
+      if (session !== this.session) return; // (the deck was changed meanwhile)
+      this.show(view, null);
       this.tell(`${count(ending.steps, "step")} in ${
         milliseconds < 10 ? milliseconds.toFixed(1) : told(Math.round(milliseconds))} ms`);
     });
@@ -165,6 +148,7 @@ class Page {
       if (session.options.steps <= SHORT_RUN) await session.run();
       const shown = this.view ?? (await session.view(0));
       const view = await find(session, shown.state.number);
+      if (session !== this.session) return; // (the deck was changed meanwhile)
       const isStep = Math.abs(view.state.number - shown.state.number) <= 1;
       this.show(view, this.view || isStep ? shown : null);
     });
@@ -250,44 +234,14 @@ class Page {
 
   // ---- What is shown
 
-  show(view, before) {
-    const old = before && before.state.number !== view.state.number ? before : null;
-    this.before = old;
-    this.view = view;
-    const {state} = view;
-    byId("empty").textContent = view.draw.blocks.size || view.store.used ? "" : "No block is in use.";
-    this.drawing.show(view, old);
-    this.showLegend();
-    this.strip.show(view, old);
-    showBugs(byId("bugs"), byId("amounts"), view, old, (place) => this.chooseBlock(place));
-    showFields(byId("fields"), view, old, (name) => this.drawing.colourOf(name));
-    this.showDetails();
-    this.showPrinted(view, old);
-    const action = state.ending && state.ending !== "TRAP" ?
-      null :
-      actionAt(this.editor.deck, state.statement, state.action);
-    this.editor.point(action && {...action, statement: state.statement});
-    byId("where").textContent = state.line;
-    byId("where").parentElement.classList.toggle("trap", state.ending === "TRAP");
-    byId("next").replaceChildren(...(
-      action ? [state.ending ? "At: " : "Next: ", make("code", {}, action.text || "—"), ` ${action.says}`] :
-               []
-    ));
-    const changes = changesOf(old, view, this.session.input);
-    this.showChanges(changes, old);
-    this.showNumbers();
-    byId("spoken").textContent = `${state.line}. ${action ? `Next ${action.text}, ${action.says}. ` : ""}${
-      shortened(changes).join("; ")}`;
-    this.checkExercise();
+  get view() {
+    return this.viewer.view;
   }
 
-  showChanges(changes, before) {
-    const parts = shortened(changes).flatMap((it, index) => [index ? " · " : "", it]);
-    const far = before && Math.abs(before.state.number - this.view.state.number) > 1 ?
-      `since state ${told(before.state.number)}: ` :
-      "";
-    byId("changes").replaceChildren(...(parts.length ? [make("b", {}, "Changed "), far, ...parts] : []));
-    byId("changes").title = changes.slice(0, 60).join("\n");
+  show(view, before) {
+    this.viewer.show(view, before, this.session);
+    this.showNumbers();
+    this.checkExercise();
   }
 
   showNumbers() {
@@ -302,97 +256,9 @@ class Page {
     byId("back").disabled = byId("start").disabled = number === 0;
   }
 
-  // What is printed up to the state that is shown; what came last is marked.
-  showPrinted(view, before) {
-    const pre = byId("printed");
-    const old =
-      before && before.amounts.output < view.amounts.output && view.output.startsWith(before.output) ?
-      before.output.length :
-      view.output.length;
-    const ending =
-      view.state.ending ? `${view.output && !view.output.endsWith("\n") ? "\n" : ""}${view.state.line}` : "";
-    pre.replaceChildren(
-      view.output.slice(0, old), make("span", {class: "fresh"}, view.output.slice(old)),
-      make("span", {class: "ending"}, ending)
-    );
-    byId("printed-label").textContent = view.state.ending ? "Printed" : `Printed so far`;
-    pre.scrollTop = pre.scrollHeight;
-  }
-
-  // The fields with links, each a button that turns the direction of its links.
-  showLegend() {
-    const {windows, ways} = this.drawing.graph;
-    byId("legend").replaceChildren(...windows.map((window) => {
-      const way = ways.get(window.key);
-      const colour = this.drawing.colourOf(window.name);
-      if (!way) return make("span", {class: colour}, window.name);
-      return make(
-        "button", {
-          type: "button",
-          class: colour,
-          title: `Links of ${window.name} lead ${way.down ? "down" : "to the right"}: click to turn`,
-          onclick: () => this.turn(window, way),
-        },
-        `${window.name} ${way.down ? "↓" : "→"}`
-      );
-    }));
-  }
-
-  turn(window, way) {
-    for (const name of window.names) this.drawing.directions.set(name, way.down ? "right" : "down");
-    this.redraw();
-  }
-
-  redraw() {
-    if (!this.view) return;
-    this.drawing.show(this.view, this.before);
-    this.showLegend();
-  }
-
-  async chooseBlock(place) {
-    this.chosen = place;
-    byId("place").value = place ?? "";
-    byId("chain").value = "";
-    await this.showDetails();
-  }
-
-  // The words of the block that is chosen, or of that in which the chain ends.
-  async showDetails() {
-    const {view, session} = this;
-    if (!view) return;
-    const colour = (name) => this.drawing.colourOf(name);
-    const chain = byId("chain").value.trim();
-    try {
-      const missing = showChain(byId("led"), chain, view, (place) => this.chooseBlock(place));
-      if (missing !== null) {
-        await session.addBlock(view, missing);
-        return this.view === view ? this.showDetails() : undefined;
-      }
-      const known = view.store.pieces.some((it) => !it.isFree && it.place === this.chosen);
-      if (known) await session.addBlock(view, this.chosen);
-    } catch (error) {
-      return this.trouble(error);
-    }
-    if (this.view !== view) return undefined;
-    this.drawing.mark(this.chosen);
-    this.strip.mark(this.chosen);
-    return showWords(byId("words"), this.chosen, view, this.before, colour);
-  }
-
-  // Nothing is shown of a run.
+  // Nothing is shown of a run; why not is told.
   clear(why) {
-    this.view = this.before = null;
-    this.drawing.empty(why);
-    this.strip.forget();
-    this.editor.point(null);
-    for (const id of ["next", "changes", "bugs", "fields", "words", "led", "legend", "printed"])
-      byId(id).replaceChildren();
-    byId("amounts").textContent = "";
-    byId("where").textContent = "Not run yet";
-    byId("where").parentElement.classList.remove("trap");
-    byId("empty").replaceChildren(
-      make("div", {}, make("b", {}, why), make("br"), "Run goes to the end, Step goes on by one step.")
-    );
+    this.viewer.clear(why);
     byId("of").textContent = "";
     byId("slider").max = byId("slider").value = byId("number").value = 0;
     for (const id of ["step", "end", "back", "start"]) byId(id).disabled = false;
@@ -489,7 +355,7 @@ class Page {
     this.editor.marks = new Set(marks);
     this.editor.text.scrollTop = 0;
     this.session = null;
-    this.chosen = null;
+    this.viewer.chosen = null;
     byId("place").value = byId("chain").value = "";
     this.readDeck();
     this.showFault("");
@@ -651,21 +517,9 @@ class Page {
     );
     on("example", "change", () => this.chooseExample(byId("example").value));
     on("file", "change", () => byId("file").files[0] && this.openFile(byId("file").files[0]));
-    on("place", "input", () => this.placeTyped());
-    on("chain", "input", () => this.showDetails());
-    on("detail", "change", () => {
-      this.drawing.detail = byId("detail").value;
-      this.redraw();
-    });
-    on("zoom", "input", () => {
-      this.drawing.zoom = Number(byId("zoom").value) / 100;
-      this.drawing.fit();
-    });
     document.addEventListener("keydown", (event) => this.key(event));
     document.addEventListener("selectionchange", () => this.explainCursor());
     window.addEventListener("hashchange", () => this.openLink());
-    new ResizeObserver(() => this.resized()).observe(byId("drawing"));
-    matchMedia("(prefers-color-scheme: dark)").addEventListener("change", () => this.strip.draw());
     document.addEventListener("dragover", (event) => event.preventDefault());
     document.addEventListener("drop", (event) => {
       event.preventDefault();
@@ -701,22 +555,6 @@ class Page {
     }
   }
 
-  placeTyped() {
-    const value = byId("place").value;
-    this.chosen = value === "" ? null : Number(value);
-    byId("chain").value = "";
-    this.showDetails();
-  }
-
-  resized() {
-    clearTimeout(this.resizeTimer);
-    this.resizeTimer = setTimeout(() => {
-      if (!this.view) return;
-      this.redraw();
-      this.strip.draw();
-    }, 120);
-  }
-
   key(event) {
     if (document.querySelector("dialog[open]")) return;
     const {key} = event;
@@ -744,8 +582,7 @@ class Page {
       Home: () => this.state(0),
       End: () => this.end(),
       e: () => byId("deck").focus(),
-      d: () =>
-        this.drawing.groups.get(this.drawing.focused ?? this.drawing.groups.keys().next().value)?.focus(),
+      d: () => this.viewer.drawing.focusBlock(),
     };
     const name =
       [event.ctrlKey && "Ctrl", event.metaKey && "Meta", event.shiftKey && key.length > 1 && "Shift", key]

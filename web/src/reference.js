@@ -1,7 +1,7 @@
 // The language on one page, for the help: what a card is, and each test and operation with an example.
 
-import {meaningOf} from "./deck.js";
 import {make} from "./dom.js";
+import {meaningOf} from "./meaning.js";
 
 const EACH_CARD = [
   ["* NOTE", "column 1 is *: a comment"],

@@ -168,7 +168,7 @@ def a_session(page: Page) -> None:
     page.click("mark-next")
     page.same("a mark", page.text("where"), "AT 3.0 AFTER 14 STEPS")
     page.same("the card is marked", page.browser.value("l6.editor.spot.card"), 4)
-    page.same("its blocks", page.browser.value("[...l6.drawing.groups.keys()]"), [1024, 1026, 1028])
+    page.same("its blocks", page.browser.value("[...l6.viewer.drawing.groups.keys()]"), [1024, 1026, 1028])
     page.same("its lost block", page.browser.value("document.querySelectorAll('.block.lost').length"), 1)
     page.click("back")
     page.same("nothing changed in that step", page.text("changes"), "")
@@ -209,10 +209,10 @@ def blocks_and_chains(page: Page) -> None:
     page.has("halvings", page.text("changes"), "a free piece of 1,024 was halved 10 times")
     page.has("the picture has a text", page.browser.value("document.getElementById('levels').getAttribute('aria-label')"), "1536 free of 512")
     page.open("#tree@137")
-    page.has("the drawing has a text", page.browser.value("l6.drawing.picture.getAttribute('aria-label')"), "6 blocks; T leads to 1024")
-    before = page.browser.value("l6.drawing.size.width")
+    page.has("the drawing has a text", page.browser.value("l6.viewer.drawing.picture.getAttribute('aria-label')"), "6 blocks; T leads to 1024")
+    before = page.browser.value("l6.viewer.drawing.size.width")
     page.browser.value("document.querySelectorAll('.legend button')[0].click()")
-    page.right("links are turned", page.browser.value("l6.drawing.size.width") != before)
+    page.right("links are turned", page.browser.value("l6.viewer.drawing.size.width") != before)
 
 
 @trial
@@ -301,7 +301,7 @@ CROSSINGS = """(() => {
         const path = arrow.querySelector('path');
         for (let at = 0; at < path.getTotalLength(); at += 3) {
             const { x, y } = path.getPointAtLength(at);
-            const block = l6.drawing.graph.blocks.find(b => x > b.x + 1 && x < b.x + b.width - 1 && y > b.y + 1 && y < b.y + b.height - 1);
+            const block = l6.viewer.drawing.graph.blocks.find(b => x > b.x + 1 && x < b.x + b.width - 1 && y > b.y + 1 && y < b.y + b.height - 1);
             if (block && String(block.place) !== arrow.dataset.from) { found.push(`${arrow.dataset.from} to ${arrow.dataset.to} through ${block.place}`); break; }
         }
     }
@@ -372,7 +372,7 @@ def limits(page: Page) -> None:
     page.has("the limit of output", page.text("where"), "== TRAP 14 OUTPUT FULL AT 0.1 AFTER")
     page.put(" (0,DN,18,35)\nG (L,GT,1,LN,F) G\nF DONE\n")
     page.click("run")
-    page.has("too many blocks to draw", page.browser.value("l6.drawing.layer.notes.textContent"), "Not drawn: 8,042 blocks")
+    page.has("too many blocks to draw", page.browser.value("l6.viewer.drawing.layer.notes.textContent"), "Not drawn: 8,042 blocks")
     page.browser.value("(e => { e.value = 9999; e.dispatchEvent(new Event('change')); })(document.getElementById('store'))")
     page.same("an option out of range", page.browser.value("document.getElementById('store').value"), "255")
 

@@ -4,9 +4,10 @@ import {readDeck} from "./deck.js";
 import {byId, make} from "./dom.js";
 import {Editor} from "./editor.js";
 import {bytesOf, Engine, Stopped} from "./engine.js";
-import {linkOf, readLink} from "./links.js";
+import {press} from "./keys.js";
+import {DEFAULTS, Library} from "./library.js";
 import {groupAt, meaningOf} from "./meaning.js";
-import {Papers, save} from "./papers.js";
+import {Papers} from "./papers.js";
 import {referenceOf} from "./reference.js";
 import {job, partsOf, Refused, Session} from "./session.js";
 import {unpacked} from "./unpack.js";
@@ -26,7 +27,6 @@ const RANGES = {
 class Page {
   constructor(engine, examples) {
     this.engine = engine;
-    this.examples = examples;
     this.session = null;
     this.playing = null;
     this.waiting = null; // what is to be done once the engine has answered
@@ -43,7 +43,7 @@ class Page {
       exchanges: () => this.session?.exchanges ?? [],
     });
     byId("reference").append(...referenceOf());
-    this.fillMenu();
+    this.library = new Library(this, examples);
     this.listen();
   }
 
@@ -199,6 +199,15 @@ class Page {
     this.tell(`statement ${statement} is ${marks.has(statement) ? "marked" : "not marked any more"}`);
   }
 
+  // Marks the statement where the run is.
+  markHere() {
+    if (this.view?.state.statement !== undefined) this.toggle(this.view.state.statement);
+  }
+
+  get isRunning() {
+    return this.engine.isBusy || this.playing !== null;
+  }
+
   play() {
     if (this.playing !== null) return this.pause();
     const beat = async () => {
@@ -241,7 +250,7 @@ class Page {
   show(view, before) {
     this.viewer.show(view, before, this.session);
     this.showNumbers();
-    this.checkExercise();
+    this.library.checkExercise();
   }
 
   showNumbers() {
@@ -350,8 +359,7 @@ class Page {
     byId("deck").value = deck;
     byId("input").value = input;
     byId("commands").value = commands;
-    for (const [name, value] of Object.entries({store: 8, steps: 1_000_000, output: 1_048_576, ...options}))
-      byId(name).value = value;
+    for (const [name, value] of Object.entries({...DEFAULTS, ...options})) byId(name).value = value;
     this.editor.marks = new Set(marks);
     this.editor.text.scrollTop = 0;
     this.session = null;
@@ -362,127 +370,6 @@ class Page {
     this.clear("Not run yet");
     this.tell("");
     this.check();
-  }
-
-  // ---- Examples, files, links
-
-  fillMenu() {
-    byId("example").replaceChildren(
-      make("option", {value: ""}, "Examples and exercises .."),
-      ...this.examples.map(
-        ({name, items}) =>
-          make("optgroup", {label: name}, ...items.map((it) => make("option", {value: it.key}, it.title)))
-      )
-    );
-  }
-
-  find(key) {
-    return this.examples.flatMap((it) => it.items).find((it) => it.key === key);
-  }
-
-  openExample(key) {
-    const example = this.find(key);
-    if (!example) return false;
-    this.example = example;
-    byId("example").value = key;
-    if (example.bySize) byId("by-size").checked = true;
-    this.put(example);
-    this.showExercise();
-    return true;
-  }
-
-  showExercise() {
-    const frame = byId("exercise");
-    const {task, printout} = this.example ?? {};
-    frame.hidden = !task;
-    if (task)
-      frame.replaceChildren(
-        make("b", {}, "Exercise "), task, make("pre", {}, `It is to print:\n${printout}`),
-        make("span", {class: "right-answer", id: "verdict"})
-      );
-  }
-
-  // Whether the printout is that which the exercise asks for.
-  checkExercise() {
-    if (!this.example?.task || !this.view?.state.ending) return;
-    const [lines, wanted] =
-      [this.view.output.trimEnd().split("\n"), this.example.printout.trimEnd().split("\n")];
-    const wrong = wanted.findIndex((line, index) => line !== lines[index]);
-    const isRight = wrong < 0 && lines.length === wanted.length && this.view.state.ending === "DONE";
-    const first = wrong < 0 ? "more is printed, or the run does not end by DONE" :
-                              `line ${wrong + 1} is “${lines[wrong] ?? ""}” and not “${wanted[wrong]}”`;
-    byId("verdict").textContent = isRight ? "✓ Just this is printed." : `Not yet: ${first}.`;
-    byId("verdict").className = isRight ? "right-answer" : "wrong-answer";
-    if (isRight) this.tell("The exercise is solved.");
-  }
-
-  async openFile(file) {
-    const bytes = new Uint8Array(await file.arrayBuffer());
-    if (bytes.length > 16_777_216) return this.tell("The file is longer than a job may be.");
-    let text;
-    try {
-      text = new TextDecoder("utf-8", {fatal: true, ignoreBOM: false}).decode(bytes);
-    } catch {
-      text = new TextDecoder("latin1").decode(bytes);
-    }
-    this.example = null;
-    byId("example").value = "";
-    this.put(partsOf(text));
-    this.showExercise();
-    return this.tell(`opened ${file.name}`);
-  }
-
-  saveFile() {
-    const {deck, input} = this.job();
-    save(`${this.example?.key ?? "my"}.deck`, job(deck, byId("commands").value || null, input));
-  }
-
-  async makeLink() {
-    const now = this.job();
-    const {example} = this;
-    const isSame = example && example.deck === now.deck && (example.input ?? "") === now.input &&
-      JSON.stringify(now.options) ===
-        JSON.stringify({store: 8, steps: 1_000_000, output: 1_048_576, ...example.options});
-    const link = await linkOf({
-      ...now,
-      example: isSame ? example.key : null,
-      marks: [...this.editor.marks].sort((a, b) => a - b),
-      number: this.view ? this.view.state.number : null
-    });
-    history.replaceState(null, "", link);
-    try {
-      await navigator.clipboard.writeText(location.href);
-      this.tell("The link is copied, and stands in the address.");
-    } catch {
-      this.tell("The link stands in the address.");
-    }
-  }
-
-  // Opens what a link says. An example is shown at its state; a deck of someone else is not run until it is asked for.
-  async openLink() {
-    const link = await readLink(location.hash);
-    if (!link) return false;
-    if (link.example) {
-      if (!this.openExample(link.example)) return false;
-      if (link.marks.length) this.editor.marks = new Set(link.marks);
-      this.editor.draw();
-      if (link.number !== null) await this.state(link.number);
-      return true;
-    }
-    this.example = null;
-    byId("example").value = "";
-    this.put(link);
-    this.showExercise();
-    if (link.number !== null) {
-      const go = make(
-        "button", {type: "button", class: "main", onclick: () => this.state(link.number)},
-        `Go to state ${told(link.number)}`
-      );
-      byId("empty").replaceChildren(
-        make("div", {}, make("b", {}, "This deck came with the link, and was not run."), make("br"), go)
-      );
-    }
-    return true;
   }
 
   // ---- Events
@@ -501,8 +388,8 @@ class Page {
       "mark-next": () => this.nextMark(),
       "to-cursor": () => this.runTo(this.editor.statementAtCursor()),
       open: () => byId("file").click(),
-      save: () => this.saveFile(),
-      link: () => this.makeLink(),
+      save: () => this.library.saveFile(),
+      link: () => this.library.makeLink(),
       papers: () => this.papers.open(this.papers.tab),
       help: () => byId("help-dialog").showModal(),
     };
@@ -515,22 +402,16 @@ class Page {
       "number", "change",
       () => this.state(Math.max(0, Math.min(1_000_000_001, Number(byId("number").value) || 0)))
     );
-    on("example", "change", () => this.chooseExample(byId("example").value));
-    on("file", "change", () => byId("file").files[0] && this.openFile(byId("file").files[0]));
-    document.addEventListener("keydown", (event) => this.key(event));
+    on("example", "change", () => this.library.chooseExample(byId("example").value));
+    on("file", "change", () => byId("file").files[0] && this.library.openFile(byId("file").files[0]));
+    document.addEventListener("keydown", (event) => press(this, event));
     document.addEventListener("selectionchange", () => this.explainCursor());
-    window.addEventListener("hashchange", () => this.openLink());
+    window.addEventListener("hashchange", () => this.library.openLink());
     document.addEventListener("dragover", (event) => event.preventDefault());
     document.addEventListener("drop", (event) => {
       event.preventDefault();
-      if (event.dataTransfer.files[0]) this.openFile(event.dataTransfer.files[0]);
+      if (event.dataTransfer.files[0]) this.library.openFile(event.dataTransfer.files[0]);
     });
-  }
-
-  chooseExample(key) {
-    if (!key) return;
-    history.replaceState(null, "", `#${key}`);
-    this.openExample(key);
   }
 
   inputChanged() {
@@ -554,47 +435,6 @@ class Page {
       this.clear("An option has changed.");
     }
   }
-
-  key(event) {
-    if (document.querySelector("dialog[open]")) return;
-    const {key} = event;
-    const isTyping = /^(TEXTAREA|SELECT)$/.test(event.target.tagName) ||
-      (event.target.tagName === "INPUT" && event.target.type !== "checkbox");
-    const everywhere = {
-      "Ctrl Enter": () => this.run(),
-      "Meta Enter": () => this.run(),
-      F8: () => this.step(),
-      "Shift F8": () => this.back(),
-      F9: () => this.toggle(this.editor.statementAtCursor()),
-      Escape: () =>
-        (this.engine.isBusy || this.playing !== null ? this.stop() : isTyping && event.target.blur()),
-    };
-    const outside = {
-      ArrowRight: () => this.step(),
-      n: () => this.step(),
-      ArrowLeft: () => this.back(),
-      p: () => this.back(),
-      " ": () => this.play(),
-      g: () => this.nextMark(),
-      b: () => this.markBefore(),
-      r: () => this.runTo(this.editor.statementAtCursor()),
-      m: () => this.view && this.view.state.statement !== undefined && this.toggle(this.view.state.statement),
-      Home: () => this.state(0),
-      End: () => this.end(),
-      e: () => byId("deck").focus(),
-      d: () => this.viewer.drawing.focusBlock(),
-    };
-    const name =
-      [event.ctrlKey && "Ctrl", event.metaKey && "Meta", event.shiftKey && key.length > 1 && "Shift", key]
-        .filter((it) => it)
-        .join(" ");
-    const isButton = ["BUTTON", "SUMMARY"].includes(event.target.tagName) && (key === " " || key === "Enter");
-    const what = everywhere[name] ??
-      (isTyping || isButton || event.altKey ? null : outside[name] ?? outside[name.toLowerCase()]);
-    if (!what) return;
-    event.preventDefault();
-    what();
-  }
 }
 
 // The card that a fault's line tells, counted from 0, or -1.
@@ -608,7 +448,7 @@ async function begin() {
   const engine = new Engine(await WebAssembly.compile(bytes), worker);
   const page = new Page(engine, examples);
   window.l6 = page; // (for tests, and for whoever looks inside)
-  if (!(await page.openLink())) page.openExample("first");
+  if (!(await page.library.openLink())) page.library.openExample("first");
   document.body.dataset.ready = "yes";
 }
 

@@ -37,6 +37,10 @@ export class Papers {
     ).addEventListener("click", () => save(TABS.find(([key]) => key === this.tab)[2], this.text));
     byId("copy").addEventListener("click", () => this.copy());
     byId("obey").addEventListener("click", () => this.open("session"));
+    byId("save-session").addEventListener("click", () => {
+      const {deck, input} = this.source.job();
+      save("my.session", job(deck, byId("commands").value, input));
+    });
   }
 
   async open(tab) {

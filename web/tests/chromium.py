@@ -48,7 +48,7 @@ class Page:
 
     def put(self, deck: str, text: str = "", **options: int) -> None:
         """Puts a job into the page, as an opened file does."""
-        self.browser.value(f"l6.example = null, l6.put({json.dumps({'deck': deck, 'input': text, 'options': options})})")
+        self.browser.value(f"l6.library.example = null, l6.put({json.dumps({'deck': deck, 'input': text, 'options': options})})")
 
     def do(self, script: str):
         """Has the page do something, and waits until it is done."""
@@ -265,14 +265,14 @@ def playing(page: Page) -> None:
 def examples(page: Page) -> None:
     page.open()
     for printout in sorted((TOP / "examples").glob("*.printout")):
-        page.browser.value(f"l6.openExample({json.dumps(printout.stem)})")
+        page.browser.value(f"l6.library.openExample({json.dumps(printout.stem)})")
         page.do("l6.run()")
         page.same(f"{printout.stem} prints", page.text("printed") + "\n", printout.read_text("latin-1"))
     for transcript in sorted((TOP / "examples").glob("*.transcript")):
-        page.browser.value(f"l6.openExample({json.dumps(transcript.stem)})")
+        page.browser.value(f"l6.library.openExample({json.dumps(transcript.stem)})")
         page.do("l6.papers.open('session')")
         page.same(f"{transcript.stem} answers", page.text("paper"), transcript.read_text("latin-1"))
-    page.browser.value("l6.openExample('first')")
+    page.browser.value("l6.library.openExample('first')")
     page.do("l6.papers.open('listing')")
     page.same("a listing", page.text("paper"), (TOP / "examples" / "first.listing").read_text("latin-1"))
     page.do("l6.papers.open('image')")
@@ -285,10 +285,10 @@ def drawings(page: Page) -> None:
     """No arrow goes through a block that it does not begin in, and a unit of the store can be chosen by keys."""
     page.open()
     for name, state in PICTURES.items():
-        page.browser.value(f"l6.openExample({json.dumps(name)})")
+        page.browser.value(f"l6.library.openExample({json.dumps(name)})")
         page.do(f"l6.state({state})")
         page.same(f"arrows of {name}", page.browser.value(CROSSINGS), [])
-    page.browser.value("l6.openExample('full')")
+    page.browser.value("l6.library.openExample('full')")
     page.do("l6.state(30000)")
     page.browser.value("(e => { e.value = 3; e.dispatchEvent(new Event('input')); })(document.getElementById('unit'))")
     page.has("the third unit", page.browser.value("document.getElementById('strip').getAttribute('aria-label')"), "3072 block of 1")
@@ -326,7 +326,7 @@ def links(page: Page) -> None:
     page.put(deck, "in <b>", store=3)
     page.do("l6.state(3)")
     page.browser.value("l6.toggle(1)")
-    page.do("l6.makeLink()")
+    page.do("l6.library.makeLink()")
     fragment = page.browser.value("location.hash")
     page.open(fragment)
     page.same("the deck came with the link", page.browser.value("document.getElementById('deck').value"), deck)
@@ -345,11 +345,11 @@ def links(page: Page) -> None:
 @trial
 def files(page: Page) -> None:
     page.open()
-    page.do("l6.openFile(new File(['* \\u00e9\\n (A,IN,2)(A,PR,2)\\n$COMMANDS\\nstep 1\\n$INPUT\\nOK\\n'], 'a.deck'))")
+    page.do("l6.library.openFile(new File(['* \\u00e9\\n (A,IN,2)(A,PR,2)\\n$COMMANDS\\nstep 1\\n$INPUT\\nOK\\n'], 'a.deck'))")
     page.do("l6.run()")
     page.same("a file is opened", page.text("printed"), "OK\n== DONE AFTER 6 STEPS")
     page.same("with its commands", page.browser.value("document.getElementById('commands').value"), "step 1\n")
-    page.do("l6.openFile(new File([new Uint8Array([42, 233, 10, 32, 40, 80, 76, 41, 10])], 'b.deck'))")
+    page.do("l6.library.openFile(new File([new Uint8Array([42, 233, 10, 32, 40, 80, 76, 41, 10])], 'b.deck'))")
     page.do("l6.run()")
     page.same("one that is not UTF-8, too", page.text("where"), "== DONE AFTER 5 STEPS")
     page.browser.value("window.kept = []; URL.createObjectURL = (it) => { kept.push(it); return 'about:blank#'; }; HTMLAnchorElement.prototype.click = function () { kept.push(this.download); }")

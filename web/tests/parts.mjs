@@ -19,7 +19,7 @@ import {job, partsOf, Session} from "../src/session.js";
 import {stateOf, Transcript} from "../src/transcript.js";
 import {likelyText, octal, seenThrough, textOf} from "../src/word.js";
 
-import {compiled, MEMORY, serveText, Tally, TOP} from "./common.mjs";
+import {compiled, MEMORY, serveText, Tally, TOP, WEB} from "./common.mjs";
 
 const tally = new Tally();
 const module = compiled();
@@ -297,5 +297,17 @@ for (const bad of
         "#deck=" +
           "A".repeat(50)])
   same(`no link: ${bad.slice(0, 12)}`, await readLink(bad), null);
+
+// ---- Exercises: the tutorial's answers print what is asked for, and the decks to begin with don't
+
+const answers = readFileSync(`${TOP}/docs/tutorial.md`, "utf8").split("\n## Answers\n")[1];
+const printed = (deck, input) => serveText(module, ["run"], job(deck, null, input)).output.split("\n== ")[0];
+for (const {key, deck, input, printout} of JSON.parse(readFileSync(`${WEB}/exercises.json`, "utf8"))) {
+  const answer = answers.split(`**${key.slice("exercise-".length)}.**`)[1];
+  const parts = partsOf(/```text\n([^]*?)```/.exec(answer)[1]);
+  same(`${key}: the answer`, printed(parts.deck, parts.input).trimEnd(), printout);
+  same(`${key}: the deck to begin with has no fault`, readDeck(deck).fault, null);
+  tally.count(`${key}: it is not the answer`, printed(deck, input ?? "").trimEnd() !== printout, () => "it is");
+}
 
 tally.end();

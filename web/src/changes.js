@@ -8,10 +8,9 @@ const MOST_TOLD = 7;
 
 // The sentences; where the states are neighbours it is told how often the store halved or joined pieces, too.
 export function changesOf(before, view, input) {
-  if (!before) return endings(view);
+  if (!before) return [];
   const isStep = Math.abs(view.state.number - before.state.number) === 1;
   return [
-    ...endings(view),
     ...blocksOf(before, view, isStep),
     ...bugsOf(before, view),
     ...fieldsOf(before, view),
@@ -32,13 +31,13 @@ const ENDINGS = {
   LIMIT: "the run has made all the steps it may"
 };
 
-function endings({state}) {
-  if (!state.ending) return [];
-  if (state.ending === "TRAP") return [TRAPS[/TRAP (\d+)/.exec(state.line)[1]] ?? "the run has trapped"];
-  return [ENDINGS[state.ending]];
+// How the run has ended in this state, in a sentence, or "".
+export function endingOf({state}) {
+  if (state.ending === "TRAP") return TRAPS[/TRAP (\d+)/.exec(state.line)[1]];
+  return ENDINGS[state.ending] ?? "";
 }
 
-export const TRAPS = {
+const TRAPS = {
   1: "trap 1: a chain names a field that has no definition",
   2: "trap 2: no block begins at the place to which the chain has come",
   3: "trap 3: the field's word lies outside of the block",

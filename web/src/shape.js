@@ -1,6 +1,6 @@
 // The shape of a block in the drawing: rows of cells, one for each window that shows some of its bits.
 
-import {likelyText, octal, seenThrough, widthOf, WORD_BITS} from "./word.js";
+import {characterOf, likelyText, octal, seenThrough, widthOf, WORD_BITS} from "./word.js";
 
 export const GRID = 12; // all sizes and places are multiples of it
 export const BIT = 4;   // so 36 bits are 144 wide
@@ -100,13 +100,15 @@ function cellOf(window, content, links) {
 export function textOfCell(window, value, link) {
   const room = Math.floor((widthOf(window) * BIT - 6) / 6.7) - window.name.length - 1;
   if (link) return room >= String(value).length ? String(value) : "";
-  const text = widthOf(window) === 6 && value > 0 ? likelyCharacter(value) : likelyText(value);
+  const isCode = value > 0 && (widthOf(window) === 6 || isLetter(value));
+  const text = isCode ? characterOf(value) : likelyText(value);
   const both = text ? `${value} ${text}` : String(value);
   return [both, text, String(value)].find((it) => it && it.length <= room) ?? (text.length === 1 ? text : "");
 }
 
-function likelyCharacter(value) {
-  return value > 0 ? String.fromCharCode(value + 32) : "";
+// Whether a number is the code of a letter.
+function isLetter(value) {
+  return value >= 33 && value <= 58;
 }
 
 // A box: what it holds besides links, in a row, and a stub for each link below.

@@ -1,6 +1,6 @@
 // Shows a view of a run: where it is, what changed, what is printed, the blocks, the store, and the tables.
 
-import {changesOf, shortened} from "./changes.js";
+import {changesOf, endingOf, shortened} from "./changes.js";
 import {byId, make} from "./dom.js";
 import {Drawing} from "./drawing.js";
 import {actionAt} from "./meaning.js";
@@ -83,16 +83,20 @@ export class Viewer {
     const changes = changesOf(this.before, this.view, this.session.input);
     this.showChanges(changes);
     const said = action ? [`Next ${action.text}, ${action.says}`] : [];
-    byId("spoken").textContent = [state.line, ...said, shortened(changes).join("; ")].join(". ");
+    const all = [state.line, endingOf(this.view), ...said, shortened(changes).join("; ")];
+    byId("spoken").textContent = all.filter((it) => it).join(". ");
   }
 
   showChanges(changes) {
-    const {before} = this;
+    const {before, view} = this;
     const parts = shortened(changes).flatMap((it, index) => [index ? " · " : "", it]);
-    const far = before && Math.abs(before.state.number - this.view.state.number) > 1 ?
-      `since state ${told(before.state.number)}: ` :
-      "";
-    byId("changes").replaceChildren(...(parts.length ? [make("b", {}, "Changed "), far, ...parts] : []));
+    const isFar = before && Math.abs(before.state.number - view.state.number) > 1;
+    const since = isFar ? `since state ${told(before.state.number)}: ` : "";
+    const ending = endingOf(view);
+    byId("changes").replaceChildren(
+      ...(ending ? [make("b", {class: "ending"}, ending), parts.length ? " " : ""] : []),
+      ...(parts.length ? [make("b", {}, "Changed "), since, ...parts] : [])
+    );
     byId("changes").title = changes.slice(0, 60).join("\n");
   }
 

@@ -81,6 +81,7 @@ export class Drawing {
     this.drawBlocks(graph);
     this.drawArrows(graph);
     this.fit();
+    this.revealChange(graph);
     this.picture.setAttribute("aria-label", drawingInWords(graph));
     return graph;
   }
@@ -295,6 +296,19 @@ export class Drawing {
     this.picture.setAttribute("viewBox", `0 0 ${width} ${height}`);
     this.picture.setAttribute("width", Math.floor(width * scale));
     this.picture.setAttribute("height", Math.floor(height * scale));
+  }
+
+  // Brings the first block that has changed into sight, if none is.
+  revealChange({blocks, bugs}) {
+    const led = new Set(bugs.filter((it) => it.isChanged).map((it) => it.place));
+    const changed = blocks.filter((it) => it.isNew || it.isChanged);
+    const wanted = changed.length ? changed : blocks.filter((it) => led.has(it.place));
+    const scale = this.scale * (this.zoom ?? 1);
+    const {scrollTop, clientHeight} = this.frame;
+    const isSeen = ({y, height}) =>
+      y * scale >= scrollTop && (y + height) * scale <= scrollTop + clientHeight;
+    if (!wanted.length || wanted.some(isSeen)) return;
+    this.frame.scrollTop = Math.max(0, (wanted[0].y + wanted[0].height / 2) * scale - clientHeight / 2);
   }
 
   // Puts the focus on the block that had it last, or on the first.

@@ -121,7 +121,7 @@ function boxOfItem({block, below}, room, gaps) {
   const right = Math.max(total, middle + block.width / 2);
   return {
     width: right - left,
-    height: block.height + gaps.below + PILL + Math.max(...boxes.map((it) => it.height)),
+    height: block.height + gaps.below + Math.max(...boxes.map((it) => it.height)),
     middle: middle - left,
     put: (x, y, into) => {
       into.set(
@@ -130,7 +130,7 @@ function boxOfItem({block, below}, room, gaps) {
       );
       let at = x - left;
       for (const box of boxes) {
-        box.put(at, y + block.height + gaps.below + PILL - GRID, into);
+        box.put(at, y + block.height + gaps.below, into);
         at += box.width + gaps.side;
       }
     },

@@ -1,0 +1,26 @@
+// Makes elements. What a deck says goes into them as text, and never as markup.
+
+export function byId(id) {
+  return document.getElementById(id);
+}
+
+// An element with attributes, and children that are elements or texts.
+export function make(tag, attributes = {}, ...children) {
+  return fill(document.createElement(tag), attributes, children);
+}
+
+export function svg(tag, attributes = {}, ...children) {
+  return fill(document.createElementNS("http://www.w3.org/2000/svg", tag), attributes, children);
+}
+
+function fill(element, attributes, children) {
+  for (const [name, value] of Object.entries(attributes)) {
+    if (value === false || value === null || value === undefined) continue;
+    if (name.startsWith("on"))
+      element.addEventListener(name.slice(2), value);
+    else
+      element.setAttribute(name, value === true ? "" : String(value));
+  }
+  element.append(...children.filter((it) => it !== null && it !== undefined && it !== false));
+  return element;
+}

@@ -1,0 +1,145 @@
+// The deck as a text that is edited, and that is marked where the run is. What is marked lies below the text, and
+// the numbers of cards and statements beside it; of both only what is in sight is made.
+
+import {make} from "./dom.js";
+import {COLUMNS} from "./fault.js";
+
+const PAD = 4; // above the first line, in pixels
+const INDENT = 2;
+
+export class Editor {
+  constructor({text, under, gutter, ruler}, toggle) {
+    Object.assign(this, {text, under, gutter, ruler, toggle});
+    this.marks = new Set();
+    this.spot = null; // where the run is
+    this.fault = null;
+    this.deck = null; // as it was read
+    this.measure();
+    text.addEventListener("scroll", () => this.draw());
+    new ResizeObserver(() => this.measure()).observe(text);
+  }
+
+  measure() {
+    const probe = make("span", {class: "hidden"}, "0".repeat(100));
+    this.under.append(probe);
+    probe.style.cssText = "position:absolute;width:auto;clip-path:none;visibility:hidden";
+    this.column = probe.getBoundingClientRect().width / 100 || 7.5;
+    probe.remove();
+    this.row = parseFloat(getComputedStyle(this.text).lineHeight) || 20;
+    this.ruler.replaceChildren(...[1, 10, 20, 30, 40, 50, 60, 70, 72].filter((it) => it !== 70).map((it) => {
+      const tick = make("i", {class: it === 72 ? "edge" : ""}, String(it));
+      tick.style.left = `${INDENT + (it - 0.5) * this.column}px`;
+      return tick;
+    }));
+    this.draw();
+  }
+
+  read(deck) {
+    this.deck = deck;
+    this.draw();
+  }
+
+  // Draws what is in sight.
+  draw() {
+    if (!this.deck) return;
+    const {scrollTop, scrollLeft, clientHeight} = this.text;
+    const first = Math.max(0, Math.floor((scrollTop - PAD) / this.row));
+    const last =
+      Math.min(Math.max(this.deck.cards.length, 1), first + Math.ceil(clientHeight / this.row) + 2);
+    const top = (card) => PAD + card * this.row - scrollTop;
+    const beside = [];
+    for (let card = first; card < last; card++) beside.push(...this.numbersOf(card, top(card)));
+    this.gutter.replaceChildren(...beside);
+    this.under.replaceChildren(...this.lanes(scrollLeft), ...this.shades(first, last, top, scrollLeft));
+  }
+
+  lanes(left) {
+    const lane = (name, from, width) => {
+      const element = make("div", {class: name});
+      element.style.left = `${INDENT + from * this.column - left}px`;
+      if (width) element.style.width = `${width * this.column}px`;
+      return element;
+    };
+    return [lane("first", 0, 1), lane("last", COLUMNS, 0)];
+  }
+
+  shades(first, last, top, left) {
+    const found = [];
+    for (const [kind, spot] of [["at", this.spot], ["bad", this.fault]]) {
+      if (!spot || spot.card < first || spot.card >= last) continue;
+      const line = make("div", {class: `line ${kind}`});
+      line.style.top = `${top(spot.card)}px`;
+      const mark = make("div", {class: `spot ${kind}`});
+      mark.style.top = line.style.top;
+      mark.style.left = `${INDENT + spot.from * this.column - left}px`;
+      mark.style.width = `${Math.max(0.35, spot.to - spot.from) * this.column}px`;
+      found.push(line, mark);
+    }
+    return found;
+  }
+
+  numbersOf(card, top) {
+    const number = make("span", {class: "card"}, String(card + 1));
+    number.style.top = `${18 + 1 + top}px`;
+    const statement = this.deck.cards[card] ?? -1;
+    if (statement < 0 || this.deck.statements[statement]?.card !== card) return [number];
+    const isMarked = this.marks.has(statement);
+    const button = make(
+      "button", {
+        type: "button",
+        tabindex: -1,
+        class: this.spot?.statement === statement ? "at" : "",
+        "aria-pressed": String(isMarked),
+        "aria-label": `Statement ${statement}`,
+        title: `Statement ${statement}: ${
+          isMarked ? "take the mark off" : "mark it"} (Shift and click: run to it)`,
+        onclick: (event) => this.toggle(statement, event.shiftKey),
+      },
+      String(statement)
+    );
+    button.style.top = `${18 + 1 + top}px`;
+    return [number, button];
+  }
+
+  // Marks where the run is, and brings it into sight.
+  point(spot) {
+    this.spot = spot;
+    if (spot && spot.card >= 0) this.reveal(spot.card);
+    this.draw();
+  }
+
+  blame(fault) {
+    this.fault = fault && fault.card >= 0 ? fault : null;
+    this.draw();
+  }
+
+  reveal(card) {
+    const {scrollTop, clientHeight} = this.text;
+    const top = PAD + card * this.row;
+    if (top < scrollTop + this.row || top > scrollTop + clientHeight - 3 * this.row) {
+      this.text.scrollTop = Math.max(0, top - clientHeight / 2);
+    }
+  }
+
+  // The card and the column of the cursor, counted from 0.
+  cursor() {
+    const before = this.text.value.slice(0, this.text.selectionStart).split("\n");
+    return {card: before.length - 1, column: before.at(-1).length};
+  }
+
+  // The statement in which the cursor stands, or that behind it.
+  statementAtCursor() {
+    const {card} = this.cursor();
+    for (let at = card; at < this.deck.cards.length; at++)
+      if (this.deck.cards[at] >= 0) return this.deck.cards[at];
+    return this.deck.statements.length; // the DONE behind every deck
+  }
+
+  // Puts the cursor on a card.
+  goTo(card, column) {
+    const before = this.text.value.split("\n").slice(0, card).join("\n").length + (card > 0 ? 1 : 0);
+    this.text.focus();
+    this.text.setSelectionRange(before + column, before + column);
+    this.reveal(card);
+  }
+}

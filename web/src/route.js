@@ -1,0 +1,212 @@
+// The ways of arrows: along a grid, round the blocks, with few corners, and beside one another.
+
+import {GRID} from "./shape.js";
+
+const TURN = 3;   // what a corner costs, in steps of the grid
+const SHARED = 8; // what it costs to run where another arrow runs
+const CROSSED = 2;
+const NEAR = 0.15;                                     // beside a block
+const DIRECTIONS = [[1, 0], [0, 1], [-1, 0], [0, -1]]; // right, down, left, up
+const BLOCKED = 255;
+
+// A grid over a drawing, in which ways are found one after another.
+export class Router {
+  constructor(width, height, boxes) {
+    this.columns = Math.ceil(width / GRID);
+    this.lines = Math.ceil(height / GRID);
+    const size = this.columns * this.lines;
+    this.ground = new Uint8Array(size);
+    this.used = [new Uint8Array(size), new Uint8Array(size)]; // by arrows that run across, and up or down
+    this.cost = new Float64Array(size * 4);
+    this.round = new Uint32Array(size * 4);
+    this.from = new Int32Array(size * 4);
+    this.now = 0;
+    for (const box of boxes) this.block(box);
+  }
+
+  block({x, y, width, height}) {
+    const [left, top] = [Math.round(x / GRID), Math.round(y / GRID)];
+    const [right, bottom] = [Math.round((x + width) / GRID), Math.round((y + height) / GRID)];
+    for (let line = top - 1; line <= bottom + 1; line++) {
+      for (let column = left - 1; column <= right + 1; column++) {
+        if (!this.has(column, line)) continue;
+        const isInside = column >= left && column <= right && line >= top && line <= bottom;
+        const at = line * this.columns + column;
+        if (isInside)
+          this.ground[at] = BLOCKED;
+        else if (this.ground[at] === 0)
+          this.ground[at] = 1;
+      }
+    }
+  }
+
+  has(column, line) {
+    return column > 0 && line > 0 && column < this.columns && line < this.lines; // (not on the edge)
+  }
+
+  // The points of the way from one of the starts to one of the ends: each has a point at a block's side, the
+  // direction in which the arrow runs there, and what it costs to take it. Null where there is none.
+  way(starts, ends) {
+    this.now++;
+    const goals = new Map();
+    for (const end of ends) {
+      const at = this.stepFrom(end, -1);
+      if (at && this.ground[at.index] !== BLOCKED) goals.set(at.index, {...end, at});
+    }
+    const heap = new Heap();
+    for (const start of starts) {
+      const at = this.stepFrom(start, 1);
+      if (at && this.ground[at.index] !== BLOCKED)
+        this.offer(heap, at.index * 4 + start.direction, start.cost ?? 0, -1 - starts.indexOf(start), goals);
+    }
+    for (let state; (state = heap.pop()) !== undefined;) {
+      if (this.isDone(state)) continue;
+      this.done(state);
+      const goal = goals.get((state - (state % 4)) / 4);
+      if (goal && state % 4 !== (goal.direction + 2) % 4) return this.points(state, starts, goal);
+      this.spread(heap, state, goals);
+    }
+    return null;
+  }
+
+  // The grid's point a step outside of the block.
+  stepFrom({x, y, direction}, sign) {
+    const [dx, dy] = DIRECTIONS[direction];
+    const column = Math.round(x / GRID) + sign * dx;
+    const line = Math.round(y / GRID) + sign * dy;
+    return this.has(column, line) ? {index: line * this.columns + column, column, line} : null;
+  }
+
+  spread(heap, state, goals) {
+    const direction = state % 4;
+    const index = (state - direction) / 4;
+    const [column, line] = [index % this.columns, Math.floor(index / this.columns)];
+    for (let next = 0; next < 4; next++) {
+      if (next === (direction + 2) % 4) continue;
+      const [dx, dy] = DIRECTIONS[next];
+      if (!this.has(column + dx, line + dy)) continue;
+      const to = (line + dy) * this.columns + column + dx;
+      if (this.ground[to] === BLOCKED) continue;
+      const along = next % 2;
+      const price = 1 + (next === direction ? 0 : TURN) + this.ground[to] * NEAR +
+        (this.used[along][to] ? SHARED : 0) + (this.used[1 - along][to] ? CROSSED : 0);
+      this.offer(heap, to * 4 + next, this.cost[state] + price, state, goals);
+    }
+  }
+
+  // Notes a way to a state if it is the cheapest so far. Marks are of this search where `round` says so.
+  offer(heap, state, cost, from, goals) {
+    if (this.round[state] === this.now * 2 + 1) return;
+    if (this.round[state] === this.now * 2 && this.cost[state] <= cost) return;
+    this.round[state] = this.now * 2;
+    this.cost[state] = cost;
+    this.from[state] = from;
+    heap.push(cost + this.guess(state, goals), state);
+  }
+
+  guess(state, goals) {
+    const index = (state - (state % 4)) / 4;
+    const [column, line] = [index % this.columns, Math.floor(index / this.columns)];
+    let best = Infinity;
+    for (const {at, cost} of goals.values())
+      best = Math.min(best, Math.abs(at.column - column) + Math.abs(at.line - line) + (cost ?? 0));
+    return best;
+  }
+
+  isDone(state) {
+    return this.round[state] === this.now * 2 + 1;
+  }
+
+  done(state) {
+    this.round[state] = this.now * 2 + 1;
+  }
+
+  points(state, starts, goal) {
+    const cells = [];
+    let at = state;
+    for (; at >= 0; at = this.from[at]) {
+      const index = (at - (at % 4)) / 4;
+      this.used[at % 2][index] = 1;
+      cells.push({x: (index % this.columns) * GRID, y: Math.floor(index / this.columns) * GRID});
+    }
+    const start = starts[-1 - at];
+    return straight([
+      ...(start.inner ? [start.inner] : []), {x: start.x, y: start.y}, ...cells.reverse(),
+      {x: goal.x, y: goal.y}
+    ]);
+  }
+}
+
+// Points without those that lie on a straight line between their neighbours.
+function straight(points) {
+  return points.filter((it, index) => {
+    const [before, after] = [points[index - 1], points[index + 1]];
+    if (!before || !after) return true;
+    return !((before.x === it.x && it.x === after.x) || (before.y === it.y && it.y === after.y));
+  });
+}
+
+// The path of an SVG through points, with round corners.
+export function pathOf(points, radius = 7) {
+  let path = `M${points[0].x} ${points[0].y}`;
+  for (let index = 1; index < points.length - 1; index++) {
+    const [before, at, after] = points.slice(index - 1, index + 2);
+    const r = Math.min(radius, distance(before, at) / 2, distance(at, after) / 2);
+    const [into, out] = [towards(at, before, r), towards(at, after, r)];
+    path += `L${into.x} ${into.y}Q${at.x} ${at.y} ${out.x} ${out.y}`;
+  }
+  const end = points.at(-1);
+  return `${path}L${end.x} ${end.y}`;
+}
+
+function distance(a, b) {
+  return Math.abs(a.x - b.x) + Math.abs(a.y - b.y);
+}
+
+function towards(from, to, by) {
+  const length = Math.hypot(to.x - from.x, to.y - from.y) || 1;
+  const at = (a, b) => Math.round((a + ((b - a) * by) / length) * 10) / 10;
+  return {x: at(from.x, to.x), y: at(from.y, to.y)};
+}
+
+// A heap of numbers with the least price first.
+class Heap {
+  constructor() {
+    this.prices = [];
+    this.states = [];
+  }
+
+  push(price, state) {
+    const {prices, states} = this;
+    let at = prices.length;
+    while (at > 0) {
+      const up = (at - 1) >> 1;
+      if (prices[up] <= price) break;
+      prices[at] = prices[up];
+      states[at] = states[up];
+      at = up;
+    }
+    prices[at] = price;
+    states[at] = state;
+  }
+
+  pop() {
+    const {prices, states} = this;
+    if (!states.length) return undefined;
+    const first = states[0];
+    const [price, state] = [prices.pop(), states.pop()];
+    const size = prices.length;
+    if (size) {
+      let at = 0;
+      for (let down; (down = 2 * at + 1) < size; at = down) {
+        if (down + 1 < size && prices[down + 1] < prices[down]) down++;
+        if (prices[down] >= price) break;
+        prices[at] = prices[down];
+        states[at] = states[down];
+      }
+      prices[at] = price;
+      states[at] = state;
+    }
+    return first;
+  }
+}

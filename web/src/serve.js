@@ -1,0 +1,31 @@
+// Has the module do one job. Each job has an instance of its own, so that none leaves anything behind.
+
+// The words are texts, the input bytes; the limit is the most bytes of memory that the program may have.
+// Answers the exit status and what went to the two outputs, as bytes.
+export function serve(module, {words, input, limit}) {
+  const begun = performance.now();
+  const host = new WebAssembly.Instance(module).exports;
+  const put = (bytes, address) => {
+    if (address === 0) throw new RangeError("the page has no memory for this job");
+    new Uint8Array(host.memory.buffer).set(bytes, address >>> 0);
+  };
+  for (const word of ["l6", ...words]) {
+    const bytes = new TextEncoder().encode(word);
+    put(bytes, host.host_word(bytes.length));
+  }
+  put(input, host.host_input(input.length));
+  host.host_limit(limit);
+  const status = host.host_run();
+  const taken = (which) => {
+    const [address, size] = [host.host_output(which) >>> 0, host.host_output_bytes(which) >>> 0];
+    return new Uint8Array(host.memory.buffer).slice(address, address + size);
+  };
+  const [output, errors] = [taken(0), taken(1)];
+  return {
+    status,
+    output,
+    errors,
+    memory: host.memory.buffer.byteLength,
+    milliseconds: performance.now() - begun
+  };
+}

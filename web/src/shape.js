@@ -1,0 +1,162 @@
+// The shape of a block in the drawing: rows of cells, one for each window that shows some of its bits.
+
+import {characterOf, likelyText, octal, seenThrough, widthOf, WORD_BITS} from "./word.js";
+
+export const GRID = 12; // all sizes and places are multiples of it
+export const BIT = 4;   // so 36 bits are 144 wide
+export const ROW = 24;
+export const HEAD = 24;
+const MOST_ROWS = 8;
+const SHOWN_WORDS = 4; // of a block without fields
+
+// The windows of the fields, each once: names that are defined alike share one.
+export function windowsOf(fields) {
+  const windows = new Map();
+  for (const [name, {word, first, last}] of fields) {
+    const key = `${word}.${first}.${last}`;
+    if (!windows.has(key)) windows.set(key, {key, word, first, last, names: []});
+    windows.get(key).names.push(name);
+  }
+  const all = [...windows.values()].sort((a, b) => a.word - b.word || a.first - b.first || b.last - a.last);
+  all.forEach((it) => (it.name = it.names.join(" ")));
+  return all;
+}
+
+// Windows in as few lanes as they need so that none covers another.
+export function lanesOf(windows) {
+  const lanes = [];
+  for (const window of [...windows].sort((a, b) => a.first - b.first || b.last - a.last)) {
+    const lane = lanes.find((it) => it.at(-1).last < window.first);
+    if (lane)
+      lane.push(window);
+    else
+      lanes.push([window]);
+  }
+  return lanes;
+}
+
+// The shape of a block: `rows` of cells with their place and size in it, and how large it is. In a box there is
+// one row for all.
+export function shapeOf(block, words, windows, links, isBox) {
+  return isBox ? boxOf(block, words, windows, links) : cardOf(block, words, windows, links);
+}
+
+function cardOf(block, words, windows, links) {
+  const rows = [];
+  let left = 0; // words that are not shown
+  for (let word = 0; word < block.size; word++) {
+    const own = windows.filter((it) => it.word === word);
+    const isShown = rows.length < MOST_ROWS && (own.length > 0 || (block.size <= SHOWN_WORDS && words));
+    if (!isShown) {
+      left++;
+      if (rows.length >= MOST_ROWS || word > 1023) {
+        left = block.size - word;
+        break;
+      }
+      continue;
+    }
+    const content = words ? words[word] : null;
+    if (!own.length) rows.push({word, cells: [plainCell(content, word)]});
+    for (const lane of lanesOf(own)) rows.push({word, cells: lane.map((it) => cellOf(it, content, links))});
+  }
+  if (left > 0)
+    rows.push({
+      word: -1,
+      cells: [],
+      note: rows.length ? `${left} more ${left === 1 ? "word" : "words"}` : `${block.size} words`
+    });
+  rows.forEach((row, index) => (row.y = HEAD + index * ROW));
+  return {width: WORD_BITS * BIT, height: HEAD + rows.length * ROW, rows, isBox: false};
+}
+
+function plainCell(content, word) {
+  return {
+    key: `plain ${word}`,
+    name: "",
+    window: null,
+    x: 0,
+    width: WORD_BITS * BIT,
+    text: content === null ? "" : octal(content),
+    value: content
+  };
+}
+
+function cellOf(window, content, links) {
+  const value = content === null ? null : seenThrough(content, window);
+  const link = links.find((it) => it.key === window.key);
+  return {
+    key: window.key,
+    name: window.name,
+    window,
+    value,
+    link,
+    x: window.first * BIT,
+    width: widthOf(window) * BIT,
+    text: value === null ? "" : textOfCell(window, value, link),
+  };
+}
+
+// What a cell shows, as far as there is room for it.
+export function textOfCell(window, value, link) {
+  const room = Math.floor((widthOf(window) * BIT - 6) / 6.7) - window.name.length - 1;
+  if (link) return room >= String(value).length ? String(value) : "";
+  const isCode = value > 0 && (widthOf(window) === 6 || isLetter(value));
+  const text = isCode ? characterOf(value) : likelyText(value);
+  const both = text ? `${value} ${text}` : String(value);
+  return [both, text, String(value)].find((it) => it && it.length <= room) ?? (text.length === 1 ? text : "");
+}
+
+// Whether a number is the code of a letter.
+function isLetter(value) {
+  return value >= 33 && value <= 58;
+}
+
+// A box: what it holds besides links, in a row, and a stub for each link below.
+function boxOf(block, words, windows, links) {
+  const values =
+    windows.filter((it) => it.word < block.size && !links.some((link) => link.key === it.key) && words)
+      .filter((it) => !isCovered(it, windows))
+      .map((it) => ({window: it, value: seenThrough(words[it.word], it)}))
+      .filter(({value}) => value !== 0);
+  const text =
+    values
+      .map(({window, value}) => `${window.name} ${textOfCell({...window, first: 0, last: 35}, value, null)}`)
+      .join(" ");
+  const short = text.length > 13 ? `${text.slice(0, 12)}…` : text;
+  const width = GRID * 6;
+  const cells = links.map((link, index) => {
+    const step = width / links.length;
+    return {
+      key: link.key,
+      name: link.name,
+      link,
+      window: null,
+      x: index * step,
+      width: step,
+      text: "",
+      value: link.target
+    };
+  });
+  const rows = [{word: 0, cells, y: HEAD}];
+  return {
+    width,
+    height: HEAD + (cells.length || short ? ROW : 0),
+    rows: cells.length || short ? rows : [],
+    isBox: true,
+    text: values.length ? shortOf(values, text) : ""
+  };
+}
+
+function shortOf(values, text) {
+  if (text.length <= 8) return text;
+  const {window, value} = values[0];
+  const only = textOfCell({...window, name: "", first: 0, last: 35}, value, null);
+  return only.split(" ").at(-1).slice(0, 6);
+}
+
+// Whether other fields show all bits of a window, so that it tells nothing more.
+function isCovered(window, windows) {
+  return windows.some(
+    (it) => it !== window && it.word === window.word && it.first >= window.first && it.last <= window.last
+  );
+}

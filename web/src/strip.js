@@ -1,0 +1,312 @@
+// The store as a strip: its units, and of one of them each block and each free piece, to scale.
+
+import {findPiece, freePieceWith, piecesBetween} from "./pieces.js";
+import {count, told, UNIT} from "./word.js";
+
+const LEAST_PART = 32; // words
+const LEVELS = 11;
+const LEVELS_HEIGHT = 176; // as in the style
+const LEVELS_LEFT = 34;    // for the sizes
+const FEW = 90;            // pieces that can be drawn wider than to scale
+
+export class Strip {
+  constructor({text, units, strip, levels, bySize, unitBox}, choose) {
+    Object.assign(this, {text, units, strip, levels, bySize, unitBox, choose});
+    this.unit = null; // that the reader chose, or null
+    this.chosen = null;
+    bySize.addEventListener("change", () => this.draw());
+    strip.addEventListener("click", (event) => this.pick(event));
+    levels.addEventListener("click", (event) => this.pick(event));
+    for (const canvas of [strip, levels]) canvas.addEventListener("mousemove", (event) => this.hint(event));
+    units.addEventListener(
+      "click", (event) => this.pickUnit(Math.floor((event.offsetX / units.clientWidth) * this.count))
+    );
+    unitBox.addEventListener("input", () => unitBox.value && this.pickUnit(Number(unitBox.value) - 1));
+  }
+
+  show(view, before) {
+    Object.assign(this, {view, before});
+    const {store} = view;
+    const blocks = store.pieces.filter((it) => !it.isFree);
+    const lost = blocks.filter((it) => it.isLost).length;
+    const lostText = lost ? `, ${told(lost)} lost` : "";
+    this.text.textContent = `${count(blocks.length, "block")}${lostText}; ${
+      count(store.used, "word")} used, ${told(store.free)} free`;
+    this.draw();
+  }
+
+  mark(place) {
+    this.chosen = place;
+    if (this.view) this.draw();
+  }
+
+  forget() {
+    Object.assign(this, {view: null, before: null, unit: null, chosen: null});
+    this.text.textContent = "";
+    this.units.hidden = this.levels.hidden = this.unitBox.parentElement.hidden = true;
+    this.strip.hidden = false;
+    paint(this.strip);
+  }
+
+  draw() {
+    if (!this.view) return;
+    const {store} = this.view;
+    this.begin = store.pieces[0].place;
+    const last = store.pieces.at(-1);
+    this.count = (last.place + last.size - this.begin) / UNIT;
+    this.part = this.partShown();
+    this.pieces = piecesBetween(store, this.part.begin, this.part.end);
+    this.old = this.before ?
+      new Set(piecesBetween(this.before.store, this.part.begin, this.part.end).map(keyOf)) :
+      null;
+    this.units.hidden = this.unitBox.parentElement.hidden = this.count === 1;
+    this.unitBox.max = this.count;
+    this.unitBox.value = this.part.unit + 1;
+    if (this.count > 1) this.drawUnits();
+    this.levels.hidden = !this.bySize.checked;
+    this.strip.hidden = this.bySize.checked;
+    if (this.bySize.checked)
+      this.drawLevels();
+    else
+      this.drawStrip();
+    this.strip.setAttribute("aria-label", this.textOf());
+  }
+
+  // The unit that is shown, or the part of it that has all of its blocks: that of the reader, or that in which
+  // something has changed last, or the first with a block.
+  partShown() {
+    const {store} = this.view;
+    const changed = this.unit === null && this.before ? firstChange(this.before.store, store) : null;
+    if (changed !== null) this.latest = Math.floor((changed - this.begin) / UNIT);
+    const first = store.pieces.find((it) => !it.isFree);
+    const fallback = first ? Math.floor((first.place - this.begin) / UNIT) : 0;
+    const unit = Math.min(this.unit ?? this.latest ?? fallback, this.count - 1);
+    const begin = this.begin + unit * UNIT;
+    const used = piecesBetween(store, begin, begin + UNIT).filter((it) => !it.isFree);
+    const reach = used.length ? used.at(-1).place + used.at(-1).size - begin : 0;
+    let size = LEAST_PART;
+    while (size < reach) size *= 2;
+    if (this.bySize.checked || size > UNIT) size = UNIT;
+    return {unit, begin, end: begin + size};
+  }
+
+  drawUnits() {
+    const pen = paint(this.units);
+    const width = pen.width / this.count;
+    const {store} = this.view;
+    pen.fill("--free", 0, 0, pen.width, 12);
+    let from = 0;
+    const at = (place) => ((place - this.begin) / UNIT) * width;
+    for (const piece of store.pieces) { // (thin neighbours are joined)
+      if (piece.isFree) continue;
+      const end = at(piece.place + piece.size);
+      if (end - from < 0.5 && from > 0 && !piece.isLost) continue;
+      const x = Math.max(from, at(piece.place));
+      pen.fill(piece.isLost ? "--lost" : "--block", x, 2, Math.max(0.6, end - x), 8);
+      from = end;
+    }
+    for (let unit = 1; unit < this.count && width > 4; unit++)
+      pen.fill("--paper", unit * width - 0.5, 0, 1, 12);
+    pen.frame("--accent", this.part.unit * width + 1, 1, Math.max(3, width - 2), 10, 2);
+    this.units.setAttribute(
+      "aria-label", `${count(this.count, "unit")} of 1,024 words; unit ${this.part.unit + 1} is shown below`
+    );
+  }
+
+  drawStrip() {
+    const pen = paint(this.strip);
+    this.scale = pen.width / (this.part.end - this.part.begin);
+    for (const piece of this.pieces) {
+      const box = this.boxOf(piece, 2, 30);
+      this.drawPiece(pen, piece, box);
+      const size = String(piece.size);
+      if (box.width > size.length * 7 + 4)
+        pen.text(
+          piece.isFree ? "--soft" : "--block-ink", size, box.x + box.width / 2, 21, piece.isFree ? 11 : 12
+        );
+      if (box.width > 34)
+        pen.text(piece.isFree ? "--faint" : "--block-ink", String(piece.place), box.x + 3, 10, 8.5, "left");
+    }
+    const rest =
+      this.part.end - this.part.begin < UNIT ? `.. free up to ${told(this.part.begin + UNIT - 1)}` : "";
+    pen.text("--soft", told(this.part.begin), 0, 42, 9.5, "left");
+    pen.text("--soft", rest || told(this.part.end - 1), pen.width, 42, 9.5, "right");
+  }
+
+  boxOf(piece, y, height) {
+    const x = Math.max(0, (piece.place - this.part.begin) * this.scale);
+    const end = Math.min(
+      (piece.place + piece.size - this.part.begin) * this.scale,
+      (this.part.end - this.part.begin) * this.scale
+    );
+    return {x, y, width: end - x, height};
+  }
+
+  drawPiece(pen, piece, {x, y, width, height}) {
+    const gap = width > 3 ? 1 : 0;
+    const colour = piece.isFree ? "--free" : piece.isLost ? "--lost" : "--block";
+    pen.fill(colour, x, y, Math.max(0.7, width - gap), height);
+    if (piece.isLost) pen.hatch("--paper", x, y, width - gap, height);
+    if (this.old && !this.old.has(keyOf(piece)))
+      pen.frame("--changed", x + 1, y + 1, Math.max(2, width - gap - 2), height - 2, 2.5);
+    if (!piece.isFree && piece.place === this.chosen)
+      pen.frame("--ink", x + 1, y + 1, Math.max(2, width - gap - 2), height - 2, 2.5);
+  }
+
+  // Each piece in the line of its size: 1,024 above, 1 below. What was halved stands above its halves as a frame.
+  // Small pieces are drawn wider than to scale, or one would not see them; a whole is as wide as its parts.
+  drawLevels() {
+    const pen = paint(this.levels);
+    const height = LEVELS_HEIGHT / LEVELS;
+    this.widths = widthsOf(this.pieces, pen.width - LEVELS_LEFT);
+    const line = (size) => (LEVELS - 1 - Math.log2(size)) * height + 1;
+    for (let size = 1; size <= UNIT; size *= 2)
+      pen.text("--soft", told(size), LEVELS_LEFT - 6, line(size) + height - 4.5, 9.5, "right");
+    for (const [key, {from, to}] of halvedOf(this.pieces, this.widths)) {
+      const size = Number(key.split(" ")[1]);
+      pen.frame(
+        "--line", LEVELS_LEFT + from + 0.5, line(size) + 0.5, Math.max(1, to - from - 2), height - 2.5, 1
+      );
+    }
+    this.pieces.forEach((piece, index) => {
+      const {from, to} = this.widths[index];
+      const box = {x: LEVELS_LEFT + from, y: line(piece.size), width: to - from, height: height - 2};
+      this.drawPiece(pen, piece, box);
+      if (box.width > 34)
+        pen.text(
+          piece.isFree ? "--soft" : "--block-ink", String(piece.place), box.x + box.width / 2,
+          box.y + height - 5, 10
+        );
+    });
+    this.levels.setAttribute(
+      "aria-label", `The pieces of unit ${this.part.unit + 1} by their sizes. ${this.textOf()}`
+    );
+  }
+
+  textOf() {
+    const parts = this.pieces.slice(0, 40).map(
+      (it) => `${it.place} ${
+        it.isFree   ? "free" :
+          it.isLost ? "lost block" :
+                      "block"} of ${it.size}`
+    );
+    return `${parts.join(", ")}${
+      this.pieces.length > 40 ? ` and ${this.pieces.length - 40} more pieces` : ""}`;
+  }
+
+  placeAt(event) {
+    if (event.currentTarget === this.levels) {
+      const at = event.offsetX - LEVELS_LEFT;
+      const index = this.widths.findIndex(({from, to}) => at >= from && at < to);
+      return this.pieces[index]?.place ?? this.part.begin;
+    }
+    const words = this.part.end - this.part.begin;
+    return this.part.begin + Math.floor((event.offsetX / this.strip.clientWidth) * words);
+  }
+
+  pick(event) {
+    const piece = this.view && findPiece(this.view.store, this.placeAt(event));
+    if (piece && !piece.isFree) this.choose(piece.place);
+  }
+
+  hint(event) {
+    if (!this.view) return;
+    const place = this.placeAt(event);
+    const piece = findPiece(this.view.store, place);
+    if (!piece) return;
+    const free =
+      piece.isFree ? `${place}: in a free piece of ${told(freePieceWith(this.view.store, place))}` : "";
+    event.currentTarget.title =
+      free || `block ${piece.place}, ${count(piece.size, "word")}${piece.isLost ? ", lost" : ""}`;
+  }
+
+  pickUnit(unit) {
+    if (!this.view || unit < 0 || unit >= this.count) return;
+    this.unit = unit;
+    this.draw();
+  }
+}
+
+// From where to where each piece is drawn.
+function widthsOf(pieces, room) {
+  const weight = pieces.length <= FEW ? (piece) => 1 + 0.45 * Math.log2(piece.size) : (piece) => piece.size;
+  const whole = pieces.reduce((sum, it) => sum + weight(it), 0);
+  let at = 0;
+  return pieces.map((piece) => {
+    const from = at;
+    at += (weight(piece) / whole) * room;
+    return {from, to: at};
+  });
+}
+
+// The pieces that were halved, by place and size: from where to where their parts are drawn.
+function halvedOf(pieces, widths) {
+  const halved = new Map();
+  pieces.forEach((piece, index) => {
+    for (let size = piece.size * 2; size <= UNIT; size *= 2) {
+      const key = `${piece.place - (piece.place % size)} ${size}`;
+      const {from, to} = halved.get(key) ?? {from: widths[index].from};
+      halved.set(key, {from, to: widths[index].to ?? to});
+    }
+  });
+  return halved;
+}
+
+function keyOf(piece) {
+  return `${piece.place} ${piece.size} ${piece.isFree ? "free" : piece.isLost ? "lost" : "block"}`;
+}
+
+// The first place at which two stores differ, or null.
+function firstChange(one, other) {
+  const size = Math.min(one.pieces.length, other.pieces.length);
+  for (let index = 0; index < size; index++) {
+    if (keyOf(one.pieces[index]) !== keyOf(other.pieces[index])) return other.pieces[index].place;
+  }
+  return one.pieces.length === other.pieces.length ? null : other.pieces[size - 1].place;
+}
+
+// A canvas that is empty, and what draws on it with the colours of the page.
+export function paint(canvas) {
+  const [width, height] = [canvas.clientWidth, canvas.clientHeight];
+  const dots = window.devicePixelRatio || 1;
+  canvas.width = Math.round(width * dots);
+  canvas.height = Math.round(height * dots);
+  const pen = canvas.getContext("2d");
+  pen.scale(dots, dots);
+  const style = getComputedStyle(document.documentElement);
+  const colour = (name) => style.getPropertyValue(name).trim();
+  return {
+    width,
+    fill(name, x, y, w, h) {
+      pen.fillStyle = colour(name);
+      pen.fillRect(x, y, w, h);
+    },
+    frame(name, x, y, w, h, line) {
+      pen.strokeStyle = colour(name);
+      pen.lineWidth = line;
+      pen.strokeRect(x, y, w, h);
+    },
+    hatch(name, x, y, w, h) {
+      pen.save();
+      pen.beginPath();
+      pen.rect(x, y, w, h);
+      pen.clip();
+      pen.strokeStyle = colour(name);
+      pen.globalAlpha = 0.45;
+      pen.lineWidth = 2;
+      for (let at = x - h; at < x + w; at += 7) {
+        pen.beginPath();
+        pen.moveTo(at, y + h);
+        pen.lineTo(at + h, y);
+        pen.stroke();
+      }
+      pen.restore();
+    },
+    text(name, text, x, y, size, align = "center") {
+      pen.fillStyle = colour(name);
+      pen.font = `${size}px ${style.getPropertyValue("--mono")}`;
+      pen.textAlign = align;
+      pen.fillText(text, x, y);
+    },
+  };
+}

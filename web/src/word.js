@@ -1,0 +1,55 @@
+// Words of 36 bits as JavaScript's numbers, which are exact up to 2^53.
+
+export const WORD_BITS = 36;
+export const MOST = 2 ** WORD_BITS; // the first number that is no word
+export const UNIT = 1024;           // words of a unit; the first unit begins at this place
+
+// Twelve octal digits.
+export function octal(word) {
+  return word.toString(8).padStart(12, "0");
+}
+
+// What a window shows of a word: its bits from the first to the last one, as a number.
+export function seenThrough(word, window) {
+  return Math.floor(word / 2 ** (WORD_BITS - 1 - window.last)) % 2 ** widthOf(window);
+}
+
+export function widthOf(window) {
+  return window.last - window.first + 1;
+}
+
+// A character's code, or -1 where it has none. A small letter is read as its capital, a tab as a blank.
+export function codeOf(character) {
+  const code = character === "\t" ? 32 : character.toUpperCase().charCodeAt(0);
+  return character.charCodeAt(0) < 127 && code >= 32 && code < 96 ? code - 32 : -1;
+}
+
+// The character of a code.
+export function characterOf(code) {
+  return String.fromCharCode(code + 32);
+}
+
+// The text for which a number stands: its digits to base 64 are codes. Blanks in front are left out.
+export function textOf(number) {
+  let text = "";
+  for (let rest = number; rest > 0; rest = Math.floor(rest / 64)) {
+    text = characterOf(rest % 64) + text;
+  }
+  return text;
+}
+
+// The text for which a number most likely stands, or "": letters and blanks, two letters at least.
+export function likelyText(number) {
+  const text = textOf(number).trim();
+  return /^[A-Z][A-Z .'-]*[A-Z.]$/.test(text) ? text : "";
+}
+
+// A number with its thousands parted.
+export function told(number) {
+  return String(number).replace(/\B(?=(\d{3})+$)/g, ",");
+}
+
+// A count with its noun.
+export function count(number, one, many = `${one}s`) {
+  return `${told(number)} ${number === 1 ? one : many}`;
+}

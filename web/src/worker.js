@@ -1,0 +1,18 @@
+// The worker: it has the module, and does the jobs that the page sends, one after another.
+
+import {serve} from "./serve.js";
+
+let module = null;
+
+self.onmessage = ({data}) => {
+  if (data.module) {
+    module = data.module;
+    return;
+  }
+  try {
+    const answer = serve(module, data);
+    self.postMessage({number: data.number, answer}, [answer.output.buffer, answer.errors.buffer]);
+  } catch (error) {
+    self.postMessage({number: data.number, broken: String(error)});
+  }
+};

@@ -1,0 +1,155 @@
+"""Drives headless Chromium through a pipe (DevTools' protocol), with nothing else installed."""
+from __future__ import annotations
+
+import base64
+import json
+import os
+import shutil
+import subprocess
+import sys
+import tempfile
+import time
+from pathlib import Path
+
+SECONDS = 60
+PROGRAMS = ("chromium", "chromium-browser", "google-chrome", "chrome")
+
+
+def find_browser() -> str | None:
+    """The path of Chromium, or None."""
+    return next((path for path in map(shutil.which, PROGRAMS) if path), None)
+
+
+class Browser:
+    """A browser with one page."""
+
+    def __init__(self, width: int = 1400, height: int = 900, dark: bool = False) -> None:
+        self._folder = tempfile.TemporaryDirectory(prefix="l6-browser-", ignore_cleanup_errors=True)
+        to_read, self._to = os.pipe()
+        self._from, to_write = os.pipe()
+        words = [find_browser(), "--headless=new", "--no-sandbox", "--disable-gpu", "--hide-scrollbars",
+                 "--remote-debugging-pipe", f"--user-data-dir={self._folder.name}", "--no-first-run",
+                 "--disable-background-networking", "--disable-component-update", "about:blank"]  # fmt: skip
+        self._process = subprocess.Popen(
+            ["/bin/sh", "-c", f'exec "$@" 3<&{to_read} 4>&{to_write}', "sh", *words],
+            pass_fds=(to_read, to_write), stdin=subprocess.DEVNULL, stdout=subprocess.DEVNULL, stderr=subprocess.DEVNULL,
+        )  # fmt: skip
+        os.close(to_read)
+        os.close(to_write)
+        self._buffer = b""
+        self._number = 0
+        self._session: str | None = None
+        self.events: list[dict] = []
+        target = self._call("Target.createTarget", url="about:blank")["targetId"]
+        self._session = self._call("Target.attachToTarget", targetId=target, flatten=True)["sessionId"]
+        for domain in ("Page", "Runtime", "Log", "Network"):
+            self._call(f"{domain}.enable")
+        self.resize(width, height, dark)
+
+    def __enter__(self) -> Browser:
+        return self
+
+    def __exit__(self, *_: object) -> None:
+        self._process.kill()
+        self._process.wait()
+        os.close(self._to)
+        os.close(self._from)
+        self._folder.cleanup()
+
+    def resize(self, width: int, height: int, dark: bool = False, phone: bool = False) -> None:
+        """Sets the window's size in pixels, and whether the reader likes it dark."""
+        self._call("Emulation.setDeviceMetricsOverride", width=width, height=height, deviceScaleFactor=1, mobile=phone)
+        features = [{"name": "prefers-color-scheme", "value": "dark" if dark else "light"},
+                    {"name": "prefers-reduced-motion", "value": "reduce"}]  # fmt: skip
+        self._call("Emulation.setEmulatedMedia", features=features)
+
+    def open(self, page: Path | str, fragment: str = "") -> None:
+        """Opens a page anew, and waits until it is ready."""
+        address = page if isinstance(page, str) else page.resolve().as_uri()
+        self._call("Page.navigate", url="about:blank")
+        self._call("Page.navigate", url=address + fragment)
+        self.wait("document.body?.dataset.ready === 'yes'")
+
+    def value(self, script: str):
+        """What a script answers; a promise is waited for."""
+        answer = self._call("Runtime.evaluate", expression=script, awaitPromise=True, returnByValue=True)
+        if "exceptionDetails" in answer:
+            raise AssertionError(f"{script[:200]}: {json.dumps(answer['exceptionDetails'])[:600]}")
+        return answer["result"].get("value")
+
+    def wait(self, condition: str, seconds: float = SECONDS) -> None:
+        """Waits until a condition holds."""
+        end = time.monotonic() + seconds
+        while not self.value(condition):
+            if time.monotonic() > end:
+                raise AssertionError(f"not within {seconds} seconds: {condition}")
+            time.sleep(0.02)
+
+    def key(self, key: str, code: str = "", modifiers: int = 0, text: str = "") -> None:
+        """Presses a key. Modifiers: 1 Alt, 2 Control, 4 Meta, 8 Shift."""
+        numbers = {"Enter": 13, "Escape": 27, "ArrowLeft": 37, "ArrowRight": 39, "ArrowUp": 38, "ArrowDown": 40,
+                   "Home": 36, "End": 35, "Tab": 9, " ": 32, "F8": 119, "F9": 120}  # fmt: skip
+        number = numbers.get(key, ord(key[0].upper()))
+        how = {"key": key, "code": code or key, "windowsVirtualKeyCode": number, "modifiers": modifiers}
+        self._call("Input.dispatchKeyEvent", type="keyDown", **how, **({"text": text} if text else {}))
+        self._call("Input.dispatchKeyEvent", type="keyUp", **how)
+
+    def type(self, text: str) -> None:
+        """Types a text into what has the focus."""
+        self._call("Input.insertText", text=text)
+
+    def click(self, selector: str) -> None:
+        """Clicks in the middle of an element."""
+        box = self.value(f"(() => {{ const e = document.querySelector({json.dumps(selector)}); e.scrollIntoView({{block: 'nearest'}});"
+                         " const b = e.getBoundingClientRect(); return [b.x + b.width / 2, b.y + b.height / 2]; })()")
+        for kind in ("mousePressed", "mouseReleased"):
+            self._call("Input.dispatchMouseEvent", type=kind, x=box[0], y=box[1], button="left", clickCount=1)
+
+    def picture(self, path: Path) -> None:
+        """Writes a picture of the window."""
+        data = self._call("Page.captureScreenshot", format="png")["data"]
+        path.write_bytes(base64.b64decode(data))
+
+    def troubles(self) -> list[str]:
+        """What the page wrote to the console as an error, or was refused, since the last call."""
+        self.value("1")
+        found = []
+        for event in self.events:
+            if event["method"] == "Log.entryAdded" and event["params"]["entry"]["level"] == "error":
+                found.append(event["params"]["entry"]["text"])
+            if event["method"] == "Runtime.exceptionThrown":
+                found.append(json.dumps(event["params"])[:500])
+        self.events.clear()
+        return found
+
+    def requests(self) -> list[str]:
+        """The addresses that the page has asked for since the last call of `troubles`."""
+        return [it["params"]["request"]["url"] for it in self.events if it["method"] == "Network.requestWillBeSent"]
+
+    def _call(self, method: str, **parameters: object) -> dict:
+        self._number += 1
+        message = {"id": self._number, "method": method, "params": parameters}
+        if self._session:
+            message["sessionId"] = self._session
+        os.write(self._to, json.dumps(message).encode() + b"\0")
+        while True:
+            answer = self._read()
+            if answer.get("id") == self._number:
+                if "error" in answer:
+                    raise AssertionError(f"{method}: {answer['error']}")
+                return answer["result"]
+            if "method" in answer:
+                self.events.append(answer)
+
+    def _read(self) -> dict:
+        while b"\0" not in self._buffer:
+            part = os.read(self._from, 1 << 20)
+            if not part:
+                raise AssertionError("the browser has ended")
+            self._buffer += part
+        message, _, self._buffer = self._buffer.partition(b"\0")
+        return json.loads(message)
+
+
+if __name__ == "__main__":
+    sys.exit("browser.py is no program")

@@ -1,0 +1,55 @@
+// What the tests in node share: the module, how a job is given to it, and the count.
+
+import {readFileSync} from "node:fs";
+import {dirname, resolve} from "node:path";
+import {fileURLToPath} from "node:url";
+import {gunzipSync} from "node:zlib";
+
+import {serve} from "../src/serve.js";
+
+export const WEB = resolve(dirname(fileURLToPath(import.meta.url)), "..");
+export const TOP = resolve(WEB, "..");
+export const MEMORY = 1 << 30;
+
+// The module of the page that is handed out, dist/l6.html, or of the one that L6_PAGE names.
+export function compiled() {
+  const page = readFileSync(process.env.L6_PAGE ?? `${TOP}/dist/l6.html`, "utf8");
+  const packed = /<script type="text\/plain" id="module">([^<]*)</.exec(page)[1];
+  return new WebAssembly.Module(gunzipSync(Buffer.from(packed, "base64")));
+}
+
+// Each character of a text is one byte.
+export function bytesOfText(text) {
+  return Uint8Array.from(Buffer.from(text, "latin1"));
+}
+
+export function serveText(module, words, stdin, limit = MEMORY) {
+  const answer = serve(module, {words, input: bytesOfText(stdin), limit});
+  const text = (bytes) => Buffer.from(bytes).toString("latin1");
+  return {...answer, output: text(answer.output), errors: text(answer.errors)};
+}
+
+// Counts what passes and what fails.
+export class Tally {
+  passed = 0;
+  failed = 0;
+
+  count(name, isRight, tell) {
+    if (isRight)
+      this.passed++;
+    else {
+      this.failed++;
+      console.log(`${name}: ${tell()}`);
+    }
+  }
+
+  same(name, got, want) {
+    const [one, other] = [JSON.stringify(got), JSON.stringify(want)];
+    this.count(name, one === other, () => `got ${one}, want ${other}`);
+  }
+
+  end() {
+    console.log(`${this.passed} passed, ${this.failed} failed`);
+    process.exit(this.failed ? 1 : 0);
+  }
+}

@@ -1,0 +1,154 @@
+#!/usr/bin/env python3
+"""Tries the page in headless Firefox, through Marionette, with nothing else installed.
+
+firefox.py [PAGE] prints what differs, and last 'N passed, M failed'. What the page does is tried in Chromium;
+here it is looked that this browser can do it, too, from a file: begin, run, go to a state, stop, and draw.
+"""
+from __future__ import annotations
+
+import base64
+import json
+import shutil
+import socket
+import subprocess
+import sys
+import tempfile
+import time
+from pathlib import Path
+
+sys.dont_write_bytecode = True
+TOP = Path(__file__).resolve().parent.parent.parent
+SECONDS = 60
+PROGRAMS = ("firefox-esr", "firefox")
+
+
+def find_firefox() -> str | None:
+    """The path of Firefox, or None."""
+    return next((path for path in map(shutil.which, PROGRAMS) if path), None)
+
+
+class Firefox:
+    """A browser with one page."""
+
+    def __init__(self) -> None:
+        self._folder = tempfile.TemporaryDirectory(prefix="l6-firefox-", ignore_cleanup_errors=True)
+        with socket.socket() as free:
+            free.bind(("127.0.0.1", 0))
+            port = free.getsockname()[1]
+        profile = Path(self._folder.name)
+        profile.joinpath("user.js").write_text(f'user_pref("marionette.port", {port});\n')
+        words = [find_firefox(), "--headless", "--marionette", "--no-remote", "--profile", str(profile),
+                 "--width", "1400", "--height", "900", "about:blank"]  # fmt: skip
+        quiet = {"stdin": subprocess.DEVNULL, "stdout": subprocess.DEVNULL, "stderr": subprocess.DEVNULL}
+        self._process = subprocess.Popen(words, env={"HOME": self._folder.name, "PATH": "/usr/bin:/bin"}, **quiet)
+        self._socket = self._connected(port)
+        self._number = 0
+        self._read()
+        self._call("WebDriver:NewSession", strictFileInteractability=False)
+        self._call("WebDriver:SetTimeouts", script=SECONDS * 1000)
+
+    def _connected(self, port: int) -> socket.socket:
+        end = time.monotonic() + SECONDS
+        while True:
+            try:
+                return socket.create_connection(("127.0.0.1", port), timeout=SECONDS)
+            except OSError:
+                if time.monotonic() > end:
+                    raise
+                time.sleep(0.1)
+
+    def end(self) -> None:
+        """Ends the browser."""
+        self._socket.close()
+        self._process.kill()
+        self._process.wait()
+        self._folder.cleanup()
+
+    def open(self, page: Path, fragment: str = "") -> None:
+        """Opens a page anew, and waits until it is ready."""
+        self._call("WebDriver:Navigate", url="about:blank")
+        self._call("WebDriver:Navigate", url=page.resolve().as_uri() + fragment)
+        end = time.monotonic() + SECONDS
+        while self.value("document.body.dataset.ready") != "yes":
+            if time.monotonic() > end:
+                raise AssertionError(f"the page is not ready: {self.value('document.getElementById(`told`).textContent')}")
+            time.sleep(0.05)
+
+    def value(self, script: str):
+        """What a script of the page's answers; a promise is waited for."""
+        body = f"const done = arguments[0]; const l6 = (window.wrappedJSObject ?? window).l6; Promise.resolve({script}).then(done, (it) => done('error: ' + it));"
+        return self._call("WebDriver:ExecuteAsyncScript", script=body, args=[])["value"]
+
+    def picture(self, path: Path) -> None:
+        """Writes a picture of the window."""
+        path.write_bytes(base64.b64decode(self._call("WebDriver:TakeScreenshot", full=False)["value"]))
+
+    def _call(self, command: str, **parameters: object) -> dict:
+        self._number += 1
+        message = json.dumps([0, self._number, command, parameters])
+        self._socket.sendall(f"{len(message.encode())}:{message}".encode())
+        _, _, error, result = self._read()
+        if error:
+            raise AssertionError(f"{command}: {error.get('message')}")
+        return result
+
+    def _read(self):
+        size = b""
+        while not size.endswith(b":"):
+            size += self._socket.recv(1)
+        wanted, data = int(size[:-1]), b""
+        while len(data) < wanted:
+            data += self._socket.recv(wanted - len(data))
+        return json.loads(data)
+
+
+def main() -> int:
+    """Tries the page; answers the exit status."""
+    words = sys.argv[1:]
+    picture = Path(words.pop(words.index("--picture") + 1)) if "--picture" in words else None
+    files = [Path(it) for it in words if not it.startswith("--")]
+    page = files[0] if files else TOP / "dist" / "l6.html"
+    passed = failed = 0
+    browser = Firefox()
+    try:
+        for what, fragment, script, want in TRIALS:
+            browser.open(page, fragment)
+            got = browser.value(script)
+            if got == want:
+                passed += 1
+            else:
+                failed += 1
+                print(f"{what}: got {got!r}, want {want!r}")
+            if picture and fragment:
+                browser.picture(picture)
+    except AssertionError as error:
+        failed += 1
+        print(error)
+    finally:
+        browser.end()
+    print(f"{passed} passed, {failed} failed")
+    return 1 if failed else 0
+
+
+def text(name: str) -> str:
+    return f"document.getElementById('{name}').textContent"
+
+
+TRIALS = [
+    ("the first deck", "", f"l6.run().then(() => {text('printed')})", "5\n== DONE AFTER 6 STEPS"),
+    ("a step", "", f"l6.step().then(() => {text('where')})", "AT 0.1 AFTER 1 STEPS"),
+    ("a state of an example", "#tree@137", "document.querySelectorAll('.block').length + ' ' + document.querySelectorAll('.arrow').length", "6 5"),
+    ("the store", "#tree@137", text("store-text"), "6 blocks; 12 words used, 8,180 free"),
+    ("a listing", "", f"l6.papers.open('listing').then(() => {text('paper')}.split('\\n')[0])", "      1     0   (A,E,5)(A,PD)"),
+    ("72 columns fit", "#tree", "(e => e.scrollWidth <= e.clientWidth)(document.getElementById('deck'))", True),
+    (
+        "an endless deck is stopped",
+        "",
+        "(document.getElementById('deck').value = 'L (A,A,1) L\\n', document.getElementById('steps').value = 1000000000, l6.changed(), l6.run(),"
+        f" new Promise(done => setTimeout(done, 700)).then(() => l6.stop()).then(() => new Promise(done => setTimeout(done, 100))).then(() => {text('told')}))",
+        "stopped",
+    ),
+]  # fmt: skip
+
+if __name__ == "__main__":
+    sys.exit(main())

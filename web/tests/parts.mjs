@@ -1,0 +1,313 @@
+// Tests the parts of the page that need no browser: reading decks and transcripts, a session on the module, the
+// store's pieces, layouts and arrows, links, changes and chains.
+//
+// parts.mjs prints what differs, and last 'N passed, M failed'.
+
+import {readdirSync, readFileSync} from "node:fs";
+
+import {follow} from "../src/chain.js";
+import {changesOf} from "../src/changes.js";
+import {choose} from "../src/choice.js";
+import {readDeck} from "../src/deck.js";
+import {graphOf} from "../src/graph.js";
+import {arrange} from "../src/layout.js";
+import {linkOf, readLink} from "../src/links.js";
+import {actionAt} from "../src/meaning.js";
+import {freePieceWith, piecesBetween} from "../src/pieces.js";
+import {Router} from "../src/route.js";
+import {job, partsOf, Session} from "../src/session.js";
+import {stateOf, Transcript} from "../src/transcript.js";
+import {likelyText, octal, seenThrough, textOf} from "../src/word.js";
+
+import {compiled, MEMORY, serveText, Tally, TOP, WEB} from "./common.mjs";
+
+const tally = new Tally();
+const module = compiled();
+const same = (name, got, want) => tally.same(name, got, want);
+
+// ---- Words
+
+same("octal", octal(1024), "000000002000");
+same("the right half", seenThrough(1026 + 2 ** 18 * 5, {word: 0, first: 18, last: 35}), 1026);
+same("the left half", seenThrough(1026 + 2 ** 18 * 5, {word: 0, first: 0, last: 17}), 5);
+same("all of a word", seenThrough(2 ** 36 - 1, {word: 0, first: 0, last: 35}), 2 ** 36 - 1);
+same("AB is 2146", [textOf(2146), likelyText(2146), likelyText(5)], ["AB", "AB", ""]);
+
+// ---- Decks: the reading of the page finds the program's fault
+
+function textOfCase(value) {
+  if (typeof value === "string") return value;
+  return value
+    .map(
+      (part) =>
+        (typeof part === "string" ? part :
+           part.length === 2      ? textOfCase(part[0]).repeat(part[1]) :
+                                    "")
+    )
+    .join("");
+}
+
+for (const line of readFileSync(`${TOP}/tests/cases.jsonl`, "utf8").trim().split("\n")) {
+  const one = JSON.parse(line);
+  const text = textOfCase(one.stdin ?? "");
+  if ((one.args ?? ["run"])[0] !== "run" || text.length > 200_000 || text.includes("\u0000")) continue;
+  const {deck} = partsOf(text);
+  const answer = serveText(module, ["asm"], deck).errors;
+  if (answer !== "" && !answer.startsWith("l6: card ")) continue;
+  const {fault} = readDeck(deck);
+  same(`the fault of "${one.name}"`, fault ? `l6: card ${fault.card + 1}: ${fault.kind}\n` : "", answer);
+}
+
+const slips = {
+  "(A,E,5)\n": "Column 1",
+  "COUNTER (PL)\n": "label COUNTER has 7",
+  " (A,Q,1)\n": "Q is none",
+  " (A,G,5)\n": "is a test",
+  " (A,E,5\n": "not closed",
+  " IF (A,E,0) LAST\n": "THEN is missing",
+  " (PL) LOPO\nLOOP (PL)\n": "Is LOOP meant",
+  " (A,EO,8)\n": "octal",
+  " (A,E,68719476736)\n": "largest",
+  "DONE\n": "put a blank",
+  [` (A,E,1)${" ".repeat(60)}(A,E,22222)\n`]: "column 72",
+  " IFF (A,E,0) THEN DONE\n": "Is IF meant",
+  " IF (A,PD) THEN DONE\n": "is an operation",
+  " IF (A,E,0)\n (PL)\n": "THEN behind it",
+  " (A,PD)~\n": "none of those",
+  " (A,E)\n": "2 parts",
+  "$X\n": "boxes",
+};
+for (const [deck, part] of Object.entries(slips)) {
+  const {fault} = readDeck(deck);
+  tally.count(`the slip in ${JSON.stringify(deck)}`, fault?.why.includes(part), () => fault?.why);
+}
+
+const lost = readFileSync(`${TOP}/examples/lost.session`, "latin1");
+const lostParts = partsOf(lost);
+const lostDeck = readDeck(lostParts.deck);
+same("cards and statements", lostDeck.cards, [-1, 0, 1, 2, 3, 4]);
+const second = actionAt(lostDeck, 2, 2);
+same("an operation's place", [second.card, second.from, second.to, second.text, second.says], [
+  3, 9, 16, "(B,E,0)", "B becomes 0"
+]);
+same("the added DONE", actionAt(lostDeck, 5, 1).says, "the DONE behind every deck");
+same("an exit", actionAt(readDeck("L (PL) L\n"), 0, 2).text, "L");
+same("a condition", actionAt(readDeck(" IF (A,E,0)\n+THEN DONE\n"), 0, 0).text, "IF (A,E,0)");
+
+// ---- Jobs
+
+same(
+  "the parts of a job", partsOf("a\n$commands \nb\n$INPUT\nc"), {deck: "a\n", commands: "b\n", input: "c"}
+);
+same("a deck alone", partsOf("a\nb"), {deck: "a\nb", commands: "", input: ""});
+same("a job", job("a", "b", "c"), "a\n$COMMANDS\nb\n$INPUT\nc");
+
+// ---- Transcripts: each answer of the recorded sessions is read to its end
+
+const readers = {
+  step: (it) => it.state(),
+  go: (it) => it.state(),
+  back: (it) => it.state(),
+  break: (it) => it.line(),
+  clear: (it) => it.line(),
+  show: (it) => it.show(),
+  fields: (it) => it.fields(),
+  block: (it) => it.block(),
+  draw: (it) => it.draw(),
+  store: (it) => it.store(),
+  out: (it) => it.out(),
+};
+for (const file of readdirSync(`${TOP}/examples`).filter((it) => it.endsWith(".transcript"))) {
+  const read = (ending) => readFileSync(`${TOP}/examples/${file.replace(".transcript", ending)}`, "latin1");
+  const transcript = new Transcript(read(".transcript"));
+  const answers = [];
+  for (const command of partsOf(read(".session")).commands.trim().split("\n")) {
+    const reader = readers[command.split(" ")[0]];
+    if (reader)
+      answers.push(reader(transcript));
+    else if (command !== "quit")
+      transcript.line();
+  }
+  tally.count(
+    `${file} is read to its end`, transcript.isAtEnd && answers.length > 3,
+    () => transcript.text.slice(transcript.place)
+  );
+}
+same("a trap's state has the next number", stateOf("== TRAP 2 NOT A BLOCK AT 4.1 AFTER 20 STEPS"), {
+  line: "== TRAP 2 NOT A BLOCK AT 4.1 AFTER 20 STEPS",
+  steps: 20,
+  ending: "TRAP",
+  number: 21,
+  statement: 4,
+  action: 1
+});
+
+// ---- Sessions, on the module
+
+const ask = async (words, input) => serveText(module, words, Buffer.from(input).toString("latin1"), MEMORY);
+const options = {
+  store: 8,
+  steps: 1_000_000,
+  output: 1_048_576
+};
+const session = (deck, input = "", more = {}) =>
+  new Session(ask, {deck, input, options: {...options, ...more}});
+
+const run = session(lostParts.deck);
+const at14 = await run.view(14);
+same("the line of a state", at14.state.line, "AT 3.0 AFTER 14 STEPS");
+same("its bugs", [...at14.bugs], [["A", 1024]]);
+same("its fields", [...at14.fields], [
+  ["N", {word: 0, first: 18, last: 35}], ["V", {word: 1, first: 0, last: 35}]
+]);
+same("its blocks", [...at14.draw.blocks.keys()], [1024, 1026]);
+same("its lost block", at14.store.pieces.filter((it) => it.isLost).map((it) => it.place), [1028]);
+same("its words", at14.words.get(1024), [1026, 5]);
+const trap = await run.view(21);
+same("the state of the trap", trap.state.line, "== TRAP 2 NOT A BLOCK AT 4.1 AFTER 20 STEPS");
+same("past the last state", (await run.view(99)).state.number, 21);
+same("what was printed there", trap.output, "12\n");
+same("and before", [(await run.view(17)).output, (await run.view(16)).output], ["12", ""]);
+same("what run prints", (await run.run()).text, "12\n== TRAP 2 NOT A BLOCK AT 4.1 AFTER 20 STEPS\n");
+same("on to a mark", (await run.go(0, [3])).state.number, 14);
+same("back to a mark", (await run.goBack(20, [1, 3])).state.number, 14);
+same("back to the mark before that", (await run.goBack(14, [1, 3])).state.number, 4);
+same("back to the start", (await run.goBack(3, [3])).state.number, 0);
+same("the first state may stand at a mark", (await run.goBack(3, [0])).state.number, 0);
+
+const loop = session("L (A,A,1) L\n", "", {steps: 300_000});
+same("back to a mark far away", (await loop.goBack(200_000, [1, 0])).state.number, 199_998);
+const far = session(" (A,E,1)\nM (A,E,2)\nL (A,A,1) L\n", "", {steps: 300_000});
+same("back to a mark very far away", (await far.goBack(200_000, [1])).state.number, 3);
+same("a limit", (await loop.view(400_000)).state.line, "== LIMIT AFTER 300000 STEPS");
+await session(" (A,E,5\n")
+  .run()
+  .then(
+    () => tally.same("a deck with a fault", 1, 0),
+    (it) => same("a deck with a fault", it.message, "l6: card 1: no reading")
+  );
+
+// ---- Changes, pieces and chains
+
+const at12 = await run.view(12);
+const at13 = await run.view(13);
+same("what changed in a step", changesOf(at12, at13, ""), [
+  "block 1028 is lost: nothing leads to it", "B was 1028, is 0"
+]);
+same(
+  "a block is got, of a piece of its size", changesOf(await run.view(11), await run.view(12), "")[0],
+  "got 4 words at 1028"
+);
+same(
+  "the first block", changesOf(await run.view(5), await run.view(6), "")[0],
+  "got 2 words at 1024 (a free piece of 1,024 was halved 9 times)"
+);
+same("a longer way", changesOf(await run.view(4), await run.view(6), "")[0], "got 2 words at 1024");
+const firstGet = session(" (A,GT,1)(A,FR)\n");
+same(
+  "ten halvings", changesOf(await firstGet.view(1), await firstGet.view(2), "")[0],
+  "got 1 word at 1024 (a free piece of 1,024 was halved 10 times)"
+);
+same(
+  "ten joinings", changesOf(await firstGet.view(2), await firstGet.view(3), "")[0],
+  "freed 1 word at 1024 (joined 10 times, to a free piece of 1,024)"
+);
+same("the free pieces", piecesBetween((await firstGet.view(2)).store, 1024, 2048).map((it) => it.size), [
+  1, 1, 2, 4, 8, 16, 32, 64, 128, 256, 512
+]);
+same("the piece with a word", freePieceWith((await firstGet.view(2)).store, 1100), 64);
+
+// The allocator's page tells which pieces are free behind each of eight calls; the first six are held to it here.
+const eight = session(" (A,GT,1)(B,GT,1)(C,GT,1)(D,GT,1)(A,FR)(C,FR)(E,GT,1)(D,FR)\n", "", {store: 1});
+const freeAt = async (number) =>
+  piecesBetween((await eight.view(number)).store, 1024, 2048).filter((it) => it.isFree).map((it) => it.place);
+same("behind the first get", (await freeAt(2)).slice(0, 4), [1025, 1026, 1028, 1032]);
+same("behind the fourth", (await freeAt(5)).slice(0, 2), [1028, 1032]);
+same("behind the second free", (await freeAt(7)).slice(0, 3), [1024, 1026, 1028]);
+
+same("a chain", follow("ANV", at14).steps.map((it) => it.value), [1024, 1026, 7]);
+same("a chain's trap", [follow("ANNV", at14).trap, follow("AX", at14).trap], [
+  "trap 2: no block begins at 0", "trap 1: X is not defined"
+]);
+same("no chain", follow("1A", at14).trap, "a chain is 1 to 6 names, the first a letter");
+
+// ---- Drawings: no block covers another, and no arrow goes through one
+
+function overlaps(one, other) {
+  return one.x < other.x + other.width && other.x < one.x + one.width && one.y < other.y + other.height &&
+    other.y < one.y + one.height;
+}
+
+function drawn(name, view, room) {
+  const graph = graphOf(view, null, new Map(), "auto");
+  const blocks = graph.blocks.filter((it) => !it.isLost);
+  const {places, width} =
+    arrange(blocks, new Map(graph.bugs.map((it) => [it.name, it.place])), room, graph.isBox);
+  const boxes = blocks.map((it) => places.get(it.place));
+  const clash = boxes.findIndex((box, index) => boxes.slice(index + 1).some((it) => overlaps(box, it)));
+  tally.count(`${name}: each block has a place`, boxes.every((it) => it), () => "one has none");
+  tally.count(`${name}: no block covers another`, clash < 0, () => `that at ${blocks[clash].place} does`);
+  return {graph, places, width};
+}
+
+const files = readdirSync(`${TOP}/examples`).filter((it) => it.endsWith(".deck"));
+for (const file of files) {
+  const parts = partsOf(readFileSync(`${TOP}/examples/${file}`, "latin1"));
+  const one = session(parts.deck, parts.input);
+  await one.run();
+  for (const part of [0.3, 0.6, 0.9])
+    drawn(`${file} at ${part}`, await one.view(Math.floor(one.last * part)), 700);
+}
+const hundred = session(" (0,DN,18,35)\nG (L,GT,1,LN)(C,A,1)\n IF (C,L,100) THEN G\n");
+await hundred.run();
+const list = drawn("a list of 100", await hundred.view(hundred.last), 900);
+tally.count("it wraps", list.width <= 900, () => String(list.width));
+const big = session(" (0,DN,18,35)\nG (L,GT,1,LN,F) G\nF DONE\n");
+await big.run();
+const chosen = choose(await big.view(big.last));
+same(
+  "of 8,192 blocks 150 are shown", [chosen.places.length, chosen.hidden, chosen.places[0]], [150, 8042, 9215]
+);
+
+const boxes = [
+  {x: 24, y: 24, width: 48, height: 48}, {x: 120, y: 24, width: 48, height: 48},
+  {x: 216, y: 24, width: 48, height: 48}
+];
+const way = new Router(300, 150, boxes).way([{x: 72, y: 48, direction: 0}], [{x: 216, y: 48, direction: 0}]);
+const crosses = way.slice(1).some((to, index) => {
+  const from = way[index];
+  const [x, y] = [Math.min(from.x, to.x), Math.min(from.y, to.y)];
+  return overlaps(
+    {x, y, width: Math.abs(from.x - to.x) + 0.1, height: Math.abs(from.y - to.y) + 0.1}, boxes[1]
+  );
+});
+tally.count("an arrow goes round a block", !crosses, () => JSON.stringify(way));
+
+// ---- Links
+
+const own =
+  await readLink(await linkOf({deck: " (<b>,PH)\n", input: "x", options, marks: [1, 4], number: 7}));
+same("a link keeps all", own, {deck: " (<b>,PH)\n", input: "x", options, number: 7, marks: [1, 4]});
+same(
+  "an example's link", await readLink(await linkOf({example: "tree", marks: [5], number: 137})),
+  {example: "tree", number: 137, marks: [5]}
+);
+for (const bad of
+       ["", "#", "#deck=%%", "#deck=AAAA", "#a b",
+        "#deck=" +
+          "A".repeat(50)])
+  same(`no link: ${bad.slice(0, 12)}`, await readLink(bad), null);
+
+// ---- Exercises: the tutorial's answers print what is asked for, and the decks to begin with don't
+
+const answers = readFileSync(`${TOP}/docs/tutorial.md`, "utf8").split("\n## Answers\n")[1];
+const printed = (deck, input) => serveText(module, ["run"], job(deck, null, input)).output.split("\n== ")[0];
+for (const {key, deck, input, printout} of JSON.parse(readFileSync(`${WEB}/exercises.json`, "utf8"))) {
+  const answer = answers.split(`**${key.slice("exercise-".length)}.**`)[1];
+  const parts = partsOf(/```text\n([^]*?)```/.exec(answer)[1]);
+  same(`${key}: the answer`, printed(parts.deck, parts.input).trimEnd(), printout);
+  same(`${key}: the deck to begin with has no fault`, readDeck(deck).fault, null);
+  tally.count(`${key}: it is not the answer`, printed(deck, input ?? "").trimEnd() !== printout, () => "it is");
+}
+
+tally.end();

@@ -16,7 +16,8 @@ const MOST_BYTES = 16_777_216; // of a job
 export class Library {
   constructor(page, examples) {
     Object.assign(this, {page, examples});
-    this.example = null; // that was opened
+    this.example = null;    // that was opened
+    this.isChanged = false; // whether the deck or the input was changed since it was opened, saved or linked
     this.fillMenu();
   }
 
@@ -30,12 +31,20 @@ export class Library {
     );
   }
 
+  // Whether the reader lets go of what was changed.
+  mayLeave() {
+    return !this.isChanged || window.confirm("The deck was changed and not saved. Open another one?");
+  }
+
   find(key) {
     return this.examples.flatMap((it) => it.items).find((it) => it.key === key);
   }
 
   chooseExample(key) {
-    if (!key) return;
+    if (!key || !this.mayLeave()) {
+      byId("example").value = this.example?.key ?? "";
+      return;
+    }
     history.replaceState(null, "", `#${key}`);
     this.openExample(key);
   }
@@ -94,6 +103,7 @@ export class Library {
 
   saveFile() {
     const {deck, input} = this.page.job();
+    this.isChanged = false;
     save(`${this.example?.key ?? "my"}.deck`, job(deck, null, input));
   }
 
@@ -109,6 +119,7 @@ export class Library {
       number: this.page.view ? this.page.view.state.number : null
     });
     history.replaceState(null, "", link);
+    this.isChanged = false;
     try {
       await navigator.clipboard.writeText(location.href);
       this.page.tell("The link is copied, and stands in the address.");

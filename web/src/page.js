@@ -283,6 +283,7 @@ class Page {
   // The deck was changed: what was shown of a run is shown no more.
   changed() {
     this.pause();
+    this.library.isChanged = true;
     this.splitJob();
     this.readDeck();
     if (this.view || this.session) {
@@ -354,11 +355,13 @@ class Page {
     if (card >= 0) this.editor.reveal(card);
   }
 
+  // Puts a job into its boxes.
   put({deck, input = "", commands = "", options = {}, marks = []}) {
     this.pause();
     byId("deck").value = deck;
     byId("input").value = input;
     byId("commands").value = commands;
+    this.library.isChanged = false;
     for (const [name, value] of Object.entries({...DEFAULTS, ...options})) byId(name).value = value;
     this.editor.marks = new Set(marks);
     this.editor.text.scrollTop = 0;
@@ -403,19 +406,27 @@ class Page {
       () => this.state(Math.max(0, Math.min(1_000_000_001, Number(byId("number").value) || 0)))
     );
     on("example", "change", () => this.library.chooseExample(byId("example").value));
-    on("file", "change", () => byId("file").files[0] && this.library.openFile(byId("file").files[0]));
+    on("file", "change", () => this.fileChosen());
     document.addEventListener("keydown", (event) => press(this, event));
     document.addEventListener("selectionchange", () => this.explainCursor());
     window.addEventListener("hashchange", () => this.library.openLink());
     document.addEventListener("dragover", (event) => event.preventDefault());
     document.addEventListener("drop", (event) => {
       event.preventDefault();
-      if (event.dataTransfer.files[0]) this.library.openFile(event.dataTransfer.files[0]);
+      const file = event.dataTransfer.files[0];
+      if (file && this.library.mayLeave()) this.library.openFile(file);
     });
+  }
+
+  fileChosen() {
+    const file = byId("file").files[0];
+    if (file && this.library.mayLeave()) this.library.openFile(file);
+    byId("file").value = ""; // (so that the same one can be chosen again)
   }
 
   inputChanged() {
     this.pause();
+    this.library.isChanged = true;
     if (this.view || this.session) {
       this.session = null;
       this.clear("The input has changed.");

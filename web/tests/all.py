@@ -79,7 +79,7 @@ def main() -> int:
         ({"node"}, "random jobs in node", [sys.executable, str(HERE / "random_jobs.py"), str(program)]),
         ({"chromium"}, "the page in Chromium", [sys.executable, str(HERE / "chromium.py")]),
         ({"firefox"}, "the page in Firefox", [sys.executable, str(HERE / "firefox.py")]),
-    ]  # fmt: skip
+    ]
     counts = []
     if is_quick or gone & {"wasm-opt", "rt"}:
         why = "as was asked" if is_quick else f"{', '.join(sorted(gone & {'wasm-opt', 'rt'}))} is missing"

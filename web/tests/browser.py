@@ -29,11 +29,11 @@ class Browser:
         self._from, to_write = os.pipe()
         words = [find_browser(), "--headless=new", "--no-sandbox", "--disable-gpu", "--hide-scrollbars",
                  "--remote-debugging-pipe", f"--user-data-dir={self._folder.name}", "--no-first-run",
-                 "--disable-background-networking", "--disable-component-update", "about:blank"]  # fmt: skip
+                 "--disable-background-networking", "--disable-component-update", "about:blank"]
         self._process = subprocess.Popen(
             ["/bin/sh", "-c", f'exec "$@" 3<&{to_read} 4>&{to_write}', "sh", *words],
             pass_fds=(to_read, to_write), stdin=subprocess.DEVNULL, stdout=subprocess.DEVNULL, stderr=subprocess.DEVNULL,
-        )  # fmt: skip
+        )
         os.close(to_read)
         os.close(to_write)
         self._buffer = b""
@@ -60,12 +60,13 @@ class Browser:
         """Sets the window's size in pixels, and whether the reader likes it dark."""
         self._call("Emulation.setDeviceMetricsOverride", width=width, height=height, deviceScaleFactor=1, mobile=phone)
         features = [{"name": "prefers-color-scheme", "value": "dark" if dark else "light"},
-                    {"name": "prefers-reduced-motion", "value": "reduce"}]  # fmt: skip
+                    {"name": "prefers-reduced-motion", "value": "reduce"}]
         self._call("Emulation.setEmulatedMedia", features=features)
 
     def open(self, page: Path | str, fragment: str = "") -> None:
         """Opens a page anew, and waits until it is ready."""
         address = page if isinstance(page, str) else page.resolve().as_uri()
+        self.value("window.l6 && (l6.library.isChanged = false)")  # (or the browser would ask)
         self._call("Page.navigate", url="about:blank")
         self._call("Page.navigate", url=address + fragment)
         self.wait("document.body?.dataset.ready === 'yes'")
@@ -88,7 +89,7 @@ class Browser:
     def key(self, key: str, code: str = "", modifiers: int = 0, text: str = "") -> None:
         """Presses a key. Modifiers: 1 Alt, 2 Control, 4 Meta, 8 Shift."""
         numbers = {"Enter": 13, "Escape": 27, "ArrowLeft": 37, "ArrowRight": 39, "ArrowUp": 38, "ArrowDown": 40,
-                   "Home": 36, "End": 35, "Tab": 9, " ": 32, "F8": 119, "F9": 120}  # fmt: skip
+                   "Home": 36, "End": 35, "Tab": 9, " ": 32, "F8": 119, "F9": 120}
         number = numbers.get(key, ord(key[0].upper()))
         how = {"key": key, "code": code or key, "windowsVirtualKeyCode": number, "modifiers": modifiers}
         self._call("Input.dispatchKeyEvent", type="keyDown", **how, **({"text": text} if text else {}))
@@ -127,19 +128,25 @@ class Browser:
         return [it["params"]["request"]["url"] for it in self.events if it["method"] == "Network.requestWillBeSent"]
 
     def _call(self, method: str, **parameters: object) -> dict:
+        number = self._send(method, **parameters)
+        while True:
+            answer = self._read()
+            if answer.get("id") == number:
+                if "error" in answer:
+                    raise AssertionError(f"{method}: {answer['error']}")
+                return answer["result"]
+            if answer.get("method") == "Page.javascriptDialogOpening":
+                self._send("Page.handleJavaScriptDialog", accept=True)
+            elif "method" in answer:
+                self.events.append(answer)
+
+    def _send(self, method: str, **parameters: object) -> int:
         self._number += 1
         message = {"id": self._number, "method": method, "params": parameters}
         if self._session:
             message["sessionId"] = self._session
         os.write(self._to, json.dumps(message).encode() + b"\0")
-        while True:
-            answer = self._read()
-            if answer.get("id") == self._number:
-                if "error" in answer:
-                    raise AssertionError(f"{method}: {answer['error']}")
-                return answer["result"]
-            if "method" in answer:
-                self.events.append(answer)
+        return self._number
 
     def _read(self) -> dict:
         while b"\0" not in self._buffer:

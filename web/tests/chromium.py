@@ -27,12 +27,12 @@ FAULTS = {
     "X (PL)\nX (PL)\n": ("l6: card 2: label given twice", "Card 1 has the label X"),
     " (PL) LOPO\nLOOP (PL)\n": ("l6: card 1: no such label", "Is LOOP meant?"),
     " (A,E,1)\n" + "+\n" * 16: ("l6: card 17: past a limit", "15 cards"),
-}  # fmt: skip
+}
 PICTURES = {
     "first": 6, "squares": 40, "sum": 500, "primes": 300, "list": 28, "scan": 120, "reverse": 127, "queue": 99,
     "josephus": 400, "lost": 14, "tree": 137, "words": 900, "symbols": 700, "sieve": 800, "cells": 3000,
     "factor": 3000, "full": 30_000, "buddy": 134, "collect": 87, "store": 7,
-}  # fmt: skip
+}
 
 
 class Page:
@@ -358,6 +358,18 @@ def files(page: Page) -> None:
 
 
 @trial
+def changes_are_kept(page: Page) -> None:
+    """A deck that was changed is not dropped without a question."""
+    page.open()
+    page.browser.value("window.asked = 0; window.confirm = () => { asked++; return false; }")
+    page.browser.value("document.getElementById('deck').value = ' (PL)\\n', l6.changed(), l6.library.chooseExample('tree')")
+    page.same("it asks, and keeps it", page.browser.value("[asked, document.getElementById('deck').value]"), [1, " (PL)\n"])
+    page.do("l6.library.makeLink()")
+    page.browser.value("l6.library.chooseExample('tree')")
+    page.same("what a link has may go", page.browser.value("[asked, l6.library.example.key]"), [1, "tree"])
+
+
+@trial
 def limits(page: Page) -> None:
     page.open()
     page.put(" (A,GT,1)\n", store=255)
@@ -442,6 +454,8 @@ def main() -> int:
         page = Page(browser, file)
         for one in TRIALS:
             page.trial = one.__name__.replace("_", " ")
+            if "--tell" in words:
+                print(page.trial, file=sys.stderr, flush=True)
             try:
                 one(page)
                 page.same("the page has no troubles", browser.troubles(), [])

@@ -38,7 +38,7 @@ class Firefox:
         profile = Path(self._folder.name)
         profile.joinpath("user.js").write_text(f'user_pref("marionette.port", {port});\n')
         words = [find_firefox(), "--headless", "--marionette", "--no-remote", "--profile", str(profile),
-                 "--width", "1400", "--height", "900", "about:blank"]  # fmt: skip
+                 "--width", "1400", "--height", "900", "about:blank"]
         quiet = {"stdin": subprocess.DEVNULL, "stdout": subprocess.DEVNULL, "stderr": subprocess.DEVNULL}
         self._process = subprocess.Popen(words, env={"HOME": self._folder.name, "PATH": "/usr/bin:/bin"}, **quiet)
         self._socket = self._connected(port)
@@ -148,7 +148,7 @@ TRIALS = [
         f" new Promise(done => setTimeout(done, 700)).then(() => l6.stop()).then(() => new Promise(done => setTimeout(done, 100))).then(() => {text('told')}))",
         "stopped",
     ),
-]  # fmt: skip
+]
 
 if __name__ == "__main__":
     sys.exit(main())

@@ -1,6 +1,6 @@
-"""A small checkout with the scripts of this repository, in which a stand-in takes the part of rt.
+"""A small checkout with the scripts of this repository, and with a stand-in for rt.
 
-The stand-in proves nothing. It "builds" programs that tell which sources they were made from, so a test
+The stand-in proves nothing. It "builds" programs that print which sources they were made from, so a test
 can see which program ran.
 """
 from __future__ import annotations
@@ -10,8 +10,9 @@ import os
 import shutil
 import subprocess
 import sys
-from dataclasses import dataclass
 from pathlib import Path
+
+from answers import Answer
 
 TOP = Path(__file__).resolve().parent.parent
 SCRIPTS = ("l6", "install", "tools", "docs/l6.1")
@@ -19,12 +20,12 @@ SECONDS = 60  # for one command
 SOURCES = ("src", "specs", "proofs")
 UNPROVED = "UNPROVED"  # a crate with this text in its sources is not proved
 
-# All commands beside the shell that the scripts may use where neither rt nor Python is needed.
+# All commands besides the shell that the scripts may use when neither rt nor Python is needed.
 PLAIN = ("cat", "chmod", "cmp", "cp", "dirname", "find", "mkdir", "mv", "readlink", "rm", "sed", "sha256sum",
          "sh", "sort", "uname", "xargs")
 
 RT = f'''#!{sys.executable}
-"""Stands in for rt: tells its version, and "builds" a library or a program in a crate's folder."""
+"""A stand-in for rt: prints its version, and "builds" a library or a program in a crate's folder."""
 import os, shutil, sys
 from pathlib import Path
 sys.path.insert(0, {str(TOP / "tests")!r})
@@ -75,7 +76,7 @@ def sum_of_sources(top: Path) -> str:
 
 
 def program_text(made_of: str) -> str:
-    """A program that tells its sources, its arguments and its input, and ends with the status given."""
+    """A program that prints its sources, its arguments and its input, and ends with the given status."""
     return (
         "#!/bin/sh\n"
         f"echo made of {made_of}\n"
@@ -83,15 +84,6 @@ def program_text(made_of: str) -> str:
         "cat\n"
         'exit "${STATUS-0}"\n'
     )
-
-
-@dataclass(frozen=True)
-class Outcome:
-    """What came of a command."""
-
-    stdout: str
-    stderr: str
-    status: int
 
 
 class Checkout:
@@ -114,8 +106,8 @@ class Checkout:
                 self.write(f"crates/{crate}/{name}", f"-- {name} of {crate}\n")
         self.set_version("a toolchain")
         (self.top / "dist").mkdir()
-        done = self.run("tools/make_dist")
-        assert done.status == 0, done
+        made = self.run("tools/make_dist")
+        assert made.status == 0, made
         self.forget_what_was_built()
 
     def _make_commands(self) -> None:
@@ -130,7 +122,7 @@ class Checkout:
 
     @property
     def made_of(self) -> str:
-        """The line by which the program of the present sources tells what it was made of."""
+        """The line in which the program of the present sources says what it was made of."""
         return f"made of {sum_of_sources(self.top)}\n"
 
     def set_version(self, line: str) -> None:
@@ -159,17 +151,17 @@ class Checkout:
     def run(
         self, command: str, *words: str, has_rt: bool = True, stdin: str = "", umask: int = 0o022,
         **environment: str,
-    ) -> Outcome:
-        """What comes of a script of the checkout; without rt there is no Python either.
+    ) -> Answer[str]:
+        """The answer of a script of the checkout; without rt there is no Python either.
 
         FIRST in the environment is a folder that comes first on the path.
         """
         path = f"{self.folder / 'whole'}:{os.environ['PATH']}" if has_rt else str(self.folder / "plain")
         first = environment.pop("FIRST", "")
         interpreter = [sys.executable] if command.endswith(".py") else []
-        done = subprocess.run(
+        ended = subprocess.run(
             [*interpreter, self.top / command, *words], input=stdin, capture_output=True, text=True, timeout=SECONDS,
             cwd=self.folder, umask=umask,
             env={"PATH": f"{first}:{path}" if first else path, "STAND_IN": str(self.state), **environment},
         )
-        return Outcome(done.stdout, done.stderr, done.returncode)
+        return Answer(ended.stdout, ended.stderr, ended.returncode)

@@ -1,8 +1,8 @@
 """Copies of functions, each with an edit, beside the functions themselves.
 
 Only one edit of a function can be tried in place in a check. Copies under names of their own can be tried
-together: nobody calls them, and they call what is not edited. Beside the copies of a function stands one
-without an edit. If that is not proved, the function can't be copied (its proof may be cited elsewhere), and
+together: nobody calls them, and they call what is not edited. One of the copies of a function has no edit.
+If that one is not proved, the function can't be copied (its proof may be cited elsewhere), and
 its edits are tried in place.
 """
 from __future__ import annotations
@@ -21,14 +21,14 @@ PROOFS = "proofs"
 
 @dataclass(frozen=True)
 class Copied:
-    """Where an edited copy of a function stands, and where the one without an edit does."""
+    """Where an edited copy of a function is, and where the one without an edit is."""
 
     edited: Function
     unedited: Function
 
 
 def copy_functions(edits: Iterable[tuple[Edit, Function]], folder: Path, crate: str) -> dict[Edit, Copied]:
-    """Copies the function of each edit, in the crate in a folder; answers where the copies stand.
+    """Copies the function of each edit, in the crate in a folder; returns where the copies are.
 
     What cannot be copied is left out.
     """
@@ -53,7 +53,7 @@ def copy_functions(edits: Iterable[tuple[Edit, Function]], folder: Path, crate: 
 
 
 def copy_function(folder: Path, function: Function, ending: str, pairs: list[tuple[str, str, str]]) -> None:
-    """Puts a copy behind a function, with its proof; the ending goes to its name, the edits into its text."""
+    """Puts a copy after a function, with its proof; the ending goes to its name, the edits into its text."""
     own = function.name.rpartition("::")[2]
     file = folder / function.file
     lines = file.read_text("utf-8").splitlines(keepends=True)
@@ -61,14 +61,14 @@ def copy_function(folder: Path, function: Function, ending: str, pairs: list[tup
     text = re.sub(rf"\bfn {own}\b", f"fn {own}_{ending}", text, count=1)
     for _, old, new in pairs:
         if text.count(old) != 1:
-            raise BadEdit("an old text does not stand once in its function")
+            raise BadEdit("an old text is not in its function, or not once")
         text = text.replace(old, new)
     copy_proof(folder / PROOFS, function, own, ending)
     file.write_text("".join([*lines[:function.last], "\n", text, *lines[function.last:]]), "utf-8")
 
 
 def heading_of(lines: list[str], first: int) -> int:
-    """The first line of what belongs to a function's head: comments and attributes above it."""
+    """The first line of a function's head: of the comments and attributes above it."""
     indent = len(lines[first]) - len(lines[first].lstrip())
     while first > 0 and lines[first - 1].strip() and lines[first - 1].startswith(" " * indent):
         if indent == 0 and not lines[first - 1].startswith(("//", "#", " ", ")")):

@@ -1,7 +1,7 @@
-"""Edits that the prover must refuse: what their files say, and which functions they turn.
+"""Edits that the prover must refuse: what their files say, and which functions they change.
 
 An edit is a file of lines. 'file: src/lib.rt' names a file of the crate's code; 'old: TEXT' and
-'new: TEXT' behind it replace a text that stands there exactly once. Further pairs apply to what the
+'new: TEXT' after it replace a text that is there exactly once. Further pairs apply to what the
 earlier ones made. The lines of a file stay as many as they are.
 """
 from __future__ import annotations
@@ -11,7 +11,7 @@ import re
 from dataclasses import dataclass
 from pathlib import Path
 
-# A function's first line, and that of an impl or a trait, as rt fmt lays them out.
+# A function's first line, and that of an impl or a trait, in the layout of rt fmt.
 FUNCTION = re.compile(r"( *)(?:pub(?:\([^)]*\))? )?(?:const )?fn (\w+)")
 IMPL = re.compile(r"impl(?:<.*?>)? (?:(?P<of>.+?) for )?(?P<type>\w+)[^{]*\{?$")
 TRAIT = re.compile(r"(?:pub(?:\([^)]*\))? )?trait (?P<type>\w+)")
@@ -23,7 +23,7 @@ class BadEdit(Exception):
 
 @dataclass(frozen=True)
 class Function:
-    """A function of a crate, and where it stands."""
+    """A function of a crate, and where it is."""
 
     name: str  # the end of the name that a check prints, which for a method begins at its type
     file: str
@@ -67,11 +67,11 @@ class Edit:
         return pairs
 
     def apply(self, folder: Path, crate: str) -> frozenset[Function | None]:
-        """Edits the crate in a folder, wholly or not at all; answers the functions that it turns.
+        """Edits the crate in a folder, wholly or not at all; returns the functions that it changes.
 
-        What it turns outside of functions, as a constant or a type, stands there as None.
+        None among them means something outside of functions, such as a constant or a type.
         """
-        turned: set[Function | None] = set()
+        changed: set[Function | None] = set()
         texts: dict[str, str] = {}
         for file, old, new in self.pairs:
             source = folder / file
@@ -79,17 +79,17 @@ class Edit:
                 raise BadEdit(f"{file} is no file of the crate's code")
             text = texts.get(file) or source.read_text("utf-8")
             if text.count(old) != 1:
-                raise BadEdit(f"an old text stands in {file} {text.count(old)} times, and not once")
+                raise BadEdit(f"an old text is in {file} {text.count(old)} times, and not once")
             line = text[: text.index(old)].count("\n")
-            turned.add(function_at(text.splitlines(), line, file, crate))
+            changed.add(function_at(text.splitlines(), line, file, crate))
             texts[file] = text.replace(old, new)
         for file, text in texts.items():
             (folder / file).write_text(text, "utf-8")
-        return frozenset(turned)
+        return frozenset(changed)
 
 
 def function_at(lines: list[str], line: int, file: str, crate: str) -> Function | None:
-    """The function in which a line of a file stands, lines counted from 0, or None."""
+    """The function that has a line of a file, counted from 0, or None."""
     for first in range(line, -1, -1):
         begins = FUNCTION.match(lines[first])
         if begins is None:
@@ -100,7 +100,7 @@ def function_at(lines: list[str], line: int, file: str, crate: str) -> Function 
             return None
         module = file.removeprefix("src/").removesuffix(".rt").replace("/", "::")
         path = [crate] if module in ("lib", "main") else [crate, module]
-        # (a check lists a method in its type's module, wherever the impl stands)
+        # (a check lists a method in its type's module, wherever the impl is)
         owner, is_of_trait = owner_of(lines, first) if indent else ("", False)
         path = [owner] if owner else path
         return Function("::".join([*path, name]), file, first + 1, last + 1, is_of_trait)
@@ -108,9 +108,9 @@ def function_at(lines: list[str], line: int, file: str, crate: str) -> Function 
 
 
 def owner_of(lines: list[str], line: int) -> tuple[str, bool]:
-    """The name under which a check lists the methods of the impl or the trait that a line stands in.
+    """The name under which a check lists the methods of the impl or the trait that a line is in.
 
-    The second value tells whether they are a trait's.
+    The second value says whether they are a trait's.
     """
     head = next(row for row in reversed(lines[:line]) if IMPL.match(row) or TRAIT.match(row))
     found = IMPL.match(head) or TRAIT.match(head)

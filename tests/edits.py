@@ -2,13 +2,18 @@
 """Tries the edits that the prover must refuse, many in one check.
 
 The edits of a crate are the files NAME.edit in its folder edits/. Many are tried in one check, in a copy
-of the crate and over what its own check has kept. Where several edits turn one function, each turns a copy
-of it that stands beside it (edit_copies.py), and is refused if the copy is, for goals of its own. What can't
-be tried so is tried in place, together with edits of other functions; then without the edits of the
-functions that it calls; and then alone, where it is refused if the crate is.
+of the crate that begins with what its own check has kept. If several edits change one function, each changes
+a copy of that function (edit_copies.py), and is refused if the copy is, for goals of its own. An edit that
+can't be tried that way is tried in place, together with edits of other functions; then without the edits of
+the functions that it calls; and then alone.
+
+An edit is refused if a goal of its function is, or any goal of the crate if it changes a constant or a type.
+If only a proof breaks that was written by hand, the edit counts as refused, too, but a line names it, and
+each crate's line says how many there are: with another proof it might not be refused. An edit that is refused
+without either is a bad edit.
 
 Each edit that is not refused has a line that says why, and each crate one that says what its checks
-took. The last line is 'N passed, M failed'. Standard error tells of each check as it ends.
+took. The last line is 'N passed, M failed'. Standard error reports each check as it ends.
 """
 from __future__ import annotations
 
@@ -24,9 +29,10 @@ from collections.abc import Callable, Iterator
 from concurrent.futures import ThreadPoolExecutor, as_completed
 from dataclasses import dataclass
 from pathlib import Path
+from typing import TypeVar
 
 sys.path.insert(0, str(Path(__file__).resolve().parent.parent / "tools"))
-from check_report import Report, Said
+from check_report import Report, Said, files_with_errors
 from commands import Commands, run_program
 from crates import Crate, read_crates
 from edit_copies import Copied, copy_functions
@@ -34,18 +40,23 @@ from edit_files import BadEdit, Edit, Function
 from lanes import ALL_MEMORY, Lanes, processors
 from prove import prove
 from rooms import room_of
+from trials import Trial, report
+
+Item = TypeVar("Item")
+Result = TypeVar("Result")
 
 FOLDER = "edits"
 COPIES = 16  # how many edited copies are tried in one check
 
 
 @dataclass
-class Trial:
-    """An edit, the functions that it turns, and what became of it."""
+class EditTrial:
+    """An edit, the functions that it changes, and what became of it."""
 
     edit: Edit
     functions: frozenset[Function | None] = frozenset()
     is_refused: bool = False
+    by_proof_alone: bool = False  # whether a proof that was written by hand refuses it, and no goal
     failure: str | None = None  # why it is not refused, once that is known
 
     @property
@@ -54,61 +65,70 @@ class Trial:
         return not self.is_refused and self.failure is None
 
     @property
-    def turns_functions(self) -> bool:
-        """Whether it turns functions and nothing else, as a constant or a type."""
+    def changes_functions(self) -> bool:
+        """Whether it changes functions and nothing else, such as a constant or a type."""
         return bool(self.functions) and None not in self.functions
 
     @property
     def function(self) -> Function | None:
-        """The function that it turns, if that is one that may be copied."""
+        """The function that it changes, if that is one that may be copied."""
         only = next(iter(self.functions)) if len(self.functions) == 1 else None
         return only if only and not only.is_of_trait else None
+
+    def note(self, said: Said) -> None:
+        """Notes what a check says of the edit."""
+        self.is_refused = said in (Said.REFUSED, Said.UNPROVED)
+        self.by_proof_alone = said is Said.UNPROVED
 
 
 class Bench:
     """Where the edits of a crate are tried."""
 
-    def __init__(self, crate: Crate, trials: list[Trial], lanes: Lanes, commands: Commands) -> None:
+    def __init__(self, crate: Crate, trials: list[EditTrial], lanes: Lanes, commands: Commands) -> None:
         self.crate, self.trials = crate, trials
         self.checks, self.processor_seconds = 0, 0.0
         self._lanes, self._commands = lanes, commands
         self._lock = threading.Lock()  # of the two counts
 
-    def try_all(self) -> tuple[str, list[str]]:
-        """Tries all edits; answers a line that says what that took, and one for each that failed."""
+    def try_all(self) -> str:
+        """Tries all edits; returns a line that says what that took."""
         start = time.monotonic()
         self.read_all()
-        turned = Counter(trial.function for trial in self.trials)
-        copies = [trial for trial in self.trials if trial.function and turned[trial.function] > 1]
+        changed = Counter(trial.function for trial in self.trials)
+        copies = [trial for trial in self.trials if trial.function and changed[trial.function] > 1]
         chunks = [copies[n:n + COPIES] for n in range(0, len(copies), COPIES)]
         self._side_by_side(self._try_copies, chunks)
-        together = [trial for trial in self.trials if trial.is_open and trial.turns_functions]
-        tried: list[Trial] = []
+        together = [trial for trial in self.trials if trial.is_open and trial.changes_functions]
+        tried: list[EditTrial] = []
         while len(together) != len(tried):  # all, and then those alone that call another edited one
             tried = together
             blocked = self._side_by_side(self._try_together, put_together(tried))
             together = [trial for batch in blocked for trial in batch]
         self._side_by_side(self._try_alone, [trial for trial in self.trials if trial.is_open])
-        name, refused = self.crate.name, sum(trial.is_refused for trial in self.trials)
-        summary = (
-            f"{name}: {refused} of {len(self.trials)} edits refused, in {self.checks} checks;"
+        refused = sum(trial.is_refused for trial in self.trials)
+        by_proof_alone = sum(trial.by_proof_alone for trial in self.trials)
+        return (
+            f"{self.crate.name}: {refused} of {len(self.trials)} edits refused, {by_proof_alone} of them"
+            f" only by a proof that was written by hand, in {self.checks} checks;"
             f" {time.monotonic() - start:.0f} s, {self.processor_seconds:.0f} s of processor time"
         )
-        return summary, [f"{name}/{it.edit.name}: {it.failure}" for it in self.trials if it.failure]
 
-    def read_all(self) -> list[str]:
-        """Finds what each edit turns; answers a line for each that cannot be applied."""
+    def read_all(self) -> None:
+        """Finds what each edit changes, or why it cannot be applied."""
         for trial in self.trials:
             self._find_functions(trial)
-        return [f"{self.crate.name}/{it.edit.name}: {it.failure}" for it in self.trials if it.failure]
 
-    def _side_by_side(self, call, values: list) -> list:
+    def name_of(self, trial: EditTrial) -> str:
+        """The name of an edit, with its crate's."""
+        return f"{self.crate.name}/{trial.edit.name}"
+
+    def _side_by_side(self, call: Callable[[Item], Result], values: list[Item]) -> list[Result]:
         """Calls a method for each value, in threads; the lanes decide how many really run."""
         with ThreadPoolExecutor(max(len(values), 1)) as pool:
             return list(pool.map(call, values))
 
-    def _find_functions(self, trial: Trial) -> None:
-        """Finds the functions that an edit turns, or why it cannot be applied."""
+    def _find_functions(self, trial: EditTrial) -> None:
+        """Finds the functions that an edit changes, or why it cannot be applied."""
         with tempfile.TemporaryDirectory(prefix="l6-edit-") as room:
             shutil.copytree(self.crate.folder / "src", Path(room, "src"))
             try:
@@ -116,59 +136,62 @@ class Bench:
             except BadEdit as why:
                 trial.failure = f"BAD EDIT: {why}"
 
-    def _try_copies(self, batch: list[Trial]) -> None:
-        """Tries edits in copies of their functions, which stand beside them, in one check."""
+    def _try_copies(self, batch: list[EditTrial]) -> None:
+        """Tries edits in copies of their functions, which are put beside them, in one check."""
         copies: dict[Edit, Copied] = {}
 
         def prepare(folder: Path) -> None:
             found = [(trial.edit, trial.function) for trial in batch if trial.function]
             copies.update(copy_functions(found, folder, self.crate.name))
 
-        report = self._checked_in(self.crate.memory, prepare)
+        check = self._checked_in(self.crate.memory, prepare)
         for trial in batch:
             copy = copies.get(trial.edit)
-            if copy and report.judged and report.proves(copy.unedited):
-                trial.is_refused = report.says(copy.edited) is Said.REFUSED
+            if copy and check.judged and check.proves(copy.unedited):
+                trial.note(check.says(copy.edited))
         refused = sum(trial.is_refused for trial in batch)
-        self._tell(f"{refused} of {len(batch)} edits that were tried in copies are refused", report)
+        self._say(f"{refused} of {len(batch)} edits that were tried in copies are refused", check)
 
-    def _try_together(self, batch: list[Trial]) -> list[Trial]:
-        """Tries edits of different functions in one check; answers those that wait for another's."""
+    def _try_together(self, batch: list[EditTrial]) -> list[EditTrial]:
+        """Tries edits of different functions in one check; returns those that wait for another's."""
         if len(batch) == 1:
             self._try_alone(batch[0])
             return []
-        report = self._check(batch)
-        if not report.judged:
-            bad = [trial for trial in batch if report.cannot_read(trial.functions)]
+        check = self._check(batch)
+        if not check.judged:
+            bad = [trial for trial in batch if check.cannot_read(trial.functions)]
             good = [trial for trial in batch if trial not in bad]
             return self._try_together(good) if bad and good else []
         blocked = []
         for trial in batch:
-            said = {report.says(function) for function in trial.functions}
-            trial.is_refused = Said.REFUSED in said
+            said = {check.says(function) for function in trial.functions if function}
+            trial.note(next((it for it in (Said.REFUSED, Said.UNPROVED) if it in said), Said.SILENT))
             if Said.BLOCKED in said and not trial.is_refused:
                 blocked.append(trial)
         refused = sum(trial.is_refused for trial in batch)
-        self._tell(f"{refused} of {len(batch)} edits that were tried together are refused", report)
+        self._say(f"{refused} of {len(batch)} edits that were tried together are refused", check)
         return blocked
 
-    def _try_alone(self, trial: Trial) -> None:
+    def _try_alone(self, trial: EditTrial) -> None:
         """Tries an edit by a check of its own."""
-        report = self._check([trial])
-        trial.is_refused = report.refuses
-        if report.proved:
+        check = self._check([trial])
+        if check.proved:
             trial.failure = "NOT REFUSED: the crate is proved with it"
-        elif not report.judged:
-            trial.failure = f"BAD EDIT: the prover came to no verdict: {report.why()}"
-        elif not report.refuses:
-            trial.failure = f"BAD EDIT: it says little of a contract, turn a value: {report.why()}"
-        self._tell(f"{trial.edit.name}, tried alone, is {'' if trial.is_refused else 'not '}refused", report)
+        elif not check.judged:
+            trial.failure = f"BAD EDIT: the prover came to no verdict: {check.why()}"
+        else:
+            trial.note(check.says_alone(trial.functions))
+            if not trial.is_refused:
+                why = "no goal of its function is refused, change a value"
+                trial.failure = f"BAD EDIT: {why}: {check.why()}"
+        self._say(f"{trial.edit.name}, tried alone, is {'' if trial.is_refused else 'not '}refused", check)
 
-    def _tell(self, what: str, report: Report) -> None:
-        took = f"{report.processor_seconds:.0f} s of processor time"
+    def _say(self, what: str, check: Report) -> None:
+        """Prints what came of a check, and what it cost."""
+        took = f"{check.processor_seconds:.0f} s of processor time"
         print(f"{self.crate.name}: {what}; {took}", file=sys.stderr, flush=True)
 
-    def _check(self, trials: list[Trial]) -> Report:
+    def _check(self, trials: list[EditTrial]) -> Report:
         """Checks the crate with these edits; a check that was killed is made once more, alone."""
 
         def prepare(folder: Path) -> None:
@@ -177,25 +200,27 @@ class Bench:
                 with contextlib.suppress(BadEdit):
                     trial.edit.apply(folder, self.crate.name)
 
-        report = self._checked_in(self.crate.memory, prepare)
-        if not report.judged and not report.unread:
-            report = self._checked_in(ALL_MEMORY, prepare)
-        return report
+        check = self._checked_in(self.crate.memory, prepare)
+        if not check.judged and not check.unread:
+            check = self._checked_in(ALL_MEMORY, prepare)
+        return check
 
     def _checked_in(self, memory: int, prepare: Callable[[Path], None]) -> Report:
         """Checks a copy of the crate that was prepared."""
         with self._lanes.lane(memory, self.crate.lines), room_of(self.crate) as folder:
             prepare(folder)
             ended = self._commands.run(["rt", "check", "--jobs", "1"], folder)
+            files = [it for it in files_with_errors(ended.text) if (folder / it).is_file()]
+            proofs = {it: (folder / it).read_text("utf-8") for it in files}
         with self._lock:
             self.checks += 1
             self.processor_seconds += ended.processor_seconds
-        return Report(ended.status, ended.text, ended.processor_seconds)
+        return Report(ended.status, ended.text, ended.processor_seconds, proofs)
 
 
-def put_together(trials: list[Trial]) -> list[list[Trial]]:
-    """The edits in as few batches as need be so that those of a batch turn different functions."""
-    batches: list[list[Trial]] = []
+def put_together(trials: list[EditTrial]) -> list[list[EditTrial]]:
+    """The edits in as few batches as possible; those of a batch change different functions."""
+    batches: list[list[EditTrial]] = []
     for trial in trials:
         apart = (it for it in batches if all(trial.functions.isdisjoint(o.functions) for o in it))
         batch = next(apart, None)
@@ -205,18 +230,18 @@ def put_together(trials: list[Trial]) -> list[list[Trial]]:
     return batches
 
 
-def trials_of(crate: Crate, word: str) -> list[Trial]:
+def trials_of(crate: Crate, word: str) -> list[EditTrial]:
     """The edits of a crate whose names have a word."""
     files = sorted((crate.folder / FOLDER).glob("*.edit"))
-    return [Trial(Edit(file)) for file in files if word in file.stem]
+    return [EditTrial(Edit(file)) for file in files if word in file.stem]
 
 
 def main() -> int:
-    """Tries the edits, prints what became of them, and answers the exit status."""
+    """Tries the edits, prints what became of them, and returns the exit status."""
     parser = argparse.ArgumentParser(description=__doc__.split("\n", 1)[0])
     parser.add_argument("crates", nargs="*", metavar="CRATE", help="only the edits of these crates")
     parser.add_argument("--only", default="", metavar="WORD", help="only edits with this in their name")
-    parser.add_argument("--texts", action="store_true", help="only look that each old text stands once")
+    parser.add_argument("--texts", action="store_true", help="only see that each old text is there once")
     parser.add_argument("--jobs", type=int, default=processors(), help="how many checks at a time")
     options = parser.parse_args()
     known = read_crates()
@@ -225,28 +250,36 @@ def main() -> int:
     benches = [Bench(it, trials_of(it, options.only), lanes, commands) for it in chosen]
     benches = sorted((it for it in benches if it.trials), key=lambda it: -it.crate.lines)
     if options.texts:
-        failures = [failure for it in benches for failure in it.read_all()]
-        print(*failures, sep="\n", end="\n" if failures else "")
-        return count(sum(len(it.trials) for it in benches) - len(failures), failures)
-    well = prove([it.crate for it in benches], options.jobs, commands)
-    failures = list(tried(benches, commands)) if well else ["a crate is not proved"]
-    return count(sum(it.is_refused for bench in benches for it in bench.trials), failures)
+        return report(texts(benches))
+    return report(all_tried(benches, options.jobs, commands))
 
 
-def count(passed: int, failures: list[str]) -> int:
-    """Prints the last line, and answers the exit status."""
-    print(f"{passed} passed, {len(failures)} failed")
-    return 1 if failures else 0
+def texts(benches: list[Bench]) -> Iterator[Trial]:
+    """The trials that each edit can be applied."""
+    for bench in benches:
+        bench.read_all()
+        for trial in bench.trials:
+            yield bench.name_of(trial), "can be applied", trial.failure or "can be applied"
 
 
-def tried(benches: list[Bench], commands: Commands) -> Iterator[str]:
-    """Tries the edits of crates side by side, prints what became of them, and answers what failed."""
+def all_tried(benches: list[Bench], jobs: int, commands: Commands) -> Iterator[Trial]:
+    """The trials that each edit is refused, those of a crate once all of them were tried.
+
+    The crates themselves are proved first.
+    """
+    if not prove([it.crate for it in benches], jobs, commands):
+        yield "the crates without an edit", "proved", "a crate is not proved"
+        return
     with ThreadPoolExecutor(max(len(benches), 1)) as pool:
         try:
-            for run in as_completed([pool.submit(bench.try_all) for bench in benches]):
-                summary, failures = run.result()
-                print(*failures, summary, sep="\n", flush=True)
-                yield from failures
+            runs = {pool.submit(bench.try_all): bench for bench in benches}
+            for run in as_completed(runs):
+                bench, summary = runs[run], run.result()
+                for trial in bench.trials:
+                    yield bench.name_of(trial), "refused", "refused" if trial.is_refused else trial.failure
+                    if trial.by_proof_alone:
+                        print(f"{bench.name_of(trial)}: only a proof that was written by hand refuses it")
+                print(summary, flush=True)
         except BaseException:
             commands.stop()
             raise

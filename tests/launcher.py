@@ -1,8 +1,8 @@
 #!/usr/bin/env python3
-"""Looks that ./l6 runs the program that belongs to the sources, and no other.
+"""Checks that ./l6 runs the program that belongs to the sources, and no other.
 
 launcher.py prints each difference, and last 'N passed, M failed'. It works on small checkouts of its own,
-in which a stand-in takes the part of rt (checkout.py), so nothing is proved and nothing else is touched.
+with a stand-in for rt (checkout.py), so nothing is proved and nothing else is changed.
 It also tries tools/prove.py and tools/make_dist.
 """
 from __future__ import annotations
@@ -13,7 +13,8 @@ import tempfile
 from collections.abc import Callable, Iterator
 from pathlib import Path
 
-from checkout import UNPROVED, Checkout, Outcome
+from answers import Answer
+from checkout import UNPROVED, Checkout
 from trials import Trial, report
 
 SOURCES = (
@@ -29,88 +30,91 @@ EDITED = "l6: the sources were edited meanwhile, so the program may not belong t
 
 
 def distributed(checkout: Checkout) -> Iterator[Trial]:
-    """The program of dist/ runs where neither rt nor Python is there, and is handed all it needs."""
-    want = Outcome(checkout.made_of, "", 0)
-    yield "the program of dist/", want, checkout.run("l6", has_rt=False)
-    yield "the program of dist/ beside rt", want, checkout.run("l6")
+    """The program of dist/ runs without rt and Python, and gets its arguments and its input."""
+    expected = Answer(checkout.made_of, "", 0)
+    yield "the program of dist/", expected, checkout.run("l6", has_rt=False)
+    yield "the program of dist/ beside rt", expected, checkout.run("l6")
     words = ["run", "a b", "", "-x", "--", "*", "$HOME", "two\nlines", "--prove"]
-    told = "".join(f"<{word}>\n" for word in words)
+    printed = "".join(f"<{word}>\n" for word in words)
     for status in (0, 1, 2, 5, 64, 255):
-        want = Outcome(f"{checkout.made_of}{told}a line\nno end", "", status)
-        come = checkout.run("l6", *words, has_rt=False, stdin="a line\nno end", STATUS=str(status))
-        yield f"arguments, input and status {status}", want, come
+        expected = Answer(f"{checkout.made_of}{printed}a line\nno end", "", status)
+        actual = checkout.run("l6", *words, has_rt=False, stdin="a line\nno end", STATUS=str(status))
+        yield f"arguments, input and status {status}", expected, actual
     (checkout.folder / "linked").symlink_to(checkout.top / "l6")
-    want = Outcome(checkout.made_of, "", 0)
-    yield "./l6 through a link", want, checkout.run("../linked", has_rt=False)
+    expected = Answer(checkout.made_of, "", 0)
+    yield "./l6 through a link", expected, checkout.run("../linked", has_rt=False)
+    made_from = (checkout.top / "dist/l6.provenance").read_text("utf-8")
+    expected = Answer(f"{checkout.made_of}<--version>\n", made_from, 0)
+    yield "the version", expected, checkout.run("l6", "--version", has_rt=False)
     yield "what rt was asked for", [], checkout.calls()
 
 
 def changed_sources(checkout: Checkout) -> Iterator[Trial]:
-    """A source that is edited, added, removed or renamed makes ./l6 build anew, once."""
+    """After a source was edited, added, removed or renamed, ./l6 builds the program again, once."""
     for name in SOURCES:
         file = checkout.top / name
         before = file.read_bytes()
         file.write_bytes(before + b"-- edited\n")
-        yield from builds_anew(checkout, f"an edit of {name}", STALE)
+        yield from builds_again(checkout, f"an edit of {name}", STALE)
         file.write_bytes(before)
-        yield f"{name} as it was", Outcome(checkout.made_of, "", 0), checkout.run("l6", has_rt=False)
+        yield f"{name} as it was", Answer(checkout.made_of, "", 0), checkout.run("l6", has_rt=False)
         checkout.forget_what_was_built()
     first = checkout.top / "crates/l6_word/src/lib.rt"
     other = first.with_name("other.rt")
     other.write_text("")
-    yield from builds_anew(checkout, "a new file", STALE)
+    yield from builds_again(checkout, "a new file", STALE)
     other.unlink()
     first.rename(other)
-    yield from builds_anew(checkout, "a file that is renamed", STALE)
+    yield from builds_again(checkout, "a file that is renamed", STALE)
     other.rename(first)
     times = os.stat(first).st_mtime_ns
     before = first.read_bytes()
     first.write_bytes(before.swapcase())
     os.utime(first, ns=(times, times))
-    yield from builds_anew(checkout, "an edit that keeps size and time", STALE)
+    yield from builds_again(checkout, "an edit that keeps size and time", STALE)
     first.write_bytes(before)
 
 
-def builds_anew(checkout: Checkout, what: str, why: str) -> Iterator[Trial]:
-    """The program of dist/ is refused; it is proved and built once, and then run with no further word."""
-    yield f"{what}, without rt", Outcome("", why + NO_RT, 1), checkout.run("l6", has_rt=False)
-    come = checkout.run("l6")
-    yield what, (checkout.made_of, 0), (come.stdout, come.status)
-    yield f"{what}: what is said", why + PROVING, come.stderr[:len(why + PROVING)]
+def builds_again(checkout: Checkout, what: str, why: str) -> Iterator[Trial]:
+    """The program of dist/ is refused; another is proved and built once, and then run without a message."""
+    yield f"{what}, without rt", Answer("", why + NO_RT, 1), checkout.run("l6", has_rt=False)
+    actual = checkout.run("l6")
+    yield what, (checkout.made_of, 0), (actual.stdout, actual.status)
+    yield f"{what}: what is said", why + PROVING, actual.stderr[:len(why + PROVING)]
     checkout.calls()
-    come = checkout.run("l6", "again")
-    want = Outcome(f"{checkout.made_of}<again>\n", why if why == BROKEN else "", 0)
-    yield f"{what}, the second call", want, come
+    actual = checkout.run("l6", "again")
+    expected = Answer(f"{checkout.made_of}<again>\n", why if why == BROKEN else "", 0)
+    yield f"{what}, the second call", expected, actual
     yield f"{what}, the second call's builds", [], checkout.calls()
 
 
 def damaged_distribution(checkout: Checkout) -> Iterator[Trial]:
-    """A program or a provenance in dist/ that is altered, cut or missing is refused by its name."""
+    """A program or a provenance in dist/ that is altered, cut or missing is refused."""
     program, provenance = (checkout.top / "dist" / name for name in ("l6", "l6.provenance"))
-    whole, told = program.read_bytes(), provenance.read_bytes()
+    whole, named = program.read_bytes(), provenance.read_bytes()
     turned = whole.replace(b"made", b"Made")
     for what, text in (("altered", turned), ("cut", whole[:-1]), ("longer", whole + b"\n"), ("empty", b"")):
         program.write_bytes(text)
-        yield f"dist/l6 is {what}", Outcome("", BROKEN + NO_RT, 1), checkout.run("l6", has_rt=False)
-    yield from builds_anew(checkout, "dist/l6 is empty", BROKEN)
+        yield f"dist/l6 is {what}", Answer("", BROKEN + NO_RT, 1), checkout.run("l6", has_rt=False)
+    yield from builds_again(checkout, "dist/l6 is empty", BROKEN)
     checkout.forget_what_was_built()
     program.unlink()
-    yield "dist/l6 is missing", Outcome("", BROKEN + NO_RT, 1), checkout.run("l6", has_rt=False)
+    yield "dist/l6 is missing", Answer("", BROKEN + NO_RT, 1), checkout.run("l6", has_rt=False)
     program.write_bytes(whole)
-    come = checkout.run("l6", has_rt=False)
-    yield "dist/l6 may not be run", ("", 1), (come.stdout, come.status)
+    actual = checkout.run("l6", has_rt=False)
+    yield "dist/l6 may not be run", ("", 1), (actual.stdout, actual.status)
     program.chmod(0o755)
-    for place in range(len(told)):
-        provenance.write_bytes(told[:place] + bytes([told[place] ^ 1]) + told[place + 1:])
-        come = checkout.run("l6", has_rt=False)
-        yield f"byte {place} of the provenance", ("", 1), (come.stdout, come.status)
-    for what, text in (("cut", told[:-1]), ("longer", told + b"\n"), ("empty", b"")):
+    for place in range(len(named)):
+        provenance.write_bytes(named[:place] + bytes([named[place] ^ 1]) + named[place + 1:])
+        actual = checkout.run("l6", has_rt=False)
+        yield f"byte {place} of the provenance", ("", 1), (actual.stdout, actual.status)
+    for what, text in (("cut", named[:-1]), ("longer", named + b"\n"), ("empty", b"")):
         provenance.write_bytes(text)
-        come = checkout.run("l6", has_rt=False)
-        yield f"a provenance that is {what}", ("", 1), (come.stdout, come.status)
+        actual = checkout.run("l6", has_rt=False)
+        yield f"a provenance that is {what}", ("", 1), (actual.stdout, actual.status)
     provenance.unlink()
-    yield from builds_anew(checkout, "a provenance that is missing", BROKEN)
-    provenance.write_bytes(told)
+    yield from builds_again(checkout, "a provenance that is missing", BROKEN)
+    provenance.write_bytes(named)
 
 
 def built_program(checkout: Checkout) -> Iterator[Trial]:
@@ -121,56 +125,57 @@ def built_program(checkout: Checkout) -> Iterator[Trial]:
     for file in (program, provenance):
         checkout.calls()
         file.write_bytes(file.read_bytes()[:-2] + b"1\n")
-        come = checkout.run("l6")
-        yield f"{file.name} is altered", (checkout.made_of, 0), (come.stdout, come.status)
-        yield f"{file.name} is altered: it is built anew", PROVING, come.stderr[len(STALE):][:len(PROVING)]
+        actual = checkout.run("l6")
+        yield f"{file.name} is altered", (checkout.made_of, 0), (actual.stdout, actual.status)
+        yield f"{file.name} is altered: it is built again", PROVING, actual.stderr[len(STALE):][:len(PROVING)]
     checkout.calls()
     checkout.set_version("another toolchain")
-    come = checkout.run("l6")
-    yield "another toolchain", (checkout.made_of, 0), (come.stdout, come.status)
+    actual = checkout.run("l6")
+    yield "another toolchain", (checkout.made_of, 0), (actual.stdout, actual.status)
     yield "another toolchain: what is built", ["lib l6_word", "run l6"], checkout.calls()
 
 
 def failed_proofs(checkout: Checkout) -> Iterator[Trial]:
-    """Where a crate is not proved nothing runs, and no earlier program does."""
+    """If a crate is not proved nothing runs, and no earlier program does."""
     checkout.write("crates/l6/src/main.rt", "another main\n")
     checkout.run("l6")
     for crate, called in (("l6", ["run l6"]), ("l6_word", ["lib l6_word"])):
         checkout.calls()
         checkout.write(f"crates/{crate}/proofs/Lib.antt", UNPROVED)
         for which in ("the first call", "the second call"):
-            come = checkout.run("l6")
-            yield f"{crate} is not proved, {which}", ("", 1), (come.stdout, come.status)
-            told = [f"fn {crate}::main: not proved" in come.stderr, come.stderr.endswith("was not built\n")]
-            yield f"{crate} is not proved, what {which} says", [True, True], told
+            actual = checkout.run("l6")
+            yield f"{crate} is not proved, {which}", ("", 1), (actual.stdout, actual.status)
+            says = [f"fn {crate}::main: not proved" in actual.stderr, actual.stderr.endswith("was not built\n")]
+            yield f"{crate} is not proved, what {which} says", [True, True], says
             yield f"{crate} is not proved, what {which} builds", called, checkout.calls()
         checkout.write(f"crates/{crate}/proofs/Lib.antt", "proved again\n")
-    come = checkout.run("l6")
-    yield "proved again", (checkout.made_of, 0), (come.stdout, come.status)
+    actual = checkout.run("l6")
+    yield "proved again", (checkout.made_of, 0), (actual.stdout, actual.status)
 
 
 def edits_while_it_builds(checkout: Checkout) -> Iterator[Trial]:
-    """What is edited while the program is built is not noted as built, and not run."""
+    """If something is edited while the program is built, it does not count as built, and is not run."""
     for name in ("crates/l6_word/src/lib.rt", "crates/l6/specs/Lib.antt", "HANDLES"):
         checkout.write("crates/l6/src/main.rt", f"a main before {name}\n")
         (checkout.state / "edit").write_text(str(checkout.top / name))
-        come = checkout.run("l6")
-        yield f"{name} is edited meanwhile", ("", EDITED, 1), (come.stdout, come.stderr[-len(EDITED):], come.status)
-        come = checkout.run("l6")
-        yield f"after {name} was edited", (checkout.made_of, 0), (come.stdout, come.status)
-        yield f"after {name} was edited: it is built anew", True, PROVING in come.stderr
+        actual = checkout.run("l6")
+        ending = actual.stderr[-len(EDITED):]
+        yield f"{name} is edited meanwhile", ("", EDITED, 1), (actual.stdout, ending, actual.status)
+        actual = checkout.run("l6")
+        yield f"after {name} was edited", (checkout.made_of, 0), (actual.stdout, actual.status)
+        yield f"after {name} was edited: it is built again", True, PROVING in actual.stderr
 
 
 def crates_below(checkout: Checkout) -> Iterator[Trial]:
-    """A crate is proved again where it or one below it has changed, lowest first, and else not."""
-    come = checkout.run("l6", "--prove")
+    """A crate is proved again if it or one below it has changed, lowest first, and not otherwise."""
+    actual = checkout.run("l6", "--prove")
     said = "l6: the program is proved, and dist/l6 is the same, byte for byte\n"
-    yield "--prove", ("", said, 0), (come.stdout, come.stderr[-len(said):], come.status)
+    yield "--prove", ("", said, 0), (actual.stdout, actual.stderr[-len(said):], actual.status)
     yield "what --prove builds", ["lib l6_word", "run l6"], checkout.calls()
     checkout.write("crates/l6/src/main.rt", "another main\n")
-    come = checkout.run("l6", "--prove")
+    actual = checkout.run("l6", "--prove")
     said = "l6: the program is proved, and dist/l6 is another one; this one is crates/l6/out/l6\n"
-    yield "--prove of other sources", ("", said, 0), (come.stdout, come.stderr[-len(said):], come.status)
+    yield "--prove of other sources", ("", said, 0), (actual.stdout, actual.stderr[-len(said):], actual.status)
     yield "a change of the program", ["run l6"], checkout.calls()
     for part in ("src/lib.rt", "specs/Lib.antt", "proofs/Lib.antt"):
         checkout.write(f"crates/l6_word/{part}", "another text\n")
@@ -186,13 +191,13 @@ def crates_below(checkout: Checkout) -> Iterator[Trial]:
         linked.hardlink_to(file)
         checkout.run("tools/prove.py", "l6_word")
         yield f"{note} is altered", ["lib l6_word"], checkout.calls()
-        yield f"{note} was written anew and not in place", "something else\n", linked.read_text()
+        yield f"{note} was replaced and not overwritten", "something else\n", linked.read_text()
     kept = checkout.top / "crates/l6_word/out/incremental/kept"
     yield "what a check kept", True, kept.is_file()
     (checkout.state / "kill").touch()
     checkout.write("crates/l6_word/src/lib.rt", "a text whose check is killed\n")
-    come = checkout.run("tools/prove.py", "l6_word")
-    yield "a check that is killed", (0, ["lib l6_word"] * 2), (come.status, checkout.calls())
+    actual = checkout.run("tools/prove.py", "l6_word")
+    yield "a check that is killed", (0, ["lib l6_word"] * 2), (actual.status, checkout.calls())
 
 
 def other_systems(checkout: Checkout) -> Iterator[Trial]:
@@ -202,34 +207,34 @@ def other_systems(checkout: Checkout) -> Iterator[Trial]:
     (first / "uname").write_text("#!/bin/sh\necho Plan9 mips\n")
     (first / "uname").chmod(0o755)
     why = "l6: dist/l6 is for Linux x86_64, and this is Plan9 mips\n"
-    come = checkout.run("l6", has_rt=False, FIRST=str(first))
-    yield "another system", Outcome("", why + NO_RT, 1), come
+    actual = checkout.run("l6", has_rt=False, FIRST=str(first))
+    yield "another system", Answer("", why + NO_RT, 1), actual
 
 
 def making_dist(checkout: Checkout) -> Iterator[Trial]:
     """tools/make_dist writes the program and its provenance, or nothing."""
     dist = checkout.top / "dist"
     before = {file.name: file.read_bytes() for file in dist.iterdir()}
-    yield "what lies in dist/", ["l6", "l6.provenance"], sorted(before)
-    come = checkout.run("tools/make_dist")
+    yield "what is in dist/", ["l6", "l6.provenance"], sorted(before)
+    actual = checkout.run("tools/make_dist")
     again = {file.name: file.read_bytes() for file in dist.iterdir()}
-    yield "dist/ made once more", (0, before), (come.status, again)
+    yield "dist/ made again", (0, before), (actual.status, again)
     for crate in ("l6", "l6_word", "l6_tests"):
         text = (checkout.top / f"crates/{crate}/specs/Lib.antt").read_text()
         checkout.write(f"crates/{crate}/specs/Lib.antt", UNPROVED)
-        come = checkout.run("tools/make_dist")
+        actual = checkout.run("tools/make_dist")
         again = {file.name: file.read_bytes() for file in dist.iterdir()}
-        yield f"{crate} is not proved", (1, before), (come.status, again)
+        yield f"{crate} is not proved", (1, before), (actual.status, again)
         checkout.write(f"crates/{crate}/specs/Lib.antt", text)
     checkout.write("crates/l6/src/main.rt", "another main\n")
     (dist / "l6").chmod(0o600)
-    come = checkout.run("tools/make_dist", umask=0o077)
-    yield "dist/ made of other sources", 0, come.status
+    actual = checkout.run("tools/make_dist", umask=0o077)
+    yield "dist/ made of other sources", 0, actual.status
     yield "the mode of dist/l6", 0o755, (dist / "l6").stat().st_mode & 0o777
-    yield "what lies in dist/ then", ["l6", "l6.provenance"], sorted(file.name for file in dist.iterdir())
+    yield "what is in dist/ then", ["l6", "l6.provenance"], sorted(file.name for file in dist.iterdir())
     checkout.forget_what_was_built()
-    want = Outcome(checkout.made_of, "", 0)
-    yield "the new program of dist/", want, checkout.run("l6", has_rt=False)
+    expected = Answer(checkout.made_of, "", 0)
+    yield "the new program of dist/", expected, checkout.run("l6", has_rt=False)
 
 
 GROUPS: tuple[Callable[[Checkout], Iterator[Trial]], ...] = (

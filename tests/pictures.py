@@ -1,12 +1,12 @@
 #!/usr/bin/env python3
-"""Looks that docs/pictures/ has just the pictures of the transcripts in examples/, and the docs show them.
+"""Checks that docs/pictures/ has just the pictures of the transcripts in examples/, and the docs show them.
 
 The texts for Graphviz and the other pictures must be those that tools/pictures.py makes. Those pictures
-are read again, as pictures: so wide must the blocks of a map be, and in that order, as the transcript says,
-and where words are shown, each has its place, and each field and bug that leads to a block an arrow. What
+are read again, as pictures: the blocks of a map must have the order and the widths that the transcript says.
+If words are shown, each must have its place, and each field and bug that leads to a block an arrow. What
 Graphviz has drawn must have the nodes, the arrows and the words of its text. Graphviz itself is not needed.
 
-Each difference has a line. The last line is 'N passed, M failed'.
+Each difference is printed. The last line is 'N passed, M failed'.
 """
 from __future__ import annotations
 
@@ -14,7 +14,7 @@ import re
 import sys
 import xml.etree.ElementTree
 from collections.abc import Iterator
-from itertools import chain
+from itertools import chain, pairwise
 from pathlib import Path
 
 TOP = Path(__file__).resolve().parent.parent
@@ -66,15 +66,30 @@ LOOP = """b1028 [.*label="{1028:|C 28 '\\<'|<N>N}"];"""  # in the second drawing
 EDGES = ["X -> b1024;", "b1024:N -> b1026;", "b1026:N -> b1024;"]
 STRETCHES = [("block", 2), ("block", 2), ("lost", 4), ("free", 8)]  # of a strip of 16 words
 WORDS = ["0", "1028", "18", "35", "5", "C 28 '<'", "N 1028", "Y", "bit"]  # of the block at 1028
-BITS = (184 + 18 * 16, 18 * 16)  # from where and how wide N is: a bit has 16 steps, and bit 0 begins at 184
+# A word with fields of one, 17 and 18 bits, and a word that is a text.
+NARROW = """\
+AT 5.0 AFTER 9 STEPS
+F 0 1 17
+M 0 0 0
+N 0 18 35
+W 1 0 35
+X -> 1024
+BLOCK 1024 SIZE 2
+1 BLOCKS
+BLOCK 1024 SIZE 2
+   0 400000000000
+   1 545163646300
+"""
+NARROW_WORDS = ["0", "1", "1", "1024", "1025", "17", "18", "35", "F 0", "M", "N 0", "W 'LISTS'", "X", "bit"]
+BITS = (184 + 18 * 16, 18 * 16)  # where N begins and how wide it is: a bit has 16 steps, and bit 0 begins at 184
 
 
 def shown_stretches(picture: str) -> list[tuple[str, float]]:
-    """The kinds of the stretches in a map of the store, and how many words each shows, strip for strip."""
+    """The kinds of the stretches in a map of the store, and how many words each shows, strip after strip."""
     root = xml.etree.ElementTree.fromstring(picture)
     boxes = [it for it in root.iter(f"{SVG}rect") if it.get("height") == "54"]
-    marks = [int(it.text or "") for it in root.iter(f"{SVG}text") if it.get("font-size") == "12"]
-    words = (marks[1] - marks[0]) * 8 / 1024  # of a step to the right
+    numbers = [int(it.text or "") for it in root.iter(f"{SVG}text") if it.get("font-size") == "12"]
+    words = (numbers[1] - numbers[0]) * 8 / 1024  # to the right, for each step
     kinds = {"#2b6299": "block", "url(#lost)": "lost", "white": "free"}
     return [(kinds[it.get("fill", "")], float(it.get("width", "")) * words) for it in boxes]
 
@@ -97,6 +112,18 @@ def handmade() -> Iterator[Trial]:
     wide = [(float(it.get("x", "0")), float(it.get("width", "0"))) for it in boxes]
     yield "the bits of a field", 1, wide.count(BITS)
     yield "the arrows of a block", 2, arrows_in(texts["hand.svg"])
+    narrow = texts_of("narrow", NARROW)["narrow.svg"]
+    yield "a field of one bit and a text", NARROW_WORDS, drawn_words(narrow)
+    yield "numbers of bits that touch", [], touching(narrow)
+
+
+def touching(picture: str) -> list[tuple[str, str]]:
+    """The numbers of bits above the rows that are closer than two digits are wide."""
+    texts = [it for it in xml.etree.ElementTree.fromstring(picture).iter(f"{SVG}text")
+             if it.get("font-size") == "12"]
+    at = [(float(it.get("x", "")), float(it.get("y", "")), it.text or "") for it in texts]
+    return [(left[2], right[2]) for left, right in pairwise(sorted(at))
+            if left[1] == right[1] and right[0] - left[0] < 16 + 4]
 
 
 def titles(text: str) -> list[str]:

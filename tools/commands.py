@@ -1,4 +1,4 @@
-"""Commands that run side by side, and that end where this program does."""
+"""Commands that run side by side, and that end when this program does."""
 from __future__ import annotations
 
 import os
@@ -11,30 +11,30 @@ import time
 from collections.abc import Callable, Sequence
 from dataclasses import dataclass
 from pathlib import Path
-from typing import NoReturn
+from typing import IO, NoReturn
 
 
 class Stopped(Exception):
-    """This program was told to stop, so the command was not run, or not to its end."""
+    """This program was asked to stop, so the command was not run, or not to its end."""
 
 
 @dataclass(frozen=True)
 class Ended:
     """A command that has ended."""
 
-    status: int  # below 0 where a signal ended it
+    status: int  # below 0 if a signal ended it
     text: str  # what it wrote to both outputs
     seconds: float
-    processor_seconds: float  # with those of the commands that it ran
+    processor_seconds: float  # its own and those of the commands that it ran
 
     @property
     def was_killed(self) -> bool:
-        """Whether it was killed, most likely for want of memory, or ended since what it ran was."""
+        """Whether it was killed, most likely because memory ran out, or ended because what it ran was."""
         return self.status in (-signal.SIGKILL, 256 - signal.SIGKILL)
 
 
 class Commands:
-    """Runs commands, in threads of the caller's, until it is told to stop."""
+    """Runs commands, in threads of the caller, until it is asked to stop."""
 
     def __init__(self) -> None:
         self._running: set[subprocess.Popen[bytes]] = set()
@@ -64,7 +64,10 @@ class Commands:
             for process in self._running:
                 process.send_signal(signal.SIGTERM)
 
-    def _start(self, words: Sequence[str], folder: Path, output) -> subprocess.Popen[bytes]:
+    def _start(
+        self, words: Sequence[str], folder: Path, output: IO[bytes]
+    ) -> subprocess.Popen[bytes]:
+        """Starts a command, which writes both of its outputs to a file."""
         with self._lock:
             if self._stopped:
                 raise Stopped
@@ -75,7 +78,7 @@ class Commands:
 
 
 def run_program(main: Callable[[], int]) -> NoReturn:
-    """Ends this program with the status that main answers; a request to end is a KeyboardInterrupt."""
+    """Ends this program with the status that main returns; a request to end is a KeyboardInterrupt."""
     for number in (signal.SIGTERM, signal.SIGHUP):
         signal.signal(number, signal.default_int_handler)
     try:

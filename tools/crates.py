@@ -14,34 +14,37 @@ class Crate:
     """A crate, and the crates of this repository that it uses, at once or through others."""
 
     name: str
-    below: tuple[Crate, ...]  # each behind those that it uses
+    below: tuple[Crate, ...]  # each after those that it uses
 
     @property
     def folder(self) -> Path:
+        """Where it is."""
         return TOP / "crates" / self.name
 
     @property
     def is_program(self) -> bool:
+        """Whether it is a program, and not a library."""
         return (self.folder / "src" / "main.rt").is_file()
 
     @functools.cached_property
     def lines(self) -> int:
-        """How many lines of code it has, by which the work of its check is guessed."""
+        """How many lines of code it has, from which the work of its check is estimated."""
         files = (self.folder / "src").rglob("*.rt")
         return sum(file.read_text("utf-8").count("\n") for file in files)
 
     @property
     def memory(self) -> int:
-        """How many bytes its check takes at the most, by what was measured."""
+        """How many bytes its check takes at most, as measured."""
         return 1_000_000_000 + 800_000 * self.lines
 
 
 def read_crates() -> dict[str, Crate]:
-    """The crates by their names, each behind those that it uses."""
+    """The crates by their names, each after those that it uses."""
     uses = dict(map(uses_of, listed()))
     crates: dict[str, Crate] = {}
 
     def add(name: str) -> Crate:
+        """Adds a crate, after those that it uses."""
         if name not in crates:
             own = [add(library) for library in uses[name] if library in uses]
             below = dict.fromkeys(it for library in own for it in (*library.below, library))
@@ -54,7 +57,7 @@ def read_crates() -> dict[str, Crate]:
 
 
 def listed() -> list[str]:
-    """The lines of crates.txt, comments left out."""
+    """The lines of crates.txt, without comments."""
     rows = (TOP / "crates.txt").read_text("utf-8").splitlines()
     return [row for row in (line.partition("#")[0].strip() for line in rows) if row]
 

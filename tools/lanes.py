@@ -8,12 +8,12 @@ import threading
 from collections.abc import Iterator
 from pathlib import Path
 
-# What a control group grants: of processor time a quota in each period, and of memory a limit.
+# What a control group allows: a quota of processor time in each period, and a limit of memory.
 QUOTA = Path("/sys/fs/cgroup/cpu.max")
 LIMIT = Path("/sys/fs/cgroup/memory.max")
 HELD = Path("/sys/fs/cgroup/memory.stat")
 
-ALL_MEMORY = 1 << 62  # what a check asks for that is to run alone
+ALL_MEMORY = 1 << 62  # requested for a check that is to run alone
 
 
 def processors() -> int:
@@ -37,12 +37,12 @@ def free_memory() -> int:
 
 
 def usable_memory() -> int:
-    """How many bytes of the free memory checks may share, since some take more than was guessed."""
+    """How many bytes of the free memory checks may share, since some take more than was estimated."""
     return free_memory() * 85 // 100
 
 
 class Lanes:
-    """So many lanes, and memory, which are lent to checks that run side by side."""
+    """A number of lanes, and memory, which are lent to checks that run side by side."""
 
     def __init__(self, lanes: int) -> None:
         self._lanes = lanes
@@ -53,9 +53,9 @@ class Lanes:
 
     @contextlib.contextmanager
     def lane(self, memory: int, work: int) -> Iterator[None]:
-        """Lends a lane and so many bytes, once both are free and no check with more work waits.
+        """Lends a lane and memory, once both are free and no check with more work waits.
 
-        What asks for more memory than there is runs alone.
+        A check that requests more memory than there is runs alone.
         """
         with self._changed:
             self._waiting.append(work)
@@ -73,4 +73,5 @@ class Lanes:
                 self._changed.notify_all()
 
     def _is_free(self, memory: int) -> bool:
+        """Whether a lane and so many bytes are free."""
         return self._running == 0 or (self._running < self._lanes and memory <= self._memory)

@@ -1,7 +1,7 @@
-"""A drawing of blocks word for word, as they lie in the store, an SVG text.
+"""Draws blocks word for word, as they lie in the store, as an SVG text.
 
 Each word is a row of 36 bits, with its place on the left and its fields to scale. A field that leads to a
-block has an arrow, on the side of the half of the word where the field begins; and so have the bugs.
+block has an arrow, on the side of the half of the word where the field begins. A bug has an arrow, too.
 """
 from __future__ import annotations
 
@@ -9,7 +9,7 @@ from collections.abc import Iterator
 from dataclasses import dataclass
 from html import escape
 
-from graphs import told
+from graphs import value_of
 from transcripts import WORD_BITS, Block, Drawing, Field
 
 BIT = 16  # the width of a bit
@@ -18,7 +18,9 @@ GAP = 10  # between two blocks
 SIDE = 120  # the room for arrows, left and right
 PLACE = 64  # the width of the box with a place
 TOP = 44  # of the first row
-NARROW = 40  # a field that is not so wide is told by its name alone
+NARROW = 40  # a field that is at most so wide has its value below its name
+SMALL = ' font-size="11"'  # the letters of a narrow field
+NEAR = 22  # two numbers that are closer than this are set one above the other
 FARTHEST = 6  # the rank of the arrows that go out most
 
 Ends = tuple[float, float]  # the heights at which an arrow begins and ends
@@ -37,7 +39,7 @@ RIGHT = LEFT + WORD_BITS * BIT
 
 @dataclass(frozen=True)
 class Row:
-    """A word of a block, and how high its middle stands."""
+    """A word of a block, and the height of its middle."""
 
     block: Block
     word: int
@@ -45,7 +47,7 @@ class Row:
 
 
 def is_whole(drawing: Drawing) -> bool:
-    """Whether the transcript tells all that the picture shows: the fields, and the words of each block."""
+    """Whether the transcript has all that the picture shows: the fields, and the words of each block."""
     return bool(drawing.fields) and all(block.words for block in drawing.blocks)
 
 
@@ -68,13 +70,13 @@ def box(left: float, middle: float, width: float, fill: str) -> str:
 
 
 def text(left: float, middle: float, words: str, look: str = "") -> str:
-    """A text about a point."""
+    """A text whose middle is at a point."""
     safe = escape(words, quote=False)
     return f'<text x="{left:g}" y="{middle + 5:g}" text-anchor="middle"{look}>{safe}</text>\n'
 
 
 def drawn_row(row: Row, fields: list[Field]) -> str:
-    """A word: its place, all its bits, and the fields that lie in it."""
+    """A word: its place, all its bits, and its fields."""
     drawn = box(SIDE, row.middle, PLACE, "#eeeeee")
     drawn += text(SIDE + PLACE / 2, row.middle, str(row.block.place + row.word))
     drawn += box(LEFT, row.middle, WORD_BITS * BIT, "#d9d9d9")
@@ -83,22 +85,31 @@ def drawn_row(row: Row, fields: list[Field]) -> str:
             continue
         width = field.width * BIT
         left = LEFT + field.first * BIT
-        words = told(field, row.block) if width > NARROW else field.name
-        drawn += box(left, row.middle, width, "#eef4fb") + text(left + width / 2, row.middle, words)
+        drawn += box(left, row.middle, width, "#eef4fb")
+        centre, value = left + width / 2, value_of(field, row.block)
+        if width > NARROW:
+            drawn += text(centre, row.middle, f"{field.name} {value}")
+        else:
+            drawn += text(centre, row.middle - 8, field.name, SMALL)
+            drawn += text(centre, row.middle + 7, value, SMALL)
     return drawn
 
 
 def bits(fields: list[Field]) -> str:
-    """The numbers of the first and the last bits of fields, above the rows."""
+    """The numbers of the first and the last bits of fields, above the rows, so that none touch."""
     shown = {0, WORD_BITS - 1} | {bit for it in fields for bit in (it.first, it.last)}
     drawn = text(SIDE + PLACE / 2, TOP - 14, "bit", ' font-size="12"')
+    before, is_raised = float("-inf"), False
     for bit in sorted(shown):
-        drawn += text(LEFT + (bit + 0.5) * BIT, TOP - 14, str(bit), ' font-size="12"')
+        middle = LEFT + (bit + 0.5) * BIT
+        is_raised = middle - before < NEAR and not is_raised
+        drawn += text(middle, TOP - (26 if is_raised else 14), str(bit), ' font-size="12"')
+        before = middle
     return drawn
 
 
 def arrow(ends: Ends, rank: int, is_left: bool) -> str:
-    """An arrow from one row to another, on a side; those of a higher rank go further out."""
+    """An arrow from one row to another, on one side; an arrow of a higher rank goes further out."""
     start, end = ends
     edge, out = (SIDE, -1) if is_left else (RIGHT, 1)
     far = edge + out * (36 + 14 * rank)
@@ -107,7 +118,7 @@ def arrow(ends: Ends, rank: int, is_left: bool) -> str:
 
 
 def ranks(arrows: list[Ends]) -> Iterator[tuple[Ends, int]]:
-    """The arrows of a side with their ranks: two of one rank share no height, and short ones go first."""
+    """The arrows of a side with their ranks: two of one rank share no height, and short ones are first."""
     taken: list[tuple[Ends, int]] = []
     for ends in sorted(arrows, key=lambda ends: (abs(ends[0] - ends[1]), ends)):
         near = {rank for it, rank in taken if min(it) <= max(ends) and min(ends) <= max(it)}

@@ -1,15 +1,15 @@
 #!/usr/bin/env python3
-"""Makes pictures of a debugger's transcripts: of its drawings, and of its maps of the store.
+"""Makes pictures of the debugger's transcripts: of its drawings, and of its maps of the store.
 
-pictures.py makes those of all transcripts in examples/ anew, in docs/pictures/.
-pictures.py TRANSCRIPT FOLDER makes those of one transcript in a folder.
+pictures.py remakes the pictures of all transcripts in examples/, in docs/pictures/.
+pictures.py TRANSCRIPT FOLDER makes the pictures of one transcript in a folder.
 
-Of a transcript NAME.transcript the first answer to `draw` becomes NAME-draw-1.dot, a text for Graphviz,
-and the first answer to `store` becomes NAME-store-1.svg, a picture; the second ones have a 2, and so on.
-An answer `0 BLOCKS` has no picture. Where Graphviz's program `dot` is at hand it makes NAME-draw-1.svg.
+The first answer to `draw` in NAME.transcript becomes NAME-draw-1.dot, a text for Graphviz. The first
+answer to `store` becomes the picture NAME-store-1.svg. The second ones have a 2, and so on. An answer
+`0 BLOCKS` has no picture. If Graphviz's program `dot` is installed, it makes NAME-draw-1.svg.
 
-Where `fields`, and `block` of each block, were asked in the state of a drawing, the first such drawing
-becomes NAME.svg, too, which shows the blocks word for word.
+If `fields`, and `block` for each block, were asked in the same state as a drawing, the first such drawing
+also becomes NAME.svg, which shows the blocks word for word.
 """
 from __future__ import annotations
 
@@ -29,7 +29,7 @@ PICTURES = TOP / "docs" / "pictures"
 
 
 def texts_of(name: str, transcript: str) -> dict[str, str]:
-    """The texts of a transcript's pictures, by the names of their files."""
+    """The texts of a transcript's pictures, by file name."""
     drawings, maps = drawings_and_maps(transcript)
     texts = {}
     for at, drawing in enumerate(drawings, 1):
@@ -41,11 +41,11 @@ def texts_of(name: str, transcript: str) -> dict[str, str]:
 
 
 def draw(file: Path) -> None:
-    """Has Graphviz draw a file, into one beside it."""
+    """Draws a file with Graphviz, into an .svg file beside it."""
     if shutil.which("dot"):
         subprocess.run(["dot", "-Tsvg", file, "-o", file.with_suffix(".svg")], check=True)
     else:
-        print(f"{file.name}: not drawn, since there is no program dot", file=sys.stderr)
+        print(f"{file.name}: not drawn, since the program dot is not installed", file=sys.stderr)
 
 
 def make(transcript: Path, folder: Path) -> None:
@@ -58,7 +58,7 @@ def make(transcript: Path, folder: Path) -> None:
 
 
 def main(words: list[str]) -> None:
-    """Makes what is asked for."""
+    """Makes the pictures that the words ask for."""
     if len(words) == 2:
         make(Path(words[0]), Path(words[1]))
     elif words:

@@ -41,7 +41,7 @@ class Proving:
         self._start = time.monotonic()
 
     def run(self) -> bool:
-        """Proves them; answers whether all are proved. Where one is not, the others are ended."""
+        """Proves them; returns whether all are proved. If one is not, the others are ended."""
         with ThreadPoolExecutor(self._total or 1) as pool:
             try:
                 while self._waiting or self._running:
@@ -50,7 +50,7 @@ class Proving:
                     if not all([self._is_well(run) for run in ended]):
                         return False
                 if self._total:
-                    self._tell("all are proved")
+                    self._say("all are proved")
                 return True
             finally:
                 if self._waiting or self._running:
@@ -61,21 +61,21 @@ class Proving:
         unproved = {*self._waiting, *(crate for crate, _ in self._running.values())}
         ready = [crate for crate in self._waiting if unproved.isdisjoint(crate.below)]
         checks = len(ready) + len(self._running)
-        for crate in sorted(ready, key=self._work_behind, reverse=True):
+        for crate in sorted(ready, key=self._work_above, reverse=True):
             jobs = self._jobs_for(crate, checks) if len(self._running) < self._jobs else 0
             if jobs:
                 self._waiting.remove(crate)
-                self._tell(f"proving {crate.name}, {self._total - len(self._waiting)} of {self._total}")
+                self._say(f"proving {crate.name}, {self._total - len(self._waiting)} of {self._total}")
                 memory = memory_of(crate, jobs)
                 self._running[pool.submit(proved, crate, jobs, self._commands)] = crate, memory
 
-    def _work_behind(self, crate: Crate) -> int:
+    def _work_above(self, crate: Crate) -> int:
         """The lines of a crate and of the longest chain of crates above it."""
         above = [other for other in self._waiting if crate in other.below]
-        return crate.lines + max((self._work_behind(other) for other in above), default=0)
+        return crate.lines + max((self._work_above(other) for other in above), default=0)
 
     def _jobs_for(self, crate: Crate, checks: int) -> int:
-        """How many jobs one of so many checks may have, or none where it has to wait for memory.
+        """How many jobs one of several checks may have, or none if it has to wait for memory.
 
         Together they are half as many again as the processors, since parts of a check have one job.
         """
@@ -93,14 +93,15 @@ class Proving:
         if ended.was_killed and crate not in self._killed:
             self._killed.add(crate)
             self._waiting.append(crate)
-            self._tell(f"the check of {crate.name} was killed, most likely for memory: once more, alone")
+            self._say(f"the check of {crate.name} was killed, most likely because memory ran out: again, alone")
             return True
         if ended.status:
             print(ended.text, end="", file=sys.stderr)
-            self._tell(f"{crate.name} is not proved")
+            self._say(f"{crate.name} is not proved")
         return ended.status == 0
 
-    def _tell(self, what: str) -> None:
+    def _say(self, what: str) -> None:
+        """Prints what happens, with the time since the start."""
         minutes, seconds = divmod(int(time.monotonic() - self._start), 60)
         print(f"l6: {minutes}:{seconds:02}  {what}", file=sys.stderr, flush=True)
 
@@ -123,20 +124,20 @@ def proved(crate: Crate, jobs: int, commands: Commands) -> Ended:
 
 
 def replace_text(file: Path, text: str) -> None:
-    """Puts a new file in the place of one, which may be linked from elsewhere."""
+    """Replaces a file by a new one, since it may be linked from elsewhere."""
     new = file.with_name(f"{file.name}.new")
     new.write_text(text, "utf-8")
     new.replace(file)
 
 
 def words_of(crate: Crate) -> list[str]:
-    """The words behind which a program that was built is run once, by its file args."""
+    """The words with which a program that was built is run once, from its file args."""
     words = crate.folder / "args"
     return ["--", *words.read_text("utf-8").splitlines()] if words.is_file() else []
 
 
 def is_proved(crate: Crate) -> bool:
-    """Whether a crate and those below it are proved as they stand, by what was noted."""
+    """Whether a crate and those below it are proved as they are now, by what was noted."""
     stamp = crate.folder / STAMP
     noted = stamp.read_text("utf-8") if stamp.is_file() else ""
     return noted == f"{sources_sum(crate)} {made_sum(crate)}\n"
@@ -172,7 +173,7 @@ def memory_of(crate: Crate, jobs: int) -> int:
 
 
 def prove(crates: Iterable[Crate], jobs: int, commands: Commands) -> bool:
-    """Proves these crates and those below them; answers whether all are proved."""
+    """Proves these crates and those below them; returns whether all are proved."""
     whole = {below: None for crate in crates for below in (*crate.below, crate)}
     with open(TOP / "crates.txt", encoding="utf-8") as lock:
         fcntl.flock(lock, fcntl.LOCK_EX)  # another run may be proving the same
@@ -180,7 +181,7 @@ def prove(crates: Iterable[Crate], jobs: int, commands: Commands) -> bool:
 
 
 def main() -> int:
-    """Proves the crates that are named, or all, and answers the exit status."""
+    """Proves the crates that are named, or all, and returns the exit status."""
     known = read_crates()
     crates = [known[name] for name in sys.argv[1:] or known]
     return 0 if prove(crates, processors(), Commands()) else 1

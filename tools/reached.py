@@ -1,17 +1,16 @@
 #!/usr/bin/env python3
 """Which definitions of specs/ a definition rests on, and how many lines they have.
 
-reached.py MODULE NAME, as in `reached.py l6.Performs Performs`, prints each file and what of it is
-reached, in the order in which a reader meets it who follows each name where it first stands, and
+reached.py MODULE NAME, as in `reached.py l6.JobResult JobResult`, prints each file and what of it is
+reached, in the order in which a reader meets it who follows each name at its first mention, and
 last how many definitions and lines there are. A definition's lines are its own and those of the
-comment above it. Types of the code, as `Trap`, are named in contracts too, but defined in src/.
+comment above it. Types of the code, such as `Trap`, are named in contracts too, but defined in src/.
 """
 from __future__ import annotations
 
 import re
 import sys
 from dataclasses import dataclass, field
-from pathlib import Path
 
 from crates import TOP
 
@@ -40,6 +39,7 @@ class Module:
         self._read()
 
     def _read(self) -> None:
+        """Reads the file."""
         comment: list[str] = []
         latest: Definition | None = None
         for line in self.file.read_text("utf-8").splitlines():
@@ -59,6 +59,7 @@ class Module:
                 comment.append(line)
 
     def _bring(self, crate: str, module: str, names: str | None, alias: str | None) -> None:
+        """Notes the names that a `use` brings in."""
         if module.startswith("declared.") or not (TOP / "crates" / crate).is_dir():
             return
         if alias:
@@ -93,6 +94,7 @@ class Reach:
                     self._mention(where, word)
 
     def _mention(self, where: Module, word: str) -> None:
+        """Follows a word of a definition, if it names another one."""
         first, _, rest = word.partition(".")
         if first in where.aliases and rest:
             crate, module = where.aliases[first]
@@ -113,6 +115,7 @@ class Reach:
         return None
 
     def _module(self, crate: str, module: str) -> Module:
+        """A module, which is read once."""
         key = (crate, module)
         if key not in self._modules:
             self._modules[key] = Module(crate, module)
@@ -120,7 +123,7 @@ class Reach:
 
 
 def counted(root: str, name: str) -> tuple[Reach, int]:
-    """What is reached from a definition of a module, as `l6.Performs`, and how many lines it has."""
+    """What is reached from a definition of a module, as `l6.JobResult JobResult`, and how many lines it has."""
     crate, _, module = root.partition(".")
     reach = Reach()
     reach.follow(crate, module, name)

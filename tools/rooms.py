@@ -1,7 +1,7 @@
 """Rooms: small repositories in which a crate is checked apart from the others.
 
 rt lets no two checks run side by side in crates that share one below them. In rooms they can, and
-what is edited there touches nothing.
+an edit there changes nothing else.
 """
 from __future__ import annotations
 
@@ -12,7 +12,7 @@ import shutil
 import sys
 import tempfile
 import time
-from collections.abc import Iterable, Iterator
+from collections.abc import Callable, Iterable, Iterator
 from pathlib import Path
 
 from crates import SOURCES, TOP, Crate, rows_of
@@ -25,9 +25,9 @@ DAY = 86_400  # seconds
 
 @contextlib.contextmanager
 def room_of(crate: Crate) -> Iterator[Path]:
-    """Makes a room of a crate and those below it, with what their checks kept; the crate's folder there.
+    """Makes a room of a crate and those below it, with what their checks kept; yields the crate's folder there.
 
-    Of what is below nothing is written to, so those files are linked where the file system can.
+    Nothing is written to the crates below, so their files are linked if the file system can do that.
     """
     with tempfile.TemporaryDirectory(prefix=PREFIX, dir=place_of_rooms()) as room:
         Path(room, "crates.txt").write_text(rows_of((*crate.below, crate)), "utf-8")
@@ -43,10 +43,10 @@ def room_of(crate: Crate) -> Iterator[Path]:
 
 
 def place_of_rooms() -> Path | None:
-    """The folder for rooms: git's, which rt leaves alone, or that for what is temporary.
+    """The folder for rooms: git's, which rt ignores, or that for temporary files.
 
     A room takes up to a gigabyte, and is best on the file system of the repository. Rooms that are
-    a day old are removed, since what used them was killed.
+    a day old are removed, since the program that used them was killed.
     """
     git = TOP / ".git"
     if not git.is_dir():
@@ -58,7 +58,7 @@ def place_of_rooms() -> Path | None:
 
 
 def bring_back(crate: Crate, folder: Path, parts: Iterable[str]) -> None:
-    """Puts what a check in a room made, files or folders, in the place of what the crate has."""
+    """Puts what a check in a room made, files or folders, in the place of those that the crate has."""
     (crate.folder / "out").mkdir(exist_ok=True)
     with locked(crate.folder, fcntl.LOCK_EX):
         for part in parts:
@@ -85,14 +85,14 @@ def locked(folder: Path, lock: int) -> Iterator[None]:
         os.close(file)
 
 
-def copy_folder(source: Path, target: Path, copy) -> None:
+def copy_folder(source: Path, target: Path, copy: Callable[[str, str], object]) -> None:
     """Copies a folder, if it is there."""
     if source.is_dir():
         shutil.copytree(source, target, copy_function=copy)
 
 
 def link(source: str, target: str) -> None:
-    """Links a file, or copies it where that cannot be."""
+    """Links a file, or copies it if that fails."""
     try:
         os.link(source, target)
     except OSError:

@@ -1,8 +1,8 @@
-"""A map of a store as a picture, an SVG text: strips of words, one behind the other.
+"""Draws a map of a store as an SVG text: strips of words, one below the other.
 
-A strip is a unit of 1,024 words. Where all blocks lie in a first part of the first unit, it is the least
-such part that has 16, 32, .. words, so that small blocks can be seen. Blocks are dark, lost ones hatched
-and free words white, so that they differ without colours, too.
+A strip is a unit of 1,024 words. If all blocks lie in a first part of the first unit, the strip is the
+smallest such part of 16, 32, .. words, so that small blocks can be seen. Blocks are dark, lost blocks
+hatched and free words white, so that they differ without colours, too.
 """
 from __future__ import annotations
 
@@ -15,7 +15,7 @@ LEAST = 16  # words of a strip
 LEFT, TOP = 28, 44  # of the first strip
 WIDTH, HEIGHT = 1_024, 54  # of a strip
 ROW = 112  # from a strip to the next one
-MARKS = 8  # places that are told below a strip, but for its end
+MARKS = 8  # places that are written below a strip
 FONT = 14
 DIGIT = 0.56 * FONT  # the width of a digit, about
 LETTER = 0.48 * FONT  # that of a letter
@@ -38,7 +38,7 @@ MEANINGS = {"block": "a block", "lost": "a lost block, to which nothing leads", 
 
 @dataclass(frozen=True)
 class Strip:
-    """The words from a place on, as many as a strip has, and how high its picture stands."""
+    """A part of the store that is drawn as one strip, and the top of its picture."""
 
     place: int
     size: int
@@ -46,11 +46,11 @@ class Strip:
 
     @property
     def end(self) -> int:
-        """The place behind it."""
+        """The place after it."""
         return self.place + self.size
 
     def across(self, place: int) -> float:
-        """How far to the right a place stands."""
+        """The x coordinate of a place."""
         return LEFT + (place - self.place) * WIDTH / self.size
 
 
@@ -72,12 +72,12 @@ def rectangle(left: float, top: float, width: float, height: float, look: str) -
 
 
 def text(left: float, top: float, words: str, look: str = 'text-anchor="middle"') -> str:
-    """A text, of which the middle stands at the left, if nothing else is said."""
+    """A text whose middle is at `left`, unless `look` says otherwise."""
     return f'<text x="{left:g}" y="{top:g}" {look}>{words}</text>\n'
 
 
 def label(left: float, right: float, top: float, stretch: Stretch) -> str:
-    """The place and the size of a stretch, in its part of a strip; upright where that is narrow."""
+    """The place and the size of a stretch, in its part of a strip; set upright where that is narrow."""
     lines = [str(stretch.place), f"{stretch.kind if stretch.kind != 'block' else 'size'} {stretch.size}"]
     middle, width = (left + right) / 2, right - left
     ink = f'text-anchor="middle" fill="{INKS[stretch.kind]}"'
@@ -99,7 +99,7 @@ def label(left: float, right: float, top: float, stretch: Stretch) -> str:
 
 
 def drawn_strip(strip: Strip, stretches: list[Stretch]) -> str:
-    """A strip: its stretches, as far as they lie in it, and the places below it."""
+    """A strip: the parts of stretches that lie in it, and the places below it."""
     drawn = ""
     for it in stretches:
         if it.end <= strip.place or it.place >= strip.end:
@@ -118,7 +118,7 @@ def drawn_strip(strip: Strip, stretches: list[Stretch]) -> str:
 
 
 def legend(top: int, shown: int, store: StoreMap) -> str:
-    """What the fills mean, and how many words are not shown."""
+    """The meanings of the fills, and the number of words that are not shown."""
     drawn, left = "", LEFT
     for kind in ("block", "lost", "free"):
         if all(it.kind != kind for it in store.stretches):

@@ -1,7 +1,7 @@
-"""What can be drawn of a debugger's transcript: the answers to `draw` and `store`.
+"""Reads the answers to `draw` and `store` in a debugger's transcript.
 
-A transcript tells no commands, but each answer has lines of its own form. The lines that tell a
-state part it: what `fields` and `block` answered belongs to the drawings of the same state.
+A transcript has no commands in it, but each kind of answer has its own form. The lines of states divide
+it: the answers to `fields` and `block` belong to the drawings of the same state.
 """
 from __future__ import annotations
 
@@ -23,7 +23,7 @@ WORD_BITS = 36
 
 @dataclass(frozen=True)
 class Field:
-    """The definition of a field: a word of a block, and the first and the last bit of a window on it."""
+    """The definition of a field: a word of a block, and the first and the last bit in that word."""
 
     name: str
     word: int
@@ -31,12 +31,12 @@ class Field:
     last: int
 
     def value(self, words: list[int]) -> int:
-        """What it shows of a block of these words, among which its own is."""
+        """Its value in a block of these words, which must include its own word."""
         return words[self.word] >> (WORD_BITS - 1 - self.last) & ((1 << self.width) - 1)
 
     @property
     def width(self) -> int:
-        """The number of its bits."""
+        """Its number of bits."""
         return self.last - self.first + 1
 
 
@@ -46,17 +46,17 @@ class Block:
 
     place: int
     size: int
-    arrows: dict[str, int]  # the place to which each field leads that leads to a block
-    words: list[int]  # none where `block` was not asked of it
+    arrows: dict[str, int]  # the place of the block that each linking field leads to
+    words: list[int]  # empty if the transcript has no `block` for it
 
 
 @dataclass(frozen=True)
 class Drawing:
     """The answer to `draw`."""
 
-    bugs: dict[str, int]  # the place to which each bug leads that leads to a block
+    bugs: dict[str, int]  # the place of the block that each linking bug leads to
     blocks: list[Block]
-    fields: list[Field]  # in the order of their bits; none where `fields` was not asked
+    fields: list[Field]  # in the order of their bits; empty if the transcript has no `fields`
 
 
 @dataclass(frozen=True)
@@ -69,7 +69,7 @@ class Stretch:
 
     @property
     def end(self) -> int:
-        """The place behind it."""
+        """The place after it."""
         return self.place + self.size
 
 
@@ -83,7 +83,7 @@ class StoreMap:
 
 
 def without_output(transcript: str) -> str:
-    """A transcript without what its program had printed, which may look like anything."""
+    """A transcript without the program's output, which may look like anything."""
     kept, rest = "", transcript
     while found := OUTPUT.search(rest):
         kept += rest[: found.start()]
@@ -95,25 +95,25 @@ def without_output(transcript: str) -> str:
 
 
 def arrows_of(lines: str) -> dict[str, int]:
-    """Where the names of these lines lead."""
+    """The place that each name in these lines leads to."""
     return {name: int(place) for name, place in ARROW.findall(lines)}
 
 
 def drawing_of(answer: re.Match[str], state: str) -> Drawing:
-    """The drawing that an answer tells, with all that was told of the same state."""
+    """The drawing of an answer, with the fields and words of the same state."""
     fields = [Field(name, *map(int, numbers)) for name, *numbers in FIELD.findall(state)]
     words = {int(place): [int(line.split()[1], 8) for line in lines.splitlines()]
              for place, lines in WORDS.findall(state)}
     blocks = [Block(int(place), int(size), arrows_of(lines), words.get(int(place), []))
               for place, size, lines in BLOCK.findall(answer[2])]
     if len(blocks) != int(answer.groups()[-1]):
-        raise ValueError(f"{len(blocks)} blocks are drawn, and {answer.groups()[-1]} are told")
+        raise ValueError(f"{len(blocks)} blocks are drawn, but {answer.groups()[-1]} are counted")
     fields.sort(key=lambda it: (it.word, it.first, it.last, it.name))
     return Drawing(arrows_of(answer[1]), blocks, fields)
 
 
 def map_of(answer: re.Match[str]) -> StoreMap:
-    """The map that an answer tells."""
+    """The map of an answer."""
     stretches = [Stretch(int(place), int(size), "lost" if lost else kind.lower())
                  for place, kind, size, lost in STRETCH.findall(answer[1])]
     if any(left.end != right.place for left, right in zip(stretches, stretches[1:])):

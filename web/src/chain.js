@@ -3,8 +3,8 @@
 import {findPiece} from "./pieces.js";
 import {seenThrough} from "./word.js";
 
-// The steps of a chain: each has the name, what it is, and the value; the last one may be a trap. `missing` is a
-// place whose words must be asked for first.
+// The steps of a chain: each has the name, what it is, and the value; the last one may be a trap. `missing`
+// is a place whose words must be asked for first.
 export function follow(chain, view) {
   const names = [...chain.toUpperCase()];
   if (!/^[A-Z][A-Z0-9]{0,5}$/.test(chain.toUpperCase()))

@@ -1,12 +1,12 @@
-// What is another in a state than in the one that was shown before, in sentences.
+// What changed from the state that was shown before to this one, in sentences.
 
-import {freePieceWith} from "./pieces.js";
+import {findPiece, freePieceWith} from "./pieces.js";
 import {windowsOf} from "./shape.js";
-import {count, seenThrough, told} from "./word.js";
+import {count, seenThrough, told, UNIT} from "./word.js";
 
 const MOST_TOLD = 7;
 
-// The sentences; where the states are neighbours it is told how often the store halved or joined pieces, too.
+// The sentences. Of neighbours they also say how often the store halved or joined pieces.
 export function changesOf(before, view, input) {
   if (!before) return [];
   const isStep = Math.abs(view.state.number - before.state.number) === 1;
@@ -19,7 +19,7 @@ export function changesOf(before, view, input) {
   ];
 }
 
-// So many of them as can be read.
+// As many of them as a reader takes in.
 export function shortened(changes) {
   if (changes.length <= MOST_TOLD) return changes;
   return [...changes.slice(0, MOST_TOLD - 1), `and ${changes.length - MOST_TOLD + 1} more changes`];
@@ -72,16 +72,30 @@ function blocksOf(before, view, isStep) {
   return found;
 }
 
+// How often a free piece was halved for a block that was got.
 function halved(before, block) {
   const size = freePieceWith(before.store, block.place);
+  if (!size) return "";
   const times = Math.log2(size / block.size);
-  return size && times > 0 ? ` (a free piece of ${told(size)} was halved ${count(times, "time")})` : "";
+  return times > 0 ? ` (a free piece of ${told(size)} was halved ${count(times, "time")})` :
+                     " (a free piece of this size was there: none was halved)";
 }
 
+// How often the words of a freed block were joined with their buddies, and why not once more.
 function joined(view, block) {
   const size = freePieceWith(view.store, block.place);
+  if (!size) return "";
   const times = Math.log2(size / block.size);
-  return size && times > 0 ? ` (joined ${count(times, "time")}, to a free piece of ${told(size)})` : "";
+  const much = times > 0 ? `joined ${count(times, "time")}, to a free piece of ${told(size)}` : "not joined";
+  return ` (${much}${whyNoMore(view.store, block.place - (block.place % size), size)})`;
+}
+
+function whyNoMore(store, place, size) {
+  if (size === UNIT) return ", which is a whole unit";
+  const buddy = place % (2 * size) === 0 ? place + size : place - size;
+  const piece = findPiece(store, buddy);
+  const isBlock = !piece.isFree && piece.place === buddy && piece.size === size;
+  return `; the buddy at ${buddy} is ${isBlock ? "a block" : "not free as a whole"}`;
 }
 
 function bugsOf(before, view) {
@@ -132,9 +146,8 @@ function amountsOf(before, view, input) {
   };
   change("contents", "content");
   change("definitions", "definition");
-  if (is.returns !== was.returns)
-    found
-      .push(is.returns > was.returns ? `called: ${count(is.returns, "return")} ${is.returns === 1 ? "waits" : "wait"}` : "returned");
+  if (is.returns > was.returns) found.push(`called: ${count(is.returns, "return waits", "returns wait")}`);
+  if (is.returns < was.returns) found.push("returned");
   if (is.input > was.input) found.push(`took ${takenOf(input, was.input, is.input)} from the input`);
   if (is.output > was.output) found.push(`printed ${quoted(view.output.slice(was.output))}`);
   return found;

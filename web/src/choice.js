@@ -1,4 +1,4 @@
-// Which blocks are shown where there are too many: those nearest the bugs, and some of the lost ones.
+// Which blocks are shown where there are too many: those nearest to the bugs, and some of the lost ones.
 
 export const MOST_BLOCKS = 150;
 export const MOST_LOST = 40;

@@ -1,5 +1,5 @@
-// Reads a deck as the manual tells (docs/language.md): which card is of which statement, where each test,
-// operation and exit stands, and the first fault with the reason for it in a sentence.
+// Reads a deck as the manual says (docs/language.md): which card is of which statement, where each test,
+// operation and exit is, and the first fault with the reason for it in a sentence.
 //
 // The program's own answer is what counts. This reading is there to point at cards and to say what a
 // beginner most likely meant; tests hold it to the program's answers.
@@ -24,6 +24,11 @@ export function linesOf(text) {
 // The columns of a card that count.
 export function columnsOf(line) {
   return (line.endsWith("\r") ? line.slice(0, -1) : line).slice(0, COLUMNS);
+}
+
+// The first card, other than a comment, that goes on past the last column, or -1. What is there is ignored.
+export function firstLongCard(text) {
+  return linesOf(text).findIndex((line) => line[0] !== "*" && line.slice(COLUMNS).trim() !== "");
 }
 
 // What a deck says: its cards, each with the number of its statement or -1, its statements, and its fault or
@@ -103,7 +108,7 @@ class DeckReader {
     if (statement.phase === "tests") {
       throw new Fault(
         statement.lastCard, "no reading",
-        "The statement stops behind its test. Write THEN behind it, and what is to be done."
+        "The statement ends after its test. Write THEN after it, and what is to be done."
       );
     }
     if (statement.phase === "word") statement.leaveBy(statement.first);
@@ -132,7 +137,7 @@ class DeckReader {
   missing(label) {
     const near = [...this.labels.keys()].find((it) => isNear(it, label));
     const begun =
-      CONDITIONS.includes(label) ? ` A condition has its test in parentheses behind ${label}.` : "";
+      CONDITIONS.includes(label) ? ` A condition has its test in parentheses after ${label}.` : "";
     return `No card has the label ${label}.${near ? ` Is ${near} meant?` : begun}`;
   }
 }
@@ -165,7 +170,7 @@ class Statement {
         this.add(this.tests, readAs("test", item), "tests");
         break;
       case "done":
-        throw faultAt(item, `The exit ${this.exit.text} ends the statement. Nothing stands behind it.`);
+        throw faultAt(item, `The exit ${this.exit.text} ends the statement. Nothing may follow it.`);
       default: this.add(this.operations, readAs("operation", item), "operations"); this.phase = "operations";
     }
   }
@@ -192,17 +197,17 @@ class Statement {
         this.first = item;
         this.phase = "word";
         break;
-      case "word": throw faultAt(item, `Nothing stands behind the exit ${this.first.text}.`);
+      case "word": throw faultAt(item, `Nothing may follow the exit ${this.first.text}.`);
       case "tests": this.then(item); break;
       case "done":
-        throw faultAt(item, `The exit ${this.exit.text} ends the statement. Nothing stands behind it.`);
+        throw faultAt(item, `The exit ${this.exit.text} ends the statement. Nothing may follow it.`);
       default: this.leaveBy(item);
     }
   }
 
   then(item) {
     if (!item.text.startsWith("THEN"))
-      throw faultAt(item, `THEN is missing: behind the test stands THEN, and then what is to be done.`);
+      throw faultAt(item, `THEN is missing: after the test comes THEN, and then what is to be done.`);
     this.phase = "operations";
     if (item.text.length > 4) this.leaveBy({...item, text: item.text.slice(4)});
   }
@@ -229,7 +234,7 @@ function columnOne(columns) {
   if (/[0-9]/.test(first))
     return "A label begins with a letter. A statement without a label has a blank in column 1.";
   if (first === "$")
-    return "A line $INPUT or $COMMANDS stands alone; what is behind it belongs into the boxes of this page.";
+    return "A line $INPUT or $COMMANDS has nothing else on it. What follows goes into boxes of this page.";
   return "Column 1 is a blank, the first letter of a label, + or *.";
 }
 
@@ -250,13 +255,12 @@ function checkLabel(label, card) {
 function notACondition(word) {
   const near = CONDITIONS.find((it) => isNear(it, word));
   if (near) return `${word} is no condition. Is ${near} meant?`;
-  return `${
-    word} stands in front of a group. There it would be a condition, as IF or NOT; a label begins in column 1, and an exit stands last.`;
+  return `${word} is in front of a group. There it would be a condition, as IF or NOT. ` +
+    "A label begins in column 1, and an exit comes last.";
 }
 
 function notAnExit(word) {
-  if (word.startsWith("THEN"))
-    return "THEN stands behind a test. What is in front of it here is an operation.";
+  if (word.startsWith("THEN")) return "THEN comes after a test. What is in front of it here is an operation.";
   return `${word} is no exit. An exit is a label of up to 6 letters and digits, DONE or FAIL.`;
 }
 
@@ -293,7 +297,8 @@ function* wordOf(columns, from, to, card) {
 
 function unclosed(columns, open, close) {
   if (close < 0 && columns.length === COLUMNS)
-    return "The group runs past column 72, behind which nothing counts. Continue the statement on a card with + in column 1.";
+    return "The group runs past column 72, after which nothing counts. " +
+      "Continue the statement on a card with + in column 1.";
   if (close < 0) return "The parenthesis is not closed on this card.";
   return "There is a second opening parenthesis before the first is closed.";
 }

@@ -1,6 +1,7 @@
-// The deck as a text that is edited, and that is marked where the run is. What is marked lies below the text, and
-// the numbers of cards and statements beside it; of both only what is in sight is made.
+// The deck as a text that is edited, and that is marked where the run is. What is marked lies below the text,
+// and the numbers of cards and statements beside it; of both only what is in sight is made.
 
+import {linesOf} from "./deck.js";
 import {make} from "./dom.js";
 import {COLUMNS} from "./fault.js";
 
@@ -10,10 +11,11 @@ const INDENT = 2;
 export class Editor {
   constructor({text, under, gutter, ruler}, toggle) {
     Object.assign(this, {text, under, gutter, ruler, toggle});
-    this.marks = new Set();
+    this.breakpoints = new Set();
     this.spot = null; // where the run is
     this.fault = null;
     this.deck = null; // as it was read
+    this.base = null; // the latest deck without a fault, to whose statements the breakpoints belong
     this.measure();
     text.addEventListener("scroll", () => this.draw());
     new ResizeObserver(() => this.measure()).observe(text);
@@ -34,8 +36,22 @@ export class Editor {
     this.draw();
   }
 
+  // Begins with another deck, and its breakpoints.
+  begin(deck, breakpoints) {
+    this.breakpoints = new Set(breakpoints);
+    this.base = null;
+    this.text.scrollTop = 0;
+    this.read(deck);
+  }
+
+  // The deck was read again after an edit. Breakpoints stay on their cards.
   read(deck) {
     this.deck = deck;
+    if (!deck.fault) {
+      const base = {deck, lines: linesOf(this.text.value)};
+      if (this.base) this.breakpoints = breakpointsAfter(this.breakpoints, this.base, base);
+      this.base = base;
+    }
     this.draw();
   }
 
@@ -83,16 +99,16 @@ export class Editor {
     number.style.top = `${18 + 1 + top}px`;
     const statement = this.deck.cards[card] ?? -1;
     if (statement < 0 || this.deck.statements[statement]?.card !== card) return [number];
-    const isMarked = this.marks.has(statement);
+    const hasBreakpoint = this.breakpoints.has(statement);
     const button = make(
       "button", {
         type: "button",
         tabindex: -1,
         class: this.spot?.statement === statement ? "at" : "",
-        "aria-pressed": String(isMarked),
-        "aria-label": `Statement ${statement}`,
+        "aria-pressed": String(hasBreakpoint),
+        "aria-label": `Breakpoint at statement ${statement}`,
         title: `Statement ${statement}: ${
-          isMarked ? "take the mark off" : "mark it"} (Shift and click: run to it)`,
+          hasBreakpoint ? "remove the breakpoint" : "set a breakpoint"} (Shift and click: run to it)`,
         onclick: (event) => this.toggle(statement, event.shiftKey),
       },
       String(statement)
@@ -127,12 +143,12 @@ export class Editor {
     return {card: before.length - 1, column: before.at(-1).length};
   }
 
-  // The statement in which the cursor stands, or that behind it.
+  // The statement with the cursor, or the one after it.
   statementAtCursor() {
     const {card} = this.cursor();
     for (let at = card; at < this.deck.cards.length; at++)
       if (this.deck.cards[at] >= 0) return this.deck.cards[at];
-    return this.deck.statements.length; // the DONE behind every deck
+    return this.deck.statements.length; // the DONE that every deck gets
   }
 
   // Puts the cursor on a card.
@@ -142,4 +158,25 @@ export class Editor {
     this.text.setSelectionRange(before + column, before + column);
     this.reveal(card);
   }
+}
+
+// The statements of an edited deck on the cards of those that had breakpoints: on cards before the edit,
+// after it, or in it where it has as many cards as before.
+function breakpointsAfter(breakpoints, was, is) {
+  const [old, now] = [was.lines, is.lines];
+  const more = now.length - old.length;
+  const most = Math.min(old.length, now.length);
+  let before = 0;
+  while (before < most && old[before] === now[before]) before++;
+  let after = 0;
+  while (after < most - before && old.at(-1 - after) === now.at(-1 - after)) after++;
+  const found = new Set();
+  for (const mark of breakpoints) {
+    if (mark === was.deck.statements.length) found.add(is.deck.statements.length); // (the DONE at the end)
+    const card = was.deck.statements[mark]?.card;
+    const isAfter = card >= old.length - after;
+    const statement = is.deck.cards[isAfter ? card + more : card] ?? -1;
+    if (statement >= 0 && (isAfter || card < before || more === 0)) found.add(statement);
+  }
+  return found;
 }

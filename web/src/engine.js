@@ -1,9 +1,9 @@
-// The engine: it keeps a worker that does jobs, so that the page is never held up, and can be stopped.
+// The engine: its worker does the jobs, so that the page always answers, and the reader can stop them.
 
 // Why a job has no answer: the reader stopped it.
 export class Stopped extends Error {}
 
-// A character is one byte, as the program reads it; one that has no byte is none that cards have, either.
+// A character is one byte, as for the program. One that has no byte is none that cards have, either.
 export function bytesOf(text) {
   const bytes = new Uint8Array(text.length);
   for (let place = 0; place < text.length; place++) {
@@ -56,7 +56,7 @@ export class Engine {
       job.resolve({...answer, output: textOfBytes(answer.output), errors: textOfBytes(answer.errors)});
   }
 
-  // Ends what is being done, and begins anew.
+  // Ends what is being done, and begins with another worker.
   stop() {
     this.fail(new Stopped("stopped"));
   }

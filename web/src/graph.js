@@ -1,5 +1,5 @@
-// What a drawing shows of a view: blocks with their shapes and links, the bugs that lead to them, and what is
-// another than in the view that was shown before.
+// What a drawing shows of a view: blocks with their shapes and links, the bugs that lead to them, and what
+// changed since the view that was shown before.
 
 import {shapeOf, windowsOf} from "./shape.js";
 import {seenThrough} from "./word.js";
@@ -29,7 +29,8 @@ export function graphOf(view, before, directions, detail) {
   return {windows, blocks, ways, isBox, bugs: bugsLeading(view, before)};
 }
 
-// Where the windows of a block lead. Of a block that is reached the debugger tells it; a lost one is read here.
+// Where the windows of a block lead. The debugger tells it of blocks that are reached; lost ones are read
+// here.
 function linksOf(view, place, windows, pieces) {
   const words = view.words.get(place);
   const drawn = view.draw.blocks.get(place);
@@ -42,30 +43,45 @@ function linksOf(view, place, windows, pieces) {
       const value = seenThrough(words[window.word], window);
       if (pieces.has(value)) target = value;
     }
-    if (target !== null) links.push({key: window.key, name: window.name, names: window.names, target});
+    if (target !== null)
+      links.push({key: window.key, name: window.name, names: window.names, from: place, target});
   }
   return links;
 }
 
-// Whether the links of each window lead right or down. Where one window has all links they lead right; of several
-// that of a field N does, which most decks have for "next", and the others lead down.
+// Whether the links of each window lead right or down. Those of a tree, with fields L and R, lead down. Where
+// one window has all links, or the list is linked both ways, they lead right. Else those of a field N do,
+// which is "next" in most decks, and the others lead down.
 export function waysOf(windows, links, directions) {
   const used = windows.filter((it) => links.some((link) => link.key === it.key));
   const names = new Set(windows.flatMap((it) => it.names));
   const isTree = names.has("L") && names.has("R");
+  const isDouble = !isTree && isLinkedBothWays(used, links);
+  const isList = isDouble || (!isTree && used.length === 1);
   const ways = new Map();
   for (const window of used) {
-    const isNext = isTree ? false : used.length === 1 || window.names.includes("N");
-    const isPair = isTree && window.names.some((it) => it === "L" || it === "R");
+    const leadsRight = isList || (!isTree && window.names.includes("N"));
     const chosen = window.names.map((it) => directions.get(it)).find((it) => it);
-    const down = chosen ? chosen === "down" : isPair || !isNext;
-    ways.set(window.key, {down, side: 0});
+    ways.set(window.key, {down: chosen ? chosen === "down" : !leadsRight, side: 0, isBack: false});
+  }
+  if (isDouble) {
+    const first = ways.get(used[0].key); // (its bits are on the left)
+    first.isBack = !first.down;
   }
   const down = used.filter((it) => ways.get(it.key).down);
   const sides = isTree ? windows.filter((it) => it.names.some((name) => name === "L" || name === "R")) : down;
   if (sides.length === 2)
     sides.forEach((it, index) => ways.has(it.key) && (ways.get(it.key).side = index ? 1 : -1));
   return ways;
+}
+
+// Whether, of two windows, most links of one have a link of the other that leads back. (Not all: while a
+// block is put in or taken out some do not, and the drawing must not jump.)
+function isLinkedBothWays(used, links) {
+  if (used.length !== 2) return false;
+  const own = links.filter((it) => used.some(({key}) => key === it.key));
+  const leadsBack = (it, back) => back.key !== it.key && back.from === it.target && back.target === it.from;
+  return own.filter((it) => own.some((back) => leadsBack(it, back))).length * 2 >= own.length;
 }
 
 function bugsLeading(view, before) {
@@ -81,11 +97,9 @@ function markChanges(block, before, windows) {
     for (const cell of row.cells) {
       const window = cell.window ?? windows.find((it) => it.key === cell.key);
       if (!block.words || row.word < 0) continue;
-      const [was, is] = window ? [old[window.word], block.words[window.word]].map(
-                                   (it) => (it === undefined ? null : seenThrough(it, window))
-                                 ) :
-                                 [old[row.word], block.words[row.word]];
-      cell.isChanged = was !== is;
+      const number = window ? window.word : row.word;
+      const seen = (words) => (window ? seenThrough(words[number], window) : words[number]);
+      cell.isChanged = number < old.length && number < block.words.length && seen(old) !== seen(block.words);
       if (cell.link) cell.link.isChanged = cell.isChanged;
     }
   }

@@ -1,8 +1,8 @@
-// Keys: some count everywhere, others outside of text boxes.
+// Keys: some work everywhere, others outside of text boxes.
 
 import {byId} from "./dom.js";
 
-// What the keys do that count everywhere.
+// The keys that work everywhere.
 function everywhere(page, target, isTyping) {
   return {
     "Ctrl Enter": () => page.run(),
@@ -10,11 +10,20 @@ function everywhere(page, target, isTyping) {
     F8: () => page.step(),
     "Shift F8": () => page.back(),
     F9: () => page.toggle(page.editor.statementAtCursor()),
-    Escape: () => (page.isRunning ? page.stop() : isTyping && target.blur()),
+    Escape: () => escape(page, target, isTyping),
   };
 }
 
-// What those do that count where nothing is typed.
+function escape(page, target, isTyping) {
+  if (byId("options").open)
+    byId("options").open = false;
+  else if (page.isRunning)
+    page.stop();
+  else if (isTyping)
+    target.blur();
+}
+
+// Those that work where nothing is typed.
 function outside(page) {
   return {
     ArrowRight: () => page.step(),
@@ -22,8 +31,8 @@ function outside(page) {
     ArrowLeft: () => page.back(),
     p: () => page.back(),
     " ": () => page.play(),
-    g: () => page.nextMark(),
-    b: () => page.markBefore(),
+    g: () => page.nextBreakpoint(),
+    b: () => page.breakpointBefore(),
     r: () => page.runTo(page.editor.statementAtCursor()),
     m: () => page.markHere(),
     Home: () => page.state(0),

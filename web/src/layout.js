@@ -1,5 +1,5 @@
-// Where the blocks of a drawing stand. Links of some fields lead on to the right, and wrap as text does; those
-// of others lead down to parts that stand side by side. So a list is a line, a tree goes down, and a list of
+// Where the blocks of a drawing are. Links of some fields lead on to the right, and wrap as text does;
+// those of others lead down to parts side by side. So a list is a line, a tree goes down, and a list of
 // lists has each list below its head.
 
 import {GRID} from "./shape.js";
@@ -11,8 +11,8 @@ const GAPS = {
 const MARGIN = GRID * 3;
 const PILL = GRID * 2; // the height of a bug above its block
 
-// Places the blocks: `blocks` have a place, width, height and links, each with the key of its window, a target
-// and whether it leads `down`. Answers the place of each by its block's place, and the size of all.
+// Places the blocks: `blocks` have a place, width, height and links, each with the key of its window, a
+// target and whether it leads `down`. Answers the place of each by its block's place, and the size of all.
 export function arrange(blocks, bugs, room, isBox) {
   const gaps = isBox ? GAPS.box : GAPS.card;
   const known = new Map(blocks.map((it) => [it.place, it]));
@@ -25,7 +25,7 @@ export function arrange(blocks, bugs, room, isBox) {
 
 // ---- Which block hangs below which
 
-// Rows of blocks, one behind another, each with the rows that hang below it. Each block is in one of them.
+// Rows of blocks, one after another, each with the rows that hang below it. Each block is in one of them.
 function forest(known, bugs, blocks) {
   const seen = new Set();
   const rows = [];
@@ -36,8 +36,8 @@ function forest(known, bugs, blocks) {
   return rows;
 }
 
-// The blocks to begin with: those to which no block leads, in the order of the bugs; in a ring that to which a
-// bug leads, and of several the one from which most can be reached.
+// The blocks to begin with: those to which no block leads, in the order of the bugs; in a ring that to which
+// a bug leads, and of several the one from which most can be reached.
 function rootsOf(known, bugs, blocks) {
   const led = new Set();
   for (const block of blocks)
@@ -61,7 +61,7 @@ function reachOf(block, known) {
   return met.size;
 }
 
-// The row that begins with a block: along links that lead right. Then, level by level, the rows that hang below.
+// The row that begins with a block, along links that lead right; then, level by level, the rows below it.
 function grow(root, known, seen) {
   const first = rowFrom(root, known, seen);
   const queue = [first];
@@ -82,16 +82,28 @@ function grow(root, known, seen) {
 
 function rowFrom(start, known, seen) {
   const row = [];
-  for (let block = start; block && !seen.has(block.place);) {
+  for (let block = beginningOf(start, known, seen); block;) {
     seen.add(block.place);
     row.push({block, below: []});
-    const link = block.links.find((it) => !it.down && known.has(it.target) && !seen.has(it.target));
-    block = link && known.get(link.target);
+    const isNext = (it) => !it.down && !it.isBack && known.has(it.target) && !seen.has(it.target);
+    block = known.get(block.links.find(isNext)?.target);
   }
   return row;
 }
 
-// ---- Where it stands
+// The block to which links back lead in a list that is linked both ways.
+function beginningOf(start, known, seen) {
+  const met = new Set([start.place]);
+  const isBefore = (it) => it.isBack && !it.down && known.has(it.target) && !seen.has(it.target);
+  for (let block = start;;) {
+    const target = block.links.find(isBefore)?.target;
+    if (target === undefined || met.has(target)) return block;
+    met.add(target);
+    block = known.get(target);
+  }
+}
+
+// ---- Where each is
 
 // A box: its size, where its first block's middle is, and how it is put somewhere.
 function boxOfRow(row, room, gaps) {
@@ -107,7 +119,7 @@ function boxOfRow(row, room, gaps) {
   };
 }
 
-// A block with the rows below it, of which it stands above the middle.
+// A block with the rows below it, above whose middle it is.
 function boxOfItem({block, below}, room, gaps) {
   if (!below.length) return leaf(block);
   const boxes = below.map((row) => boxOfRow(row, room, gaps));
@@ -150,7 +162,7 @@ function snap(size) {
   return Math.round(size / GRID) * GRID;
 }
 
-// Puts boxes one behind another, in lines that are no wider than there is room; the size of all.
+// Puts boxes one after another, in lines that are no wider than there is room; the size of all.
 function flow(boxes, room, gaps, left, top, into) {
   let [x, y, height, width] = [left, top, 0, 0];
   for (const box of boxes) {

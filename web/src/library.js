@@ -2,15 +2,11 @@
 
 import {byId, make} from "./dom.js";
 import {linkOf, readLink} from "./links.js";
+import {DEFAULTS} from "./options.js";
 import {save} from "./papers.js";
 import {job, partsOf} from "./session.js";
 import {told} from "./word.js";
 
-export const DEFAULTS = {
-  store: 8,
-  steps: 1_000_000,
-  output: 1_048_576
-};
 const MOST_BYTES = 16_777_216; // of a job
 
 export class Library {
@@ -50,14 +46,24 @@ export class Library {
   }
 
   openExample(key) {
-    const example = this.find(key);
-    if (!example) return false;
-    this.example = example;
+    this.example = this.find(key);
     byId("example").value = key;
-    if (example.bySize) byId("by-size").checked = true;
-    this.page.put(example);
+    if (this.example.bySize) byId("by-size").checked = true;
+    this.page.put(this.example);
     this.showExercise();
-    return true;
+  }
+
+  // What is shown where the page is opened without a link.
+  welcome() {
+    this.openExample("first");
+    byId("empty").replaceChildren(make(
+      "div", {class: "welcome"},
+      make("b", {}, "L6 is Bell Labs' language for linked lists, of 1966. Here it runs forward and back."),
+      make(
+        "p", {}, "Press Run to see what this deck of one card prints, or Step to see each thing that it does."
+      ),
+      make("p", {}, "The menu has decks with lists, trees and a store in pieces, and eight exercises.")
+    ));
   }
 
   showExercise() {
@@ -66,23 +72,36 @@ export class Library {
     frame.hidden = !task;
     if (task)
       frame.replaceChildren(
-        make("b", {}, "Exercise "), task, make("pre", {}, `It is to print:\n${printout}`),
-        make("span", {class: "right-answer", id: "verdict"})
+        make("p", {}, make("b", {}, "Exercise "), task),
+        make("pre", {tabindex: 0, "aria-label": "What it is to print"}, printout),
+        make("p", {id: "verdict", role: "status"}, "Beside this is what it is to print. Type, and press Run.")
       );
   }
 
   // Whether the printout is that which the exercise asks for.
   checkExercise() {
     if (!this.example?.task || !this.page.view?.state.ending) return;
-    const [lines, wanted] =
-      [this.page.view.output.trimEnd().split("\n"), this.example.printout.trimEnd().split("\n")];
+    const {output, state} = this.page.view;
+    const lines = output.trimEnd().split("\n");
+    const wanted = this.example.printout.trimEnd().split("\n");
     const wrong = wanted.findIndex((line, index) => line !== lines[index]);
-    const isRight = wrong < 0 && lines.length === wanted.length && this.page.view.state.ending === "DONE";
-    const first = wrong < 0 ? "more is printed, or the run does not end by DONE" :
-                              `line ${wrong + 1} is “${lines[wrong] ?? ""}” and not “${wanted[wrong]}”`;
-    byId("verdict").textContent = isRight ? "✓ Just this is printed." : `Not yet: ${first}.`;
+    const isRight = wrong < 0 && lines.length === wanted.length && state.ending === "DONE";
+    const first = state.ending === "LIMIT" ? "the run does not end" : differenceAt(wrong, lines, wanted);
     byId("verdict").className = isRight ? "right-answer" : "wrong-answer";
-    if (isRight) this.page.tell("The exercise is solved.");
+    byId("verdict").replaceChildren(
+      isRight ? "✓ Solved: just this is printed." : `Not yet: ${first}.`,
+      ...(isRight ? this.nextExercise() : [])
+    );
+  }
+
+  // A button that opens the exercise after this one, if there is one.
+  nextExercise() {
+    const all = this.examples.flatMap(({items}) => items).filter((it) => it.task);
+    const next = all[all.indexOf(this.example) + 1];
+    if (!next) return [];
+    return [
+      make("button", {type: "button", onclick: () => this.chooseExample(next.key)}, `On to ${next.title}`)
+    ];
   }
 
   async openFile(file) {
@@ -115,16 +134,19 @@ export class Library {
     const link = await linkOf({
       ...now,
       example: isSame ? example.key : null,
-      marks: [...this.page.editor.marks].sort((a, b) => a - b),
+      breakpoints: [...this.page.editor.breakpoints].sort((a, b) => a - b),
       number: this.page.view ? this.page.view.state.number : null
     });
     history.replaceState(null, "", link);
     this.isChanged = false;
+    const isFile = location.protocol === "file:"; // (whose path is of use on this computer alone)
+    const part =
+      isFile ? " For other computers take it from # on, after the address of their own l6.html." : "";
     try {
       await navigator.clipboard.writeText(location.href);
-      this.page.tell("The link is copied, and stands in the address.");
+      this.page.tell(`The link is copied, and is in the address.${part}`);
     } catch {
-      this.page.tell("The link stands in the address.");
+      this.page.tell(`The link is in the address.${part}`);
     }
   }
 
@@ -132,10 +154,10 @@ export class Library {
   // reader asks for it.
   async openLink() {
     const link = await readLink(location.hash);
-    if (!link) return false;
+    if (!link || (link.example && !this.find(link.example)) || !this.mayLeave()) return false;
     if (link.example) {
-      if (!this.openExample(link.example)) return false;
-      if (link.marks.length) this.page.editor.marks = new Set(link.marks);
+      this.openExample(link.example);
+      if (link.breakpoints.length) this.page.editor.breakpoints = new Set(link.breakpoints);
       this.page.editor.draw();
       if (link.number !== null) await this.page.state(link.number);
       return true;
@@ -155,4 +177,11 @@ export class Library {
     }
     return true;
   }
+}
+
+// Where a printout first differs from the wanted one.
+function differenceAt(wrong, lines, wanted) {
+  if (wrong < 0) return "more is printed, or the run does not end by DONE";
+  const printed = lines[wrong] ? `“${lines[wrong]}”` : "empty";
+  return `line ${wrong + 1} is ${printed}, and not “${wanted[wrong]}”`;
 }

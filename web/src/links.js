@@ -1,8 +1,9 @@
-// Links: what stands behind the # of the page's address. `#tree` is an example, `#tree@137` a state of it,
-// `#tree@137!5,8` has marks, too. A deck of the reader's own is packed into the link.
+// Links: what comes after the # of the page's address. `#tree` is an example, `#tree@137` a state of it,
+// `#tree@137!5,8` has breakpoints, too. A deck of the reader's own is packed into the link.
 
-export async function linkOf({example, deck, input, options, marks, number}) {
-  const tail = `${number === null ? "" : `@${number}`}${marks.length ? `!${marks.join(",")}` : ""}`;
+export async function linkOf({example, deck, input, options, breakpoints, number}) {
+  const tail =
+    `${number === null ? "" : `@${number}`}${breakpoints.length ? `!${breakpoints.join(",")}` : ""}`;
   if (example) return `#${example}${tail}`;
   const packed = await pack(JSON.stringify({deck, input, options}));
   return `#deck=${packed}${tail}`;
@@ -13,21 +14,20 @@ export async function readLink(hash) {
   const found = /^#(deck=)?([\w-]+)(?:@(\d{1,10}))?(?:!([\d,]+))?$/.exec(hash);
   if (!found) return null;
   const number = found[3] === undefined ? null : Number(found[3]);
-  const marks = (found[4] ?? "").split(",").filter((it) => it).map(Number);
-  if (!found[1]) return {example: found[2], number, marks};
+  const breakpoints = (found[4] ?? "").split(",").filter((it) => it).map(Number);
+  if (!found[1]) return {example: found[2], number, breakpoints};
   try {
     const {deck, input, options} = JSON.parse(await unpack(found[2]));
     if (typeof deck !== "string" || typeof input !== "string") return null;
-    return {deck, input, options: numbersOf(options), number, marks};
+    return {deck, input, options: numbersOf(options), number, breakpoints};
   } catch {
     return null;
   }
 }
 
 function numbersOf(options) {
-  return Object.fromEntries(["store", "steps", "output"].map(
-                                                          (it) => [it, Number(options?.[it])]
-  ).filter(([, it]) => Number.isInteger(it) && it >= 0));
+  const numbers = ["store", "steps", "output"].map((it) => [it, Number(options?.[it])]);
+  return Object.fromEntries(numbers.filter(([, it]) => Number.isInteger(it) && it >= 0));
 }
 
 async function pack(text) {

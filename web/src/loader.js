@@ -1,5 +1,5 @@
-// Unpacks the page's script, the worker's and the decks, and begins. The policy of the page names the script's
-// hash, so that no other runs.
+// Unpacks the page's script, the worker's and the decks, and begins. The policy of the page names the
+// script's hash, so that no other runs.
 
 import {unpacked} from "./unpack.js";
 

@@ -1,13 +1,14 @@
-// What comes next in a run, or stands at a column of a card: where it is, and what it does in a few words.
+// What comes next in a run, or is at a column of a card: where it is, and what it does in a few words.
 
 import {COLUMNS} from "./fault.js";
 import {isSuffix} from "./group.js";
 
-// Where the action of a state stands: its card and columns, and what it is.
+// The action that comes next in a state: its card and columns, and what it is.
 export function actionAt(deck, statement, action) {
   const at = deck.statements[statement];
-  if (!at) return {kind: "exit", text: "DONE", card: -1, from: 0, to: 0, says: "the DONE behind every deck"};
-  if (action === 0) return conditionOf(at);
+  if (!at)
+    return {kind: "exit", text: "DONE", card: -1, from: 0, to: 0, says: "the DONE that every deck gets"};
+  if (action === 0) return conditionOf(at, statement);
   const operation = at.operations[action - 1];
   if (operation)
     return {
@@ -17,50 +18,71 @@ export function actionAt(deck, statement, action) {
       says: meaningOf(operation.elements, operation.text)
     };
   if (at.exit) return {...at.exit, kind: "exit", says: exitMeaning(at.exit.text)};
-  const end = at.operations.at(-1) ?? at.tests.at(-1) ?? at.first ?? {card: at.card, to: at.label.length};
+  const {card, to} =
+    at.operations.at(-1) ?? at.tests.at(-1) ?? at.first ?? {card: at.card, to: at.label.length};
+  const says = "ends without an exit: on to the next one";
+  return {kind: "exit", text: `statement ${statement}`, card, from: to, to: to + 1, says};
+}
+
+function conditionOf(at, statement) {
+  if (!at.condition) {
+    const first = at.operations[0] ?? at.exit ?? {card: at.card, from: Math.max(1, at.label.length)};
+    const begin = {card: first.card, from: first.from, to: first.from};
+    const place = at.label ? {card: at.card, from: 0, to: at.label.length} : begin;
+    return {kind: "condition", text: `statement ${statement}`, ...place, says: "begins; it has no condition"};
+  }
+  const {card, from, text} = at.condition;
+  const last = at.tests.at(-1);
   return {
-    kind: "exit",
-    text: "",
-    card: end.card,
-    from: end.to,
-    to: end.to + 1,
-    says: "no exit: on to the next statement"
+    kind: "condition",
+    text: `${text} ${at.tests.map((it) => `(${it.text})`).join("")}`,
+    card,
+    from,
+    to: last.card === card ? last.to : COLUMNS,
+    says: `asks ${conditionMeaning(text, at.tests)}`
   };
 }
 
-function conditionOf(at) {
-  if (!at.condition) {
-    const first = at.operations[0] ?? at.exit ?? {card: at.card, from: Math.max(1, at.label.length)};
-    const card = at.label ? at.card : first.card;
-    return {
-      kind: "condition",
-      text: "the statement begins",
-      card,
-      from: at.label ? 0 : first.from,
-      to: at.label ? at.label.length : first.from,
-      says: "(no condition)"
-    };
+const RELATIONS = {
+  E: "is",
+  N: "is not",
+  G: "is greater than",
+  L: "is less than",
+  O: "has all bits of",
+  Z: "has no bit of",
+};
+
+// What a test says, in a few words.
+export function testMeaning(elements, text) {
+  const [first, verb, third] = elements;
+  return `${first} ${RELATIONS[verb[0]]} ${lastElement(verb, third, text)}`;
+}
+
+function conditionMeaning(word, tests) {
+  const all = tests.map((it) => testMeaning(it.elements, it.text)).join("; ");
+  switch (word) {
+    case "IF": return `whether ${all}`;
+    case "NOT": return `whether it is false that ${all}`;
+    case "IFANY": return `whether one of these is true: ${all}`;
+    case "IFNONE": return `whether none of these is true: ${all}`;
+    case "IFNALL": return `whether one of these is false: ${all}`;
+    default: return `whether all of these are true: ${all}`;
   }
-  const last = at.tests.at(-1);
-  const sameCard = last.card === at.condition.card;
-  const text = `${at.condition.text} ${at.tests.map((it) => `(${it.text})`).join("")}`;
-  return {
-    kind: "condition",
-    text,
-    card: at.condition.card,
-    from: at.condition.from,
-    to: sameCard ? last.to : COLUMNS,
-    says: "the condition"
-  };
+}
+
+// The last part of a group with a suffix: a text, an octal number, or a number or chain.
+function lastElement(verb, third, text) {
+  if (verb[1] === "H") return `the text “${text.split(",")[2]}”`;
+  return verb[1] === "O" ? `octal ${third}` : third;
 }
 
 function exitMeaning(exit) {
-  if (exit === "DONE") return "returns behind the latest call, or ends the run";
+  if (exit === "DONE") return "returns from the latest call, or ends the run";
   if (exit === "FAIL") return "returns to the fail label of the latest call, or ends the run";
   return `goes to ${exit}`;
 }
 
-// The operation in which a column of a card stands, or null.
+// The operation at a column of a card, or null.
 export function groupAt(deck, card, column) {
   const statement = deck.statements[deck.cards[card]];
   return statement?.operations.find((it) => it.card === card && it.from < column && column <= it.to) ?? null;
@@ -87,20 +109,16 @@ export function meaningOf(elements, text) {
   if (first === "PL" && elements.length === 1) return "ends the line";
   if (elements.length === 4 && /^D.$/.test(verb))
     return `defines field ${verb[1]}: word ${first}, bits ${third} to ${fourth}`;
-  if (verb.length <= 2 && verb[0] in RESULTS && elements.length === 3 && isSuffix(verb) && verb !== "DO") {
-    const last = verb[1] === "H" ? `the text “${text.split(",")[2]}”` :
-      verb[1] === "O" ? `octal ${third}` :
-                        third;
-    return RESULTS[verb[0]](first, last);
-  }
+  if (verb.length <= 2 && verb[0] in RESULTS && elements.length === 3 && isSuffix(verb) && verb !== "DO")
+    return RESULTS[verb[0]](first, lastElement(verb, third, text));
   const orElse = (label, why) => (label ? `; goes to ${label} if ${why}` : "");
   switch (verb) {
     case "I": return `exchanges ${first} and ${third}`;
     case "FC":
       return first === "S" ? `saves the content of ${third}` : `${third} becomes the content saved last`;
     case "FD":
-      return first === "S" ? `saves the definition of field ${third}` :
-                             `field ${third} gets the definition saved last`;
+      if (first === "S") return `saves the definition of field ${third}`;
+      return `field ${third} gets the definition saved last`;
     case "GT":
       return `gets a block for ${third} ${third === "1" ? "word" : "words"}; ${first} becomes its place${
         fourth ? `, then ${fourth} what ${first} was` : ""}${orElse(fifth, "there is none")}`;

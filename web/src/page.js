@@ -1,34 +1,30 @@
 // The page: what the reader does, and what is then shown.
 
+import {Checker} from "./checker.js";
+import {clearNumber, showNumber} from "./controls.js";
 import {readDeck} from "./deck.js";
-import {byId, make} from "./dom.js";
+import {byId} from "./dom.js";
 import {Editor} from "./editor.js";
-import {bytesOf, Engine, Stopped} from "./engine.js";
+import {Engine, Stopped} from "./engine.js";
 import {press} from "./keys.js";
-import {DEFAULTS, Library} from "./library.js";
-import {groupAt, meaningOf} from "./meaning.js";
+import {Library} from "./library.js";
+import {groupAt} from "./meaning.js";
+import {keepRanges, memoryChosen, OPTIONS, optionsChosen, showOptions} from "./options.js";
 import {Papers} from "./papers.js";
+import {Player} from "./player.js";
 import {referenceOf} from "./reference.js";
-import {job, partsOf, Refused, Session} from "./session.js";
+import {partsOf, Refused, Session} from "./session.js";
 import {unpacked} from "./unpack.js";
 import {Viewer} from "./viewer.js";
 import {count, told} from "./word.js";
 
 const SHORT_RUN = 2_000_000; // steps of a run that is made ahead, to know how many states there are
-const CHECK_AFTER = 300;     // milliseconds without a key, until the deck is assembled
-const BLAME_AFTER = 1500;    // and until a fault is told of the card that is being typed
-const RANGES = {
-  store: [1, 255],
-  steps: [0, 1_000_000_000],
-  output: [0, 16_777_216],
-  memory: [1, 2048]
-};
+const LAST_STATE = 1_000_000_001;
 
 class Page {
   constructor(engine, examples) {
     this.engine = engine;
     this.session = null;
-    this.playing = null;
     this.waiting = null; // what is to be done once the engine has answered
     this.isBusy = false;
     this.editor = new Editor(
@@ -42,6 +38,13 @@ class Page {
       words: (verb) => new Session(null, this.job()).words(verb),
       exchanges: () => this.session?.exchanges ?? [],
     });
+    this.checker = new Checker(this);
+    this.player = new Player({
+      step: () => this.step(),
+      begin: () => this.state(0),
+      atEnd: () => Boolean(this.view?.state.ending),
+      paused: () => this.playEnded(),
+    });
     byId("reference").append(...referenceOf());
     this.library = new Library(this, examples);
     this.listen();
@@ -50,24 +53,14 @@ class Page {
   // ---- The job
 
   job() {
-    return {deck: byId("deck").value, input: byId("input").value, options: this.options()};
-  }
-
-  options() {
-    const value = (name) => {
-      const [least, most] = RANGES[name];
-      const number = Math.floor(Number(byId(name).value));
-      return Math.min(most, Math.max(least, Number.isFinite(number) ? number : least));
-    };
-    return {store: value("store"), steps: value("steps"), output: value("output")};
+    return {deck: byId("deck").value, input: byId("input").value, options: optionsChosen()};
   }
 
   ask(words, input) {
-    const memory = Math.min(2048, Math.max(1, Number(byId("memory").value) || 1));
-    return this.engine.run(words, input, memory * 2 ** 20);
+    return this.engine.run(words, input, memoryChosen());
   }
 
-  // The session of the job as it stands; another one where the deck, the input or an option was changed.
+  // The session of the job as it is now; another one where the deck, the input or an option was changed.
   current() {
     const now = this.job();
     const key = JSON.stringify(now);
@@ -81,7 +74,7 @@ class Page {
 
   // ---- What the reader asks for
 
-  // Has something done with the session, if nothing else is; else it is done next, in the place of what waited.
+  // Has something done with the session, if nothing else is. Else it is done next, in place of what waited.
   async act(what) {
     if (this.isBusy) {
       this.waiting = what;
@@ -105,7 +98,7 @@ class Page {
     if (isBusy)
       this.busyTimer = setTimeout(() => this.tellBusy(), 150);
     else {
-      byId("stop").disabled = this.playing === null;
+      byId("stop").disabled = !this.player.isPlaying;
       document.body.classList.remove("busy");
       if (byId("told").textContent === "running ..") byId("told").textContent = "";
     }
@@ -122,7 +115,7 @@ class Page {
     if (error instanceof Stopped) {
       this.tell("stopped");
     } else if (error instanceof Refused) {
-      this.showFault(error.message);
+      this.checker.show(error.message);
       this.clear(error.message);
     } else {
       this.tell(error.message);
@@ -142,7 +135,7 @@ class Page {
     });
   }
 
-  // Goes to the state that is told by the number of the one that is shown, or by the session.
+  // Goes to a state: `find` has the session and the number of the state that is shown.
   goTo(find) {
     return this.act(async (session) => {
       if (session.options.steps <= SHORT_RUN) await session.run();
@@ -173,19 +166,20 @@ class Page {
     });
   }
 
-  nextMark() {
-    return this.withMarks((session, at, marks) => session.go(at, marks));
+  nextBreakpoint() {
+    return this.withBreakpoints((session, at, breakpoints) => session.go(at, breakpoints));
   }
 
-  markBefore() {
-    return this.withMarks((session, at, marks) => session.goBack(at, marks));
+  breakpointBefore() {
+    return this.withBreakpoints((session, at, breakpoints) => session.goBack(at, breakpoints));
   }
 
-  withMarks(find) {
-    const marks =
-      [...this.editor.marks].filter((it) => it <= this.editor.deck.statements.length).sort((a, b) => a - b);
-    if (!marks.length) return this.tell("No statement is marked: click the number of one.");
-    return this.goTo((session, at) => find(session, at, marks));
+  withBreakpoints(find) {
+    const breakpoints = [...this.editor.breakpoints].filter(
+                                                      (it) => it <= this.editor.deck.statements.length
+    ).sort((a, b) => a - b);
+    if (!breakpoints.length) return this.tell("No statement has a breakpoint: click the number of one.");
+    return this.goTo((session, at) => find(session, at, breakpoints));
   }
 
   runTo(statement) {
@@ -193,46 +187,36 @@ class Page {
   }
 
   toggle(statement) {
-    const {marks} = this.editor;
-    if (!marks.delete(statement)) marks.add(statement);
+    const {breakpoints} = this.editor;
+    if (!breakpoints.delete(statement)) breakpoints.add(statement);
     this.editor.draw();
-    this.tell(`statement ${statement} is ${marks.has(statement) ? "marked" : "not marked any more"}`);
+    this.tell(
+      `statement ${statement} has ${breakpoints.has(statement) ? "a breakpoint" : "no breakpoint any more"}`
+    );
   }
 
-  // Marks the statement where the run is.
+  // Sets a breakpoint at the statement where the run is.
   markHere() {
     if (this.view?.state.statement !== undefined) this.toggle(this.view.state.statement);
   }
 
   get isRunning() {
-    return this.engine.isBusy || this.playing !== null;
+    return this.engine.isBusy || this.player.isPlaying;
   }
 
   play() {
-    if (this.playing !== null) return this.pause();
-    const beat = async () => {
-      await this.step();
-      if (this.playing === null) return;
-      if (this.view?.state.ending) return this.pause();
-      this.playing = setTimeout(beat, Number(byId("speed").value));
-    };
-    this.playing = setTimeout(beat, 0);
-    document.body.classList.toggle("quick", Number(byId("speed").value) < 300);
-    this.showPlaying();
+    this.player.toggle();
+    if (this.player.isPlaying) byId("stop").disabled = false;
   }
 
   pause() {
-    clearTimeout(this.playing);
-    this.playing = null;
-    document.body.classList.remove("quick");
-    this.showPlaying();
+    this.player.pause();
   }
 
-  showPlaying() {
-    const button = byId("play");
-    button.querySelector("use").setAttribute("href", this.playing === null ? "#i-play" : "#i-pause");
-    button.querySelector("span").textContent = this.playing === null ? "Play" : "Pause";
-    if (!this.isBusy) byId("stop").disabled = this.playing === null;
+  // While a run plays nothing is spoken: its last state is, once it ends.
+  playEnded() {
+    if (!this.isBusy) byId("stop").disabled = true;
+    this.viewer.speak();
   }
 
   stop() {
@@ -248,29 +232,17 @@ class Page {
   }
 
   show(view, before) {
+    this.checker.show(""); // (a deck with a fault is not run)
     this.viewer.show(view, before, this.session);
-    this.showNumbers();
+    if (!this.player.isPlaying) this.viewer.speak();
+    showNumber(view.state.number, this.session.last);
     this.library.checkExercise();
   }
 
-  showNumbers() {
-    const {number} = this.view.state;
-    const {last} = this.session;
-    const most = last ?? Math.max(1000, 2 * number);
-    for (const [name, value] of [["max", most], ["value", number]]) byId("slider")[name] = value;
-    byId("number").value = number;
-    byId("of").textContent = last === null ? "of ?" : `of ${told(last)}`;
-    byId("slider").setAttribute("aria-valuetext", `state ${number}${last === null ? "" : ` of ${last}`}`);
-    byId("step").disabled = byId("end").disabled = last !== null && number >= last;
-    byId("back").disabled = byId("start").disabled = number === 0;
-  }
-
-  // Nothing is shown of a run; why not is told.
+  // Shows nothing of a run, and says why not.
   clear(why) {
     this.viewer.clear(why);
-    byId("of").textContent = "";
-    byId("slider").max = byId("slider").value = byId("number").value = 0;
-    for (const id of ["step", "end", "back", "start"]) byId(id).disabled = false;
+    clearNumber();
   }
 
   tell(text) {
@@ -290,27 +262,18 @@ class Page {
       this.session = null;
       this.clear("The deck has changed.");
     }
-    this.typed = performance.now();
-    this.checkLater(CHECK_AFTER);
-  }
-
-  checkLater(milliseconds) {
-    clearTimeout(this.checkTimer);
-    this.checkTimer = setTimeout(() => this.check(), milliseconds);
+    this.checker.typing();
   }
 
   readDeck() {
     this.editor.read(readDeck(byId("deck").value));
   }
 
-  // While nothing is run: what the group says in which the cursor stands.
+  // While nothing is run: what the group with the cursor does.
   explainCursor() {
     if (this.view || document.activeElement !== this.editor.text) return;
     const {card, column} = this.editor.cursor();
-    const group = groupAt(this.editor.deck, card, column);
-    byId("next").replaceChildren(
-      ...(group ? [make("code", {}, `(${group.text})`), ` ${meaningOf(group.elements, group.text)}`] : [])
-    );
+    this.viewer.explain(groupAt(this.editor.deck, card, column));
   }
 
   // A whole job that was pasted into the deck is put into its boxes.
@@ -322,57 +285,25 @@ class Page {
     byId("deck").value = deck;
     if (input) byId("input").value = input;
     if (commands) byId("commands").value = commands;
-    this.tell("The input has a box of its own, and commands stand behind “Listing, image & session”.");
-  }
-
-  // Assembles the deck, and tells its fault.
-  async check() {
-    if (this.isBusy) return;
-    const {deck} = this.job();
-    try {
-      const answer = await this.ask(["asm"], bytesOf(job(deck, null, "")));
-      if (byId("deck").value !== deck) return;
-      const line = answer.status === 0 ? "" : answer.errors.trim();
-      const isTyping = performance.now() - (this.typed ?? -BLAME_AFTER) < BLAME_AFTER &&
-        cardToldBy(line) === this.editor.cursor().card;
-      this.showFault(isTyping ? "" : line);
-      if (isTyping) this.checkLater(BLAME_AFTER);
-    } catch (error) {
-      this.tell(error.message);
-    }
-  }
-
-  // The program's own line, and the card that it tells, with what is most likely meant.
-  showFault(line) {
-    const fault = byId("fault");
-    fault.hidden = line === "";
-    const card = cardToldBy(line);
-    const own = this.editor.deck.fault;
-    const isSame = own && own.card === card && line.endsWith(own.kind);
-    this.editor.blame(card < 0 ? null : isSame ? own : {card, from: 0, to: 72});
-    if (!line) return;
-    fault.replaceChildren(make("code", {}, line), isSame ? ` — ${own.why}` : "");
-    if (card >= 0) this.editor.reveal(card);
+    this.tell("The input has a box of its own, and the commands are in “Listing, image & session”.");
   }
 
   // Puts a job into its boxes.
-  put({deck, input = "", commands = "", options = {}, marks = []}) {
+  put({deck, input = "", commands = "", options = {}, breakpoints = []}) {
     this.pause();
     byId("deck").value = deck;
     byId("input").value = input;
     byId("commands").value = commands;
     this.library.isChanged = false;
-    for (const [name, value] of Object.entries({...DEFAULTS, ...options})) byId(name).value = value;
-    this.editor.marks = new Set(marks);
-    this.editor.text.scrollTop = 0;
+    showOptions(options);
     this.session = null;
     this.viewer.chosen = null;
     byId("place").value = byId("chain").value = "";
-    this.readDeck();
-    this.showFault("");
-    this.clear("Not run yet");
+    this.editor.begin(readDeck(deck), breakpoints);
+    this.checker.show("");
+    this.clear("");
     this.tell("");
-    this.check();
+    this.checker.check();
   }
 
   // ---- Events
@@ -387,8 +318,8 @@ class Page {
       play: () => this.play(),
       step: () => this.step(),
       end: () => this.end(),
-      "mark-back": () => this.markBefore(),
-      "mark-next": () => this.nextMark(),
+      "mark-back": () => this.breakpointBefore(),
+      "mark-next": () => this.nextBreakpoint(),
       "to-cursor": () => this.runTo(this.editor.statementAtCursor()),
       open: () => byId("file").click(),
       save: () => this.library.saveFile(),
@@ -399,28 +330,42 @@ class Page {
     for (const [id, what] of Object.entries(buttons)) on(id, "click", what);
     on("deck", "input", () => this.changed());
     on("input", "input", () => this.inputChanged());
-    for (const name of Object.keys(RANGES)) on(name, "change", () => this.optionChanged());
+    for (const name of OPTIONS) on(name, "change", () => this.optionChanged());
     on("slider", "input", () => this.state(Number(byId("slider").value)));
-    on(
-      "number", "change",
-      () => this.state(Math.max(0, Math.min(1_000_000_001, Number(byId("number").value) || 0)))
-    );
+    on("number", "change", () => this.numberTyped());
     on("example", "change", () => this.library.chooseExample(byId("example").value));
     on("file", "change", () => this.fileChosen());
+    this.listenToWindow();
+  }
+
+  listenToWindow() {
     document.addEventListener("keydown", (event) => press(this, event));
     document.addEventListener("selectionchange", () => this.explainCursor());
+    document.addEventListener("click", (event) => {
+      if (!byId("options").contains(event.target)) byId("options").open = false;
+    });
     window.addEventListener("hashchange", () => this.library.openLink());
+    window.addEventListener("beforeunload", (event) => {
+      if (this.library.isChanged) event.preventDefault();
+    });
     document.addEventListener("dragover", (event) => event.preventDefault());
     document.addEventListener("drop", (event) => {
       event.preventDefault();
-      const file = event.dataTransfer.files[0];
-      if (file && this.library.mayLeave()) this.library.openFile(file);
+      this.openFile(event.dataTransfer.files[0]);
     });
   }
 
-  fileChosen() {
-    const file = byId("file").files[0];
+  numberTyped() {
+    const number = Math.floor(Number(byId("number").value) || 0);
+    return this.state(Math.max(0, Math.min(LAST_STATE, number)));
+  }
+
+  openFile(file) {
     if (file && this.library.mayLeave()) this.library.openFile(file);
+  }
+
+  fileChosen() {
+    this.openFile(byId("file").files[0]);
     byId("file").value = ""; // (so that the same one can be chosen again)
   }
 
@@ -434,23 +379,12 @@ class Page {
   }
 
   optionChanged() {
-    const options = {
-      ...this.options(),
-      memory: Math.min(2048, Math.max(1, Number(byId("memory").value) || 1))
-    };
-    const wrong = Object.keys(RANGES).filter((name) => Number(byId(name).value) !== options[name]);
-    for (const name of wrong) byId(name).value = options[name];
-    byId("options-note").textContent = wrong.length ? `${wrong.join(", ")}: put back into its range` : "";
+    keepRanges();
     if (this.view || this.session) {
       this.session = null;
       this.clear("An option has changed.");
     }
   }
-}
-
-// The card that a fault's line tells, counted from 0, or -1.
-function cardToldBy(line) {
-  return Number(/^l6: card (\d+): /.exec(line)?.[1] ?? 0) - 1;
 }
 
 async function begin() {
@@ -459,7 +393,7 @@ async function begin() {
   const engine = new Engine(await WebAssembly.compile(bytes), worker);
   const page = new Page(engine, examples);
   window.l6 = page; // (for tests, and for whoever looks inside)
-  if (!(await page.library.openLink())) page.library.openExample("first");
+  if (!(await page.library.openLink())) page.library.welcome();
   document.body.dataset.ready = "yes";
 }
 

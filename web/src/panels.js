@@ -4,29 +4,42 @@ import {follow} from "./chain.js";
 import {make} from "./dom.js";
 import {findPiece} from "./pieces.js";
 import {lanesOf, windowsOf} from "./shape.js";
-import {characterOf, count, likelyText, octal, seenThrough, widthOf, WORD_BITS} from "./word.js";
+import {characterOf, count, isLetter, likelyText, octal, seenThrough, widthOf, WORD_BITS} from "./word.js";
 
-const MOST_BESIDE = 9_999_999; // a number with a text beside which its octal digits have room
+const MOST_BESIDE = 9_999_999; // the largest number with a text beside which octal digits have room
+const MOST_OF_BLOCK = 256;     // of a block that are shown
+const FULL_STOP = 14;          // the code with which most inputs end
 
 // The bugs that are not 0, or were not before.
 export function showBugs(table, amounts, view, before, choose) {
   const names = [...new Set([...view.bugs.keys(), ...(before?.bugs.keys() ?? [])])].sort();
-  table.replaceChildren(...names.map((name) => {
+  const rows = names.map((name) => {
     const value = view.bugs.get(name) ?? 0;
-    const isChanged = before && (before.bugs.get(name) ?? 0) !== value;
-    const hint = hintOf(value, view, choose);
-    const isWide =
-      value > MOST_BESIDE && hint.textContent !== ""; // (then there is no room for the octal digits)
-    return make(
-      "tr", {class: isChanged ? "changed" : "", title: `${name} is ${octal(value)} in octal`},
-      make("td", {}, name), make("td", {class: "number"}, String(value)), make("td", {}, hint),
-      isWide ? "" : make("td", {class: "octal"}, octal(value))
-    );
-  }));
-  if (!names.length) table.append(make("tr", {}, make("td", {class: "octal"}, "All bugs are 0.")));
-  const {contents, definitions, returns, input} = view.amounts;
-  amounts.textContent = `Saved: ${count(contents, "content")}, ${count(definitions, "definition")}. ${
-    count(returns, "call")} ${returns === 1 ? "waits" : "wait"}. ${count(input, "character")} taken.`;
+    return {name, value, was: before ? before.bugs.get(name) ?? 0 : value, hint: hintOf(value, view, choose)};
+  });
+  const hasOctal = !rows.some(({value, hint}) => value > MOST_BESIDE && hint);
+  table.replaceChildren(...rows.map((row) => rowOfBug(row, hasOctal)));
+  if (!rows.length) table.append(make("tr", {}, make("td", {class: "octal"}, "All bugs are 0.")));
+  amounts.textContent = amountsInWords(view.amounts);
+}
+
+function rowOfBug({name, value, was, hint}, hasOctal) {
+  return make(
+    "tr", {class: was === value ? "" : "changed", title: `${name} is ${octal(value)} in octal`},
+    make("th", {scope: "row"}, name), make("td", {class: "number"}, String(value)), make("td", {}, hint),
+    hasOctal && make("td", {class: "octal"}, octal(value))
+  );
+}
+
+// How much is saved, waits and was taken; what is 0 is left out.
+function amountsInWords({contents, definitions, returns, input}) {
+  const parts = [
+    contents && `${count(contents, "content")} saved`,
+    definitions && `${count(definitions, "definition")} saved`,
+    returns && count(returns, "call waits", "calls wait"),
+    input && `${count(input, "character")} taken`,
+  ].filter((it) => it);
+  return parts.length ? `${parts.join(", ")}.` : "";
 }
 
 // What a number may mean: the place of a block, which can be chosen, or a text.
@@ -37,8 +50,9 @@ function hintOf(value, view, choose) {
       "button", {type: "button", onclick: () => choose(value), "aria-label": `Show block ${value}`}, "→"
     );
   }
-  const text = value > 0 && value < 64 ? characterOf(value) : likelyText(value);
-  return make("span", {class: "text"}, text ? `“${text}”` : "");
+  const isStop = value === FULL_STOP && view.amounts.input > 0;
+  const text = isLetter(value) || isStop ? characterOf(value) : likelyText(value);
+  return text ? make("span", {class: "text"}, `“${text}”`) : null;
 }
 
 // The fields, each as a window on the 36 bits of its word.
@@ -49,7 +63,7 @@ export function showFields(frame, view, before, colourOf) {
     const own = windows.filter((it) => it.word === word);
     rows.push(make(
       "div", {class: "wordline"}, make("span", {}, `word ${word}`),
-      make("span", {}, own.map((it) => `${it.name} ${it.first}–${it.last}`).join("  "))
+      make("span", {}, apart(own.map((it) => `${it.name} ${it.first}–${it.last}`)))
     ));
     for (const lane of lanesOf(own)) {
       rows.push(bitsOf(
@@ -92,41 +106,40 @@ function bitsOf(cells, colourOf) {
 export function showWords(frame, place, view, before, colourOf) {
   const words = place === null ? null : view.words.get(place);
   if (!words) {
-    frame.replaceChildren(make(
-      "p", {class: "amounts"},
-      place === null ? "Choose a block in the drawing or in the store, or type a place or a chain." :
-                       `No block begins at ${place}.`
-    ));
+    const why = place === null ?
+      "Choose a block in the drawing or in the store, or type a place or a chain." :
+      `No block begins at ${place}.`;
+    frame.replaceChildren(make("p", {class: "amounts"}, why));
     return;
   }
-  const old = before?.words?.get(place);
+  const old = before?.words?.get(place) ?? [];
   const windows = windowsOf(view.fields);
-  const shown = words.slice(0, 256);
-  frame.replaceChildren(...shown.flatMap((word, index) => {
+  const partsOf = (word, index) => {
     const own = windows.filter((it) => it.word === index);
-    const line = make(
-      "div", {class: "wordline"}, make("span", {}, `${index}`), make("b", {}, octal(word)),
-      make("span", {}, own.map((it) => tellOf(it, word)).join("  "))
-    );
-    const lanes = lanesOf(own).map(
-      (lane) => bitsOf(
-        lane.map((it) => {
-          const value = seenThrough(word, it);
-          return {
-            window: it,
-            text: `${it.name} ${value}`,
-            isChanged: old && old[index] !== undefined && seenThrough(old[index], it) !== value
-          };
-        }),
-        colourOf
-      )
-    );
-    return [line, ...lanes];
-  }));
-  if (words.length > shown.length)
-    frame.append(
-      make("p", {class: "amounts"}, `and ${count(words.length - shown.length, "more word", "more words")}`)
-    );
+    return partsOfWord(word, old[index], index, own, colourOf);
+  };
+  frame.replaceChildren(...words.slice(0, MOST_OF_BLOCK).flatMap(partsOf));
+  const left = words.length - MOST_OF_BLOCK;
+  if (left > 0) frame.append(make("p", {class: "amounts"}, `and ${count(left, "more word", "more words")}`));
+}
+
+function partsOfWord(word, old, index, windows, colourOf) {
+  const shown = apart(windows.map((it) => tellOf(it, word)));
+  const line = make(
+    "div", {class: "wordline"}, make("span", {}, `${index}`), make("b", {}, octal(word)),
+    make("span", {}, shown)
+  );
+  const cellOfWord = (window) => {
+    const value = seenThrough(word, window);
+    const isChanged = old !== undefined && seenThrough(old, window) !== value;
+    return {window, text: `${window.name} ${value}`, isChanged};
+  };
+  return [line, ...lanesOf(windows).map((lane) => bitsOf(lane.map(cellOfWord), colourOf))];
+}
+
+// Texts one after another; a line may end between them, but not within one.
+function apart(texts) {
+  return texts.map((it) => it.replaceAll(" ", "\u00a0")).join("  ");
 }
 
 function tellOf(window, word) {
@@ -144,7 +157,7 @@ export function showChain(frame, chain, view, choose) {
   const {steps, trap, missing} = follow(chain, view);
   if (missing !== undefined) return missing;
   const list = make(
-    "ol", {class: "steps"},
+    "ol", {class: "way"},
     ...steps.map((it) => make("li", {}, `${it.text} = ${it.value} `, hintOf(it.value, view, choose)))
   );
   if (trap) list.append(make("li", {class: "wrong"}, trap));

@@ -1,16 +1,16 @@
-// The dialog with what the program writes: printout, listing, image, the answers to commands of the reader's own,
-// and what the page asked last. Each can be downloaded.
+// The dialog with what the program writes: printout, listing, image, the answers to the reader's own
+// commands, and what the page asked last. Each can be downloaded.
 
 import {byId, make} from "./dom.js";
 import {bytesOf} from "./engine.js";
 import {job} from "./session.js";
 
 const TABS = [
-  ["printout", "Printout", "printout.txt"],
-  ["listing", "Listing", "listing.txt"],
-  ["image", "Image", "deck.image"],
-  ["session", "Session", "transcript.txt"],
-  ["asked", "Asked and answered", "asked.txt"],
+  {key: "printout", name: "Printout", file: "printout.txt"},
+  {key: "listing", name: "Listing", file: "listing.txt"},
+  {key: "image", name: "Image", file: "deck.image"},
+  {key: "session", name: "Session", file: "transcript.txt"},
+  {key: "asked", name: "Asked and answered", file: "asked.txt"},
 ];
 const MOST_SHOWN = 400_000; // characters
 
@@ -19,22 +19,13 @@ export class Papers {
   constructor(source) {
     this.source = source;
     this.text = "";
-    this.tab = "printout";
+    this.tab = TABS[0].key;
     this.dialog = byId("papers-dialog");
-    byId("tabs").replaceChildren(...TABS.map(
-      ([key, name]) => make(
-        "button", {
-          type: "button",
-          role: "tab",
-          id: `tab-${key}`,
-          "aria-controls": "paper",
-          onclick: () => this.open(key)
-        },
-        name
-      )
-    ));
-    byId("download"
-    ).addEventListener("click", () => save(TABS.find(([key]) => key === this.tab)[2], this.text));
+    byId("tabs").replaceChildren(...TABS.map((tab) => this.buttonOf(tab)));
+    byId("tabs").addEventListener("keydown", (event) => this.key(event));
+    byId("download").addEventListener("click", () => {
+      save(TABS.find(({key}) => key === this.tab).file, this.text);
+    });
     byId("copy").addEventListener("click", () => this.copy());
     byId("obey").addEventListener("click", () => this.open("session"));
     byId("save-session").addEventListener("click", () => {
@@ -43,15 +34,34 @@ export class Papers {
     });
   }
 
+  buttonOf({key, name}) {
+    const kind = {type: "button", role: "tab", id: `tab-${key}`, "aria-controls": "paper"};
+    return make("button", {...kind, onclick: () => this.open(key)}, name);
+  }
+
+  // Arrow keys go from tab to tab.
+  key(event) {
+    const step = {ArrowRight: 1, ArrowLeft: -1}[event.key];
+    if (!step) return;
+    const at = TABS.findIndex(({key}) => key === this.tab);
+    const {key} = TABS[(at + step + TABS.length) % TABS.length];
+    this.open(key);
+    byId(`tab-${key}`).focus();
+  }
+
   async open(tab) {
     this.tab = tab;
     if (!this.dialog.open) this.dialog.showModal();
-    for (const [key] of TABS) byId(`tab-${key}`).setAttribute("aria-selected", String(key === tab));
+    for (const {key} of TABS) {
+      byId(`tab-${key}`).setAttribute("aria-selected", String(key === tab));
+      byId(`tab-${key}`).tabIndex = key === tab ? 0 : -1;
+    }
+    byId("paper").setAttribute("aria-labelledby", `tab-${tab}`);
     byId("commands-part").hidden = tab !== "session";
     this.put("", "..");
     try {
       const {text, note} = await this.read(tab);
-      this.put(text, note);
+      if (tab === this.tab) this.put(text, note);
     } catch (error) {
       this.put("", error.message);
     }
@@ -65,22 +75,23 @@ export class Papers {
   }
 
   async read(tab) {
-    const {deck, input} = this.source.job();
-    if (tab === "asked")
-      return {
-        text: this.source.exchanges().map(
-                                       ({asked, answered}) => `${asked}\n----\n${answered}`
-        ).join("\n========\n"),
-        note: "What the page asked the debugger last, and its answers"
-      };
-    const words = {listing: ["list"], image: ["asm"]}[tab];
-    const commands = byId("commands").value;
-    const answer = words ?
-      await this.source.ask(words, bytesOf(job(deck, null, ""))) :
-      tab === "session" ?
-      await this.source.ask(this.source.words("debug"), bytesOf(job(deck, commands, input))) :
-      await this.source.ask(this.source.words("run"), bytesOf(job(deck, null, input)));
+    if (tab === "asked") {
+      const all = this.source.exchanges().map(({asked, answered}) => `${asked}\n----\n${answered}`);
+      return {text: all.join("\n========\n"), note: "What the page asked the debugger last, and its answers"};
+    }
+    const answer = await this.answerFor(tab);
     return {text: answer.output, note: answer.errors.trim() || `exit status ${answer.status}`};
+  }
+
+  answerFor(tab) {
+    const {ask, words} = this.source;
+    const {deck, input} = this.source.job();
+    switch (tab) {
+      case "listing": return ask(["list"], bytesOf(job(deck, null, "")));
+      case "image": return ask(["asm"], bytesOf(job(deck, null, "")));
+      case "session": return ask(words("debug"), bytesOf(job(deck, byId("commands").value, input)));
+      default: return ask(words("run"), bytesOf(job(deck, null, input)));
+    }
   }
 
   async copy() {

@@ -1,6 +1,6 @@
-// The store's pieces. The debugger tells blocks and runs of free words. The free pieces of the buddy system are
-// determined by these: they are aligned, have sizes that are powers of two, and no two buddies are both free
-// (which is proved of the store), so they are the largest aligned pieces that fit into the runs.
+// The store's pieces. The debugger tells blocks and runs of free words. The free pieces of the buddy system
+// are determined by these: they are aligned, have sizes that are powers of two, and no two buddies are both
+// free (which is proved of the store), so they are the largest aligned pieces that fit into the runs.
 
 import {UNIT} from "./word.js";
 

@@ -2,10 +2,11 @@
 
 import {GRID} from "./shape.js";
 
-const TURN = 3;   // what a corner costs, in steps of the grid
-const SHARED = 8; // what it costs to run where another arrow runs
-const CROSSED = 2;
-const NEAR = 0.15;                                     // beside a block
+const TURN = 3;      // what a corner costs, in steps of the grid
+const SHARED = 8;    // what it costs to run where another arrow runs
+const CROSSED = 2;   // and where one crosses
+const NEAR = 0.15;   // beside a block
+const LOWER = 0.001; // across, for each line further down, so that an arrow that goes up turns early
 const DIRECTIONS = [[1, 0], [0, 1], [-1, 0], [0, -1]]; // right, down, left, up
 const BLOCKED = 255;
 
@@ -89,9 +90,15 @@ export class Router {
       if (this.ground[to] === BLOCKED) continue;
       const along = next % 2;
       const price = 1 + (next === direction ? 0 : TURN) + this.ground[to] * NEAR +
-        (this.used[along][to] ? SHARED : 0) + (this.used[1 - along][to] ? CROSSED : 0);
+        (this.used[along][to] ? SHARED : 0) + (this.used[1 - along][to] ? CROSSED : 0) +
+        (along === 0 ? (line + dy) * LOWER : 0) + this.lastTurn(goals.get(to), next);
       this.offer(heap, to * 4 + next, this.cost[state] + price, state, goals);
     }
+  }
+
+  // The price of the corner between a way and its end.
+  lastTurn(goal, direction) {
+    return goal && goal.direction !== direction ? TURN : 0;
   }
 
   // Notes a way to a state if it is the cheapest so far. Marks are of this search where `round` says so.

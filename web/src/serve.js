@@ -1,4 +1,4 @@
-// Has the module do one job. Each job has an instance of its own, so that none leaves anything behind.
+// Has the module do one job. Each job has an instance of its own, so that none leaves anything for the next.
 
 // The words are texts, the input bytes; the limit is the most bytes of memory that the program may have.
 // Answers the exit status and what went to the two outputs, as bytes.

@@ -11,7 +11,7 @@ const FAR = 1_000_000;         // the state from which on the way there takes lo
 const MOST_KEPT = 24_000_000;  // characters of answers whose states are kept
 const MOST_ANSWER = 3_000_000; // characters of the answers to one question, about
 const MOST_OUT = 200_000;      // characters of output that are shown
-const SHORT_WAY = 4096;        // states that are gone through for the mark before
+const SHORT_WAY = 4096;        // states that are gone through for the breakpoint before
 const MOST_GOES = 100_000;     // in one question
 
 // Why there is no state: the program refused the job, or memory ran out in the midst.
@@ -58,7 +58,7 @@ export class Session {
     const wanted = this.last === null ? number : Math.min(number, this.last);
     if (!this.views.has(wanted)) await this.fetch(wanted);
     const view = this.views.get(wanted) ?? this.views.get(this.last);
-    if (!view) throw new Error("the state was not told");
+    if (!view) throw new Error("the debugger has not answered with the state");
     return this.withOutput(view);
   }
 
@@ -154,9 +154,9 @@ export class Session {
     return view;
   }
 
-  // The view of the next state that stands at the condition of one of these statements, or of the last state.
-  async go(number, marks) {
-    const way = [`step ${number}`, ...marks.map((it) => `break ${it}`), "go"];
+  // The view of the next state that is at the condition of one of these statements, or of the last state.
+  async go(number, breakpoints) {
+    const way = [`step ${number}`, ...breakpoints.map((it) => `break ${it}`), "go"];
     const transcript = await this.question(way);
     let state = null;
     while (!transcript.isAtEnd) {
@@ -167,32 +167,32 @@ export class Session {
     return this.view(state.number);
   }
 
-  // The view of the latest state before one that stands at the condition of one of these statements, or of the
-  // first state. The limit of steps keeps each `go` from running past the state it is asked from.
-  async goBack(number, marks) {
+  // The view of the latest state before one that is at the condition of one of these statements, or of
+  // the first state. The limit of steps keeps each `go` from running past the state it is asked from.
+  async goBack(number, breakpoints) {
     let before = SHORT_WAY;
     for (;;) {
       const from = Math.max(0, number - before);
-      const found = await this.marksBetween(from, number, marks);
+      const found = await this.breakpointsBetween(from, number, breakpoints);
       if (found.last !== null) return this.view(found.last);
       if (from === 0) return this.view(0);
       before *= 64;
     }
   }
 
-  // The last state from one number on, and before another, that stands at a mark.
-  async marksBetween(from, to, marks) {
+  // The last state from one number on, and before another, that is at a breakpoint.
+  async breakpointsBetween(from, to, breakpoints) {
     let begin = from;
     let last = null;
     for (;;) {
-      const start =
-        Math.max(0, begin - 1); // (a `go` always goes on, and the first state may stand at a mark)
+      // (a `go` always goes on, and the first state may be at a breakpoint)
+      const start = Math.max(0, begin - 1);
       const goes = Math.min(MOST_GOES, to - start + 1);
-      const way = [`step ${start}`, ...marks.map((it) => `break ${it}`), ...Array(goes).fill("go")];
+      const way = [`step ${start}`, ...breakpoints.map((it) => `break ${it}`), ...Array(goes).fill("go")];
       const transcript = await this.question(way, {steps: Math.min(this.options.steps, to)});
       let state = stateOf(transcript.line());
-      if (start === 0 && state.action === 0 && marks.includes(state.statement) && to > 0) last ??= 0;
-      for (let mark = 0; mark < marks.length; mark++) transcript.line();
+      if (start === 0 && state.action === 0 && breakpoints.includes(state.statement) && to > 0) last ??= 0;
+      for (let mark = 0; mark < breakpoints.length; mark++) transcript.line();
       for (let go = 0; go < goes && !state.ending; go++) {
         state = stateOf(transcript.line());
         if (!state.ending && state.number < to) last = state.number;

@@ -1,6 +1,6 @@
 // The shape of a block in the drawing: rows of cells, one for each window that shows some of its bits.
 
-import {characterOf, likelyText, octal, seenThrough, widthOf, WORD_BITS} from "./word.js";
+import {characterOf, isLetter, likelyText, octal, seenThrough, widthOf, WORD_BITS} from "./word.js";
 
 export const GRID = 12; // all sizes and places are multiples of it
 export const BIT = 4;   // so 36 bits are 144 wide
@@ -8,6 +8,7 @@ export const ROW = 24;
 export const HEAD = 24;
 const MOST_ROWS = 8;
 const SHOWN_WORDS = 4; // of a block without fields
+const LEGIBLE = 3;     // bits of a field whose value has room; of a word with narrower ones all is shown, too
 
 // The windows of the fields, each once: names that are defined alike share one.
 export function windowsOf(fields) {
@@ -35,8 +36,8 @@ export function lanesOf(windows) {
   return lanes;
 }
 
-// The shape of a block: `rows` of cells with their place and size in it, and how large it is. In a box there is
-// one row for all.
+// The shape of a block: `rows` of cells with their place and size in it, and how large it is. In a box there
+// is one row for all.
 export function shapeOf(block, words, windows, links, isBox) {
   return isBox ? boxOf(block, words, windows, links) : cardOf(block, words, windows, links);
 }
@@ -56,7 +57,7 @@ function cardOf(block, words, windows, links) {
       continue;
     }
     const content = words ? words[word] : null;
-    if (!own.length) rows.push({word, cells: [plainCell(content, word)]});
+    if (own.every((it) => widthOf(it) < LEGIBLE)) rows.push({word, cells: [plainCell(content, word)]});
     for (const lane of lanesOf(own)) rows.push({word, cells: lane.map((it) => cellOf(it, content, links))});
   }
   if (left > 0)
@@ -106,11 +107,6 @@ export function textOfCell(window, value, link) {
   return [both, text, String(value)].find((it) => it && it.length <= room) ?? (text.length === 1 ? text : "");
 }
 
-// Whether a number is the code of a letter.
-function isLetter(value) {
-  return value >= 33 && value <= 58;
-}
-
 // A box: what it holds besides links, in a row, and a stub for each link below.
 function boxOf(block, words, windows, links) {
   const values =
@@ -143,8 +139,12 @@ function boxOf(block, words, windows, links) {
     height: HEAD + (cells.length || short ? ROW : 0),
     rows: cells.length || short ? rows : [],
     isBox: true,
-    text: values.length ? shortOf(values, text) : ""
+    text: values.length ? shortOf(values, text) : targetOf(links)
   };
+}
+
+function targetOf(links) {
+  return links.length === 1 ? String(links[0].target) : "";
 }
 
 function shortOf(values, text) {

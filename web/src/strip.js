@@ -1,13 +1,16 @@
 // The store as a strip: its units, and of one of them each block and each free piece, to scale.
 
+import {Pen} from "./pen.js";
 import {findPiece, freePieceWith, piecesBetween} from "./pieces.js";
 import {count, told, UNIT} from "./word.js";
 
 const LEAST_PART = 32; // words
 const LEVELS = 11;
 const LEVELS_HEIGHT = 176; // as in the style
-const LEVELS_LEFT = 34;    // for the sizes
+const LEVELS_LEFT = 40;    // for the sizes
 const FEW = 90;            // pieces that can be drawn wider than to scale
+const LABEL = 34;          // pixels in which the place of a piece has room
+const MOST_SPOKEN = 40;    // pieces that the text of the picture names
 
 export class Strip {
   constructor({text, units, strip, levels, bySize, unitBox}, choose) {
@@ -30,8 +33,8 @@ export class Strip {
     const blocks = store.pieces.filter((it) => !it.isFree);
     const lost = blocks.filter((it) => it.isLost).length;
     const lostText = lost ? `, ${told(lost)} lost` : "";
-    this.text.textContent = `${count(blocks.length, "block")}${lostText}; ${
-      count(store.used, "word")} used, ${told(store.free)} free`;
+    this.amounts = `${count(blocks.length, "block")}${lostText}; ${count(store.used, "word")} used, ${
+      told(store.free)} free`;
     this.draw();
   }
 
@@ -45,7 +48,7 @@ export class Strip {
     this.text.textContent = "";
     this.units.hidden = this.levels.hidden = this.unitBox.parentElement.hidden = true;
     this.strip.hidden = false;
-    paint(this.strip);
+    new Pen(this.strip);
   }
 
   draw() {
@@ -63,6 +66,8 @@ export class Strip {
     this.unitBox.max = this.count;
     this.unitBox.value = this.part.unit + 1;
     if (this.count > 1) this.drawUnits();
+    this.text.textContent =
+      `${this.amounts}${this.bySize.checked ? ". A frame is a piece that was halved." : ""}`;
     this.levels.hidden = !this.bySize.checked;
     this.strip.hidden = this.bySize.checked;
     if (this.bySize.checked)
@@ -72,8 +77,8 @@ export class Strip {
     this.strip.setAttribute("aria-label", this.textOf());
   }
 
-  // The unit that is shown, or the part of it that has all of its blocks: that of the reader, or that in which
-  // something has changed last, or the first with a block.
+  // The unit that is shown, or the part of it that has all of its blocks: that of the reader, or that in
+  // which something has changed last, or the first with a block.
   partShown() {
     const {store} = this.view;
     const changed = this.unit === null && this.before ? firstChange(this.before.store, store) : null;
@@ -91,7 +96,7 @@ export class Strip {
   }
 
   drawUnits() {
-    const pen = paint(this.units);
+    const pen = new Pen(this.units);
     const width = pen.width / this.count;
     const {store} = this.view;
     pen.fill("--free", 0, 0, pen.width, 12);
@@ -114,23 +119,19 @@ export class Strip {
   }
 
   drawStrip() {
-    const pen = paint(this.strip);
+    const pen = new Pen(this.strip);
     this.scale = pen.width / (this.part.end - this.part.begin);
     for (const piece of this.pieces) {
-      const box = this.boxOf(piece, 2, 30);
+      const box = this.boxOf(piece, 1, 35);
       this.drawPiece(pen, piece, box);
-      const size = String(piece.size);
-      if (box.width > size.length * 7 + 4)
-        pen.text(
-          piece.isFree ? "--soft" : "--block-ink", size, box.x + box.width / 2, 21, piece.isFree ? 11 : 12
-        );
-      if (box.width > 34)
-        pen.text(piece.isFree ? "--faint" : "--block-ink", String(piece.place), box.x + 3, 10, 8.5, "left");
+      const [ink, size] = [piece.isFree ? "--soft" : "--block-ink", told(piece.size)];
+      if (box.width > size.length * 7 + 4) pen.text(ink, size, box.x + box.width / 2, 29, 12.5);
+      if (box.width > 34) pen.text(ink, String(piece.place), box.x + 4, 12, 10, "left");
     }
     const rest =
-      this.part.end - this.part.begin < UNIT ? `.. free up to ${told(this.part.begin + UNIT - 1)}` : "";
-    pen.text("--soft", told(this.part.begin), 0, 42, 9.5, "left");
-    pen.text("--soft", rest || told(this.part.end - 1), pen.width, 42, 9.5, "right");
+      this.part.end - this.part.begin < UNIT ? `and all up to ${this.part.begin + UNIT - 1} is free` : "";
+    pen.text("--soft", String(this.part.begin), 0, 48, 10, "left");
+    pen.text("--soft", rest || String(this.part.end - 1), pen.width, 48, 10, "right");
   }
 
   boxOf(piece, y, height) {
@@ -153,15 +154,16 @@ export class Strip {
       pen.frame("--ink", x + 1, y + 1, Math.max(2, width - gap - 2), height - 2, 2.5);
   }
 
-  // Each piece in the line of its size: 1,024 above, 1 below. What was halved stands above its halves as a frame.
-  // Small pieces are drawn wider than to scale, or one would not see them; a whole is as wide as its parts.
+  // Each piece in the line of its size: 1,024 on top, 1 at the bottom. A frame above two pieces is the piece
+  // that they are halves of. Small pieces are drawn wider than to scale, so that one sees them; a whole is as
+  // wide as its parts.
   drawLevels() {
-    const pen = paint(this.levels);
+    const pen = new Pen(this.levels);
     const height = LEVELS_HEIGHT / LEVELS;
     this.widths = widthsOf(this.pieces, pen.width - LEVELS_LEFT);
     const line = (size) => (LEVELS - 1 - Math.log2(size)) * height + 1;
     for (let size = 1; size <= UNIT; size *= 2)
-      pen.text("--soft", told(size), LEVELS_LEFT - 6, line(size) + height - 4.5, 9.5, "right");
+      pen.text("--soft", told(size), LEVELS_LEFT - 6, line(size) + height - 4.5, 10.5, "right");
     for (const [key, {from, to}] of halvedOf(this.pieces, this.widths)) {
       const size = Number(key.split(" ")[1]);
       pen.frame(
@@ -172,11 +174,8 @@ export class Strip {
       const {from, to} = this.widths[index];
       const box = {x: LEVELS_LEFT + from, y: line(piece.size), width: to - from, height: height - 2};
       this.drawPiece(pen, piece, box);
-      if (box.width > 34)
-        pen.text(
-          piece.isFree ? "--soft" : "--block-ink", String(piece.place), box.x + box.width / 2,
-          box.y + height - 5, 10
-        );
+      const ink = piece.isFree ? "--soft" : "--block-ink";
+      if (box.width > 28) pen.text(ink, String(piece.place), box.x + box.width / 2, box.y + height - 5, 10.5);
     });
     this.levels.setAttribute(
       "aria-label", `The pieces of unit ${this.part.unit + 1} by their sizes. ${this.textOf()}`
@@ -184,14 +183,10 @@ export class Strip {
   }
 
   textOf() {
-    const parts = this.pieces.slice(0, 40).map(
-      (it) => `${it.place} ${
-        it.isFree   ? "free" :
-          it.isLost ? "lost block" :
-                      "block"} of ${it.size}`
-    );
-    return `${parts.join(", ")}${
-      this.pieces.length > 40 ? ` and ${this.pieces.length - 40} more pieces` : ""}`;
+    const kindOf = (it) => (it.isFree ? "free" : `${it.isLost ? "lost " : ""}block`);
+    const parts = this.pieces.slice(0, MOST_SPOKEN).map((it) => `${it.place} ${kindOf(it)} of ${it.size}`);
+    const more = this.pieces.length - MOST_SPOKEN;
+    return `${parts.join(", ")}${more > 0 ? ` and ${count(more, "more piece", "more pieces")}` : ""}`;
   }
 
   placeAt(event) {
@@ -227,9 +222,12 @@ export class Strip {
   }
 }
 
-// From where to where each piece is drawn.
+// From where to where each piece is drawn. Of a few, each has room for its place, if it can be.
 function widthsOf(pieces, room) {
-  const weight = pieces.length <= FEW ? (piece) => 1 + 0.45 * Math.log2(piece.size) : (piece) => piece.size;
+  const slopes = [0.45, 0.2, 0.08, 0];
+  const lengthOf = (slope) => pieces.reduce((sum, it) => sum + 1 + slope * Math.log2(it.size), 0);
+  const slope = slopes.find((it) => room / lengthOf(it) >= LABEL) ?? slopes[0];
+  const weight = pieces.length <= FEW ? (piece) => 1 + slope * Math.log2(piece.size) : (piece) => piece.size;
   const whole = pieces.reduce((sum, it) => sum + weight(it), 0);
   let at = 0;
   return pieces.map((piece) => {
@@ -263,50 +261,4 @@ function firstChange(one, other) {
     if (keyOf(one.pieces[index]) !== keyOf(other.pieces[index])) return other.pieces[index].place;
   }
   return one.pieces.length === other.pieces.length ? null : other.pieces[size - 1].place;
-}
-
-// A canvas that is empty, and what draws on it with the colours of the page.
-export function paint(canvas) {
-  const [width, height] = [canvas.clientWidth, canvas.clientHeight];
-  const dots = window.devicePixelRatio || 1;
-  canvas.width = Math.round(width * dots);
-  canvas.height = Math.round(height * dots);
-  const pen = canvas.getContext("2d");
-  pen.scale(dots, dots);
-  const style = getComputedStyle(document.documentElement);
-  const colour = (name) => style.getPropertyValue(name).trim();
-  return {
-    width,
-    fill(name, x, y, w, h) {
-      pen.fillStyle = colour(name);
-      pen.fillRect(x, y, w, h);
-    },
-    frame(name, x, y, w, h, line) {
-      pen.strokeStyle = colour(name);
-      pen.lineWidth = line;
-      pen.strokeRect(x, y, w, h);
-    },
-    hatch(name, x, y, w, h) {
-      pen.save();
-      pen.beginPath();
-      pen.rect(x, y, w, h);
-      pen.clip();
-      pen.strokeStyle = colour(name);
-      pen.globalAlpha = 0.45;
-      pen.lineWidth = 2;
-      for (let at = x - h; at < x + w; at += 7) {
-        pen.beginPath();
-        pen.moveTo(at, y + h);
-        pen.lineTo(at + h, y);
-        pen.stroke();
-      }
-      pen.restore();
-    },
-    text(name, text, x, y, size, align = "center") {
-      pen.fillStyle = colour(name);
-      pen.font = `${size}px ${style.getPropertyValue("--mono")}`;
-      pen.textAlign = align;
-      pen.fillText(text, x, y);
-    },
-  };
 }

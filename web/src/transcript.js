@@ -65,7 +65,8 @@ export class Transcript {
     return Array.from({length: Number(found[1])}, () => parseInt(this.line().trim().split(" ")[1], 8));
   }
 
-  // The answer to `draw`: the bugs that lead to blocks, and of each block that is reached where its fields lead.
+  // The answer to `draw`: the bugs that lead to blocks, and of each block that is reached where its fields
+  // lead.
   draw() {
     const bugs = new Map();
     const blocks = new Map();
@@ -110,7 +111,7 @@ export class Transcript {
   }
 }
 
-// What the line of a state tells. Its number is the count of steps, but one more behind a trap.
+// What the line of a state says. Its number is the count of steps, but one more after a trap.
 export function stateOf(line) {
   const steps = Number(/AFTER (\d+) STEPS$/.exec(line)?.[1]);
   const at = /AT (\d+)\.(\d+) /.exec(line);

@@ -3,10 +3,10 @@
 import {changesOf, endingOf, shortened} from "./changes.js";
 import {byId, make} from "./dom.js";
 import {Drawing} from "./drawing.js";
-import {actionAt} from "./meaning.js";
+import {actionAt, meaningOf} from "./meaning.js";
 import {showBugs, showChain, showFields, showWords} from "./panels.js";
 import {Strip} from "./strip.js";
-import {told} from "./word.js";
+import {count, told} from "./word.js";
 
 export class Viewer {
   // The editor has the deck; `trouble` is called where a question to the debugger fails.
@@ -68,23 +68,40 @@ export class Viewer {
     this.showWhere();
   }
 
-  // Where the run is, what comes next, and what changed; all of it aloud, too.
+  // Where the run is, what comes next, and what changed.
   showWhere() {
     const {state} = this.view;
     const hasNext = !state.ending || state.ending === "TRAP";
-    const action = hasNext ? actionAt(this.editor.deck, state.statement, state.action) : null;
-    this.editor.point(action && {...action, statement: state.statement});
+    this.action = hasNext ? actionAt(this.editor.deck, state.statement, state.action) : null;
+    this.editor.point(this.action && {...this.action, statement: state.statement});
     byId("where").textContent = state.line;
     byId("where").parentElement.classList.toggle("trap", state.ending === "TRAP");
-    const next = action ?
-      [state.ending ? "At: " : "Next: ", make("code", {}, action.text || "—"), ` ${action.says}`] :
-      [];
+    this.showNext(state.ending ? "At: " : "Next: ", this.action);
+    this.changes = changesOf(this.before, this.view, this.session.input);
+    this.showChanges(this.changes);
+  }
+
+  showNext(when, action) {
+    const next = action ? [when, make("code", {}, action.text), ` ${action.says}`] : [];
     byId("next").replaceChildren(...next);
-    const changes = changesOf(this.before, this.view, this.session.input);
-    this.showChanges(changes);
-    const said = action ? [`Next ${action.text}, ${action.says}`] : [];
-    const all = [state.line, endingOf(this.view), ...said, shortened(changes).join("; ")];
-    byId("spoken").textContent = all.filter((it) => it).join(". ");
+    byId("next").title = action ? `${action.text} ${action.says}` : "";
+  }
+
+  // What the group does that the cursor is in, while nothing is run.
+  explain(group) {
+    this.showNext("", group && {text: `(${group.text})`, says: meaningOf(group.elements, group.text)});
+  }
+
+  // Tells all of it to a screen reader.
+  speak() {
+    const {action, changes, view} = this;
+    if (!view) return;
+    const {state} = view;
+    const at = `Statement ${state.statement}, after ${count(state.steps, "step")}`;
+    const where = state.ending ? state.line.replace("== ", "") : at;
+    const next = action && !state.ending ? [`Next: ${action.text} ${action.says}`] : [];
+    const changed = changes.length ? [`Changed: ${shortened(changes).join("; ")}`] : [];
+    byId("spoken").textContent = [where, endingOf(view), ...next, ...changed].filter((it) => it).join(". ");
   }
 
   showChanges(changes) {
@@ -121,20 +138,18 @@ export class Viewer {
   // The fields with links, each a button that turns the direction of its links.
   showLegend() {
     const {windows, ways} = this.drawing.graph;
-    byId("legend").replaceChildren(...windows.map((window) => {
-      const way = ways.get(window.key);
-      const colour = this.drawing.colourOf(window.name);
-      if (!way) return make("span", {class: colour}, window.name);
-      return make(
-        "button", {
-          type: "button",
-          class: colour,
-          title: `Links of ${window.name} lead ${way.down ? "down" : "to the right"}: click to turn`,
-          onclick: () => this.turn(window, way),
-        },
-        `${window.name} ${way.down ? "↓" : "→"}`
-      );
-    }));
+    byId("legend").replaceChildren(...windows.map((window) => this.legendOf(window, ways.get(window.key))));
+  }
+
+  legendOf(window, way) {
+    const colour = this.drawing.colourOf(window.name);
+    if (!way) return make("span", {class: colour}, window.name);
+    const arrow = way.isBack ? "←" : "→";
+    const title = `Links of ${window.name} lead ${way.down ? "down" : "along a line"}: click to turn`;
+    return make(
+      "button", {type: "button", class: colour, title, onclick: () => this.turn(window, way)},
+      `${window.name} ${way.down ? "↓" : arrow}`
+    );
   }
 
   turn(window, way) {
@@ -144,6 +159,7 @@ export class Viewer {
 
   redraw() {
     if (!this.view) return;
+    this.drawing.forgetSize();
     this.drawing.show(this.view, this.before);
     this.showLegend();
   }
@@ -185,7 +201,7 @@ export class Viewer {
     this.showDetails();
   }
 
-  // Draws all anew where the window has another size.
+  // Draws all again where the window has another size.
   resized() {
     clearTimeout(this.resizeTimer);
     this.resizeTimer = setTimeout(() => {
@@ -195,7 +211,7 @@ export class Viewer {
     }, 120);
   }
 
-  // Nothing is shown of a run; why not is told.
+  // Shows nothing of a run, and says why not.
   clear(why) {
     this.view = this.before = null;
     this.drawing.empty(why);
@@ -206,8 +222,9 @@ export class Viewer {
     byId("amounts").textContent = "";
     byId("where").textContent = "Not run yet";
     byId("where").parentElement.classList.remove("trap");
-    byId("empty").replaceChildren(
-      make("div", {}, make("b", {}, why), make("br"), "Run goes to the end, Step goes on by one step.")
-    );
+    byId("empty").replaceChildren(make(
+      "div", {}, ...(why ? [make("b", {}, why), make("br")] : []),
+      "Run goes to the end. Step goes on by one step."
+    ));
   }
 }

@@ -29,7 +29,12 @@ export function characterOf(code) {
   return String.fromCharCode(code + 32);
 }
 
-// The text for which a number stands: its digits to base 64 are codes. Blanks in front are left out.
+// Whether a number is the code of a letter.
+export function isLetter(number) {
+  return number >= 33 && number <= 58;
+}
+
+// The text that a number is the code of: its digits to base 64 are codes. Blanks in front are left out.
 export function textOf(number) {
   let text = "";
   for (let rest = number; rest > 0; rest = Math.floor(rest / 64)) {
@@ -38,7 +43,7 @@ export function textOf(number) {
   return text;
 }
 
-// The text for which a number most likely stands, or "": letters and blanks, two letters at least.
+// The text that a number most likely is the code of, or "": letters and blanks, two letters at least.
 export function likelyText(number) {
   const text = textOf(number).trim();
   return /^[A-Z][A-Z .'-]*[A-Z.]$/.test(text) ? text : "";

@@ -1,10 +1,10 @@
 #!/usr/bin/env python3
 """Tests the page, dist/l6.html: all of it where node, binaryen and browsers are there.
 
-all.py PROGRAM [--quick] makes the page anew and compares it byte for byte with the one that is handed out;
+all.py PROGRAM [--quick] makes the page again and compares it byte for byte with the one that is handed out;
 runs the cases, examples and random jobs through the page's module, in node, against their answers and those
-of the program; and tries the page in headless Chromium, and in Firefox. What is missing is told as skipped.
-With --quick the module is not made anew, which takes two minutes. The last line is 'N passed, M failed'.
+of the program; and tries the page in headless Chromium, and in Firefox. It says what it skips.
+With --quick the module is not made again, which takes two minutes. The last line is 'N passed, M failed'.
 """
 from __future__ import annotations
 
@@ -41,8 +41,8 @@ def counted(words: list[str]) -> tuple[int, int]:
     return passed, failed or int(ran.returncode != 0)
 
 
-def made_anew(program: Path) -> tuple[int, int]:
-    """Makes the page anew, and compares it with the one that is handed out."""
+def made_again(program: Path) -> tuple[int, int]:
+    """Makes the page again, and compares it with the one that is handed out."""
     with tempfile.TemporaryDirectory(prefix="l6-page-") as folder:
         page = Path(folder, "l6.html")
         for words in ([str(WEB / "build"), str(program)], [str(WEB / "bundle"), str(page)]):
@@ -83,9 +83,9 @@ def main() -> int:
     counts = []
     if is_quick or gone & {"wasm-opt", "rt"}:
         why = "as was asked" if is_quick else f"{', '.join(sorted(gone & {'wasm-opt', 'rt'}))} is missing"
-        print(f"skipped: the page made anew: {why}")
+        print(f"skipped: the page made again: {why}")
     else:
-        counts.append(made_anew(program))
+        counts.append(made_again(program))
     for needs, what, command in tests:
         if needs & gone:
             print(f"skipped: {what}: {', '.join(needs & gone)} is missing")

@@ -13,6 +13,17 @@ from pathlib import Path
 
 SECONDS = 60
 PROGRAMS = ("chromium", "chromium-browser", "google-chrome", "chrome")
+QUIET = {"stdin": subprocess.DEVNULL, "stdout": subprocess.DEVNULL, "stderr": subprocess.DEVNULL}
+KEYS = {
+    "Enter": 13, "Escape": 27, "ArrowLeft": 37, "ArrowRight": 39, "ArrowUp": 38, "ArrowDown": 40,
+    "Home": 36, "End": 35, "Tab": 9, " ": 32, "F8": 119, "F9": 120,
+}
+MIDDLE = """(() => {
+    const element = document.querySelector(SELECTOR);
+    element.scrollIntoView({block: 'nearest'});
+    const box = element.getBoundingClientRect();
+    return [box.x + box.width / 2, box.y + box.height / 2];
+})()"""
 
 
 def find_browser() -> str | None:
@@ -32,7 +43,7 @@ class Browser:
                  "--disable-background-networking", "--disable-component-update", "about:blank"]
         self._process = subprocess.Popen(
             ["/bin/sh", "-c", f'exec "$@" 3<&{to_read} 4>&{to_write}', "sh", *words],
-            pass_fds=(to_read, to_write), stdin=subprocess.DEVNULL, stdout=subprocess.DEVNULL, stderr=subprocess.DEVNULL,
+            pass_fds=(to_read, to_write), **QUIET,
         )
         os.close(to_read)
         os.close(to_write)
@@ -58,16 +69,18 @@ class Browser:
 
     def resize(self, width: int, height: int, dark: bool = False, phone: bool = False) -> None:
         """Sets the window's size in pixels, and whether the reader likes it dark."""
-        self._call("Emulation.setDeviceMetricsOverride", width=width, height=height, deviceScaleFactor=1, mobile=phone)
+        size = {"width": width, "height": height, "deviceScaleFactor": 1, "mobile": phone}
+        self._call("Emulation.setDeviceMetricsOverride", **size)
         features = [{"name": "prefers-color-scheme", "value": "dark" if dark else "light"},
                     {"name": "prefers-reduced-motion", "value": "reduce"}]
         self._call("Emulation.setEmulatedMedia", features=features)
 
     def open(self, page: Path | str, fragment: str = "") -> None:
-        """Opens a page anew, and waits until it is ready."""
+        """Opens a page, and waits until it is ready."""
         address = page if isinstance(page, str) else page.resolve().as_uri()
         self.value("window.l6 && (l6.library.isChanged = false)")  # (or the browser would ask)
         self._call("Page.navigate", url="about:blank")
+        self.wait("location.href === 'about:blank'")  # (else this way could end the next one)
         self._call("Page.navigate", url=address + fragment)
         self.wait("document.body?.dataset.ready === 'yes'")
 
@@ -88,9 +101,7 @@ class Browser:
 
     def key(self, key: str, code: str = "", modifiers: int = 0, text: str = "") -> None:
         """Presses a key. Modifiers: 1 Alt, 2 Control, 4 Meta, 8 Shift."""
-        numbers = {"Enter": 13, "Escape": 27, "ArrowLeft": 37, "ArrowRight": 39, "ArrowUp": 38, "ArrowDown": 40,
-                   "Home": 36, "End": 35, "Tab": 9, " ": 32, "F8": 119, "F9": 120}
-        number = numbers.get(key, ord(key[0].upper()))
+        number = KEYS.get(key, ord(key[0].upper()))
         how = {"key": key, "code": code or key, "windowsVirtualKeyCode": number, "modifiers": modifiers}
         self._call("Input.dispatchKeyEvent", type="keyDown", **how, **({"text": text} if text else {}))
         self._call("Input.dispatchKeyEvent", type="keyUp", **how)
@@ -101,10 +112,9 @@ class Browser:
 
     def click(self, selector: str) -> None:
         """Clicks in the middle of an element."""
-        box = self.value(f"(() => {{ const e = document.querySelector({json.dumps(selector)}); e.scrollIntoView({{block: 'nearest'}});"
-                         " const b = e.getBoundingClientRect(); return [b.x + b.width / 2, b.y + b.height / 2]; })()")
+        x, y = self.value(MIDDLE.replace("SELECTOR", json.dumps(selector)))
         for kind in ("mousePressed", "mouseReleased"):
-            self._call("Input.dispatchMouseEvent", type=kind, x=box[0], y=box[1], button="left", clickCount=1)
+            self._call("Input.dispatchMouseEvent", type=kind, x=x, y=y, button="left", clickCount=1)
 
     def picture(self, path: Path) -> None:
         """Writes a picture of the window."""
@@ -125,7 +135,8 @@ class Browser:
 
     def requests(self) -> list[str]:
         """The addresses that the page has asked for since the last call of `troubles`."""
-        return [it["params"]["request"]["url"] for it in self.events if it["method"] == "Network.requestWillBeSent"]
+        asked = [it["params"] for it in self.events if it["method"] == "Network.requestWillBeSent"]
+        return [it["request"]["url"] for it in asked]
 
     def _call(self, method: str, **parameters: object) -> dict:
         number = self._send(method, **parameters)

@@ -8,9 +8,9 @@ import {readdirSync, readFileSync} from "node:fs";
 import {bytesOfText, compiled, serveText, Tally, TOP} from "./common.mjs";
 
 const tally = new Tally();
-const module = compiled();
+const module = await compiled();
 
-// The bytes of a text of a case: [text, n] stands for n times the text, [text, m, n] for one of each number.
+// The bytes of a text of a case: [text, n] is n times the text, [text, m, n] for one of each number.
 function textOf(value) {
   if (typeof value === "string") return value;
   return value.map((part) => (typeof part === "string" ? part : repeated(...part))).join("");

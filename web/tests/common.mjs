@@ -3,19 +3,19 @@
 import {readFileSync} from "node:fs";
 import {dirname, resolve} from "node:path";
 import {fileURLToPath} from "node:url";
-import {gunzipSync} from "node:zlib";
 
 import {serve} from "../src/serve.js";
+import {unpacked} from "../src/unpack.js";
 
 export const WEB = resolve(dirname(fileURLToPath(import.meta.url)), "..");
 export const TOP = resolve(WEB, "..");
 export const MEMORY = 1 << 30;
 
 // The module of the page that is handed out, dist/l6.html, or of the one that L6_PAGE names.
-export function compiled() {
+export async function compiled() {
   const page = readFileSync(process.env.L6_PAGE ?? `${TOP}/dist/l6.html`, "utf8");
   const packed = /<script type="text\/plain" id="module">([^<]*)</.exec(page)[1];
-  return new WebAssembly.Module(gunzipSync(Buffer.from(packed, "base64")));
+  return WebAssembly.compile(await unpacked(packed));
 }
 
 // Each character of a text is one byte.

@@ -2,7 +2,7 @@
 """Tries the page in headless Firefox, through Marionette, with nothing else installed.
 
 firefox.py [PAGE] prints what differs, and last 'N passed, M failed'. What the page does is tried in Chromium;
-here it is looked that this browser can do it, too, from a file: begin, run, go to a state, stop, and draw.
+this tests that Firefox can do it, too, from a file: begin, run, go to a state, stop, and draw.
 """
 from __future__ import annotations
 
@@ -40,7 +40,8 @@ class Firefox:
         words = [find_firefox(), "--headless", "--marionette", "--no-remote", "--profile", str(profile),
                  "--width", "1400", "--height", "900", "about:blank"]
         quiet = {"stdin": subprocess.DEVNULL, "stdout": subprocess.DEVNULL, "stderr": subprocess.DEVNULL}
-        self._process = subprocess.Popen(words, env={"HOME": self._folder.name, "PATH": "/usr/bin:/bin"}, **quiet)
+        home = {"HOME": self._folder.name, "PATH": "/usr/bin:/bin"}
+        self._process = subprocess.Popen(words, env=home, **quiet)
         self._socket = self._connected(port)
         self._number = 0
         self._read()
@@ -65,18 +66,20 @@ class Firefox:
         self._folder.cleanup()
 
     def open(self, page: Path, fragment: str = "") -> None:
-        """Opens a page anew, and waits until it is ready."""
+        """Opens a page, and waits until it is ready."""
         self._call("WebDriver:Navigate", url="about:blank")
         self._call("WebDriver:Navigate", url=page.resolve().as_uri() + fragment)
         end = time.monotonic() + SECONDS
         while self.value("document.body.dataset.ready") != "yes":
             if time.monotonic() > end:
-                raise AssertionError(f"the page is not ready: {self.value('document.getElementById(`told`).textContent')}")
+                raise AssertionError(f"the page is not ready: {self.value(text('told'))}")
             time.sleep(0.05)
 
     def value(self, script: str):
         """What a script of the page's answers; a promise is waited for."""
-        body = f"const done = arguments[0]; const l6 = (window.wrappedJSObject ?? window).l6; Promise.resolve({script}).then(done, (it) => done('error: ' + it));"
+        body = f"""const done = arguments[0];
+            const l6 = (window.wrappedJSObject ?? window).l6;
+            Promise.resolve({script}).then(done, (it) => done('error: ' + it));"""
         return self._call("WebDriver:ExecuteAsyncScript", script=body, args=[])["value"]
 
     def picture(self, path: Path) -> None:
@@ -131,23 +134,32 @@ def main() -> int:
 
 
 def text(name: str) -> str:
+    """The script of the text of an element."""
     return f"document.getElementById('{name}').textContent"
 
 
-TRIALS = [
+FITS = "(e => e.scrollWidth <= e.clientWidth)(document.getElementById('deck'))"
+DRAWN = "['.block', '.arrow'].map(it => document.querySelectorAll(it).length).join(' ')"
+LISTED = f"l6.papers.open('listing').then(() => {text('paper')}.split('\\n')[0])"
+STOPPED = f"""(async () => {{
+    const until = async (holds) => {{ while (!holds()) await new Promise(done => setTimeout(done, 20)); }};
+    document.getElementById('deck').value = 'L (A,A,1) L\\n';
+    document.getElementById('steps').value = 1000000000;
+    l6.changed();
+    l6.run();
+    await until(() => !document.getElementById('stop').disabled);
+    l6.stop();
+    await until(() => !l6.isBusy);
+    return {text('told')};
+}})()"""
+TRIALS = [  # what is tried, the link, a script, and its answer
     ("the first deck", "", f"l6.run().then(() => {text('printed')})", "5\n== DONE AFTER 6 STEPS"),
     ("a step", "", f"l6.step().then(() => {text('where')})", "AT 0.1 AFTER 1 STEPS"),
-    ("a state of an example", "#tree@137", "document.querySelectorAll('.block').length + ' ' + document.querySelectorAll('.arrow').length", "6 5"),
+    ("a state of an example", "#tree@137", DRAWN, "6 5"),
     ("the store", "#tree@137", text("store-text"), "6 blocks; 12 words used, 8,180 free"),
-    ("a listing", "", f"l6.papers.open('listing').then(() => {text('paper')}.split('\\n')[0])", "      1     0   (A,E,5)(A,PD)"),
-    ("72 columns fit", "#tree", "(e => e.scrollWidth <= e.clientWidth)(document.getElementById('deck'))", True),
-    (
-        "an endless deck is stopped",
-        "",
-        "(document.getElementById('deck').value = 'L (A,A,1) L\\n', document.getElementById('steps').value = 1000000000, l6.changed(), l6.run(),"
-        f" new Promise(done => setTimeout(done, 700)).then(() => l6.stop()).then(() => new Promise(done => setTimeout(done, 100))).then(() => {text('told')}))",
-        "stopped",
-    ),
+    ("a listing", "", LISTED, "      1     0   (A,E,5)(A,PD)"),
+    ("72 columns fit", "#tree", FITS, True),
+    ("an endless deck is stopped", "", STOPPED, "stopped"),
 ]
 
 if __name__ == "__main__":

@@ -1,8 +1,9 @@
-// Tests the parts of the page that need no browser: reading decks and transcripts, a session on the module, the
-// store's pieces, layouts and arrows, links, changes and chains.
+// Tests the parts of the page that need no browser: reading decks and transcripts, a session on the module,
+// the store's pieces, layouts and arrows, links, changes and chains.
 //
 // parts.mjs prints what differs, and last 'N passed, M failed'.
 
+import {execFileSync} from "node:child_process";
 import {readdirSync, readFileSync} from "node:fs";
 
 import {follow} from "../src/chain.js";
@@ -17,12 +18,13 @@ import {freePieceWith, piecesBetween} from "../src/pieces.js";
 import {Router} from "../src/route.js";
 import {job, partsOf, Session} from "../src/session.js";
 import {stateOf, Transcript} from "../src/transcript.js";
+import {unpacked} from "../src/unpack.js";
 import {likelyText, octal, seenThrough, textOf} from "../src/word.js";
 
 import {compiled, MEMORY, serveText, Tally, TOP, WEB} from "./common.mjs";
 
 const tally = new Tally();
-const module = compiled();
+const module = await compiled();
 const same = (name, got, want) => tally.same(name, got, want);
 
 // ---- Words
@@ -72,7 +74,7 @@ const slips = {
   [` (A,E,1)${" ".repeat(60)}(A,E,22222)\n`]: "column 72",
   " IFF (A,E,0) THEN DONE\n": "Is IF meant",
   " IF (A,PD) THEN DONE\n": "is an operation",
-  " IF (A,E,0)\n (PL)\n": "THEN behind it",
+  " IF (A,E,0)\n (PL)\n": "THEN after it",
   " (A,PD)~\n": "none of those",
   " (A,E)\n": "2 parts",
   "$X\n": "boxes",
@@ -90,9 +92,41 @@ const second = actionAt(lostDeck, 2, 2);
 same("an operation's place", [second.card, second.from, second.to, second.text, second.says], [
   3, 9, 16, "(B,E,0)", "B becomes 0"
 ]);
-same("the added DONE", actionAt(lostDeck, 5, 1).says, "the DONE behind every deck");
+same("the added DONE", actionAt(lostDeck, 5, 1).says, "the DONE that every deck gets");
 same("an exit", actionAt(readDeck("L (PL) L\n"), 0, 2).text, "L");
-same("a condition", actionAt(readDeck(" IF (A,E,0)\n+THEN DONE\n"), 0, 0).text, "IF (A,E,0)");
+const conditions = {
+  " IF (A,E,0)\n+THEN DONE\n": ["IF (A,E,0)", "asks whether A is 0"],
+  " NOT (N,G,5) THEN DONE\n": ["NOT (N,G,5)", "asks whether it is false that N is greater than 5"],
+  " IFANY (A,LH,0)(A,ZO,7) THEN DONE\n": [
+    "IFANY (A,LH,0)(A,ZO,7)",
+    "asks whether one of these is true: A is less than the text “0”; A has no bit of octal 7"
+  ],
+  "L (PL)\n": ["statement 0", "begins; it has no condition"],
+};
+for (const [deck, want] of Object.entries(conditions)) {
+  const {text, says} = actionAt(readDeck(deck), 0, 0);
+  same(`what is asked by ${deck.trim()}`, [text, says], want);
+}
+same(
+  "a statement without an exit", actionAt(readDeck(" (PL)\n"), 0, 2).says,
+  "ends without an exit: on to the next one"
+);
+
+// ---- Bytes in the page
+
+const everyByte = Uint8Array.from({length: 1001}, (_, index) => (index * 89) % 256);
+const packed = execFileSync(
+  "python3",
+  [
+    "-c", `
+import runpy, sys
+sys.stdout.write(runpy.run_path(sys.argv[1])["packed"](sys.stdin.buffer.read()))`,
+    `${WEB}/bundle`
+  ],
+  {input: everyByte}
+);
+same("bytes are unpacked as they were", [...(await unpacked(packed.toString()))], [...everyByte]);
+tally.count("no digit begins a tag", !packed.includes("<"), () => "one does");
 
 // ---- Jobs
 
@@ -169,16 +203,16 @@ same("past the last state", (await run.view(99)).state.number, 21);
 same("what was printed there", trap.output, "12\n");
 same("and before", [(await run.view(17)).output, (await run.view(16)).output], ["12", ""]);
 same("what run prints", (await run.run()).text, "12\n== TRAP 2 NOT A BLOCK AT 4.1 AFTER 20 STEPS\n");
-same("on to a mark", (await run.go(0, [3])).state.number, 14);
-same("back to a mark", (await run.goBack(20, [1, 3])).state.number, 14);
-same("back to the mark before that", (await run.goBack(14, [1, 3])).state.number, 4);
+same("on to a breakpoint", (await run.go(0, [3])).state.number, 14);
+same("back to a breakpoint", (await run.goBack(20, [1, 3])).state.number, 14);
+same("back to the breakpoint before that", (await run.goBack(14, [1, 3])).state.number, 4);
 same("back to the start", (await run.goBack(3, [3])).state.number, 0);
-same("the first state may stand at a mark", (await run.goBack(3, [0])).state.number, 0);
+same("the first state may be at a breakpoint", (await run.goBack(3, [0])).state.number, 0);
 
 const loop = session("L (A,A,1) L\n", "", {steps: 300_000});
-same("back to a mark far away", (await loop.goBack(200_000, [1, 0])).state.number, 199_998);
+same("back to a breakpoint far away", (await loop.goBack(200_000, [1, 0])).state.number, 199_998);
 const far = session(" (A,E,1)\nM (A,E,2)\nL (A,A,1) L\n", "", {steps: 300_000});
-same("back to a mark very far away", (await far.goBack(200_000, [1])).state.number, 3);
+same("back to a breakpoint very far away", (await far.goBack(200_000, [1])).state.number, 3);
 same("a limit", (await loop.view(400_000)).state.line, "== LIMIT AFTER 300000 STEPS");
 await session(" (A,E,5\n")
   .run()
@@ -196,7 +230,7 @@ same("what changed in a step", changesOf(at12, at13, ""), [
 ]);
 same(
   "a block is got, of a piece of its size", changesOf(await run.view(11), await run.view(12), "")[0],
-  "got 4 words at 1028"
+  "got 4 words at 1028 (a free piece of this size was there: none was halved)"
 );
 same(
   "the first block", changesOf(await run.view(5), await run.view(6), "")[0],
@@ -210,20 +244,31 @@ same(
 );
 same(
   "ten joinings", changesOf(await firstGet.view(2), await firstGet.view(3), "")[0],
-  "freed 1 word at 1024 (joined 10 times, to a free piece of 1,024)"
+  "freed 1 word at 1024 (joined 10 times, to a free piece of 1,024, which is a whole unit)"
 );
 same("the free pieces", piecesBetween((await firstGet.view(2)).store, 1024, 2048).map((it) => it.size), [
   1, 1, 2, 4, 8, 16, 32, 64, 128, 256, 512
 ]);
 same("the piece with a word", freePieceWith((await firstGet.view(2)).store, 1100), 64);
 
-// The allocator's page tells which pieces are free behind each of eight calls; the first six are held to it here.
+// The allocator's page tells which pieces are free after each of eight calls; the first six are held to it
+// here.
 const eight = session(" (A,GT,1)(B,GT,1)(C,GT,1)(D,GT,1)(A,FR)(C,FR)(E,GT,1)(D,FR)\n", "", {store: 1});
 const freeAt = async (number) =>
   piecesBetween((await eight.view(number)).store, 1024, 2048).filter((it) => it.isFree).map((it) => it.place);
-same("behind the first get", (await freeAt(2)).slice(0, 4), [1025, 1026, 1028, 1032]);
-same("behind the fourth", (await freeAt(5)).slice(0, 2), [1028, 1032]);
-same("behind the second free", (await freeAt(7)).slice(0, 3), [1024, 1026, 1028]);
+same("after the first get", (await freeAt(2)).slice(0, 4), [1025, 1026, 1028, 1032]);
+same("after the fourth", (await freeAt(5)).slice(0, 2), [1028, 1032]);
+same("after the second free", (await freeAt(7)).slice(0, 3), [1024, 1026, 1028]);
+const changedBy = async (number) => changesOf(await eight.view(number - 1), await eight.view(number), "")[0];
+same(
+  "why a piece is not joined", await changedBy(6),
+  "freed 1 word at 1024 (not joined; the buddy at 1025 is a block)"
+);
+const pair = session(" (A,GT,1)(B,GT,1)(C,GT,1)(A,FR)(B,FR)\n", "", {store: 1});
+same(
+  "how far one is joined", changesOf(await pair.view(5), await pair.view(6), "")[0],
+  "freed 1 word at 1025 (joined 1 time, to a free piece of 2; the buddy at 1026 is not free as a whole)"
+);
 
 same("a chain", follow("ANV", at14).steps.map((it) => it.value), [1024, 1026, 7]);
 same("a chain's trap", [follow("ANNV", at14).trap, follow("AX", at14).trap], [
@@ -262,6 +307,21 @@ const hundred = session(" (0,DN,18,35)\nG (L,GT,1,LN)(C,A,1)\n IF (C,L,100) THEN
 await hundred.run();
 const list = drawn("a list of 100", await hundred.view(hundred.last), 900);
 tally.count("it wraps", list.width <= 900, () => String(list.width));
+
+const double = session(`
+ (0,DP,0,17)(0,DN,18,35)
+G (X,GT,1)(XP,E,L)
+ IF (L,N,0) THEN (LN,E,X)
+ (L,E,X)(C,A,1)
+ IF (C,L,4) THEN G
+`);
+await double.run();
+const both = drawn("a list that is linked both ways", await double.view(double.last), 900);
+same(
+  "it is a line from its first block to its last",
+  [...both.places].sort((a, b) => a[1].x - b[1].x).map(([it]) => it), [1024, 1025, 1026, 1027]
+);
+same("in one line", new Set([...both.places.values()].map((it) => it.y)).size, 1);
 const big = session(" (0,DN,18,35)\nG (L,GT,1,LN,F) G\nF DONE\n");
 await big.run();
 const chosen = choose(await big.view(big.last));
@@ -282,15 +342,21 @@ const crosses = way.slice(1).some((to, index) => {
   );
 });
 tally.count("an arrow goes round a block", !crosses, () => JSON.stringify(way));
+const low = [{x: 24, y: 24, width: 48, height: 48}, {x: 108, y: 24, width: 48, height: 48}];
+same(
+  "an arrow turns early, and runs straight into its block",
+  new Router(200, 100, low).way([{x: 72, y: 60, direction: 0}], [{x: 108, y: 36, direction: 0}]),
+  [{x: 72, y: 60}, {x: 84, y: 60}, {x: 84, y: 36}, {x: 108, y: 36}]
+);
 
 // ---- Links
 
 const own =
-  await readLink(await linkOf({deck: " (<b>,PH)\n", input: "x", options, marks: [1, 4], number: 7}));
-same("a link keeps all", own, {deck: " (<b>,PH)\n", input: "x", options, number: 7, marks: [1, 4]});
+  await readLink(await linkOf({deck: " (<b>,PH)\n", input: "x", options, breakpoints: [1, 4], number: 7}));
+same("a link keeps all", own, {deck: " (<b>,PH)\n", input: "x", options, number: 7, breakpoints: [1, 4]});
 same(
-  "an example's link", await readLink(await linkOf({example: "tree", marks: [5], number: 137})),
-  {example: "tree", number: 137, marks: [5]}
+  "an example's link", await readLink(await linkOf({example: "tree", breakpoints: [5], number: 137})),
+  {example: "tree", number: 137, breakpoints: [5]}
 );
 for (const bad of
        ["", "#", "#deck=%%", "#deck=AAAA", "#a b",
@@ -300,14 +366,16 @@ for (const bad of
 
 // ---- Exercises: the tutorial's answers print what is asked for, and the decks to begin with don't
 
-const answers = readFileSync(`${TOP}/docs/tutorial.md`, "utf8").split("\n## Answers\n")[1];
+const answers = readFileSync(`${TOP}/docs/answers.md`, "utf8");
 const printed = (deck, input) => serveText(module, ["run"], job(deck, null, input)).output.split("\n== ")[0];
 for (const {key, deck, input, printout} of JSON.parse(readFileSync(`${WEB}/exercises.json`, "utf8"))) {
   const answer = answers.split(`**${key.slice("exercise-".length)}.**`)[1];
   const parts = partsOf(/```text\n([^]*?)```/.exec(answer)[1]);
   same(`${key}: the answer`, printed(parts.deck, parts.input).trimEnd(), printout);
   same(`${key}: the deck to begin with has no fault`, readDeck(deck).fault, null);
-  tally.count(`${key}: it is not the answer`, printed(deck, input ?? "").trimEnd() !== printout, () => "it is");
+  tally.count(
+    `${key}: it is not the answer`, printed(deck, input ?? "").trimEnd() !== printout, () => "it is"
+  );
 }
 
 tally.end();

@@ -1,4 +1,5 @@
-// Does jobs that come as lines of JSON, each with its words and its input in base64, and answers in the same way.
+// Does jobs that come as lines of JSON, each with its words and its input in base64, and answers in the same
+// way.
 
 import {createInterface} from "node:readline";
 
@@ -6,7 +7,7 @@ import {serve} from "../src/serve.js";
 
 import {compiled, MEMORY} from "./common.mjs";
 
-const module = compiled();
+const module = await compiled();
 const base64 = (bytes) => Buffer.from(bytes).toString("base64");
 
 for await (const line of createInterface({input: process.stdin})) {

@@ -17,14 +17,14 @@ use Rattle.l6_group.specs.declared.label.Label.{Label}
 use Rattle.l6_card.specs.declared.cards.Placed.{Placed}
 use Rattle.l6_card.specs.Items.{PlacedItem, group, item_on}
 use Rattle.l6_card.specs.Numerals.{card_width}
-use Rattle.l6_steps.specs.Moment.{EndsBy}
+use Rattle.l6_steps.specs.Configuration.{EndsBy}
 use Rattle.l6_steps.specs.Run.{IsRun}
 use Rattle.l6_steps.specs.declared.halt.Halt.{Halt}
 use Rattle.l6_steps.specs.declared.halt.Halt.TheVariants.{Done}
-use Rattle.l6_steps.specs.State.{World, State, is_last, start}
+use Rattle.l6_steps.specs.State.{RunContext, State, is_last, start}
 use Rattle.l6_steps.specs.Step.{Step, next}
 use Rattle.l6_run.specs.Options.{default_options}
-use Rattle.l6_run.specs.Prints.{store_rule, world_under}
+use Rattle.l6_run.specs.Prints.{store_rule, context_under}
 use Rattle.l6.specs.Worked.{FiveIsSpelled, FiveIsPrinted, five_program, five_assembly, name_a}
 
 -- the items of the second card
@@ -61,10 +61,10 @@ five-spelled = record {
     cards = (
       record {
         labelled = refl;
-        say = inl (record {
+        denote = inl (record {
           condition = refl;
           tests = refl;
-          say = record {
+          denote = record {
             groups = five_items;
             last = [];
             in_order = refl;
@@ -82,9 +82,9 @@ five-spelled = record {
   whole = refl;
 }
 
--- the world of the run
-abbrev world : World
-world = world_under default_options [] five_program
+-- the context of the run
+abbrev context : RunContext
+context = context_under default_options [] five_program
 
 -- what bug A holds, the output, the statement, the action, the count and the ending make a state
 abbrev state_of : ℕ → List ℕ → ℕ → ℕ → ℕ → Option Halt → State
@@ -116,20 +116,20 @@ final = state_of 5 (codes "5") 1 1 6 (Some Done)
 -- for each level the lowest open place, of a store without blocks: this run gets no block, so any
 -- choice that fits is the run's
 abbrev choice : Choice
-choice = scan_rule.pick world.setting.units map.empty []
+choice = scan_rule.pick context.parameters.units map.empty []
 
 -- each state is a step from the one before, since both compute to the same
-stepped : ScanChooses → (old : State) → old.memory.blocks ≡ map.empty → is_last world old ≡ false →
-    Step world old (next world choice old)
+stepped : ScanChooses → (old : State) → old.memory.blocks ≡ map.empty → is_last context old ≡ false →
+    Step context old (next context choice old)
 stepped chooses old none goes_on = record {
   goes_on = goes_on;
   choice = choice;
-  fits = subst (λ (blocks : Blocks). FitsStore world.setting.units blocks choice) (sym none)
-      (chooses world.setting.units map.empty []);
+  fits = subst (λ (blocks : Blocks). FitsStore context.parameters.units blocks choice) (sym none)
+      (chooses context.parameters.units map.empty []);
   leads = refl;
 }
 
-run : ScanChooses → IsRun world (final ∷ earlier)
+run : ScanChooses → IsRun context (final ∷ earlier)
 unfolding digits
 run chooses = (
   stepped chooses (state_of 5 (codes "5") 1 1 5 None) refl refl,
@@ -149,7 +149,7 @@ run chooses = (
 )
 
 -- the run under the rule comes to it after 6 steps
-by_rule : EndsBy store_rule world final
+by_rule : EndsBy store_rule context final
 unfolding digits
 by_rule = record { number = 6; is = refl; last = refl }
 

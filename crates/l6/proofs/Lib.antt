@@ -1,3 +1,3 @@
 pub mod Examples
-pub mod Marks
+pub mod Separators
 pub mod Serving

@@ -1,9 +1,9 @@
 -- Refusals pass from the call that serves a verb to the job.
 use Rattle.std.proofs.Common.{◌≡◌, Bool, false, ℕ, List, [], ◌∷◌, Option, Result, Ok, Err, inl, inr, refl, subst, sym}
 use Rattle.l6_run.specs.Device.{Health}
-use Rattle.l6_run.specs.Numerals.{most_repeats}
+use Rattle.l6_run.specs.Numerals.{most_retries}
 use Rattle.l6_run.specs.Options.{OptionValues}
-use Rattle.l6_run.specs.Patience.{Fared, FaredWith, lent, lent_reader, tells_read, told_by}
+use Rattle.l6_run.specs.Patience.{RetriesAccounted, RetriesAccountedWith, device_use, reader_use, reports_read, reported_by}
 use Rattle.l6_run.specs.Prints.{Prints, PrintsLoaded, RefusesDeck, RefusesImage}
 use Rattle.l6_run.specs.Serves.{Serves}
 use Rattle.l6_run.specs.Texts.{RefusesCards, RefusesRewriting, RewritesImage, WritesImage}
@@ -12,15 +12,15 @@ use Rattle.l6_run.specs.declared.fault.Part.{Part}
 use Rattle.l6_run.specs.declared.fault.Part.TheVariants.{Deck, Image, Input, Commands, Job}
 use Rattle.l6_run.specs.declared.fault.RunFault.{RunFault}
 use Rattle.l6_run.specs.declared.fault.RunFault.TheVariants.{TooLong, Asm, Load, Read, Write, NoMemory}
-use Rattle.l6_run.proofs.Faring.{fared-alone, untold-reader}
-use Rattle.l6_debug.proofs.Sessions.{untold-session}
+use Rattle.l6_run.proofs.Faring.{retries-alone, untold-reader}
+use Rattle.l6_debug.proofs.Sessions.{untold-debugger_state}
 use Rattle.l6_debug.specs.Serving as sessions
 use Rattle.l6.specs.declared.job.Outcome.{Outcome}
 use Rattle.l6.specs.declared.job.Outcome.TheVariants.{Ran, Written}
 use Rattle.l6.specs.declared.job.Verb.{Verb}
 use Rattle.l6.specs.declared.job.Verb.TheVariants as verbs
-use Rattle.l6.specs.Parts.{commands_of, deck_of, head_of, input_of}
-use Rattle.l6.specs.Performs.{Answers, Becomes, Refuses}
+use Rattle.l6.specs.JobParts.{commands_of, deck_of, head_of, input_of}
+use Rattle.l6.specs.JobResult.{Answers, JobOutcome, Refuses}
 
 -- a call that is refused is so, whatever an outcome is called that it might have had
 renamed : (Outcome : Type 0) (Other : Type 0) (call : Outcome → Other)
@@ -45,22 +45,22 @@ renamed Outcome Other call Said SaidSo Stops old new NoMemory as_said served = t
 pub image_refused : (verb : Verb) (options : OptionValues) (job deck : List ℕ)
     (old new : Option (List ℕ)) (fault : RunFault) → verb ≡ verbs.Asm → deck ≡ head_of job →
     Serves (λ (_ : Unit {0}) text. WritesImage deck text) (RefusesCards deck) old new (Err fault) →
-    Becomes verb options job old new (Err fault)
+    JobOutcome verb options job old new (Err fault)
 image_refused verb options job deck old new fault is head served =
-    subst (λ (v : Verb). Becomes v options job old new (Err fault)) (sym is)
+    subst (λ (v : Verb). JobOutcome v options job old new (Err fault)) (sym is)
     (renamed Unit Outcome (λ _. Written) (λ _ text. WritesImage (head_of job) text)
     (Answers verbs.Asm options job) (Refuses verbs.Asm job) old new fault
     (λ outcome text answers. answers)
     (subst (λ (d : List ℕ). Serves (λ (_ : Unit {0}) text. WritesImage d text) (RefusesCards d)
     old new (Err fault)) head served))
 
--- why an image was not written anew is why the job was not done whose head is its text
+-- why an image was not written again is why the job was not done whose head is its text
 pub renewal_refused : (verb : Verb) (options : OptionValues) (job image : List ℕ)
     (old new : Option (List ℕ)) (fault : RunFault) → verb ≡ verbs.Renew → image ≡ head_of job →
     Serves (λ (_ : Unit {0}) text. RewritesImage image text) (RefusesRewriting image)
-    old new (Err fault) → Becomes verb options job old new (Err fault)
+    old new (Err fault) → JobOutcome verb options job old new (Err fault)
 renewal_refused verb options job image old new fault is head served =
-    subst (λ (v : Verb). Becomes v options job old new (Err fault)) (sym is)
+    subst (λ (v : Verb). JobOutcome v options job old new (Err fault)) (sym is)
     (renamed Unit Outcome (λ _. Written) (λ _ text. RewritesImage (head_of job) text)
     (Answers verbs.Renew options job) (Refuses verbs.Renew job) old new fault
     (λ outcome text answers. answers)
@@ -69,39 +69,41 @@ renewal_refused verb options job image old new fault is head served =
 
 -- why a deck was not run is why the job was not done whose head it is
 pub run_refused : (verb : Verb) (options : OptionValues) (job deck input : List ℕ)
-    (old new : Option (List ℕ)) (fault : RunFault) → verb ≡ verbs.Run → deck ≡ head_of job → input ≡ input_of job →
+    (old new : Option (List ℕ)) (fault : RunFault) → verb ≡ verbs.Run → deck ≡ head_of job →
+    input ≡ input_of job →
     Serves (Prints options deck input) (RefusesDeck deck input) old new (Err fault) →
-    Becomes verb options job old new (Err fault)
-run_refused verb options job deck input old new fault is head behind served =
-    subst (λ (v : Verb). Becomes v options job old new (Err fault)) (sym is)
+    JobOutcome verb options job old new (Err fault)
+run_refused verb options job deck input old new fault is head following served =
+    subst (λ (v : Verb). JobOutcome v options job old new (Err fault)) (sym is)
     (renamed Ending Outcome Ran (Prints options (head_of job) (input_of job))
     (Answers verbs.Run options job) (Refuses verbs.Run job) old new fault
     (λ outcome text answers. answers)
     (subst (λ (d : List ℕ). Serves (Prints options d (input_of job)) (RefusesDeck d (input_of job))
     old new (Err fault)) head
     (subst (λ (i : List ℕ). Serves (Prints options deck i) (RefusesDeck deck i) old new (Err fault))
-    behind served)))
+    following served)))
 
 -- why an image was not run is why the job was not done whose head is its text
 pub load_refused : (verb : Verb) (options : OptionValues) (job image input : List ℕ)
-    (old new : Option (List ℕ)) (fault : RunFault) → verb ≡ verbs.Load → image ≡ head_of job → input ≡ input_of job →
+    (old new : Option (List ℕ)) (fault : RunFault) → verb ≡ verbs.Load → image ≡ head_of job →
+    input ≡ input_of job →
     Serves (PrintsLoaded options image input) (RefusesImage image input) old new (Err fault) →
-    Becomes verb options job old new (Err fault)
-load_refused verb options job image input old new fault is head behind served =
-    subst (λ (v : Verb). Becomes v options job old new (Err fault)) (sym is)
+    JobOutcome verb options job old new (Err fault)
+load_refused verb options job image input old new fault is head following served =
+    subst (λ (v : Verb). JobOutcome v options job old new (Err fault)) (sym is)
     (renamed Ending Outcome Ran (PrintsLoaded options (head_of job) (input_of job))
     (Answers verbs.Load options job) (Refuses verbs.Load job) old new fault
     (λ outcome text answers. answers)
     (subst (λ (d : List ℕ). Serves (PrintsLoaded options d (input_of job))
     (RefusesImage d (input_of job)) old new (Err fault)) head
     (subst (λ (i : List ℕ). Serves (PrintsLoaded options image i) (RefusesImage image i)
-    old new (Err fault)) behind served)))
+    old new (Err fault)) following served)))
 
 -- why a session went wrong is why the job was not done whose head is its deck and its commands
 session_ended : (options : OptionValues) (deck input commands : List ℕ)
     (old new : Option (List ℕ)) (fault : RunFault) →
-    sessions.Serves {Outcome = Unit {0}} options deck input commands old new (Err fault) →
-    sessions.Serves {Outcome = Outcome} options deck input commands old new (Err fault)
+    sessions.ServesSession {Outcome = Unit {0}} options deck input commands old new (Err fault) →
+    sessions.ServesSession {Outcome = Outcome} options deck input commands old new (Err fault)
 session_ended options deck input commands old new (TooLong Deck) served = served
 session_ended options deck input commands old new (TooLong Image) served = served
 session_ended options deck input commands old new (TooLong Input) served = served
@@ -117,6 +119,7 @@ session_ended options deck input commands old new (Write n) served = record {
   assembly = served.assembly;
   spelled = served.spelled;
   out = served.out;
+  by_steps = served.by_steps;
 }
 session_ended options deck input commands old new NoMemory (inl none) = inl none
 session_ended options deck input commands old new NoMemory (inr served) = inr (record {
@@ -126,27 +129,28 @@ session_ended options deck input commands old new NoMemory (inr served) = inr (r
   assembly = served.assembly;
   spelled = served.spelled;
   out = served.out;
+  by_steps = served.by_steps;
 })
 
 pub debug_refused : (verb : Verb) (options : OptionValues) (job deck input commands : List ℕ)
     (old new : Option (List ℕ)) (fault : RunFault) → verb ≡ verbs.Debug →
     deck ≡ deck_of (head_of job) → input ≡ input_of job → commands ≡ commands_of (head_of job) →
-    sessions.Serves {Outcome = Unit {0}} options deck input commands old new (Err fault) →
-    Becomes verb options job old new (Err fault)
-debug_refused verb options job deck input commands old new fault is head behind asked served =
-    subst (λ (v : Verb). Becomes v options job old new (Err fault)) (sym is)
-    (subst (λ (d : List ℕ). sessions.Serves {Outcome = Outcome} options d (input_of job)
+    sessions.ServesSession {Outcome = Unit {0}} options deck input commands old new (Err fault) →
+    JobOutcome verb options job old new (Err fault)
+debug_refused verb options job deck input commands old new fault is head following asked served =
+    subst (λ (v : Verb). JobOutcome v options job old new (Err fault)) (sym is)
+    (subst (λ (d : List ℕ). sessions.ServesSession {Outcome = Outcome} options d (input_of job)
     (commands_of (head_of job)) old new (Err fault)) head
-    (subst (λ (i : List ℕ). sessions.Serves {Outcome = Outcome} options deck i
-    (commands_of (head_of job)) old new (Err fault)) behind
-    (subst (λ (l : List ℕ). sessions.Serves {Outcome = Outcome} options deck input l
+    (subst (λ (i : List ℕ). sessions.ServesSession {Outcome = Outcome} options deck i
+    (commands_of (head_of job)) old new (Err fault)) following
+    (subst (λ (l : List ℕ). sessions.ServesSession {Outcome = Outcome} options deck input l
     old new (Err fault)) asked
     (session_ended options deck input commands old new fault served))))
 
 -- a job that was read whole tells no trouble of its reader
 pub untold-job : (verb : Verb) (options : OptionValues) (job : List ℕ) (part : Part)
     (old new : Option (List ℕ)) (result : Result Outcome RunFault) →
-    Becomes verb options job old new result → told_by (tells_read part) result ≡ false
+    JobOutcome verb options job old new result → reported_by (reports_read part) result ≡ false
 untold-job verbs.Asm options job part old new result served =
     untold-reader (Answers verbs.Asm options job) (Refuses verbs.Asm job) part old new result
     (λ _ refused. refused) served
@@ -164,15 +168,17 @@ untold-job verbs.Renew options job part old new result served =
     (λ _ refused. refused) served
 untold-job verbs.Debug options job part old new (Ok _) served = refl
 untold-job verbs.Debug options job part old new (Err fault) served =
-    untold-session options (deck_of (head_of job)) (input_of job) (commands_of (head_of job)) part
+    untold-debugger_state options (deck_of (head_of job)) (input_of job) (commands_of (head_of job)) part
     old new (Err fault) served
 
 -- the reader of a job that was read whole
-pub fared-read : (verb : Verb) (options : OptionValues) (job : List ℕ)
+pub retries-read : (verb : Verb) (options : OptionValues) (job : List ℕ)
     (taken taken' : Option (List ℕ)) (result : Result Outcome RunFault) (old new : Health)
-    (start left : ℕ) → start ≡ most_repeats → FaredWith (lent old new false ∷ []) start left →
-    Becomes verb options job taken taken' result → Fared (lent_reader Job old new result ∷ [])
-fared-read verb options job taken taken' result old new start left is fared served =
-    subst (λ (b : Bool). Fared (lent old new b ∷ []))
+    (start left : ℕ) → start ≡ most_retries →
+    RetriesAccountedWith (device_use old new false ∷ []) start left →
+    JobOutcome verb options job taken taken' result →
+    RetriesAccounted (reader_use Job old new result ∷ [])
+retries-read verb options job taken taken' result old new start left is retries served =
+    subst (λ (b : Bool). RetriesAccounted (device_use old new b ∷ []))
     (sym (untold-job verb options job Job taken taken' result served))
-    (fared-alone (lent old new false ∷ []) start left is fared)
+    (retries-alone (device_use old new false ∷ []) start left is retries)

@@ -1,5 +1,5 @@
-pub mod Parts
-pub mod Performs
+pub mod JobParts
+pub mod JobResult
 pub mod Status
 pub mod Worked
 pub mod inner

@@ -12,14 +12,14 @@ use Rattle.l6_card.specs.Fault.{fault_of}
 use Rattle.l6_asm.specs.Assembled.{Assembled}
 use Rattle.l6_steps.specs.declared.halt.Halt.TheVariants as halts
 use Rattle.l6_steps.specs.declared.trap.Trap.TheVariants.{UndefinedField}
-use Rattle.l6_steps.specs.State.{World, State, start}
+use Rattle.l6_steps.specs.State.{RunContext, State, start}
 use Rattle.l6_steps.specs.Step.{next}
 use Rattle.l6_run.specs.declared.ending.Ending.TheVariants.{Done}
 use Rattle.l6_run.specs.Options.{default_options}
-use Rattle.l6_run.specs.Prints.{Prints, world_under}
+use Rattle.l6_run.specs.Prints.{Prints, context_under}
 use Rattle.l6_asm.specs.Spells.{Spells}
 
--- a deck that sets A to 5 and prints it, behind a comment
+-- a deck that sets A to 5 and prints it, after a comment
 abbrev pub five_deck : List ℕ
 five_deck = codes "* five\n (A,E,5)(A,PD)\n"
 
@@ -52,20 +52,20 @@ FiveIsSpelled = Spells five_deck five_assembly
 abbrev pub FiveIsPrinted : Type 0
 FiveIsPrinted = Prints default_options five_deck [] Done (codes "5\n== DONE AFTER 6 STEPS\n")
 
--- a group that reads as nothing is the fault of its card, and not of the card behind it
+-- a group that reads as nothing is the fault of its card, and not of the card after it
 abbrev pub UnknownIsRefused : Type 0
 UnknownIsRefused = fault_of (codes " (A,PD)\n (A,Q,1)\nX\n") ≡ Some (form 2)
 
 -- the program that prints what field N of A's block holds
-abbrev pub field_world : World
-field_world = world_under default_options [] (record {
+abbrev pub field_context : RunContext
+field_context = context_under default_options [] (record {
   condition = Always;
   tests = [];
   operations = PrintDecimal (name_a ∷ name_n ∷ []) ∷ [];
   exit = Next;
 } ∷ plain_done ∷ [])
 
--- after the condition that program stands at its operation
+-- after the condition that program is at its operation
 abbrev pub at_field : State
 at_field = record start { at = record { statement = 0; action = 1 }; count = 1 }
 
@@ -74,6 +74,6 @@ at_field = record start { at = record { statement = 0; action = 1 }; count = 1 }
 abbrev pub FieldTraps : Type 0
 FieldTraps =
     (choice : Choice) →
-    (next field_world choice start ≡ at_field)
-    × (next field_world choice at_field
+    (next field_context choice start ≡ at_field)
+    × (next field_context choice at_field
     ≡ record at_field { ending = Some (halts.Trap UndefinedField) })

@@ -1,6 +1,6 @@
 //! The words of the command line, read with `clap`. What they mean is tested, and not proved.
 
-use crate::help;
+use crate::help::{self, Help};
 use crate::job::Verb;
 use clap::error::ErrorKind;
 use clap::{Arg, ArgMatches, Command, value_parser};
@@ -9,22 +9,8 @@ use std::alloc::{AllocError, Global};
 use std::io;
 use thiserror::Error;
 
-const ABOUT: &str =
-    "Runs programs of L6, Bell Labs' Low-Level Linked List Language (Knowlton, 1966)";
-
-const ASM_ABOUT: &str = "Writes the image of the deck that standard input gives";
-
-const LIST_ABOUT: &str = "Writes the listing of the deck that standard input gives";
-
-const RUN_ABOUT: &str = "Runs the deck that standard input gives, and prints what the run prints";
-
-const LOAD_ABOUT: &str = "Runs the image that standard input gives, as `run` runs its deck";
-
-const RENEW_ABOUT: &str =
-    "Writes the image that standard input gives anew, in the version that `asm` writes";
-
-const DEBUG_ABOUT: &str =
-    "Shows the run of the deck that standard input gives, forward and back, as commands ask for";
+/// The version of the program, and of the images that it writes.
+const VERSION: &str = "1.0, images of version 2";
 
 /// What the words ask for.
 #[derive(Clone, Copy, Debug, PartialEq, Eq)]
@@ -38,9 +24,13 @@ pub struct Request {
 /// Why words ask for nothing that can be done.
 #[derive(Debug, Drop, Error)]
 pub enum WordsFault {
-    /// They are wrong, or ask for help: the text that `clap` has for that.
+    /// They are wrong, or ask for help or for the version: the text that `clap` has for that.
     #[error("{0}")]
     Usage(clap::Error),
+    /// One of them names something that no command takes, most likely a file: the text of `clap`, and a
+    /// hint.
+    #[error("{0}\nThe job comes from standard input: write < before the name of its file\n")]
+    Unexpected(clap::Error),
     /// One of them is not UTF-8.
     #[error("l6: a word is not UTF-8\n")]
     NotText,
@@ -53,6 +43,7 @@ impl From<clap::Error> for WordsFault {
     fn from(error: clap::Error) -> Self {
         match error.kind() {
             ErrorKind::OutOfMemory => WordsFault::NoMemory,
+            ErrorKind::UnknownArgument => WordsFault::Unexpected(error),
             _ => WordsFault::Usage(error),
         }
     }
@@ -64,7 +55,7 @@ impl From<AllocError> for WordsFault {
     }
 }
 
-/// The fault of words that could not be had.
+/// The fault if the words could not be read.
 impl From<io::Error> for WordsFault {
     fn from(error: io::Error) -> Self {
         match error.kind() {
@@ -103,21 +94,23 @@ pub fn request_of(alloc: Global, words: &[String]) -> Result<Request, WordsFault
 
 /// The command line of the program.
 fn program<'a>(alloc: Global) -> Result<Command<'a>, AllocError> {
-    Command::new(alloc, "l6")
-        .about(ABOUT)
-        .after_help(help::PROGRAM)
+    described(alloc, "l6", help::PROGRAM)
+        .version(VERSION)
         .subcommand_required(true)
-        .subcommand(verb(alloc, "asm", ASM_ABOUT, help::ASM))?
-        .subcommand(verb(alloc, "list", LIST_ABOUT, help::LIST))?
-        .subcommand(with_options(verb(alloc, "run", RUN_ABOUT, help::RUN), alloc)?)?
-        .subcommand(with_options(verb(alloc, "load", LOAD_ABOUT, help::LOAD), alloc)?)?
-        .subcommand(verb(alloc, "renew", RENEW_ABOUT, help::RENEW))?
-        .subcommand(with_options(verb(alloc, "debug", DEBUG_ABOUT, help::DEBUG), alloc)?)
+        .subcommand(described(alloc, "asm", help::ASM))?
+        .subcommand(described(alloc, "list", help::LIST))?
+        .subcommand(with_options(described(alloc, "run", help::RUN), alloc)?)?
+        .subcommand(with_options(described(alloc, "load", help::LOAD), alloc)?)?
+        .subcommand(described(alloc, "renew", help::RENEW))?
+        .subcommand(with_options(described(alloc, "debug", help::DEBUG), alloc)?)
 }
 
-/// A subcommand: its name, what it does, and what its help says behind the options.
-fn verb<'a>(alloc: Global, name: &'a str, about: &'a str, help: &'a str) -> Command<'a> {
-    Command::new(alloc, name).about(about).after_help(help)
+/// A command with its name and its help.
+fn described<'a>(alloc: Global, name: &'a str, help: Help) -> Command<'a> {
+    Command::new(alloc, name)
+        .override_usage(help.usage)
+        .about(help.about)
+        .after_help(help.details)
 }
 
 /// A command with the options of a run.

@@ -1,11 +1,26 @@
-//! What help says behind the options: an example that can be pasted, and the exit statuses.
+//! What `--help` says: how each command is called, what it does, and, after its options, an example
+//! that can be pasted and the exit statuses.
 
-/// Behind the help of the program.
-pub(crate) const PROGRAM: &str = "\
-Standard input is one job: a deck of cards and, behind a line $INPUT, the input of its program.
-Column 1 of a card is blank, or begins a label; then come groups such as (A,E,5). For `load` and
-`renew` an image stands where the deck does. For `debug` commands stand behind the deck, from
-a line $COMMANDS on and before the line $INPUT. `l6 run --help` tells of `run`, and so on.
+/// What a command's help says.
+#[derive(Clone, Copy, Debug)]
+pub(crate) struct Help {
+    /// How the command is called.
+    pub(crate) usage: &'static str,
+    /// What it does, in a line.
+    pub(crate) about: &'static str,
+    /// What follows its options.
+    pub(crate) details: &'static str,
+}
+
+/// The help of the program.
+pub(crate) const PROGRAM: Help = Help {
+    usage: "l6 <COMMAND> [OPTIONS] < JOB",
+    about: "Runs programs of L6, Bell Labs' Low-Level Linked List Language (Knowlton, 1966)",
+    details: "\
+Standard input is one job: a deck of cards and, after a line $INPUT, the input of its program.
+Column 1 of a card is blank or begins a label; groups such as (A,E,5) follow. `load` and `renew`
+take an image in place of the deck. `debug` takes commands after the deck, between a line
+$COMMANDS and the line $INPUT. `l6 run --help` describes `run`, and so on.
 
 Examples:
   printf ' (A,E,5)(A,PD)\\n' | l6 run
@@ -16,76 +31,101 @@ Exit status:
   0   the run ended by DONE, or an image, a listing or a debugger's answers were written
   1   the run ended by FAIL
   2   the run trapped
-  3   the run was stopped at its limit of steps
-  4   the job was refused: a fault of the deck or the image, or too long
-  5   memory was refused, or reading or writing failed
-  64  these words were wrong, or asked for help";
+  3   the run reached its limit of steps
+  4   the job was refused: its deck or image is faulty, or a part of it is too long
+  5   memory ran out, or reading or writing failed
+  64  the command line is wrong, or asks for help or for the version",
+};
 
-/// Behind the help of `asm`.
-pub(crate) const ASM: &str = "\
-The image is the deck's program as machine words, twelve octal digits a line. `load` runs it.
-An input behind the deck, from a line $INPUT on, is passed over.
+/// The help of `asm`.
+pub(crate) const ASM: Help = Help {
+    usage: "l6 asm < JOB",
+    about: "Writes the image of a deck: its program as machine words",
+    details: "\
+An image has a machine word on each line, as twelve octal digits. `load` runs it. An input after
+the deck, from a line $INPUT on, is ignored.
 
 Example:
   printf ' (A,E,5)(A,PD)\\n' | l6 asm
 
-Exit status: 0 the image was written, 4 the deck was refused, 5 memory was refused, or reading or
-writing failed, 64 these words were wrong, or asked for help";
+Exit status: 0 the image was written, 4 the deck was refused, 5 memory ran out, or reading or
+writing failed, 64 the command line is wrong, or asks for help",
+};
 
-/// Behind the help of `list`.
-pub(crate) const LIST: &str = "\
-The listing shows each card with its number, the machine words of each statement, and the labels.
-An input behind the deck, from a line $INPUT on, is passed over.
+/// The help of `list`.
+pub(crate) const LIST: Help = Help {
+    usage: "l6 list < JOB",
+    about: "Writes the listing of a deck: its cards, machine words and labels",
+    details: "\
+The listing shows each card with its number, the number and the machine words of each statement,
+and the labels. An input after the deck, from a line $INPUT on, is ignored.
 
 Example:
   printf ' (A,E,5)(A,PD)\\n' | l6 list
 
-Exit status: 0 the listing was written, 4 the deck was refused, 5 memory was refused, or reading or
-writing failed, 64 these words were wrong, or asked for help";
+Exit status: 0 the listing was written, 4 the deck was refused, 5 memory ran out, or reading or
+writing failed, 64 the command line is wrong, or asks for help",
+};
 
-/// Behind the help of `run`.
-pub(crate) const RUN: &str = "\
-Standard input is a deck of cards and, behind a line $INPUT, the input of its program. Column 1 of
-a card is blank, or begins a label; then come groups such as (A,E,5).
+/// The help of `run`.
+pub(crate) const RUN: Help = Help {
+    usage: "l6 run [OPTIONS] < JOB",
+    about: "Runs a deck, and writes what it prints and how it ends",
+    details: "\
+Standard input is a deck of cards and, after a line $INPUT, the input of its program. Column 1 of
+a card is blank or begins a label; groups such as (A,E,5) follow.
 
 Example:
   printf ' (A,IN,2)(A,PR,2)\\n$INPUT\\nhi\\n' | l6 run --steps 100
 
 Exit status: 0 the run ended by DONE, 1 by FAIL, 2 by a trap, 3 at its limit of steps, 4 the job was
-refused, 5 memory was refused, or reading or writing failed, 64 these words were wrong, or asked for
-help";
+refused, 5 memory ran out, or reading or writing failed, 64 the command line is wrong, or asks for
+help",
+};
 
-/// Behind the help of `load`.
-pub(crate) const LOAD: &str = "\
-Standard input is an image that `asm` wrote, of this version or the first one, and, behind a line
-$INPUT, the input of its program. What is printed is what `run` prints of the deck.
+/// The help of `load`.
+pub(crate) const LOAD: Help = Help {
+    usage: "l6 load [OPTIONS] < JOB",
+    about: "Runs an image, as `run` runs its deck",
+    details: "\
+Standard input is an image that `asm` wrote, of the current version or of the first one, and, after
+a line $INPUT, the input of its program. The answer is what `run` answers to the deck.
 
 Example:
   printf ' (A,E,5)(A,PD)\\n' | l6 asm | l6 load
 
 Exit status: 0 the run ended by DONE, 1 by FAIL, 2 by a trap, 3 at its limit of steps, 4 the image was
-refused, 5 memory was refused, or reading or writing failed, 64 these words were wrong, or asked for
-help";
+refused, 5 memory ran out, or reading or writing failed, 64 the command line is wrong, or asks for
+help",
+};
 
-/// Behind the help of `renew`.
-pub(crate) const RENEW: &str = "\
-Images of the first version, whose first line is 542651554721, become such as `asm` writes now, and
-those of this version stay as they are. An input behind the image is passed over.
+/// The help of `renew`.
+pub(crate) const RENEW: Help = Help {
+    usage: "l6 renew < JOB",
+    about: "Rewrites an image in the current version",
+    details: "\
+An image of the first version, which begins with the line 542651554721, becomes one of the version
+that `asm` writes. An image of that version stays as it is. An input after the image is ignored.
 
 Example:
   printf '542651554721\\n000000000001\\n000000000001\\n000002000000\\n' | l6 renew
 
-Exit status: 0 the image was written, 4 the image was refused, 5 memory was refused, or reading or
-writing failed, 64 these words were wrong, or asked for help";
+Exit status: 0 the image was written, 4 the image was refused, 5 memory ran out, or reading or
+writing failed, 64 the command line is wrong, or asks for help",
+};
 
-/// Behind the help of `debug`.
-pub(crate) const DEBUG: &str = "\
-Standard input is a deck of cards and, behind a line $COMMANDS, commands, one a line: step N, back N,
-go, break S, clear S, show, fields, block P, draw, store, out, quit. The input of the program stands
-behind both, from a line $INPUT on.
+/// The help of `debug`.
+pub(crate) const DEBUG: Help = Help {
+    usage: "l6 debug [OPTIONS] < JOB",
+    about: "Shows the run of a deck, forward and back, as commands ask",
+    details: "\
+Standard input is a deck of cards and, after a line $COMMANDS, commands, one on a line: step N, back N,
+go, break S, clear S, show, fields, block P, draw, store, out, quit. The input of the program follows
+the commands, after a line $INPUT.
 
 Example:
   printf ' (A,E,5)(A,PD)\\n$COMMANDS\\nstep 2\\nshow\\nback 1\\n' | l6 debug
 
-Exit status: 0 the answers were written, 4 the job was refused, 5 memory was refused, or reading or
-writing failed, 64 these words were wrong, or asked for help";
+Exit status: 0 the answers were written, 4 the job was refused, 5 memory ran out, or reading or
+writing failed, 64 the command line is wrong, or asks for help",
+};

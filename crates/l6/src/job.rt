@@ -2,10 +2,10 @@
 
 ghost use Rattle.std.specs.Prelude.{◌≡◌, ◌+◌, [], ◌∷◌};
 ghost use Rattle.l6_run.specs.Numerals.{most_job_bytes};
-ghost use Rattle.l6_run.specs.Patience.{Fared, FaredWith, lent_reader, lent_writer};
+ghost use Rattle.l6_run.specs.Patience.{RetriesAccounted, RetriesAccountedWith, reader_use, writer_use};
 ghost use Rattle.l6_run.specs.Transfer.{GivesAtMost};
 ghost use Rattle.l6_run.specs.declared.fault.Part.TheVariants.{Job};
-ghost use Rattle.l6.specs.Performs.{Becomes, IsUnwrittenBy, Performs};
+ghost use Rattle.l6.specs.JobResult.{JobOutcome, IsUnwrittenBy, JobResult};
 
 use crate::parts::{parts_of, session_of};
 use l6_debug::debug_deck;
@@ -26,7 +26,7 @@ pub enum Verb {
     Run,
     /// The head of the job is the text of an image, which is run with the input of the job.
     Load,
-    /// The head of the job is the text of an image, which is written anew, in the version that is written.
+    /// The head of the job is the text of an image, which is rewritten in the current version.
     Renew,
     /// The head of the job is a deck with commands, which are obeyed with the run of the deck with the
     /// input of the job.
@@ -56,16 +56,17 @@ pub fn perform<R: Source, W: Sink>(
     writer: &mut W,
 ) -> Result<Outcome, RunFault>
     // What the reader gave, and what went out for it.
-    ensures done { Performs verb options (R.left reader.old) (R.left reader.new)
+    ensures done { JobResult verb options (R.left reader.old) (R.left reader.new)
         (W.taken writer.old) (W.taken writer.new) result }
     ensures unwritten { IsUnwrittenBy verb result → writer.new ≡ writer.old }
     ensures at_most { GivesAtMost (most_job_bytes + 1) (R.left reader.old) (R.left reader.new) }
 
-    // How the devices fared: the reading and what is then done count for themselves.
-    ensures reader_fared { Fared
-        (lent_reader Job (R.health reader.old) (R.health reader.new) result ∷ []) }
-    ensures writer_fared { Fared
-        (lent_writer (W.health writer.old) (W.health writer.new) result ∷ []) }
+    // The retries of the devices are accounted for: the reading has its own, and so has what is
+    // then done.
+    ensures reader_retries { RetriesAccounted
+        (reader_use Job (R.health reader.old) (R.health reader.new) result ∷ []) }
+    ensures writer_retries { RetriesAccounted
+        (writer_use (W.health writer.old) (W.health writer.new) result ∷ []) }
 {
     let job = read_part(alloc, reader, Part::Job, &mut Patience::new())?;
     let mut patience = Patience::new();
@@ -81,9 +82,10 @@ fn serve<W: Sink>(
     writer: &mut W,
     patience: &mut Patience,
 ) -> Result<Outcome, RunFault>
-    ensures done { Becomes verb options job.now (W.taken writer.old) (W.taken writer.new) result }
+    ensures done { JobOutcome verb options job.now (W.taken writer.old) (W.taken writer.new) result }
     ensures unwritten { IsUnwrittenBy verb result → writer.new ≡ writer.old }
-    ensures fared { FaredWith (lent_writer (W.health writer.old) (W.health writer.new) result ∷ [])
+    ensures retries { RetriesAccountedWith
+        (writer_use (W.health writer.old) (W.health writer.new) result ∷ [])
         patience.old patience.new }
 {
     let parts = parts_of(job);

@@ -1,4 +1,5 @@
-//! The program `l6`: it does with the job that standard input gives what its words say.
+//! The program `l6`: it reads a job from standard input, and does with it what the command line
+//! asks for.
 #![tactic(auto)]
 
 mod arguments;

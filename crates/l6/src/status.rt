@@ -9,8 +9,9 @@ use l6_asm::AsmFault;
 use l6_image::LoadFault;
 use l6_run::{Ending, RunFault};
 
-/// The exit status of the program: 0 after DONE or where a text was written, 1 after FAIL, 2 after a
-/// trap, 3 at the limit of steps, 4 where the job was refused, and 5 where memory or a device failed.
+/// The exit status of the program: 0 after DONE or if a text was written, 1 after FAIL, 2 after a
+/// trap, 3 at the limit of steps, 4 if the job was refused, and 5 if memory ran out or a device
+/// failed.
 pub fn status(answer: &Result<Outcome, RunFault>) -> u8
     ensures { result ≡ spec.status_of answer.now }
 {
@@ -39,13 +40,13 @@ pub fn status(answer: &Result<Outcome, RunFault>) -> u8
     }
 }
 
-/// The exit status where the words of the command line ask for nothing that can be done: 5 where
-/// memory was refused, and else 64.
+/// The exit status if the words of the command line ask for nothing that can be done: 5 if memory
+/// ran out, and else 64.
 pub fn status_of_words(fault: &WordsFault) -> u8
     ensures { result ≡ spec.status_of_words fault.now }
 {
     match fault {
         WordsFault::NoMemory => 5,
-        WordsFault::Usage(_) | WordsFault::NotText => 64,
+        WordsFault::Usage(_) | WordsFault::Unexpected(_) | WordsFault::NotText => 64,
     }
 }

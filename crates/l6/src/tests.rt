@@ -1,5 +1,5 @@
-//! What no clause says: that calls succeed where memory is there, and the answers to jobs worked
-//! out by hand. Decks under the default options are cases of the built program, in `tests/`.
+//! What no clause says: that calls succeed if there is enough memory, and the answers to jobs
+//! worked out by hand. Decks under the default options are cases of the built program, in `tests/`.
 
 mod device;
 mod faults;

@@ -46,11 +46,11 @@ kept-front [] = refl
 kept-front (x ∷ xs) =
     front-kept (list_all is_blank (x ∷ xs)) x xs (without_last_blanks xs) (kept-front xs)
 
--- a text that is cut behind the kept front of its last line
-pub cut-behind : (text front line kept cut : List ℕ) (start : ℕ) → front ≡ take start text →
+-- a text that is cut after the kept front of its last line
+pub cut-following : (text front line kept cut : List ℕ) (start : ℕ) → front ≡ take start text →
     line ≡ drop start text → kept ≡ without_last_blanks line →
     cut ≡ take (length front + length kept) text → cut ≡ front ++ kept
-cut-behind text front line kept cut start first second is same =
+cut-following text front line kept cut start first second is same =
     let whole : text ≡ front ++ line =
     sym (take-append-drop start text) ∙ rw (first, second) refl in
     same ∙ ap (take (length front + length kept)) whole ∙ take-append-add front line (length kept)

@@ -5,11 +5,11 @@ use Rattle.l6_prog.specs.declared.operation.Op.TheVariants.{Call, PrintLine}
 use Rattle.l6_prog.specs.declared.exit.Exit.TheVariants.{Next, Label as ToLabel}
 use Rattle.l6_card.specs.Numerals.{card_width}
 use Rattle.l6_card.specs.Items.{group, word, item_on}
-use Rattle.l6_card.specs.Statement.{WrittenParts}
+use Rattle.l6_card.specs.Statement.{DeckStatementParts}
 use Rattle.l6_asm.specs.Worked.{TwiceIsRefused, MissingIsRefused}
 
 -- what the first deck says
-abbrev twice : List WrittenParts
+abbrev twice : List DeckStatementParts
 twice =
     record {
       label = Some (record { label = codes "NEXT"; card = 1 });
@@ -47,10 +47,10 @@ twice_refused = record {
         refl,
         record {
           labelled = refl;
-          say = inl (record {
+          denote = inl (record {
             condition = refl;
             tests = refl;
-            say = record {
+            denote = record {
               groups = item_on 1 (group 5 (codes "PL")) ∷ [];
               last = [];
               in_order = refl;
@@ -65,10 +65,10 @@ twice_refused = record {
       (
         record {
           labelled = refl;
-          say = inl (record {
+          denote = inl (record {
             condition = refl;
             tests = refl;
-            say = record {
+            denote = record {
               groups = [];
               last = item_on 2 (word (codes "NO")) ∷ [];
               in_order = refl;
@@ -85,10 +85,10 @@ twice_refused = record {
             refl,
             record {
               labelled = refl;
-              say = inl (record {
+              denote = inl (record {
                 condition = refl;
                 tests = refl;
-                say = record {
+                denote = record {
                   groups = [];
                   last = [];
                   in_order = refl;
@@ -110,7 +110,7 @@ twice_refused = record {
 }
 
 -- what the second deck says
-abbrev missing : List WrittenParts
+abbrev missing : List DeckStatementParts
 missing =
     record {
       label = Some (record { label = codes "LOOP"; card = 1 });
@@ -139,10 +139,10 @@ missing_refused = record {
         refl,
         record {
           labelled = refl;
-          say = inl (record {
+          denote = inl (record {
             condition = refl;
             tests = refl;
-            say = record {
+            denote = record {
               groups = item_on 1 (group 5 (codes "PL")) ∷ item_on 3 (group 13 (codes "NO,DO")) ∷ [];
               last = item_on 3 (word (codes "LOOP")) ∷ [];
               in_order = refl;

@@ -8,7 +8,7 @@ use Rattle.std.proofs.lemmas.List.Folds.{list_all-append}
 use Rattle.indexmap.specs.IndexMap.{insert_entry}
 use Rattle.l6_group.specs.declared.label.Label.{Label}
 use Rattle.l6_card.specs.declared.cards.PlacedLabel.{PlacedLabel}
-use Rattle.l6_card.specs.Statement.{WrittenParts}
+use Rattle.l6_card.specs.Statement.{DeckStatementParts}
 use Rattle.l6_asm.specs.AssemblyFault.{AssemblyFault, twice_labelled}
 use Rattle.l6_asm.specs.Labels.{number_of, with_label, and_then, labels_after}
 
@@ -83,7 +83,7 @@ went_on (Ok middle) step made so = (middle, refl, so)
 went_on (Err fault) step made so = absurd (cc)
 
 -- each label's statement is one of those that there are
-pub labels_after-below : (end : ℕ) (written : List WrittenParts) (labels more : List (Label × ℕ))
+pub labels_after-below : (end : ℕ) (written : List DeckStatementParts) (labels more : List (Label × ℕ))
     (number : ℕ) →
     list_all (is_entry_below end) labels ≡ true → number + length written ≤ end →
     labels_after labels number written ≡ Ok more → list_all (is_entry_below end) more ≡ true

@@ -4,14 +4,14 @@ use Rattle.l6_word.specs.Lines.{lines_of}
 use Rattle.l6_prog.specs.Statement.{plain_done}
 use Rattle.l6_card.specs.declared.role.Role.{Role}
 use Rattle.l6_card.specs.Card.{Body, Card, skipped, plain, labelled, continued, unknown, card_of, cards_from, columns_of}
-use Rattle.l6_card.specs.Reads.{CardsSay, continuations}
+use Rattle.l6_card.specs.ReadsAs.{CardsDenote, continuations}
 use Rattle.l6_card.specs.Role.{role_in, role_of}
-use Rattle.l6_card.specs.Statement.{WrittenParts}
+use Rattle.l6_card.specs.Statement.{DeckStatementParts}
 use Rattle.l6_asm.specs.Assembled.{Assembled}
 use Rattle.l6_asm.specs.Labels.{labels_of}
 use Rattle.l6_asm.specs.Resolution.{each_made, statement_of, statements_of}
 use Rattle.l6_asm.specs.Spells.{assembled}
-use Rattle.l6_asm.specs.Listing.{goes_on_with, goes_on, is_last, over_behind, EachIsListed}
+use Rattle.l6_asm.specs.Listing.{goes_on_with, goes_on, is_last, over_following, EachIsListed}
 use Rattle.l6_asm.proofs.Labels.{went_on}
 use Rattle.l6_asm.proofs.Makings.{each_made-length}
 
@@ -38,54 +38,54 @@ going true = 1
 going false = 0
 
 -- a first card begins one statement, which is over with it or goes on
-first-counts : (more : Bool) (behind : ℕ → ℕ) (count all over : ℕ) → count + 1 ≡ all →
-    ((n : ℕ) → behind n ≡ n + going more + count) →
-    behind (if not more then over + 1 else over) ≡ over + 0 + all
-first-counts true behind count all over one counts = omega (arith, one, counts over)
-first-counts false behind count all over one counts = omega (arith, one, counts (over + 1))
+first-counts : (more : Bool) (following : ℕ → ℕ) (count all over : ℕ) → count + 1 ≡ all →
+    ((n : ℕ) → following n ≡ n + going more + count) →
+    following (if not more then over + 1 else over) ≡ over + 0 + all
+first-counts true following count all over one counts = omega (arith, one, counts over)
+first-counts false following count all over one counts = omega (arith, one, counts (over + 1))
 
 -- with a further one the statement that goes on is over, or goes on
-further-counts : (more : Bool) (behind : ℕ → ℕ) (count over : ℕ) →
-    ((n : ℕ) → behind n ≡ n + going more + count) →
-    behind (if not more then over + 1 else over) ≡ over + 1 + count
-further-counts true behind count over counts = omega (arith, counts over)
-further-counts false behind count over counts = omega (arith, counts (over + 1))
+further-counts : (more : Bool) (following : ℕ → ℕ) (count over : ℕ) →
+    ((n : ℕ) → following n ≡ n + going more + count) →
+    following (if not more then over + 1 else over) ≡ over + 1 + count
+further-counts true following count over counts = omega (arith, counts over)
+further-counts false following count over counts = omega (arith, counts (over + 1))
 
--- what the cards behind a card count, for all that they may say
+-- what the cards after a card count, for all that they may say
 abbrev Counts : List Card → List (List ℕ) → Type 0
 Counts cards lines =
-    (over : ℕ) (written : List WrittenParts) → CardsSay cards written →
-    over_behind over lines ≡ over + going (goes_on lines) + length written
+    (over : ℕ) (written : List DeckStatementParts) → CardsDenote cards written →
+    over_following over lines ≡ over + going (goes_on lines) + length written
 
 card-counts : (card : Card) (cards : List Card) (role : Role) (lines : List (List ℕ)) (over : ℕ)
-    (written : List WrittenParts) → role_in card ≡ role → Counts cards lines →
-    CardsSay (card ∷ cards) written →
-    over_behind (if is_last role (goes_on lines) then over + 1 else over) lines
+    (written : List DeckStatementParts) → role_in card ≡ role → Counts cards lines →
+    CardsDenote (card ∷ cards) written →
+    over_following (if is_last role (goes_on lines) then over + 1 else over) lines
     ≡ over + going (goes_on_with role (goes_on lines)) + length written
-card-counts skipped cards role lines over written is counts say =
-    rw (sym is) (counts over written say)
-card-counts (plain body) cards role lines over [] is counts say = absurd say
-card-counts (plain body) cards role lines over (one ∷ written) is counts say =
-    rw (sym is) (first-counts (goes_on lines) (λ n. over_behind n lines) (length written) _ over
-    (add-one (length written)) (λ n. counts n written say.1))
-card-counts (labelled columns body) cards role lines over [] is counts say = absurd say
-card-counts (labelled columns body) cards role lines over (one ∷ written) is counts say =
-    rw (sym is) (first-counts (goes_on lines) (λ n. over_behind n lines) (length written) _ over
-    (add-one (length written)) (λ n. counts n written say.1))
-card-counts (continued body) cards role lines over written is counts say =
-    rw (sym is) (further-counts (goes_on lines) (λ n. over_behind n lines) (length written) over
-    (λ n. counts n written say))
-card-counts (unknown number) cards role lines over written is counts say = absurd say
+card-counts skipped cards role lines over written is counts denote =
+    rw (sym is) (counts over written denote)
+card-counts (plain body) cards role lines over [] is counts denote = absurd denote
+card-counts (plain body) cards role lines over (one ∷ written) is counts denote =
+    rw (sym is) (first-counts (goes_on lines) (λ n. over_following n lines) (length written) _ over
+    (add-one (length written)) (λ n. counts n written denote.1))
+card-counts (labelled columns body) cards role lines over [] is counts denote = absurd denote
+card-counts (labelled columns body) cards role lines over (one ∷ written) is counts denote =
+    rw (sym is) (first-counts (goes_on lines) (λ n. over_following n lines) (length written) _ over
+    (add-one (length written)) (λ n. counts n written denote.1))
+card-counts (continued body) cards role lines over written is counts denote =
+    rw (sym is) (further-counts (goes_on lines) (λ n. over_following n lines) (length written) over
+    (λ n. counts n written denote))
+card-counts (unknown number) cards role lines over written is counts denote = absurd denote
 
 cards-count : (number offset : ℕ) (lines : List (List ℕ)) →
     Counts (cards_from number offset lines) lines
-cards-count number offset [] over [] say = omega arith
-cards-count number offset [] over (one ∷ written) say = absurd say
-cards-count number offset (line ∷ lines) over written say =
+cards-count number offset [] over [] denote = omega arith
+cards-count number offset [] over (one ∷ written) denote = absurd denote
+cards-count number offset (line ∷ lines) over written denote =
     card-counts (card_of number offset (columns_of line))
     (cards_from (number + 1) (offset + length line + 1) lines) (role_of line) lines over written
     (role-anywhere number offset (columns_of line))
-    (cards-count (number + 1) (offset + length line + 1) lines) say
+    (cards-count (number + 1) (offset + length line + 1) lines) denote
 
 -- where no card continues a statement before the first, none goes on there
 card-begins : (card : Card) (cards : List Card) (role : Role) (lines : List (List ℕ)) →
@@ -107,7 +107,7 @@ cards-begin number offset (line ∷ lines) none =
     (cards-begin (number + 1) (offset + length line + 1) lines) none
 
 -- a program has one statement more than its deck wrote
-one-is-added : (written : List WrittenParts) (assembly : Assembled) →
+one-is-added : (written : List DeckStatementParts) (assembly : Assembled) →
     assembled written ≡ Ok assembly → length assembly.program ≡ length written + 1
 one-is-added written assembly whole =
     let labelled = went_on (labels_of written) _ assembly whole in

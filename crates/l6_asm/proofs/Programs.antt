@@ -21,7 +21,7 @@ use Rattle.l6_prog.specs.declared.exit.Exit.TheVariants.{Next, Label as ToLabel,
 use Rattle.l6_group.specs.declared.label.Label.{Label}
 use Rattle.l6_card.specs.declared.cards.Placed.{Placed}
 use Rattle.l6_card.specs.declared.cards.PlacedLabel.{PlacedLabel}
-use Rattle.l6_card.specs.Statement.{WrittenParts, is_fit}
+use Rattle.l6_card.specs.Statement.{DeckStatementParts, is_fit}
 use Rattle.l6_card.specs.Laws.{AreWithinLimits}
 use Rattle.l6_asm.specs.Labels.{number_of, labels_of, and_then}
 use Rattle.l6_asm.specs.Resolution.{number_if_given, resolved, found_on, operation_of, exit_of, each_made, statement_of, statements_of}
@@ -140,7 +140,7 @@ all_true [] = refl
 all_true (x ∷ xs) = all_true xs
 
 -- a statement that was made, and what it was made of
-record Made (labels : List (Label × ℕ)) (written : WrittenParts) (made : Parts) : Type 0 where
+record Made (labels : List (Label × ℕ)) (written : DeckStatementParts) (made : Parts) : Type 0 where
   operations : List (Op ℕ)
   leaving : Exit ℕ
   operations_are : each_made (operation_of labels) written.operations ≡ Ok operations
@@ -152,7 +152,7 @@ record Made (labels : List (Label × ℕ)) (written : WrittenParts) (made : Part
     exit = leaving;
   } ≡ made
 
-statement_made : (labels : List (Label × ℕ)) (written : WrittenParts) (made : Parts) →
+statement_made : (labels : List (Label × ℕ)) (written : DeckStatementParts) (made : Parts) →
     statement_of labels written ≡ Ok made → Made labels written made
 statement_made labels written made so =
     let first = went_on (each_made (operation_of labels) written.operations) _ made so in
@@ -172,7 +172,7 @@ is_good end statement =
 
 statement_good : (end : ℕ) (labels : List (Label × ℕ)) →
     list_all (is_entry_below end) labels ≡ true →
-    (written : WrittenParts) (made : Parts) → is_fit written ≡ true →
+    (written : DeckStatementParts) (made : Parts) → is_fit written ≡ true →
     statement_of labels written ≡ Ok made → is_good end made ≡ true
 statement_good end labels all written made fit so =
     let m = statement_made labels written made so in
@@ -213,7 +213,7 @@ statement_good end labels all written made fit so =
     (all-flat (is_below end) targets_of_operation m.operations targets)
     (exit_below end labels all written.exit m.leaving m.exit_is))
 
--- what stands behind a list is the last of both
+-- what follows a list is the last of both
 slice_get-last : (front : List Parts) (last : Parts) →
     slice_get (front ++ last ∷ []) (length (front ++ last ∷ []) - 1) ≡ Some last
 slice_get-last front last =
@@ -225,7 +225,7 @@ slice_get-last front last =
     ∙ slice_get-get_or (front ++ last ∷ []) (length front) last within
     ∙ ap Some (get_or-append_seam front last [] last)
 
--- each statement is good, and the one behind them
+-- each statement is good, and the one after them
 each_good : (test : Parts → Bool) (made : List Parts) → list_all test made ≡ true →
     test plain_done ≡ true →
     list_all test (made ++ plain_done ∷ []) ≡ true
@@ -244,8 +244,8 @@ all_left p q (x ∷ xs) all =
     let others = all_left p q xs outer.1 in
     (and_from (p x) (list_all p xs) own.0 others.0, and_from (q x) (list_all q xs) own.1 others.1)
 
--- what the cards say, with numbers in place of labels and the plain DONE behind it, is a program
-pub program_of-made : (written : List WrittenParts) (labels : List (Label × ℕ))
+-- what the cards say, with numbers in place of labels and the plain DONE after it, is a program
+pub program_of-made : (written : List DeckStatementParts) (labels : List (Label × ℕ))
     (statements : List Parts) →
     AreWithinLimits written → labels_of written ≡ Ok labels →
     statements_of labels written ≡ Ok statements →
@@ -275,7 +275,8 @@ program_of-made written labels statements limits labelled made =
     (Prim.rw (few, fitting, targets, tested, slice_get-last front plain_done) refl)
 
 -- a statement of operations and an exit that were made
-pub statement_from : (labels : List (Label × ℕ)) (written : WrittenParts) (operations : List (Op ℕ))
+pub statement_from : (labels : List (Label × ℕ)) (written : DeckStatementParts)
+    (operations : List (Op ℕ))
     (leaving : Exit ℕ) →
     each_made (operation_of labels) written.operations ≡ Ok operations →
     exit_of labels written.exit ≡ Ok leaving →

@@ -7,12 +7,12 @@ use Rattle.l6_group.specs.declared.label.Label.{Label}
 use Rattle.l6_card.specs.declared.cards.PlacedLabel.{PlacedLabel}
 use Rattle.l6_card.specs.DeckFault.{DeckFault}
 use Rattle.l6_card.specs.Fault.{fault_of}
-use Rattle.l6_card.specs.Reads.{Reads}
-use Rattle.l6_card.specs.Statement.{WrittenParts}
+use Rattle.l6_card.specs.ReadsAs.{ReadsAs}
+use Rattle.l6_card.specs.Statement.{DeckStatementParts}
 use Rattle.l6_card.specs.Laws.{IsFirstFault}
 use Rattle.l6_card.proofs.Settling.{reads_without_fault, reads_in_one_way, reads_only_without_fault}
 use Rattle.l6_asm.specs.declared.fault.AsmFault.{AsmFault}
-use Rattle.l6_asm.specs.inner.Gives.{Gives}
+use Rattle.l6_asm.specs.inner.MakesOrFails.{MakesOrFails}
 use Rattle.l6_asm.specs.AssemblyFault.{AssemblyFault, unread, twice_labelled, no_label, assembly_fault, unread_fault}
 use Rattle.l6_asm.specs.Assembled.{Assembled}
 use Rattle.l6_asm.specs.Labels.{number_of, with_label, and_then, labels_after, labels_of}
@@ -45,7 +45,7 @@ label_of_labels labels number (Some given) =
     given_of_labels (is_some (number_of labels given.label)) given.card
     (labels ++ (given.label, number) ∷ [])
 
-after_of_labels : (written : List WrittenParts) (labels : List (Label × ℕ)) (number : ℕ) →
+after_of_labels : (written : List DeckStatementParts) (labels : List (Label × ℕ)) (number : ℕ) →
     is_of_labels (labels_after labels number written) ≡ true
 after_of_labels [] labels number = refl
 after_of_labels (one ∷ written) labels number =
@@ -85,7 +85,7 @@ exit_of_labels labels (ToLabel named) =
 exit_of_labels labels Done = refl
 exit_of_labels labels Fail = refl
 
-statement_of_labels : (labels : List (Label × ℕ)) (written : WrittenParts) →
+statement_of_labels : (labels : List (Label × ℕ)) (written : DeckStatementParts) →
     is_of_labels (statement_of labels written) ≡ true
 statement_of_labels labels written =
     then_of_labels (each_made (operation_of labels) written.operations) _
@@ -94,7 +94,7 @@ statement_of_labels labels written =
     (λ operations. then_of_labels (exit_of labels written.exit) _
     (exit_of_labels labels written.exit) (λ leaving. refl))
 
-assembled_of_labels : (written : List WrittenParts) → is_of_labels (assembled written) ≡ true
+assembled_of_labels : (written : List DeckStatementParts) → is_of_labels (assembled written) ≡ true
 assembled_of_labels written =
     then_of_labels (labels_of written) _ (after_of_labels written [] 0)
     (λ labels. then_of_labels (statements_of labels written) _
@@ -103,8 +103,8 @@ assembled_of_labels written =
     (λ statements. refl))
 
 -- what the statements of a deck come to, if it is a fault, is the deck's
-pub fault_comes : (deck : List ℕ) (written : List WrittenParts) (fault : AssemblyFault) →
-    Reads deck written → assembled written ≡ Err fault → IsFault deck fault
+pub fault_comes : (deck : List ℕ) (written : List DeckStatementParts) (fault : AssemblyFault) →
+    ReadsAs deck written → assembled written ≡ Err fault → IsFault deck fault
 fault_comes deck written (unread objection) reads stops =
     let never = sym (assembled_of_labels written) ∙ ap is_of_labels stops in
     absurd (cc)
@@ -113,8 +113,8 @@ fault_comes deck written (twice_labelled card) reads stops =
 fault_comes deck written (no_label card) reads stops =
     record { written = written; reads = reads; stops = stops }
 
-stopped_spells : (deck : List ℕ) (written : List WrittenParts) (fault : AssemblyFault) →
-    Reads deck written →
+stopped_spells : (deck : List ℕ) (written : List DeckStatementParts) (fault : AssemblyFault) →
+    ReadsAs deck written →
     assembled written ≡ Err fault → SpellsNothing deck
 stopped_spells deck written fault reads stops assembly spells =
     let same : spells.written ≡ written =
@@ -131,9 +131,10 @@ never_both deck assembly (twice_labelled card) spells fault =
 never_both deck assembly (no_label card) spells fault =
     stopped_spells deck fault.written (no_label card) fault.reads fault.stops assembly spells
 
-read_either : (deck : List ℕ) (written : List WrittenParts) (made : Result Assembled AssemblyFault)
+read_either : (deck : List ℕ) (written : List DeckStatementParts)
+    (made : Result Assembled AssemblyFault)
     →
-    Reads deck written → assembled written ≡ made →
+    ReadsAs deck written → assembled written ≡ made →
     ((assembly : Assembled) × Spells deck assembly) ⊎ ((fault : AssemblyFault) × IsFault deck fault)
 read_either deck written (Ok assembly) reads whole =
     inl (assembly, record { written = written; reads = reads; whole = whole })
@@ -162,8 +163,9 @@ unread_unspelled deck (Some objection) first =
     }
 
 -- the fault that the statements of a deck come to
-pub read_unspelled : (deck : List ℕ) (written : List WrittenParts) (found : Option AssemblyFault) →
-    Reads deck written → IfSome found (λ fault. assembled written ≡ Err fault) →
+pub read_unspelled : (deck : List ℕ) (written : List DeckStatementParts)
+    (found : Option AssemblyFault) →
+    ReadsAs deck written → IfSome found (λ fault. assembled written ≡ Err fault) →
     IfSome found (IsUnspelled deck)
 read_unspelled deck written None reads stops = tt
 read_unspelled deck written (Some fault) reads stops =
@@ -174,8 +176,8 @@ read_unspelled deck written (Some fault) reads stops =
     }
 
 -- the program that a deck spells is the only one
-pub spells_just : (deck : List ℕ) (written : List WrittenParts) (assembly : Assembled) →
-    Reads deck written → assembled written ≡ Ok assembly → SpellsJust deck assembly
+pub spells_just : (deck : List ℕ) (written : List DeckStatementParts) (assembly : Assembled) →
+    ReadsAs deck written → assembled written ≡ Ok assembly → SpellsJust deck assembly
 spells_just deck written assembly reads whole =
     record {
       spells = record { written = written; reads = reads; whole = whole };
@@ -191,18 +193,19 @@ spells_in_one_way deck assembly other spells spells' =
     (spells_just deck spells.written assembly spells.reads spells.whole).only other spells'
 
 -- an answer that gives what the statements of a deck come to tells the deck's fault, if it is one
-pub tells_fault : (deck : List ℕ) (written : List WrittenParts) (result : Result Assembled AsmFault)
+pub tells_fault : (deck : List ℕ) (written : List DeckStatementParts)
+    (result : Result Assembled AsmFault)
     →
-    Reads deck written → Gives result (λ assembly. assembly) (assembled written) →
+    ReadsAs deck written → MakesOrFails result (λ assembly. assembly) (assembled written) →
     IfErr result (λ fault. IfSome (assembly_fault fault) (IsUnspelled deck))
 tells_fault deck written (Ok assembly) reads gives = tt
 tells_fault deck written (Err fault) reads gives =
     read_unspelled deck written (assembly_fault fault) reads gives
 
 -- and the program with its labels, if it is one
-pub tells_assembly : (deck : List ℕ) (written : List WrittenParts)
+pub tells_assembly : (deck : List ℕ) (written : List DeckStatementParts)
     (result : Result Assembled AsmFault) →
-    Reads deck written → Gives result (λ assembly. assembly) (assembled written) →
+    ReadsAs deck written → MakesOrFails result (λ assembly. assembly) (assembled written) →
     IfOk result (SpellsJust deck)
 tells_assembly deck written (Ok assembly) reads gives =
     spells_just deck written assembly reads gives

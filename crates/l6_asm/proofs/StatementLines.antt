@@ -28,7 +28,7 @@ lines-of program number statement d words within is same =
     ap (flat_map word_line) (same
     ∙ ap words_if_given (ap Some is ∙ sym (slice_get-get_or program number d within)))
 
--- there are none behind the program's last statement
+-- there are none after the program's last statement
 pub lines-past : (program : List Parts) (number : ℕ) → length program ≤ number →
     [] ≡ statement_lines program number
 lines-past program number past =

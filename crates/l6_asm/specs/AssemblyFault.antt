@@ -12,7 +12,7 @@ pub data AssemblyFault : Type 0 where
   twice_labelled : ℕ → AssemblyFault
   no_label : ℕ → AssemblyFault
 
--- what a fault of the assembler says of the deck: want of memory says nothing of it
+-- what a fault of the assembler says of the deck: out of memory says nothing of it
 abbrev pub assembly_fault : AsmFault → Option AssemblyFault
 assembly_fault (Form card) = Some (unread (form card))
 assembly_fault (Limit card) = Some (unread (limit card))

@@ -4,7 +4,7 @@ use Rattle.std.specs.Map.{lookup}
 use Rattle.std.specs.Str.{bytes_eq}
 use Rattle.l6_group.specs.declared.label.Label.{Label}
 use Rattle.l6_card.specs.declared.cards.PlacedLabel.{PlacedLabel}
-use Rattle.l6_card.specs.Statement.{WrittenParts}
+use Rattle.l6_card.specs.Statement.{DeckStatementParts}
 use Rattle.l6_asm.specs.AssemblyFault.{AssemblyFault, twice_labelled}
 
 -- the number of the statement that a label names
@@ -20,7 +20,7 @@ with_label labels number (Some given) =
     if is_some (number_of labels given.label) then Err (twice_labelled given.card)
     else Ok (labels ++ (given.label, number) ∷ [])
 
--- what one step makes of what another left, unless that met a fault
+-- a step after another one, unless that met a fault
 abbrev pub and_then : {A B : Type 0} → Result A AssemblyFault → (A → Result B AssemblyFault) →
     Result B AssemblyFault
 and_then (Ok made) step = step made
@@ -28,7 +28,7 @@ and_then (Err fault) step = Err fault
 
 -- these labels and those of statements that are numbered from this number on; or the first that is
 -- there twice
-abbrev pub labels_after : List (Label × ℕ) → ℕ → List WrittenParts →
+abbrev pub labels_after : List (Label × ℕ) → ℕ → List DeckStatementParts →
     Result (List (Label × ℕ)) AssemblyFault
 labels_after labels number [] = Ok labels
 labels_after labels number (written ∷ others) =
@@ -37,5 +37,5 @@ labels_after labels number (written ∷ others) =
 
 -- the labels of statements, in order, each with the number of its statement; or the first that is
 -- there twice
-abbrev pub labels_of : List WrittenParts → Result (List (Label × ℕ)) AssemblyFault
+abbrev pub labels_of : List DeckStatementParts → Result (List (Label × ℕ)) AssemblyFault
 labels_of written = labels_after [] 0 written

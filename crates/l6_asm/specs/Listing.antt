@@ -1,4 +1,4 @@
--- Listings: the cards of a deck, the words of each statement behind its last card, and the labels.
+-- Listings: the cards of a deck, the words of each statement after its last card, and the labels.
 use Rattle.std.specs.Prelude.{◌≡◌, ℕ, ◌+◌, ◌-◌, ◌==◌, Bool, true, false, not, List, [], ◌∷◌, ◌++◌, length, map, replicate, slice_get, codes, decimal, Option, Some, None, if◌then◌else◌}
 use Rattle.std.specs.List.{list_all, flat_map}
 use Rattle.std.specs.Str.{byte}
@@ -20,7 +20,7 @@ use Rattle.l6_asm.specs.Numerals.{card_places, statement_places, label_places, w
 abbrev pub blanks : ℕ → List ℕ
 blanks count = replicate count (byte " ")
 
--- a text in so many places, at their left end, or at their right end; blanks stand in the others
+-- a text in so many places, at their left end, or at their right end; blanks are in the others
 abbrev pub left : ℕ → List ℕ → List ℕ
 left places text = text ++ blanks (places - length text)
 
@@ -69,12 +69,12 @@ abbrev pub statement_lines : List Parts → ℕ → List ℕ
 statement_lines program number =
     flat_map word_line (words_if_given (slice_get program number))
 
--- a statement goes on behind a card, where the first card there that is not skipped continues it:
--- by what the next card is, and whether it goes on behind that
+-- a statement goes on after a card, where the first card there that is not skipped continues it:
+-- by what the next card is, and whether it goes on after that
 abbrev pub goes_on_with : Role → Bool → Bool
-goes_on_with Skipped behind = behind
-goes_on_with Further behind = true
-goes_on_with _ behind = false
+goes_on_with Skipped following = following
+goes_on_with Further following = true
+goes_on_with _ following = false
 
 -- a statement goes on in the cards of these lines
 abbrev pub goes_on : List (List ℕ) → Bool
@@ -86,15 +86,15 @@ abbrev pub number_on : Role → ℕ → Option ℕ
 number_on First number = Some number
 number_on _ number = None
 
--- the card is the last of its statement, by whether that goes on behind it; a card that is skipped
+-- the card is the last of its statement, by whether that goes on after it; a card that is skipped
 -- belongs to none
 abbrev pub is_last : Role → Bool → Bool
 is_last First more = not more
 is_last Further more = not more
 is_last _ more = false
 
--- the cards of these lines, of which the first has this number, where so many statements are over:
--- a line for each, and the words of a statement behind its last card
+-- the cards of these lines, of which the first has this number, where so many statements are
+-- complete: a line for each, and the words of a statement after its last card
 abbrev pub cards_listed : List Parts → ℕ → ℕ → List (List ℕ) → List ℕ
 cards_listed program card over [] = []
 cards_listed program card over (line ∷ lines) =
@@ -121,15 +121,16 @@ listing_of deck assembly =
     cards_listed assembly.program 1 0 (lines_of deck) ++ added_listed assembly.program
     ++ codes "LABELS\n" ++ flat_map label_line assembly.labels
 
--- how many statements are over behind the cards of these lines, where so many are over before them
-abbrev pub over_behind : ℕ → List (List ℕ) → ℕ
-over_behind over [] = over
-over_behind over (line ∷ lines) =
-    over_behind (if is_last (role_of line) (goes_on lines) then over + 1 else over) lines
+-- how many statements are complete after the cards of these lines, where so many are complete
+-- before them
+abbrev pub over_following : ℕ → List (List ℕ) → ℕ
+over_following over [] = over
+over_following over (line ∷ lines) =
+    over_following (if is_last (role_of line) (goes_on lines) then over + 1 else over) lines
 
--- in the listing of a deck each statement of the program that it spells has its number and its words:
--- behind the cards all statements are over but one, the last, which is added
+-- in the listing of a deck each statement of the program that it spells has its number and its
+-- words: after the cards all statements are complete but one, the last, which is added
 abbrev pub EachIsListed : Type 0
 EachIsListed =
     (deck : List ℕ) (assembly : Assembled) → Spells deck assembly →
-    over_behind 0 (lines_of deck) + 1 ≡ length assembly.program
+    over_following 0 (lines_of deck) + 1 ≡ length assembly.program

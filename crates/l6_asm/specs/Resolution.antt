@@ -11,7 +11,7 @@ use Rattle.l6_group.specs.declared.label.Label.{Label}
 use Rattle.l6_group.specs.Spelling.{◌>>=◌}
 use Rattle.l6_card.specs.declared.cards.Placed.{Placed}
 use Rattle.l6_card.specs.declared.cards.PlacedLabel.{PlacedLabel}
-use Rattle.l6_card.specs.Statement.{WrittenParts}
+use Rattle.l6_card.specs.Statement.{DeckStatementParts}
 use Rattle.l6_asm.specs.AssemblyFault.{AssemblyFault, no_label}
 use Rattle.l6_asm.specs.Labels.{number_of, and_then}
 
@@ -88,8 +88,8 @@ abbrev pub each_made : {A B : Type 0} → (A → Result B AssemblyFault) → Lis
 each_made make [] = Ok []
 each_made make (x ∷ xs) = onto_made (make x) (each_made make xs)
 
--- the statement of a program that a written one stands for
-abbrev pub statement_of : List (Label × ℕ) → WrittenParts → Result Parts AssemblyFault
+-- the statement of a program for one of the deck
+abbrev pub statement_of : List (Label × ℕ) → DeckStatementParts → Result Parts AssemblyFault
 statement_of labels written =
     and_then (each_made (operation_of labels) written.operations) (λ operations.
     and_then (exit_of labels written.exit) (λ leaving.
@@ -100,8 +100,9 @@ statement_of labels written =
       exit = leaving;
     })))
 
--- the statements of a program: the written ones, and the plain DONE behind them
-abbrev pub statements_of : List (Label × ℕ) → List WrittenParts → Result (List Parts) AssemblyFault
+-- the statements of a program: the written ones, and the plain DONE after them
+abbrev pub statements_of : List (Label × ℕ) → List DeckStatementParts →
+    Result (List Parts) AssemblyFault
 statements_of labels written =
     and_then (each_made (statement_of labels) written)
     (λ statements. Ok (statements ++ plain_done ∷ []))

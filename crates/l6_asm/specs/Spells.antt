@@ -1,25 +1,26 @@
 -- The program that a deck spells.
 use Rattle.std.specs.Prelude.{◌≡◌, ◌⊎◌, ℕ, List, Some, Result, Ok, Err}
 use Rattle.l6_card.specs.Fault.{fault_of}
-use Rattle.l6_card.specs.Reads.{Reads}
-use Rattle.l6_card.specs.Statement.{WrittenParts}
+use Rattle.l6_card.specs.ReadsAs.{ReadsAs}
+use Rattle.l6_card.specs.Statement.{DeckStatementParts}
 use Rattle.l6_asm.specs.AssemblyFault.{AssemblyFault, unread, twice_labelled, no_label}
 use Rattle.l6_asm.specs.Assembled.{Assembled}
 use Rattle.l6_asm.specs.Labels.{labels_of, and_then}
 use Rattle.l6_asm.specs.Resolution.{statements_of}
 
--- what written statements come to: their labels, which must differ; then the statements with
--- numbers in place of labels, each of which must be there
-abbrev pub assembled : List WrittenParts → Result Assembled AssemblyFault
+-- what is assembled of the statements of a deck: their labels, which must differ; then the
+-- statements with numbers in place of labels, each of which must be there
+abbrev pub assembled : List DeckStatementParts → Result Assembled AssemblyFault
 assembled written =
     and_then (labels_of written) (λ labels.
     and_then (statements_of labels written) (λ statements.
     Ok (record { program = statements; labels = labels })))
 
--- the deck spells the program with these labels: it says some statements, and they come to these
+-- the deck spells the program with these labels: it says some statements, and these are assembled
+-- of them
 pub record Spells (deck : List ℕ) (assembly : Assembled) : Type 0 where
-  pub written : List WrittenParts
-  pub reads : Reads deck written
+  pub written : List DeckStatementParts
+  pub reads : ReadsAs deck written
   pub whole : assembled written ≡ Ok assembly
 
 -- the deck spells no program
@@ -31,13 +32,13 @@ pub record SpellsJust (deck : List ℕ) (assembly : Assembled) : Type 0 where
   pub spells : Spells deck assembly
   pub only : (other : Assembled) → Spells deck other → other ≡ assembly
 
--- the deck is read, but its statements come to this fault
+-- the deck is read, but its statements have this fault
 pub record ComesTo (deck : List ℕ) (fault : AssemblyFault) : Type 0 where
-  pub written : List WrittenParts
-  pub reads : Reads deck written
+  pub written : List DeckStatementParts
+  pub reads : ReadsAs deck written
   pub stops : assembled written ≡ Err fault
 
--- the fault is the deck's: the first objection to it, or else what its statements come to
+-- the fault is the deck's: the first objection to it, or else that of its statements
 abbrev pub IsFault : List ℕ → AssemblyFault → Type 0
 IsFault deck (unread objection) = fault_of deck ≡ Some objection
 IsFault deck (twice_labelled card) = ComesTo deck (twice_labelled card)

@@ -5,7 +5,7 @@ ghost use Rattle.l6_card.specs.Numerals.{most_deck_bytes};
 ghost use Rattle.l6_card.specs.Laws.{AreWithinLimits};
 ghost use Rattle.l6_asm.specs.AssemblyFault.{assembly_fault};
 ghost use Rattle.l6_asm.specs.Spells.{SpellsJust, IsUnspelled, assembled};
-ghost use Rattle.l6_asm.specs.inner.Gives.{Gives};
+ghost use Rattle.l6_asm.specs.inner.MakesOrFails.{MakesOrFails};
 
 use crate::assembly::Assembly;
 use crate::fault::AsmFault;
@@ -21,7 +21,7 @@ use std::alloc::Global;
 ///
 /// The deck's fault: the first objection in the order of its cards; else the first card with a
 /// label that an earlier card has; else the first card that names a label that no card has. Or
-/// want of memory.
+/// out of memory.
 pub fn assemble(alloc: Global, deck: &[u8]) -> Result<Assembly, AsmFault>
     requires { length deck.now ≤ most_deck_bytes }
     ensures spells { IfOk result (SpellsJust deck.now) }
@@ -34,7 +34,7 @@ pub fn assemble(alloc: Global, deck: &[u8]) -> Result<Assembly, AsmFault>
 /// The assembly of what cards say.
 fn assembly_of(alloc: Global, cards: Cards) -> Result<Assembly, AsmFault>
     requires { AreWithinLimits cards }
-    ensures { Gives result (λ assembly. assembly) (assembled cards) }
+    ensures { MakesOrFails result (λ assembly. assembly) (assembled cards) }
 {
     let labels = labels_of(alloc, cards.statements())?;
     let statements = statements_of(alloc, &labels, cards.into_statements())?;

@@ -40,7 +40,7 @@ impl Assembly {
         &self.program
     }
 
-    /// The program, the labels given up.
+    /// The program. The labels are dropped.
     pub fn into_program(self) -> Program
         ensures { result ≡ self.program }
     {

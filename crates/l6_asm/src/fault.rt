@@ -12,7 +12,7 @@ use thiserror::Error;
 /// Why a deck spells no program. Cards are numbered from 1.
 #[derive(Clone, Copy, Debug, Error, PartialEq, Eq)]
 pub enum AsmFault {
-    /// Something on this card has no reading, or a statement is not whole whose last card it is.
+    /// Something on this card has no reading, or the statement that ends on it is not whole.
     #[error("card {0}: no reading")]
     Form(u32),
     /// There is too much of something on this card.

@@ -1,21 +1,21 @@
 //! The labels of a deck's statements.
 
 ghost use Rattle.std.specs.Prelude.{◌≡◌, ◌≤◌, length};
-ghost use Rattle.l6_card.specs.Numerals.{most_written};
+ghost use Rattle.l6_card.specs.Numerals.{most_deck_statements};
 ghost use Rattle.l6_asm.specs.Labels as spec;
-ghost use Rattle.l6_asm.specs.inner.Gives.{Gives};
+ghost use Rattle.l6_asm.specs.inner.MakesOrFails.{MakesOrFails};
 
 use crate::assembly::Labels;
 use crate::fault::AsmFault;
 use indexmap::IndexMap;
-use l6_card::{PlacedLabel, Written};
+use l6_card::{DeckStatement, PlacedLabel};
 use l6_group::Label;
 use std::alloc::Global;
 
 /// The labels of statements, in order, each with the number of its statement.
-pub(crate) fn labels_of(alloc: Global, statements: &[Written]) -> Result<Labels, AsmFault>
-    requires { length statements.now ≤ most_written }
-    ensures { Gives result (λ labels. labels.entries) (spec.labels_of statements.now) }
+pub(crate) fn labels_of(alloc: Global, statements: &[DeckStatement]) -> Result<Labels, AsmFault>
+    requires { length statements.now ≤ most_deck_statements }
+    ensures { MakesOrFails result (λ labels. labels.entries) (spec.labels_of statements.now) }
 {
     let mut labels = IndexMap::new(alloc);
     let mut number: u16 = 0;
@@ -29,7 +29,7 @@ pub(crate) fn labels_of(alloc: Global, statements: &[Written]) -> Result<Labels,
 /// Adds the label of the statement of this number, if it has one.
 fn add_label(labels: &mut Labels, number: u16, given: &Option<PlacedLabel>) -> Result<(), AsmFault>
     ensures { let added = spec.with_label labels.old.entries number given.now in
-        Gives result (λ _. labels.new.entries) added }
+        MakesOrFails result (λ _. labels.new.entries) added }
 {
     match given {
         None => Ok(()),

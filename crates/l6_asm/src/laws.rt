@@ -10,8 +10,9 @@ pub fn spelling_is_settled()
     ensures one_way { SpellsInOneWay }
 {}
 
-/// The listing of a deck has the words of each statement of the program that the deck spells, behind
-/// the statement's cards: when these are over, so are all statements but the one that is added.
+/// The listing of a deck has the words of each statement of the program that the deck spells, after
+/// the statement's cards: after the last card all statements are complete but the one that is
+/// added.
 pub fn each_statement_is_listed()
     ensures { EachIsListed }
 {}

@@ -11,13 +11,13 @@ use l6_group::Label;
 use l6_word::{OCTALS, Word, char_of, input_code, octal12};
 use std::alloc::AllocError;
 
-/// In how many places the number of a card stands.
+/// How many columns the number of a card has.
 const CARD_PLACES: usize = 7;
-/// In how many places the number of a statement stands.
+/// How many columns the number of a statement has.
 const STATEMENT_PLACES: usize = 5;
-/// In how many places a label stands.
+/// How many columns a label has.
 const LABEL_PLACES: usize = 6;
-/// How many blanks stand in front of a word.
+/// How many blanks are in front of a word.
 const WORD_MARGIN: usize = 15;
 
 /// Adds the line of a card: its number, that of the statement which begins on it, and its columns.
@@ -74,8 +74,8 @@ pub(crate) fn push_label(text: &mut Vec<u8>, label: &Label, number: u16) -> Resu
     text.extend_from_slice(b"\n")
 }
 
-/// Adds a number at the right end of so many places, or blanks where there is none. There are at most
-/// as many places as blanks in front of a word.
+/// Adds a number at the right end of so many columns, or blanks if there is none. There are at most
+/// as many columns as blanks in front of a word.
 fn push_number(text: &mut Vec<u8>, places: usize, number: Option<usize>) -> Result<(), AllocError>
     requires { places ≤ word_margin }
     ensures { OnOk result (text.new.items ≡ text.old.items ++ spec.number_in places number) }
@@ -99,7 +99,7 @@ fn push_blanks(text: &mut Vec<u8>, count: usize) -> Result<(), AllocError>
     text.extend_from_slice(&[b' '; WORD_MARGIN][..count])
 }
 
-/// Adds what columns show.
+/// Adds what the columns of a card show.
 fn push_columns(text: &mut Vec<u8>, columns: &[u8]) -> Result<(), AllocError>
     ensures { OnOk result (text.new.items ≡ text.old.items ++ map spec.shown columns.now) }
 {
@@ -109,7 +109,7 @@ fn push_columns(text: &mut Vec<u8>, columns: &[u8]) -> Result<(), AllocError>
     Ok(())
 }
 
-/// Puts in the place of each column what it shows.
+/// Replaces each column by what it shows.
 fn show(columns: &mut [u8])
     ensures { columns.new ≡ map spec.shown columns.old }
 {

@@ -14,9 +14,14 @@ use l6_prog::Program;
 use l6_word::first_line;
 use std::alloc::{AllocError, Global};
 
-/// The listing of a deck, which should be that of the assembly: a line for each card, with the words
-/// of each statement behind its last card; the plain `DONE` that is added to every deck, with its
-/// word; and the labels, in the order of the cards, each with the number of its statement.
+/// The listing of a deck, with the program and the labels of its assembly: a line for each card,
+/// with the words of each statement after its last card; the plain `DONE` that is added to every
+/// deck, with its word; and the labels, in the order of the cards, each with the number of its
+/// statement.
+///
+/// # Errors
+///
+/// Memory ran out.
 #[tactic(auto, unfolding(crate::specs::Listing::listing_of))]
 pub fn listing(alloc: Global, assembly: &Assembly, deck: &[u8]) -> Result<Vec<u8>, AllocError>
     ensures { IfOk result (λ text. text.items ≡ spec.listing_of deck.now assembly.now) }
@@ -29,7 +34,7 @@ pub fn listing(alloc: Global, assembly: &Assembly, deck: &[u8]) -> Result<Vec<u8
     Ok(text)
 }
 
-/// Adds the lines of a deck's cards, and behind the last card of each statement those of its words.
+/// Adds the lines of a deck's cards, and after the last card of each statement those of its words.
 fn push_cards(
     alloc: Global,
     text: &mut Vec<u8>,
@@ -42,15 +47,15 @@ fn push_cards(
     let mut rest = deck;
     let mut card: usize = 0;
     let mut over: usize = 0;
-    while let Some((line, behind)) = first_line(rest) {
+    while let Some((line, following)) = first_line(rest) {
         card += 1;
         let role = role_of(line);
         push_card(text, Some(card), number_on(role, over), columns_of(line))?;
-        if is_last(role, behind) {
+        if is_last(role, following) {
             push_statement(alloc, text, program, over)?;
             over += 1;
         }
-        rest = behind;
+        rest = following;
     }
     Ok(())
 }
@@ -102,12 +107,12 @@ fn number_on(role: Role, number: usize) -> Option<usize>
     }
 }
 
-/// Whether a card is the last of its statement, with this text behind it.
-fn is_last(role: Role, behind: &[u8]) -> bool
-    ensures { result ≡ spec.is_last role (spec.goes_on (lines_of behind.now)) }
+/// Whether a card is the last of its statement, with this text after it.
+fn is_last(role: Role, following: &[u8]) -> bool
+    ensures { result ≡ spec.is_last role (spec.goes_on (lines_of following.now)) }
 {
     match role {
-        Role::First | Role::Further => !goes_on(behind),
+        Role::First | Role::Further => !goes_on(following),
         _ => false,
     }
 }
@@ -117,9 +122,9 @@ fn goes_on(text: &[u8]) -> bool
     ensures { result ≡ spec.goes_on (lines_of text.now) }
 {
     let mut rest = text;
-    while let Some((line, behind)) = first_line(rest) {
+    while let Some((line, following)) = first_line(rest) {
         match role_of(line) {
-            Role::Skipped => rest = behind,
+            Role::Skipped => rest = following,
             Role::Further => return true,
             _ => return false,
         }

@@ -2,28 +2,28 @@
 
 ghost use Rattle.std.specs.Prelude.{◌≡◌, ◌≤◌, length, map, IfOk};
 ghost use Rattle.l6_prog.specs.declared.condition.Test.{Test as AnyTest};
-ghost use Rattle.l6_card.specs.Numerals.{most_written};
+ghost use Rattle.l6_card.specs.Numerals.{most_deck_statements};
 ghost use Rattle.l6_card.specs.declared.cards.Placed.{Placed as AnyPlaced};
 ghost use Rattle.l6_asm.specs.Resolution as spec;
-ghost use Rattle.l6_asm.specs.inner.Gives.{Gives};
+ghost use Rattle.l6_asm.specs.inner.MakesOrFails.{MakesOrFails};
 
 use crate::assembly::Labels;
 use crate::fault::AsmFault;
 use crate::label::number_of;
-use l6_card::{Parts, Placed, PlacedLabel, Written};
+use l6_card::{DeckStatement, Parts, Placed, PlacedLabel};
 use l6_group::Label;
 use l6_prog::{Exit, Op, Statement, Test};
 use std::alloc::{AllocError, Global};
 
-/// The statements of the program: the written ones, and the plain `DONE`.
+/// The statements of the program: the deck's, and the plain `DONE`.
 pub(crate) fn statements_of(
     alloc: Global,
     labels: &Labels,
-    written: Vec<Written>,
+    written: Vec<DeckStatement>,
 ) -> Result<Vec<Statement>, AsmFault>
-    requires { length written.items ≤ most_written }
+    requires { length written.items ≤ most_deck_statements }
     ensures { let made = spec.statements_of labels.now.entries written.items in
-        Gives result (λ statements. statements.items) made }
+        MakesOrFails result (λ statements. statements.items) made }
 {
     let mut statements = each_statement(alloc, labels, written)?;
     statements
@@ -32,17 +32,17 @@ pub(crate) fn statements_of(
     Ok(statements)
 }
 
-/// The statements that written ones stand for.
+/// The statements of the program for those of the deck.
 fn each_statement(
     alloc: Global,
     labels: &Labels,
-    written: Vec<Written>,
+    written: Vec<DeckStatement>,
 ) -> Result<Vec<Statement>, AsmFault>
-    requires { length written.items ≤ most_written }
+    requires { length written.items ≤ most_deck_statements }
     ensures { let made = spec.each_made (spec.statement_of labels.now.entries) written.items in
-        Gives result (λ statements. statements.items) made }
+        MakesOrFails result (λ statements. statements.items) made }
 {
-    // One more than these, for the plain `DONE` behind them.
+    // Room for one more than these: the plain `DONE` follows them.
     let mut statements = Vec::with_capacity(alloc, written.len() + 1)?;
     for one in written {
         let statement = statement_of(alloc, labels, one)?;
@@ -51,10 +51,14 @@ fn each_statement(
     Ok(statements)
 }
 
-/// The statement that a written one stands for.
-fn statement_of(alloc: Global, labels: &Labels, written: Written) -> Result<Statement, AsmFault>
+/// The statement of the program for one of the deck.
+fn statement_of(
+    alloc: Global,
+    labels: &Labels,
+    written: DeckStatement,
+) -> Result<Statement, AsmFault>
     ensures { let made = spec.statement_of labels.now.entries written in
-        Gives result (λ statement. statement) made }
+        MakesOrFails result (λ statement. statement) made }
 {
     let Parts {
         label: _,
@@ -76,7 +80,7 @@ fn operations_of(
     groups: Vec<Placed<Op<Label>>>,
 ) -> Result<Vec<Op>, AsmFault>
     ensures { let made = spec.each_made (spec.operation_of labels.now.entries) groups.items in
-        Gives result (λ operations. operations.items) made }
+        MakesOrFails result (λ operations. operations.items) made }
 {
     let mut operations = Vec::with_capacity(alloc, groups.len())?;
     for group in groups {
@@ -89,7 +93,7 @@ fn operations_of(
 /// The operation of a group.
 fn operation_of(labels: &Labels, group: Placed<Op<Label>>) -> Result<Op, AsmFault>
     ensures { let made = spec.operation_of labels.now.entries group in
-        Gives result (λ operation. operation) made }
+        MakesOrFails result (λ operation. operation) made }
 {
     let Placed {
         reading,
@@ -122,7 +126,7 @@ fn tests_of(alloc: Global, groups: Vec<Placed<Test>>) -> Result<Vec<Test>, Alloc
 /// The exit, with a number in place of its label.
 fn exit_of(labels: &Labels, exit: Exit<PlacedLabel>) -> Result<Exit, AsmFault>
     ensures { let made = spec.exit_of labels.now.entries exit in
-        Gives result (λ exit. exit) made }
+        MakesOrFails result (λ exit. exit) made }
 {
     match exit {
         Exit::Next => Ok(Exit::Next),
@@ -135,7 +139,7 @@ fn exit_of(labels: &Labels, exit: Exit<PlacedLabel>) -> Result<Exit, AsmFault>
     }
 }
 
-/// The operation with numbers in place of its labels, if each of them is there.
+/// The operation with numbers in place of its labels, if each of them exists.
 fn resolved(labels: &Labels, operation: Op<Label>) -> Option<Op>
     ensures { result ≡ spec.resolved labels.now.entries operation }
 {

@@ -2,7 +2,7 @@
 
 ghost use Rattle.l6_asm.specs.Worked.{MissingIsRefused, TwiceIsRefused};
 
-/// A label given twice is told before a label that is missing.
+/// A label given twice is reported before a label that is missing.
 pub fn twice_is_refused()
     ensures { TwiceIsRefused }
 {}

@@ -1,4 +1,4 @@
--- Items stand exactly if they begin a whole statement, and whole items say one.
+-- Items are a prefix of a statement exactly if they begin a whole statement, and whole items say one.
 use Rattle.std.proofs.Common.{◌≡◌, ℕ, ◌+◌, ◌≤◌, ◌<◌, List, [], ◌∷◌, ◌++◌, length, Bool, true, false, cond, leb, Option, Some, None, Result, Ok, Err, refl, sym, ap, ◌∙◌, arith, append_assoc, append-nil, codes}
 use Rattle.std.specs.Prelude.{◌&&◌, ◌||◌, not}
 use Rattle.std.specs.List.{list_all}
@@ -11,17 +11,17 @@ use Rattle.l6_prog.specs.declared.condition.Cond.TheVariants.{Always, If, Not, I
 use Rattle.l6_group.specs.Character.{spelled}
 use Rattle.l6_card.specs.DeckFault.{DeckFault, form, limit}
 use Rattle.l6_card.specs.Items.{Item, group, word, unclosed, unopened, PlacedItem, item_on}
-use Rattle.l6_card.specs.Form.{condition_in, then_in, is_operation, is_test, is_exit, are_operations_and_exit, word_on, behind_then, wants, has_its_tests, count_tests, count_operations, body_of, tests_among, are_whole, are_condition_and_tests, stand, are_within_limits}
+use Rattle.l6_card.specs.Form.{condition_in, then_in, is_operation, is_test, is_exit, are_operations_and_exit, word_on, following_then, needs, has_its_tests, count_tests, count_operations, body_of, tests_among, are_whole, are_condition_and_tests, are_prefix, are_within_limits}
 use Rattle.l6_card.specs.declared.cards.PlacedLabel.{PlacedLabel}
-use Rattle.l6_card.specs.Statement.{WrittenParts, is_fit}
-use Rattle.l6_card.specs.Says.{ItemsSay}
+use Rattle.l6_card.specs.Statement.{DeckStatementParts, is_fit}
+use Rattle.l6_card.specs.Denotes.{ItemsDenote}
 use Rattle.l6_card.specs.Fault.{fault_in}
-use Rattle.l6_card.specs.inner.Draft.{Draft, Phase, New, Worded, Tested, Open, Closed, new_draft, statement_from, with_item, draft_then, draft_of}
-use Rattle.l6_card.proofs.Steps.{draft_of-append}
+use Rattle.l6_card.specs.inner.StatementBuilder.{StatementBuilder, Phase, New, Worded, Tested, Open, Closed, new_builder, statement_from, with_item, builder_then, builder_of}
+use Rattle.l6_card.proofs.Steps.{builder_of-append}
 use Rattle.l6_card.proofs.Fitness.{items_sound, new_sound, statement_fit}
 use Rattle.l6_card.proofs.Viewing.{view, items_seen}
 use Rattle.l6_card.proofs.Objections.{objection_of, item_objects}
-use Rattle.l6_card.proofs.Sayings.{draft_at, say_when_made}
+use Rattle.l6_card.proofs.Sayings.{builder_at, denote_when_made}
 use Rattle.l6_card.proofs.Drafting.{either_taken}
 use Rattle.l6_card.proofs.Following.{whole_items}
 use Rattle.l6_card.proofs.Spellings.{condition_is_exit}
@@ -63,7 +63,7 @@ tests_counted (i ∷ items) more =
 
 -- items that begin others stand, and have no more operations
 record Begins (front all : View) : Type 0 where
-  standing : front.standing ≡ true
+  prefix : front.prefix ≡ true
   operations : front.operations ≤ all.operations
 
 -- a condition may have fewer tests, if it has one
@@ -84,12 +84,12 @@ fewer_tests IfAny n m fits some less = lt-ltb 0 n some
 fewer_tests IfNone n m fits some less = lt-ltb 0 n some
 fewer_tests IfNotAll n m fits some less = lt-ltb 0 n some
 
--- what is whole behind a condition has its tests
-joined_fits : (fits : Bool) (n : ℕ) (behind : Option (List PlacedItem)) →
-    (joined_view fits n behind).whole ≡ true → fits ≡ true
-joined_fits true n behind whole = refl
+-- what is whole after a condition has its tests
+joined_fits : (fits : Bool) (n : ℕ) (following : Option (List PlacedItem)) →
+    (joined_view fits n following).whole ≡ true → fits ≡ true
+joined_fits true n following whole = refl
 joined_fits false n None whole = absurd (cc)
-joined_fits false n (Some behind) whole = absurd (cc)
+joined_fits false n (Some following) whole = absurd (cc)
 
 tested_fits_in : (i : PlacedItem) (items : List PlacedItem) (c : Cond) (n : ℕ) (holds : Bool) →
     is_test i ≡ holds →
@@ -103,7 +103,7 @@ tested_fits_in i items c n false is_no later whole =
     let seen = no_more_tests i c n items is_no in (
       n,
       omega arith,
-      joined_fits (may_have c n) n (behind_then (i ∷ items))
+      joined_fits (may_have c n) n (following_then (i ∷ items))
           (ap (λ (v : View). v.whole) (sym seen) ∙ whole),
     )
 
@@ -113,13 +113,13 @@ tested_fits [] c n whole = absurd (cc)
 tested_fits (i ∷ items) c n whole =
     tested_fits_in i items c n (is_test i) refl (tested_fits items c (n + 1)) whole
 
--- what begins behind THEN
+-- what begins after THEN
 then_begins : (i : PlacedItem) (items more : List PlacedItem) (fits : Bool) (n : ℕ)
     (found : Option (List ℕ)) →
-    let behind : List PlacedItem → Option (List PlacedItem) =
+    let following : List PlacedItem → Option (List PlacedItem) =
     λ rest. option_map (λ characters. word_on i.card characters ++ rest) found in
-    (joined_view fits n (behind (items ++ more))).whole ≡ true →
-    Begins (joined_view fits n (behind items)) (joined_view fits n (behind (items ++ more)))
+    (joined_view fits n (following (items ++ more))).whole ≡ true →
+    Begins (joined_view fits n (following items)) (joined_view fits n (following (items ++ more)))
 then_begins i items more fits n None whole = absurd (cc)
 then_begins i items more false n (Some characters) whole = absurd (cc)
 then_begins i items more true n (Some characters) whole =
@@ -129,11 +129,11 @@ then_begins i items more true n (Some characters) whole =
     let counted = operations_counted front more in
     let counts = ap count_operations same in
     record {
-      standing = operations_begin front more (ap are_operations_and_exit (sym same) ∙ whole);
+      prefix = operations_begin front more (ap are_operations_and_exit (sym same) ∙ whole);
       operations = omega (arith, counted, counts);
     }
 
--- what begins behind a condition and its tests
+-- what begins after a condition and its tests
 no_test_begins : (i : PlacedItem) (items more : List PlacedItem) (c : Cond) (n : ℕ) →
     is_test i ≡ false → (tested_view c n (i ∷ items ++ more)).whole ≡ true →
     Begins (tested_view c n (i ∷ items)) (tested_view c n (i ∷ items ++ more))
@@ -144,7 +144,7 @@ no_test_begins i items more c n is_no whole =
     then_begins i items more (may_have c n) n (then_in i.what)
     (ap (λ (v : View). v.whole) (sym all) ∙ whole) in
     record {
-      standing = ap (λ (v : View). v.standing) seen ∙ begins.standing;
+      prefix = ap (λ (v : View). v.prefix) seen ∙ begins.prefix;
       operations = omega (
         arith,
         begins.operations,
@@ -161,7 +161,7 @@ test_begins i items more c n is_one begins =
     let seen = one_more_test i c n items is_one in
     let all = one_more_test i c n (items ++ more) is_one in
     record {
-      standing = ap (λ (v : View). v.standing) seen ∙ begins.standing;
+      prefix = ap (λ (v : View). v.prefix) seen ∙ begins.prefix;
       operations = omega (
         arith,
         begins.operations,
@@ -189,7 +189,7 @@ tests_begin [] more c n some whole =
     let fits = tested_fits more c n whole in
     let count : n + 0 ≡ n = omega arith in
     record {
-      standing = ap (may_have c) count ∙ fewer_tests c n fits.0 fits.2 some fits.1;
+      prefix = ap (may_have c) count ∙ fewer_tests c n fits.0 fits.2 some fits.1;
       operations = omega arith;
     }
 tests_begin (i ∷ items) more c n some whole =
@@ -216,7 +216,7 @@ worded_begins i [] more c found whole =
     let w = is_word i.what i.card c found in
     let seen = new_condition i c [] found w.no_operation w.exit in
     record {
-      standing = ap (λ (v : View). v.standing) seen;
+      prefix = ap (λ (v : View). v.prefix) seen;
       operations = omega (arith, ap (λ (v : View). v.operations) seen);
     }
 worded_begins i (j ∷ items) more c found whole =
@@ -228,7 +228,7 @@ worded_begins i (j ∷ items) more c found whole =
     (tests_begin items more c (0 + 1) (omega arith))
     (ap (λ (v : View). v.whole) (sym all) ∙ whole) in
     record {
-      standing = ap (λ (v : View). v.standing) seen ∙ begins.standing;
+      prefix = ap (λ (v : View). v.prefix) seen ∙ begins.prefix;
       operations = omega (
         arith,
         begins.operations,
@@ -246,8 +246,8 @@ first_begins i items more None found whole =
     let all = unconditional i (items ++ more) found in
     let counted = operations_counted (i ∷ items) more in
     record {
-      standing =
-          ap (λ (v : View). v.standing) seen
+      prefix =
+          ap (λ (v : View). v.prefix) seen
           ∙ operations_begin (i ∷ items) more (ap (λ (v : View). v.whole) (sym all) ∙ whole);
       operations = omega (
         arith,
@@ -259,13 +259,13 @@ first_begins i items more None found whole =
 
 begins : (items more : List PlacedItem) → are_whole (items ++ more) ≡ true →
     Begins (view_of items) (view_of (items ++ more))
-begins [] more whole = record { standing = refl; operations = omega arith }
+begins [] more whole = record { prefix = refl; operations = omega arith }
 begins (i ∷ items) more whole = first_begins i items more (condition_in i.what) refl whole
 
 -- items that begin a whole statement stand
 pub whole_begins : (items more : List PlacedItem) → are_whole (items ++ more) ≡ true →
-    stand items ≡ true
-whole_begins items more whole = (begins items more whole).standing
+    are_prefix items ≡ true
+whole_begins items more whole = (begins items more whole).prefix
 
 tests_among_more : (items more : List PlacedItem) → tests_among items ≤ tests_among (items ++ more)
 tests_among_more [] more = omega arith
@@ -289,7 +289,7 @@ few_begin items more whole few =
     and_from (leb n most_tests) (leb m most_operations)
     (le-leb n most_tests (omega arith)) (le-leb m most_operations (omega arith))
 
--- tests in a row leave what stands behind them
+-- tests in a row leave what follows them
 tests_run : (items rest : List PlacedItem) (c : Cond) (n : ℕ) → list_all is_test items ≡ true →
     tested_view c n (items ++ rest) ≡ tested_view c (n + count_tests items) rest
 tests_run [] rest c n all =
@@ -304,7 +304,7 @@ tests_run (i ∷ items) rest c n all =
     ∙ tests_run items rest c (n + 1) parts.1
     ∙ ap (λ k. tested_view c k rest) count
 
--- items with more behind them that make them whole
+-- items with more after them that make them whole
 abbrev pub Grows : List PlacedItem → Type 0
 Grows items = (more : List PlacedItem) × (are_whole (items ++ more) ≡ true)
 
@@ -329,7 +329,7 @@ condition_grows i (j ∷ items) c found fits all =
     (then_item ∷ [], ap (λ (v : View). v.whole) seen)
 
 wanted_grows : (i : PlacedItem) (items : List PlacedItem) (found : Option Cond) →
-    condition_in i.what ≡ found → wants found (count_tests items) ≡ true →
+    condition_in i.what ≡ found → needs found (count_tests items) ≡ true →
     list_all is_test items ≡ true → Grows (i ∷ items)
 wanted_grows i items None found fits all = absurd (cc)
 wanted_grows i items (Some c) found fits all = condition_grows i items c found fits all
@@ -340,86 +340,87 @@ tests_grow (i ∷ items) are =
     let parts = and_parts (has_its_tests i items) (list_all is_test items) are in
     wanted_grows i items (condition_in i.what) refl parts.0 parts.1
 
-standing_grows : (items : List PlacedItem) (whole unfinished : Bool) →
+prefix_grows : (items : List PlacedItem) (whole unfinished : Bool) →
     are_whole items ≡ whole → are_condition_and_tests items ≡ unfinished →
     (whole || unfinished) ≡ true → Grows items
-standing_grows items true unfinished is_so are stands' =
+prefix_grows items true unfinished is_so are is_prefix' =
     ([], ap are_whole (append-nil items) ∙ is_so)
-standing_grows items false true is_so are stands' = tests_grow items are
-standing_grows items false false is_so are stands' = absurd (cc)
+prefix_grows items false true is_so are is_prefix' = tests_grow items are
+prefix_grows items false false is_so are is_prefix' = absurd (cc)
 
 -- items that stand begin a whole statement
-pub stand_to_grow : (items : List PlacedItem) → stand items ≡ true → Grows items
-stand_to_grow items stands' =
-    standing_grows items (are_whole items) (are_condition_and_tests items) refl refl stands'
+pub stand_to_grow : (items : List PlacedItem) → are_prefix items ≡ true → Grows items
+stand_to_grow items is_prefix' =
+    prefix_grows items (are_whole items) (are_condition_and_tests items) refl refl is_prefix'
 
 -- an item that is not objected to is taken
-taken_item : (made : Result Draft DeckFault) → fault_in made ≡ None →
-    (next : Draft) × (made ≡ Ok next)
+taken_item : (made : Result StatementBuilder DeckFault) → fault_in made ≡ None →
+    (next : StatementBuilder) × (made ≡ Ok next)
 taken_item (Ok next) none = (next, refl)
 taken_item (Err fault) none = absurd (cc)
 
-no_objection : (card : ℕ) (standing : Bool) (few : Bool) → standing ≡ true → few ≡ true →
-    cond (not standing) (Some (form card)) (cond (not few) (Some (limit card)) None) ≡ None
-no_objection card true true stands' is_few = refl
-no_objection card true false stands' is_few = absurd (cc)
-no_objection card false few stands' is_few = absurd (cc)
+no_objection : (card : ℕ) (prefix : Bool) (few : Bool) → prefix ≡ true → few ≡ true →
+    cond (not prefix) (Some (form card)) (cond (not few) (Some (limit card)) None) ≡ None
+no_objection card true true is_prefix' is_few = refl
+no_objection card true false is_prefix' is_few = absurd (cc)
+no_objection card false few is_prefix' is_few = absurd (cc)
 
 -- an item with which the items so far stand, within the limits, is taken
-next_taken : (i : PlacedItem) (front : List PlacedItem) (draft : Draft) →
-    draft_of new_draft front ≡ Some draft →
-    stand (front ++ i ∷ []) ≡ true → are_within_limits (front ++ i ∷ []) ≡ true →
-    (next : Draft) × (with_item i.card draft i.what ≡ Ok next)
-    × (draft_of new_draft (front ++ i ∷ []) ≡ Some next)
-next_taken i front draft made stands' few =
+next_taken : (i : PlacedItem) (front : List PlacedItem) (builder : StatementBuilder) →
+    builder_of new_builder front ≡ Some builder →
+    are_prefix (front ++ i ∷ []) ≡ true → are_within_limits (front ++ i ∷ []) ≡ true →
+    (next : StatementBuilder) × (with_item i.card builder i.what ≡ Ok next)
+    × (builder_of new_builder (front ++ i ∷ []) ≡ Some next)
+next_taken i front builder made is_prefix' few =
     let one = i ∷ [] in
-    let sound = items_sound front new_draft draft new_sound made in
-    let seen : view new_draft (front ++ one) ≡ view draft one =
-    items_seen front new_draft draft one new_sound made in
-    let none : objection_of i.card (view draft one) ≡ None =
+    let sound = items_sound front new_builder builder new_sound made in
+    let seen : view new_builder (front ++ one) ≡ view builder one =
+    items_seen front new_builder builder one new_sound made in
+    let none : objection_of i.card (view builder one) ≡ None =
     ap (objection_of i.card) (sym seen)
-    ∙ no_objection i.card (stand (front ++ one)) (are_within_limits (front ++ one)) stands' few in
+    ∙ no_objection i.card (are_prefix (front ++ one))
+    (are_within_limits (front ++ one)) is_prefix' few in
     let taken =
-    taken_item (with_item i.card draft i.what) (item_objects i.card draft i.what sound ∙ none) in (
+    taken_item (with_item i.card builder i.what) (item_objects i.card builder i.what sound ∙ none) in (
       taken.0,
       taken.1,
-      draft_of-append front one new_draft draft made
-          ∙ ap (λ r. draft_then r (λ d. Some d)) taken.1,
+      builder_of-append front one new_builder builder made
+          ∙ ap (λ r. builder_then r (λ d. Some d)) taken.1,
     )
 
--- whole items within the limits make a draft
-whole_make : (items front : List PlacedItem) (draft : Draft) →
-    draft_of new_draft front ≡ Some draft →
+-- whole items within the limits make a builder
+whole_make : (items front : List PlacedItem) (builder : StatementBuilder) →
+    builder_of new_builder front ≡ Some builder →
     are_whole (front ++ items) ≡ true → are_within_limits (front ++ items) ≡ true →
-    (final : Draft) × (draft_of draft items ≡ Some final)
-whole_make [] front draft made whole few = (draft, refl)
-whole_make (i ∷ items) front draft made whole few =
+    (final : StatementBuilder) × (builder_of builder items ≡ Some final)
+whole_make [] front builder made whole few = (builder, refl)
+whole_make (i ∷ items) front builder made whole few =
     let longer = front ++ i ∷ [] in
     let same : longer ++ items ≡ front ++ i ∷ items = append_assoc front (i ∷ []) items in
     let whole' = ap are_whole same ∙ whole in
     let few' = ap are_within_limits same ∙ few in
     let first =
-    next_taken i front draft made (whole_begins longer items whole')
+    next_taken i front builder made (whole_begins longer items whole')
     (few_begin longer items whole' few') in
     let others = whole_make items longer first.0 first.2 whole' few' in (
       others.0,
-      ap (λ r. draft_then r (λ next. draft_of next items)) first.1
+      ap (λ r. builder_then r (λ next. builder_of next items)) first.1
           ∙ others.1,
     )
 
 -- whole items within the limits say a statement that is fit
-pub whole_say : (items : List PlacedItem) →
+pub whole_denote : (items : List PlacedItem) →
     are_whole items ≡ true → are_within_limits items ≡ true →
-    (statement : WrittenParts) × ItemsSay items statement × (is_fit statement ≡ true)
-whole_say items whole few =
-    let made = whole_make items [] new_draft refl whole few in
+    (statement : DeckStatementParts) × ItemsDenote items statement × (is_fit statement ≡ true)
+whole_denote items whole few =
+    let made = whole_make items [] new_builder refl whole few in
     let is_so = whole_items items made.0 made.1 ∙ whole in (
       statement_from None made.0,
-      say_when_made items None made.0 is_so made.1,
-      statement_fit None made.0 (items_sound items new_draft made.0 new_sound made.1) is_so,
+      denote_when_made items None made.0 is_so made.1,
+      statement_fit None made.0 (items_sound items new_builder made.0 new_sound made.1) is_so,
     )
 
--- no more tests and operations than a draft has
+-- no more tests and operations than a builder has
 few_in : (phase : Phase) (c : Cond) (n m : ℕ) → n ≤ most_tests → m ≤ most_operations →
     (leb (view_from phase c n m []).tests most_tests
     && leb (view_from phase c n m []).operations most_operations)
@@ -438,32 +439,32 @@ few_in Closed c n m tests operations =
     (le-leb m most_operations operations)
 
 -- items that say a statement that is fit are whole and within the limits
-pub say_whole : (items : List PlacedItem) (statement : WrittenParts) →
-    ItemsSay items statement → is_fit statement ≡ true →
+pub denote_whole : (items : List PlacedItem) (statement : DeckStatementParts) →
+    ItemsDenote items statement → is_fit statement ≡ true →
     (are_whole items ≡ true) × (are_within_limits items ≡ true)
-say_whole items statement say fit =
-    let made = either_taken items statement fit say in
-    let draft =
-    draft_at made.phase statement.condition statement.tests statement.operations statement.exit in
-    let sound = items_sound items new_draft draft new_sound made.made in
-    let seen : view_of (items ++ []) ≡ view draft [] =
-    items_seen items new_draft draft [] new_sound made.made in
-    let same : view_of items ≡ view draft [] = ap view_of (sym (append-nil items)) ∙ seen in (
-      sym (whole_items items draft made.made) ∙ made.whole,
+denote_whole items statement denote fit =
+    let made = either_taken items statement fit denote in
+    let builder =
+    builder_at made.phase statement.condition statement.tests statement.operations statement.exit in
+    let sound = items_sound items new_builder builder new_sound made.made in
+    let seen : view_of (items ++ []) ≡ view builder [] =
+    items_seen items new_builder builder [] new_sound made.made in
+    let same : view_of items ≡ view builder [] = ap view_of (sym (append-nil items)) ∙ seen in (
+      sym (whole_items items builder made.made) ∙ made.whole,
       ap (λ (v : View). leb v.tests most_tests && leb v.operations most_operations) same
-          ∙ few_in draft.phase draft.condition (length draft.tests) (length draft.operations)
+          ∙ few_in builder.phase builder.condition (length builder.tests) (length builder.operations)
           sound.tests sound.operations,
     )
 
 -- items say one statement, its label apart
-pub say_one : (items : List PlacedItem) (one other : WrittenParts) →
-    ItemsSay items one → ItemsSay items other →
+pub denote_one : (items : List PlacedItem) (one other : DeckStatementParts) →
+    ItemsDenote items one → ItemsDenote items other →
     is_fit one ≡ true → is_fit other ≡ true → one.label ≡ other.label → one ≡ other
-say_one items one other say say' fit fit' labels =
-    let made = either_taken items one fit say in
-    let made' = either_taken items other fit' say' in
-    let draft = draft_at made.phase one.condition one.tests one.operations one.exit in
-    let draft' = draft_at made'.phase other.condition other.tests other.operations other.exit in
-    let same : draft ≡ draft' = cc (made.made, made'.made) in
-    ap (λ (d : Draft). statement_from one.label d) same
-    ∙ ap (λ (l : Option PlacedLabel). statement_from l draft') labels
+denote_one items one other denote denote' fit fit' labels =
+    let made = either_taken items one fit denote in
+    let made' = either_taken items other fit' denote' in
+    let builder = builder_at made.phase one.condition one.tests one.operations one.exit in
+    let builder' = builder_at made'.phase other.condition other.tests other.operations other.exit in
+    let same : builder ≡ builder' = cc (made.made, made'.made) in
+    ap (λ (d : StatementBuilder). statement_from one.label d) same
+    ∙ ap (λ (l : Option PlacedLabel). statement_from l builder') labels

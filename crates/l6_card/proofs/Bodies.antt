@@ -65,15 +65,15 @@ closes_first-lacks offset (column ∷ columns) lacking =
     (closes_first-lacks (offset + 1) columns parts.1)
 
 -- a `(` before the first `)` leaves none that no `(` opens
-pub closes_first-open : (offset : ℕ) (front behind : List ℕ) →
+pub closes_first-open : (offset : ℕ) (front following : List ℕ) →
     lacks (byte ")") front ≡ true →
-    closes_first (items_of offset (front ++ byte "(" ∷ behind)) ≡ false
-closes_first-open offset [] behind lacking =
-    closes_first-opening offset (items_of (offset + 1) behind)
-closes_first-open offset (column ∷ columns) behind lacking =
+    closes_first (items_of offset (front ++ byte "(" ∷ following)) ≡ false
+closes_first-open offset [] following lacking =
+    closes_first-opening offset (items_of (offset + 1) following)
+closes_first-open offset (column ∷ columns) following lacking =
     let parts = lacks-cons (byte ")") column columns lacking in
-    closes_first-column offset column (items_of (offset + 1) (columns ++ byte "(" ∷ behind))
-    parts.0 (closes_first-open (offset + 1) columns behind parts.1)
+    closes_first-column offset column (items_of (offset + 1) (columns ++ byte "(" ∷ following))
+    parts.0 (closes_first-open (offset + 1) columns following parts.1)
 
 other_opened : (offset : ℕ) (items : List Item) → closes_first items ≡ false →
     begins_with_other (after_opening offset items) ≡ true
@@ -88,7 +88,7 @@ or_true_left : (one other : Bool) → (one || other) ≡ true → other ≡ fals
 or_true_left true other either fails = refl
 or_true_left false other either fails = absurd (cc)
 
--- a `(` is no group's where the first parenthesis behind it is no `)`, or where there is none
+-- a `(` is no group's where the first parenthesis after it is no `)`, or where there is none
 pub unclosed-cut : (inside front rest : List ℕ) → IsCutAtParenthesis inside front rest →
     begins_with_closing rest ≡ false → IsUnclosed inside
 unclosed-cut inside front [] parts closing offset =
@@ -113,42 +113,42 @@ joined : (blank : Bool) (column : ℕ) (columns : List ℕ) (items : List Item) 
 joined true column columns items = refl
 joined false column columns items = refl
 
-pub closed-front : (offset : ℕ) (columns behind : List ℕ) →
+pub closed-front : (offset : ℕ) (columns following : List ℕ) →
     lacks (byte ")") columns ≡ true → lacks (byte "(") columns ≡ true →
-    items_of offset (columns ++ byte ")" ∷ behind)
-    ≡ unopened columns ∷ items_of (offset + length columns + 1) behind
-closed-front offset [] behind no_close no_open =
-    ap (λ o. unopened [] ∷ items_of o behind) (omega arith)
-closed-front offset (column ∷ columns) behind no_close no_open =
+    items_of offset (columns ++ byte ")" ∷ following)
+    ≡ unopened columns ∷ items_of (offset + length columns + 1) following
+closed-front offset [] following no_close no_open =
+    ap (λ o. unopened [] ∷ items_of o following) (omega arith)
+closed-front offset (column ∷ columns) following no_close no_open =
     let closes = lacks-cons (byte ")") column columns no_close in
     let opens = lacks-cons (byte "(") column columns no_open in
     let next = offset + 1 + length columns + 1 in
-    let alone : after_column offset column (unopened columns ∷ items_of next behind) ≡ unopened
-    (column ∷ columns) ∷ items_of next behind =
-    rw (closes.0, opens.0) (joined (is_blank column) column columns (items_of next behind)) in
-    ap (after_column offset column) (closed-front (offset + 1) columns behind closes.1 opens.1)
+    let alone : after_column offset column (unopened columns ∷ items_of next following) ≡ unopened
+    (column ∷ columns) ∷ items_of next following =
+    rw (closes.0, opens.0) (joined (is_blank column) column columns (items_of next following)) in
+    ap (after_column offset column) (closed-front (offset + 1) columns following closes.1 opens.1)
     ∙ alone
-    ∙ ap (λ o. unopened (column ∷ columns) ∷ items_of o behind) (omega arith)
+    ∙ ap (λ o. unopened (column ∷ columns) ∷ items_of o following) (omega arith)
 
 -- the columns in front of the first parenthesis are those of a group where it is a `)`
-pub closed-cut : (inside columns behind : List ℕ) →
-    IsCutAtParenthesis inside columns (byte ")" ∷ behind) → ClosesFirst inside columns behind
-closed-cut inside columns behind parts = record {
+pub closed-cut : (inside columns following : List ℕ) →
+    IsCutAtParenthesis inside columns (byte ")" ∷ following) → ClosesFirst inside columns following
+closed-cut inside columns following parts = record {
   items = λ offset. ap (items_of offset) parts.whole
-      ∙ closed-front offset columns behind parts.no_closing parts.no_opening;
-  whole = omega (arith, ap length parts.whole, length-append columns (byte ")" ∷ behind));
+      ∙ closed-front offset columns following parts.no_closing parts.no_opening;
+  whole = omega (arith, ap length parts.whole, length-append columns (byte ")" ∷ following));
 }
 
 -- a `(` in front of columns up to the first `)` makes a group
-pub opened_first : {body inside columns behind : List ℕ} {mark : ℕ} → body ≡ mark ∷ inside →
+pub opened_first : {body inside columns following : List ℕ} {mark : ℕ} → body ≡ mark ∷ inside →
     mark ≡ byte "(" →
-    ClosesFirst inside columns behind → (offset : ℕ) → GroupFirst offset body columns behind
-opened_first {body} {inside} {columns} {behind} {mark} whole opens closes offset = record {
+    ClosesFirst inside columns following → (offset : ℕ) → GroupFirst offset body columns following
+opened_first {body} {inside} {columns} {following} {mark} whole opens closes offset = record {
   opening = offset;
   items = ap (items_of offset) whole
       ∙ ap (λ m. items_of offset (m ∷ inside)) opens
       ∙ ap (after_opening offset) (closes.items (offset + 1))
-      ∙ ap (λ o. group offset columns ∷ items_of o behind) (omega arith);
+      ∙ ap (λ o. group offset columns ∷ items_of o following) (omega arith);
   ends = omega (arith, ap length whole, closes.whole);
 }
 
@@ -204,21 +204,21 @@ other-blanks offset [] columns all_blank other =
 other-blanks offset (blank ∷ blanks) columns all_blank other =
     let parts = and_parts (is_blank blank) (list_all is_blank blanks) all_blank in
     let same : offset + 1 + length blanks ≡ offset + length (blank ∷ blanks) = omega arith in
-    let behind =
+    let following =
     other-blanks (offset + 1) blanks columns parts.1
     (ap (λ o. begins_with_other (items_of o columns)) same ∙ other) in
     rw (blank_column offset blank (items_of (offset + 1) (blanks ++ columns)) parts.0)
-    (other-blank blank (items_of (offset + 1) (blanks ++ columns)) behind)
+    (other-blank blank (items_of (offset + 1) (blanks ++ columns)) following)
 
 -- the body begins as what follows its blanks does
-pub begins_behind_blanks : (first : First) (blanks body rest : List ℕ) →
+pub begins_following_blanks : (first : First) (blanks body rest : List ℕ) →
     body ≡ blanks ++ rest → list_all is_blank blanks ≡ true → BeginsWith first rest →
     BeginsWith first body
-begins_behind_blanks End blanks body rest whole all_blank begins = λ offset.
+begins_following_blanks End blanks body rest whole all_blank begins = λ offset.
     let none = begins (offset + length blanks) in
     ap (items_of offset) whole
     ∙ skipped-blanks offset blanks rest all_blank (ap closes_first none) ∙ none
-begins_behind_blanks (Group columns behind) blanks body rest whole all_blank begins = λ offset.
+begins_following_blanks (Group columns following) blanks body rest whole all_blank begins = λ offset.
     let one = begins (offset + length blanks) in
     record {
       opening = one.opening;
@@ -226,7 +226,7 @@ begins_behind_blanks (Group columns behind) blanks body rest whole all_blank beg
           ∙ skipped-blanks offset blanks rest all_blank (ap closes_first one.items) ∙ one.items;
       ends = omega (arith, one.ends, ap length whole, length-append blanks rest);
     }
-begins_behind_blanks (Word columns behind) blanks body rest whole all_blank begins = λ offset.
+begins_following_blanks (Word columns following) blanks body rest whole all_blank begins = λ offset.
     let one = begins (offset + length blanks) in
     record {
       next = one.next;
@@ -234,19 +234,19 @@ begins_behind_blanks (Word columns behind) blanks body rest whole all_blank begi
           ∙ skipped-blanks offset blanks rest all_blank (ap closes_first one.items) ∙ one.items;
       ends = omega (arith, one.ends, ap length whole, length-append blanks rest);
     }
-begins_behind_blanks Other blanks body rest whole all_blank begins = λ offset.
+begins_following_blanks Other blanks body rest whole all_blank begins = λ offset.
     ap (λ b. begins_with_other (items_of offset b)) whole
     ∙ other-blanks offset blanks rest all_blank (begins (offset + length blanks))
 
 -- what follows the first item is shorter than the body, too
-pub shorter_behind_blanks : (first : First) (body rest : List ℕ) →
+pub shorter_following_blanks : (first : First) (body rest : List ℕ) →
     length rest ≤ length body → IsShorter first rest → IsShorter first body
-shorter_behind_blanks End body rest few shorter = tt
-shorter_behind_blanks (Group columns behind) body rest few shorter = omega (arith, shorter)
-shorter_behind_blanks (Word columns behind) body rest few shorter = omega (arith, shorter)
-shorter_behind_blanks Other body rest few shorter = tt
+shorter_following_blanks End body rest few shorter = tt
+shorter_following_blanks (Group columns following) body rest few shorter = omega (arith, shorter)
+shorter_following_blanks (Word columns following) body rest few shorter = omega (arith, shorter)
+shorter_following_blanks Other body rest few shorter = tt
 
--- no word and no `)` stands first, so a word in front of these items is one of its own
+-- no word and no `)` is first, so a word in front of these items is one of its own
 abbrev starts_fresh : List Item → Bool
 starts_fresh (word columns ∷ items) = false
 starts_fresh (unopened columns ∷ items) = false

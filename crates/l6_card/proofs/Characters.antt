@@ -9,7 +9,7 @@ use Rattle.l6_group.specs.Numerals.{most_label_characters}
 use Rattle.l6_group.specs.Spelling.{find_spelled}
 use Rattle.l6_group.specs.Word.{exit_from, label_exit, plain_exits, condition_from}
 use Rattle.l6_card.specs.DeckFault.{form}
-use Rattle.l6_card.specs.inner.Draft.{Draft, Phase, New, Worded, Tested, Open, Closed, with_rest, with_word_in, with_placed, phase_of}
+use Rattle.l6_card.specs.inner.StatementBuilder.{StatementBuilder, Phase, New, Worded, Tested, Open, Closed, with_rest, with_word_in, with_placed, phase_of}
 use Rattle.l6_card.specs.inner.First.{letters_of}
 
 -- what passes a test once passes it again
@@ -43,28 +43,28 @@ long_exit : (characters : List ℕ) → most_label_characters < length character
     exit_from characters ≡ None
 long_exit characters long = rw (no_plain_exit characters long, no_label characters long) refl
 
-long_then : (is_then : Bool) (card : ℕ) (draft : Draft) (behind : List ℕ) →
-    most_label_characters < length behind →
-    with_rest card draft (cond is_then (Some behind) None) ≡ Err (form card)
-long_then false card draft behind long = refl
-long_then true card draft [] long = absurd (omega arith)
-long_then true card draft (first ∷ rest) long =
-    ap (with_placed card draft Closed) (long_exit (first ∷ rest) long)
+long_then : (is_then : Bool) (card : ℕ) (builder : StatementBuilder) (following : List ℕ) →
+    most_label_characters < length following →
+    with_rest card builder (cond is_then (Some following) None) ≡ Err (form card)
+long_then false card builder following long = refl
+long_then true card builder [] long = absurd (omega arith)
+long_then true card builder (first ∷ rest) long =
+    ap (with_placed card builder Closed) (long_exit (first ∷ rest) long)
 
 -- a word longer than THEN and a label has no reading
-pub long_word : (phase : Phase) (card : ℕ) (draft : Draft) (characters : List ℕ) →
+pub long_word : (phase : Phase) (card : ℕ) (builder : StatementBuilder) (characters : List ℕ) →
     10 < length characters →
-    with_word_in phase card draft characters ≡ Err (form card)
-long_word New card draft characters long =
-    ap (with_placed card draft (phase_of (condition_from characters)))
+    with_word_in phase card builder characters ≡ Err (form card)
+long_word New card builder characters long =
+    ap (with_placed card builder (phase_of (condition_from characters)))
     (long_exit characters (omega arith))
-long_word Open card draft characters long =
-    ap (with_placed card draft Closed) (long_exit characters (omega arith))
-long_word Tested card draft [] long = absurd (omega arith)
-long_word Tested card draft (t ∷ []) long = absurd (omega arith)
-long_word Tested card draft (t ∷ h ∷ []) long = absurd (omega arith)
-long_word Tested card draft (t ∷ h ∷ e ∷ []) long = absurd (omega arith)
-long_word Tested card draft (t ∷ h ∷ e ∷ n ∷ behind) long =
-    long_then _ card draft behind (omega arith)
-long_word (Worded condition) card draft characters long = refl
-long_word Closed card draft characters long = refl
+long_word Open card builder characters long =
+    ap (with_placed card builder Closed) (long_exit characters (omega arith))
+long_word Tested card builder [] long = absurd (omega arith)
+long_word Tested card builder (t ∷ []) long = absurd (omega arith)
+long_word Tested card builder (t ∷ h ∷ []) long = absurd (omega arith)
+long_word Tested card builder (t ∷ h ∷ e ∷ []) long = absurd (omega arith)
+long_word Tested card builder (t ∷ h ∷ e ∷ n ∷ following) long =
+    long_then _ card builder following (omega arith)
+long_word (Worded condition) card builder characters long = refl
+long_word Closed card builder characters long = refl

@@ -1,4 +1,4 @@
--- Items that say a statement make its draft, which is whole.
+-- Items that say a statement make its builder, which is whole.
 use Rattle.std.proofs.Common.{◌≡◌, inl, inr, ℕ, ◌+◌, ◌≤◌, ◌<◌, List, [], ◌∷◌, ◌++◌, map, length, Bool, true, false, leb, Option, Some, None, Ok, refl, sym, ap, ◌∙◌, subst, arith, length-append, append_assoc, append-nil}
 use Rattle.std.specs.Prelude.{◌&&◌}
 use Rattle.std.specs.Option.{is_some, option_map}
@@ -21,18 +21,18 @@ use Rattle.l6_card.specs.declared.cards.PlacedLabel.{PlacedLabel}
 use Rattle.l6_card.specs.declared.span.Span.{Span}
 use Rattle.l6_card.specs.Spans.{group_span}
 use Rattle.l6_card.specs.Items.{Item, group, word, unclosed, unopened, PlacedItem, item_on}
-use Rattle.l6_card.specs.Statement.{WrittenParts, placed_exit, is_fit}
-use Rattle.l6_card.specs.Form.{condition_in, behind_then, word_on}
-use Rattle.l6_card.specs.Says.{operation_on, test_on, exit_on, SayOperationsAndExit, ItemsSay}
-use Rattle.l6_card.specs.inner.Draft.{Draft, Phase, New, Worded, Tested, Open, Closed, new_draft, phase_of, is_whole, is_whole_in, statement_from, with_operation, with_test, with_further_test, with_placed, with_rest, with_item, draft_then, draft_of}
-use Rattle.l6_card.proofs.Spellings.{behind_then_spelled, condition_is_exit}
-use Rattle.l6_card.specs.Reads.{Says}
+use Rattle.l6_card.specs.Statement.{DeckStatementParts, placed_exit, is_fit}
+use Rattle.l6_card.specs.Form.{condition_in, following_then, word_on}
+use Rattle.l6_card.specs.Denotes.{operation_on, test_on, exit_on, DenoteOperationsAndExit, ItemsDenote}
+use Rattle.l6_card.specs.inner.StatementBuilder.{StatementBuilder, Phase, New, Worded, Tested, Open, Closed, new_builder, phase_of, is_whole, is_whole_in, statement_from, with_operation, with_test, with_further_test, with_placed, with_rest, with_item, builder_then, builder_of}
+use Rattle.l6_card.proofs.Spellings.{following_then_spelled, condition_is_exit}
+use Rattle.l6_card.specs.ReadsAs.{Denotes}
 use Rattle.l6_card.specs.Numerals.{most_continuations}
-use Rattle.l6_card.proofs.Fitness.{found_wants_test, items_sound, new_sound, statement_fit}
-use Rattle.l6_card.proofs.Objections.{wants_some}
-use Rattle.l6_card.proofs.Sayings.{Tests, Operations, draft_at, say_when_made}
+use Rattle.l6_card.proofs.Fitness.{found_needs_test, items_sound, new_sound, statement_fit}
+use Rattle.l6_card.proofs.Objections.{needs_some}
+use Rattle.l6_card.proofs.Sayings.{Tests, Operations, builder_at, denote_when_made}
 
--- where operations may stand
+-- where operations may be
 abbrev takes_operations : Phase → Bool
 takes_operations New = true
 takes_operations Open = true
@@ -45,13 +45,13 @@ operation_made : (phase : Phase) (card : ℕ) (span : Span) (c : Cond) (tests : 
     (found : Option (Op Label)) (one : Placed (Op Label)) →
     length before < most_operations →
     option_map (λ o. record { reading = o; card = card; span = span }) found ≡ Some one →
-    with_operation card span (draft_at phase c tests before exit) found
-    ≡ Ok (draft_at Open c tests (before ++ one ∷ []) exit)
+    with_operation card span (builder_at phase c tests before exit) found
+    ≡ Ok (builder_at Open c tests (before ++ one ∷ []) exit)
 operation_made phase card span c tests before exit None one room is_one = absurd (cc)
 operation_made phase card span c tests before exit (Some operation) one room is_one =
     let same : record { reading = operation; card = card; span = span } ≡ one = cc in
     rw (lt-ltb (length before) most_operations room)
-    (ap (λ (o : Placed (Op Label)). Ok (draft_at Open c tests (before ++ o ∷ []) exit)) same)
+    (ap (λ (o : Placed (Op Label)). Ok (builder_at Open c tests (before ++ o ∷ []) exit)) same)
 
 operation_taken : (phase : Phase) (what : Item) (card : ℕ) (c : Cond) (tests : Tests)
     (before : Operations)
@@ -59,8 +59,8 @@ operation_taken : (phase : Phase) (what : Item) (card : ℕ) (c : Cond) (tests :
     (one : Placed (Op Label)) →
     takes_operations phase ≡ true → length before < most_operations →
     operation_on (item_on card what) ≡ Some one →
-    with_item card (draft_at phase c tests before exit) what
-    ≡ Ok (draft_at Open c tests (before ++ one ∷ []) exit)
+    with_item card (builder_at phase c tests before exit) what
+    ≡ Ok (builder_at Open c tests (before ++ one ∷ []) exit)
 operation_taken New (group offset columns) card c tests before exit one takes room is_one =
     operation_made New card (group_span offset columns) c tests before exit (operation_of columns)
     one room is_one
@@ -83,10 +83,10 @@ operations_taken : (groups last : List PlacedItem) (more : Operations) (c : Cond
     (before : Operations)
     (exit : Exit PlacedLabel) →
     map operation_on groups ≡ map Some more → length before + length more ≤ most_operations →
-    draft_of (draft_at Open c tests before exit) (groups ++ last)
-    ≡ draft_of (draft_at Open c tests (before ++ more) exit) last
+    builder_of (builder_at Open c tests before exit) (groups ++ last)
+    ≡ builder_of (builder_at Open c tests (before ++ more) exit) last
 operations_taken [] last [] c tests before exit are room =
-    ap (λ (os : Operations). draft_of (draft_at Open c tests os exit) last)
+    ap (λ (os : Operations). builder_of (builder_at Open c tests os exit) last)
     (sym (append-nil before))
 operations_taken [] last (one ∷ more) c tests before exit are room = absurd (cc)
 operations_taken (i ∷ groups) last [] c tests before exit are room = absurd (cc)
@@ -95,27 +95,27 @@ operations_taken (i ∷ groups) last (one ∷ more) c tests before exit are room
     let tail : map operation_on groups ≡ map Some more = cc (are) in
     let taken =
     operation_taken Open i.what i.card c tests before exit one refl (omega arith) head in
-    ap (λ r. draft_then r (λ next. draft_of next (groups ++ last))) taken
+    ap (λ r. builder_then r (λ next. builder_of next (groups ++ last))) taken
     ∙ operations_taken groups last more c tests (before ++ one ∷ []) exit tail
     (omega (arith, length-append before (one ∷ [])))
-    ∙ ap (λ (os : Operations). draft_of (draft_at Open c tests os exit) last)
+    ∙ ap (λ (os : Operations). builder_of (builder_at Open c tests os exit) last)
     (append_assoc before (one ∷ []) more)
 
--- the draft that the end of a statement makes
-pub record Ended (draft : Draft) (last : List PlacedItem) (c : Cond) (tests : Tests)
+-- the builder that the end of a statement makes
+pub record Ended (builder : StatementBuilder) (last : List PlacedItem) (c : Cond) (tests : Tests)
     (operations : Operations) (exit : Exit PlacedLabel) : Type 0 where
   pub phase : Phase
   pub whole : is_whole_in phase ≡ true
-  pub made : draft_of draft last ≡ Some (draft_at phase c tests operations exit)
+  pub made : builder_of builder last ≡ Some (builder_at phase c tests operations exit)
 
-exit_made : (card : ℕ) (draft : Draft) (phase : Phase) (given : Option (Exit Label))
+exit_made : (card : ℕ) (builder : StatementBuilder) (phase : Phase) (given : Option (Exit Label))
     (exit : Exit PlacedLabel) →
     option_map (placed_exit card) given ≡ Some exit →
-    with_placed card draft phase given ≡ Ok (record draft { phase = phase; exit = exit })
-exit_made card draft phase None exit is_exit = absurd (cc)
-exit_made card draft phase (Some given) exit is_exit =
+    with_placed card builder phase given ≡ Ok (record builder { phase = phase; exit = exit })
+exit_made card builder phase None exit is_exit = absurd (cc)
+exit_made card builder phase (Some given) exit is_exit =
     let same : placed_exit card given ≡ exit = cc in
-    ap (λ (e : Exit PlacedLabel). Ok (record draft { phase = phase; exit = e })) same
+    ap (λ (e : Exit PlacedLabel). Ok (record builder { phase = phase; exit = e })) same
 
 first_phase_whole : (found : Option Cond) → is_whole_in (phase_of found) ≡ true
 first_phase_whole None = refl
@@ -126,23 +126,23 @@ last_taken : (phase : Phase) (what : Item) (card : ℕ) (c : Cond) (tests : Test
     (exit : Exit PlacedLabel) →
     takes_operations phase ≡ true →
     exit_on (item_on card what ∷ []) ≡ Some exit →
-    Ended (draft_at phase c tests operations Next) (item_on card what ∷ []) c tests operations exit
+    Ended (builder_at phase c tests operations Next) (item_on card what ∷ []) c tests operations exit
 last_taken New (word columns) card c tests operations exit takes is_exit =
     let phase = phase_of (condition_from (spelled columns)) in
-    let draft = draft_at New c tests operations Next in
+    let builder = builder_at New c tests operations Next in
     record {
       phase = phase;
       whole = first_phase_whole (condition_from (spelled columns));
-      made = ap (λ r. draft_then r (λ next. Some next))
-          (exit_made card draft phase (exit_from (spelled columns)) exit is_exit);
+      made = ap (λ r. builder_then r (λ next. Some next))
+          (exit_made card builder phase (exit_from (spelled columns)) exit is_exit);
     }
 last_taken Open (word columns) card c tests operations exit takes is_exit =
-    let draft = draft_at Open c tests operations Next in
+    let builder = builder_at Open c tests operations Next in
     record {
       phase = Closed;
       whole = refl;
-      made = ap (λ r. draft_then r (λ next. Some next))
-          (exit_made card draft Closed (exit_from (spelled columns)) exit is_exit);
+      made = ap (λ r. builder_then r (λ next. Some next))
+          (exit_made card builder Closed (exit_from (spelled columns)) exit is_exit);
     }
 last_taken (Worded w) (word columns) card c tests operations exit takes is_exit = absurd (cc)
 last_taken Tested (word columns) card c tests operations exit takes is_exit = absurd (cc)
@@ -162,24 +162,24 @@ end_taken : (phase : Phase) (last : List PlacedItem) (c : Cond) (tests : Tests)
     (operations : Operations)
     (exit : Exit PlacedLabel) →
     takes_operations phase ≡ true → exit_on last ≡ Some exit →
-    Ended (draft_at phase c tests operations Next) last c tests operations exit
+    Ended (builder_at phase c tests operations Next) last c tests operations exit
 end_taken phase [] c tests operations exit takes is_exit =
     let same : Next ≡ exit = cc (is_exit) in
     record {
       phase = phase;
       whole = whole_there phase takes;
-      made = ap (λ (e : Exit PlacedLabel). Some (draft_at phase c tests operations e)) same;
+      made = ap (λ (e : Exit PlacedLabel). Some (builder_at phase c tests operations e)) same;
     }
 end_taken phase (i ∷ []) c tests operations exit takes is_exit =
     last_taken phase i.what i.card c tests operations exit takes is_exit
 end_taken phase (i ∷ j ∷ last) c tests operations exit takes is_exit = absurd (cc)
 
 -- what an end makes is made of what leads there too
-also_made : (draft other : Draft) (items last : List PlacedItem) (c : Cond) (tests : Tests)
+also_made : (builder other : StatementBuilder) (items last : List PlacedItem) (c : Cond) (tests : Tests)
     (operations : Operations) (exit : Exit PlacedLabel) →
-    draft_of draft items ≡ draft_of other last → Ended other last c tests operations exit →
-    Ended draft items c tests operations exit
-also_made draft other items last c tests operations exit leads ended =
+    builder_of builder items ≡ builder_of other last → Ended other last c tests operations exit →
+    Ended builder items c tests operations exit
+also_made builder other items last c tests operations exit leads ended =
     record { phase = ended.phase; whole = ended.whole; made = leads ∙ ended.made }
 
 -- operations and an exit are taken
@@ -188,7 +188,7 @@ groups_taken : (phase : Phase) (groups last : List PlacedItem) (c : Cond) (tests
     takes_operations phase ≡ true →
     map operation_on groups ≡ map Some operations → length operations ≤ most_operations →
     exit_on last ≡ Some exit →
-    Ended (draft_at phase c tests [] Next) (groups ++ last) c tests operations exit
+    Ended (builder_at phase c tests [] Next) (groups ++ last) c tests operations exit
 groups_taken phase [] last c tests [] exit takes are room is_exit =
     end_taken phase last c tests [] exit takes is_exit
 groups_taken phase [] last c tests (one ∷ more) exit takes are room is_exit = absurd (cc)
@@ -198,65 +198,67 @@ groups_taken phase (i ∷ groups) last c tests (one ∷ more) exit takes are roo
     let tail : map operation_on groups ≡ map Some more = cc (are) in
     let taken =
     operation_taken phase i.what i.card c tests [] Next one takes (omega arith) head in
-    also_made (draft_at phase c tests [] Next) (draft_at Open c tests (one ∷ more) Next)
+    also_made (builder_at phase c tests [] Next) (builder_at Open c tests (one ∷ more) Next)
     (i ∷ groups ++ last) last c tests (one ∷ more) exit
-    (ap (λ r. draft_then r (λ next. draft_of next (groups ++ last))) taken
+    (ap (λ r. builder_then r (λ next. builder_of next (groups ++ last))) taken
     ∙ operations_taken groups last more c tests (one ∷ []) Next tail (omega arith))
     (end_taken Open last c tests (one ∷ more) exit refl is_exit)
 
 said_taken : (phase : Phase) (items : List PlacedItem) (c : Cond) (tests : Tests)
-    (statement : WrittenParts) →
+    (statement : DeckStatementParts) →
     takes_operations phase ≡ true → length statement.operations ≤ most_operations →
-    SayOperationsAndExit items statement →
-    Ended (draft_at phase c tests [] Next) items c tests statement.operations statement.exit
-said_taken phase items c tests statement takes room say =
-    also_made (draft_at phase c tests [] Next) (draft_at phase c tests [] Next) items
-    (say.groups ++ say.last) c tests statement.operations statement.exit
-    (ap (draft_of (draft_at phase c tests [] Next)) say.in_order)
-    (groups_taken phase say.groups say.last c tests statement.operations statement.exit takes
-    say.operations room say.exit)
+    DenoteOperationsAndExit items statement →
+    Ended (builder_at phase c tests [] Next) items c tests statement.operations statement.exit
+said_taken phase items c tests statement takes room denote =
+    also_made (builder_at phase c tests [] Next) (builder_at phase c tests [] Next) items
+    (denote.groups ++ denote.last) c tests statement.operations statement.exit
+    (ap (builder_of (builder_at phase c tests [] Next)) denote.in_order)
+    (groups_taken phase denote.groups denote.last c tests statement.operations statement.exit takes
+    denote.operations room denote.exit)
 
 -- a test is taken where there is room for it
-test_made : (card : ℕ) (span : Span) (draft : Draft) (c : Cond) (found : Option Test)
+test_made : (card : ℕ) (span : Span) (builder : StatementBuilder) (c : Cond) (found : Option Test)
     (one : Placed Test) →
-    length draft.tests < most_tests →
+    length builder.tests < most_tests →
     option_map (λ t. record { reading = t; card = card; span = span }) found ≡ Some one →
-    with_test card span draft c found
-    ≡ Ok (draft_at Tested c (draft.tests ++ one ∷ []) draft.operations Next)
-test_made card span draft c None one room is_one = absurd (cc)
-test_made card span draft c (Some test) one room is_one =
+    with_test card span builder c found
+    ≡ Ok (builder_at Tested c (builder.tests ++ one ∷ []) builder.operations Next)
+test_made card span builder c None one room is_one = absurd (cc)
+test_made card span builder c (Some test) one room is_one =
     let same : record { reading = test; card = card; span = span } ≡ one = cc in
-    rw (lt-ltb (length draft.tests) most_tests room)
-    (ap (λ (t : Placed Test). Ok (draft_at Tested c (draft.tests ++ t ∷ []) draft.operations Next))
+    rw (lt-ltb (length builder.tests) most_tests room)
+    (ap (λ (t : Placed Test). Ok
+    (builder_at Tested c (builder.tests ++ t ∷ []) builder.operations Next))
     same)
 
 -- a condition that may have more than one test
-may_go_on : (card : ℕ) (span : Span) (draft : Draft) (c : Cond) (found : Option Test) (n : ℕ) →
+may_go_on : (card : ℕ) (span : Span) (builder : StatementBuilder) (c : Cond) (found : Option Test)
+    (n : ℕ) →
     1 < n → may_have c n ≡ true →
-    with_further_test card span draft c found ≡ with_test card span draft c found
-may_go_on card span draft Always found n many fits =
+    with_further_test card span builder c found ≡ with_test card span builder c found
+may_go_on card span builder Always found n many fits =
     let none = eqb-true n 0 fits in
     absurd (omega arith)
-may_go_on card span draft If found n many fits =
+may_go_on card span builder If found n many fits =
     let one = eqb-true n 1 fits in
     absurd (omega arith)
-may_go_on card span draft Not found n many fits =
+may_go_on card span builder Not found n many fits =
     let one = eqb-true n 1 fits in
     absurd (omega arith)
-may_go_on card span draft IfAll found n many fits = refl
-may_go_on card span draft IfAny found n many fits = refl
-may_go_on card span draft IfNone found n many fits = refl
-may_go_on card span draft IfNotAll found n many fits = refl
+may_go_on card span builder IfAll found n many fits = refl
+may_go_on card span builder IfAny found n many fits = refl
+may_go_on card span builder IfNone found n many fits = refl
+may_go_on card span builder IfNotAll found n many fits = refl
 
 further_taken : (what : Item) (card : ℕ) (c : Cond) (before : Tests) (one : Placed Test) (n : ℕ) →
     1 < n → may_have c n ≡ true → length before < most_tests →
     test_on (item_on card what) ≡ Some one →
-    with_item card (draft_at Tested c before [] Next) what
-    ≡ Ok (draft_at Tested c (before ++ one ∷ []) [] Next)
+    with_item card (builder_at Tested c before [] Next) what
+    ≡ Ok (builder_at Tested c (before ++ one ∷ []) [] Next)
 further_taken (group offset columns) card c before one n many fits room is_one =
-    may_go_on card (group_span offset columns) (draft_at Tested c before [] Next) c
+    may_go_on card (group_span offset columns) (builder_at Tested c before [] Next) c
     (test_of columns) n many fits
-    ∙ test_made card (group_span offset columns) (draft_at Tested c before [] Next) c
+    ∙ test_made card (group_span offset columns) (builder_at Tested c before [] Next) c
     (test_of columns) one room is_one
 further_taken (word columns) card c before one n many fits room is_one = absurd (cc)
 further_taken unclosed card c before one n many fits room is_one = absurd (cc)
@@ -267,10 +269,10 @@ tests_taken : (groups others : List PlacedItem) (more : Tests) (c : Cond) (befor
     (n : ℕ) →
     map test_on groups ≡ map Some more → 0 < length before → length before + length more ≡ n →
     may_have c n ≡ true → n ≤ most_tests →
-    draft_of (draft_at Tested c before [] Next) (groups ++ others)
-    ≡ draft_of (draft_at Tested c (before ++ more) [] Next) others
+    builder_of (builder_at Tested c before [] Next) (groups ++ others)
+    ≡ builder_of (builder_at Tested c (before ++ more) [] Next) others
 tests_taken [] others [] c before n are some count fits room =
-    ap (λ (ts : Tests). draft_of (draft_at Tested c ts [] Next) others) (sym (append-nil before))
+    ap (λ (ts : Tests). builder_of (builder_at Tested c ts [] Next) others) (sym (append-nil before))
 tests_taken [] others (one ∷ more) c before n are some count fits room = absurd (cc)
 tests_taken (i ∷ groups) others [] c before n are some count fits room = absurd (cc)
 tests_taken (i ∷ groups) others (one ∷ more) c before n are some count fits room =
@@ -279,72 +281,72 @@ tests_taken (i ∷ groups) others (one ∷ more) c before n are some count fits 
     let taken =
     further_taken i.what i.card c before one n (omega arith) fits (omega arith) head in
     let longer = length-append before (one ∷ []) in
-    ap (λ r. draft_then r (λ next. draft_of next (groups ++ others))) taken
+    ap (λ r. builder_then r (λ next. builder_of next (groups ++ others))) taken
     ∙ tests_taken groups others more c (before ++ one ∷ []) n tail (omega (arith, longer))
     (omega (arith, longer)) fits room
-    ∙ ap (λ (ts : Tests). draft_of (draft_at Tested c ts [] Next) others)
+    ∙ ap (λ (ts : Tests). builder_of (builder_at Tested c ts [] Next) others)
     (append_assoc before (one ∷ []) more)
 
--- an exit makes the same of a condition with its tests and of what is open behind THEN
+-- an exit makes the same of a condition with its tests and of what is open after THEN
 after_rest : (card : ℕ) (items : List PlacedItem) (c : Cond) (tests : Tests)
     (found : Option (Exit Label)) →
-    draft_then (with_placed card (draft_at Tested c tests [] Next) Closed found)
-    (λ next. draft_of next items)
-    ≡ draft_then (with_placed card (draft_at Open c tests [] Next) Closed found)
-    (λ next. draft_of next items)
+    builder_then (with_placed card (builder_at Tested c tests [] Next) Closed found)
+    (λ next. builder_of next items)
+    ≡ builder_then (with_placed card (builder_at Open c tests [] Next) Closed found)
+    (λ next. builder_of next items)
 after_rest card items c tests None = refl
 after_rest card items c tests (Some given) = refl
 
--- THEN, and what stands in the same word
-rest_taken : (columns : List ℕ) (card : ℕ) (items behind : List PlacedItem) (c : Cond)
+-- THEN, and what is in the same word
+rest_taken : (columns : List ℕ) (card : ℕ) (items following : List PlacedItem) (c : Cond)
     (tests : Tests) (found : Option (List ℕ)) →
     after_then (spelled columns) ≡ found →
-    option_map (λ characters. word_on card characters ++ items) found ≡ Some behind →
-    draft_then (with_rest card (draft_at Tested c tests [] Next) found)
-    (λ next. draft_of next items)
-    ≡ draft_of (draft_at Open c tests [] Next) behind
-rest_taken columns card items behind c tests None is_found leads = absurd (cc)
-rest_taken columns card items behind c tests (Some []) is_found leads =
-    let same : items ≡ behind = cc in
-    ap (draft_of (draft_at Open c tests [] Next)) same
-rest_taken columns card items behind c tests (Some (x ∷ xs)) is_found leads =
-    let again = behind_then_spelled columns (x ∷ xs) is_found in
-    let same : item_on card (word (x ∷ xs)) ∷ items ≡ behind = cc in
+    option_map (λ characters. word_on card characters ++ items) found ≡ Some following →
+    builder_then (with_rest card (builder_at Tested c tests [] Next) found)
+    (λ next. builder_of next items)
+    ≡ builder_of (builder_at Open c tests [] Next) following
+rest_taken columns card items following c tests None is_found leads = absurd (cc)
+rest_taken columns card items following c tests (Some []) is_found leads =
+    let same : items ≡ following = cc in
+    ap (builder_of (builder_at Open c tests [] Next)) same
+rest_taken columns card items following c tests (Some (x ∷ xs)) is_found leads =
+    let again = following_then_spelled columns (x ∷ xs) is_found in
+    let same : item_on card (word (x ∷ xs)) ∷ items ≡ following = cc in
     let made =
-    λ (found : Option (Exit Label)). draft_then
-    (with_placed card (draft_at Open c tests [] Next) Closed found)
-    (λ next. draft_of next items) in
+    λ (found : Option (Exit Label)). builder_then
+    (with_placed card (builder_at Open c tests [] Next) Closed found)
+    (λ next. builder_of next items) in
     after_rest card items c tests (exit_from (x ∷ xs))
     ∙ ap (λ cs. made (exit_from cs)) (sym again)
-    ∙ ap (draft_of (draft_at Open c tests [] Next)) same
+    ∙ ap (builder_of (builder_at Open c tests [] Next)) same
 
-then_taken : (what : Item) (card : ℕ) (items behind : List PlacedItem) (c : Cond)
+then_taken : (what : Item) (card : ℕ) (items following : List PlacedItem) (c : Cond)
     (tests : Tests) →
-    behind_then (item_on card what ∷ items) ≡ Some behind →
-    draft_of (draft_at Tested c tests [] Next) (item_on card what ∷ items)
-    ≡ draft_of (draft_at Open c tests [] Next) behind
-then_taken (word columns) card items behind c tests leads =
-    rest_taken columns card items behind c tests (after_then (spelled columns)) refl leads
-then_taken (group offset columns) card items behind c tests leads = absurd (cc)
-then_taken unclosed card items behind c tests leads = absurd (cc)
-then_taken (unopened columns) card items behind c tests leads = absurd (cc)
+    following_then (item_on card what ∷ items) ≡ Some following →
+    builder_of (builder_at Tested c tests [] Next) (item_on card what ∷ items)
+    ≡ builder_of (builder_at Open c tests [] Next) following
+then_taken (word columns) card items following c tests leads =
+    rest_taken columns card items following c tests (after_then (spelled columns)) refl leads
+then_taken (group offset columns) card items following c tests leads = absurd (cc)
+then_taken unclosed card items following c tests leads = absurd (cc)
+then_taken (unopened columns) card items following c tests leads = absurd (cc)
 
-others_taken : (others behind : List PlacedItem) (c : Cond) (tests : Tests) →
-    behind_then others ≡ Some behind →
-    draft_of (draft_at Tested c tests [] Next) others
-    ≡ draft_of (draft_at Open c tests [] Next) behind
-others_taken [] behind c tests leads = absurd (cc)
-others_taken (i ∷ items) behind c tests leads =
-    then_taken i.what i.card items behind c tests leads
+others_taken : (others following : List PlacedItem) (c : Cond) (tests : Tests) →
+    following_then others ≡ Some following →
+    builder_of (builder_at Tested c tests [] Next) others
+    ≡ builder_of (builder_at Open c tests [] Next) following
+others_taken [] following c tests leads = absurd (cc)
+others_taken (i ∷ items) following c tests leads =
+    then_taken i.what i.card items following c tests leads
 
 -- the first test of a condition word
 first_test_taken : (what : Item) (card : ℕ) (w : Cond) (exit : Exit PlacedLabel)
     (one : Placed Test) →
     test_on (item_on card what) ≡ Some one →
-    with_item card (draft_at (Worded w) Always [] [] exit) what
-    ≡ Ok (draft_at Tested w (one ∷ []) [] Next)
+    with_item card (builder_at (Worded w) Always [] [] exit) what
+    ≡ Ok (builder_at Tested w (one ∷ []) [] Next)
 first_test_taken (group offset columns) card w exit one is_one =
-    test_made card (group_span offset columns) (draft_at (Worded w) Always [] [] exit) w
+    test_made card (group_span offset columns) (builder_at (Worded w) Always [] [] exit) w
     (test_of columns) one
     (omega arith) is_one
 first_test_taken (word columns) card w exit one is_one = absurd (cc)
@@ -354,18 +356,18 @@ first_test_taken (unopened columns) card w exit one is_one = absurd (cc)
 -- a condition word is taken as an exit first
 record WordTaken (i : PlacedItem) (c : Cond) : Type 0 where
   exit : Exit PlacedLabel
-  made : with_item i.card new_draft i.what ≡ Ok (draft_at (Worded c) Always [] [] exit)
-  wants : may_have c 1 ≡ true
+  made : with_item i.card new_builder i.what ≡ Ok (builder_at (Worded c) Always [] [] exit)
+  needs : may_have c 1 ≡ true
 
 word_made : (card : ℕ) (c : Cond) (found : Option Cond) (given : Option (Exit Label)) →
     found ≡ Some c → is_some given ≡ true →
     (exit : Exit PlacedLabel)
-    × (with_placed card new_draft (phase_of found) given
-    ≡ Ok (draft_at (Worded c) Always [] [] exit))
+    × (with_placed card new_builder (phase_of found) given
+    ≡ Ok (builder_at (Worded c) Always [] [] exit))
 word_made card c found None is_found is_one = absurd (cc)
 word_made card c found (Some given) is_found is_one = (
   placed_exit card given,
-  ap (λ (o : Option Cond). Ok (draft_at (phase_of o) Always [] [] (placed_exit card given)))
+  ap (λ (o : Option Cond). Ok (builder_at (phase_of o) Always [] [] (placed_exit card given)))
       is_found,
 )
 
@@ -377,42 +379,43 @@ word_taken (word columns) card c is_found =
     record {
       exit = made.0;
       made = made.1;
-      wants = found_wants_test conditions (spelled columns) c refl is_found;
+      needs = found_needs_test conditions (spelled columns) c refl is_found;
     }
 word_taken (group offset columns) card c is_found = absurd (cc)
 word_taken unclosed card c is_found = absurd (cc)
 word_taken (unopened columns) card c is_found = absurd (cc)
 
 -- a condition with its tests is taken
-condition_taken : (i : PlacedItem) (groups others behind : List PlacedItem) (c : Cond)
+condition_taken : (i : PlacedItem) (groups others following : List PlacedItem) (c : Cond)
     (tests : Tests) →
     condition_in i.what ≡ Some c → map test_on groups ≡ map Some tests →
-    behind_then others ≡ Some behind →
+    following_then others ≡ Some following →
     may_have c (length tests) ≡ true → length tests ≤ most_tests →
-    draft_of new_draft (i ∷ groups ++ others) ≡ draft_of (draft_at Open c tests [] Next) behind
-condition_taken i groups others behind c [] is_word are leads fits room =
+    builder_of new_builder (i ∷ groups ++ others)
+    ≡ builder_of (builder_at Open c tests [] Next) following
+condition_taken i groups others following c [] is_word are leads fits room =
     let taken = word_taken i.what i.card c is_word in
-    let none = wants_some c taken.wants in
+    let none = needs_some c taken.needs in
     absurd (cc)
-condition_taken i [] others behind c (one ∷ more) is_word are leads fits room = absurd (cc)
-condition_taken i (j ∷ groups) others behind c (one ∷ more) is_word are leads fits room =
+condition_taken i [] others following c (one ∷ more) is_word are leads fits room = absurd (cc)
+condition_taken i (j ∷ groups) others following c (one ∷ more) is_word are leads fits room =
     let taken = word_taken i.what i.card c is_word in
     let head : test_on j ≡ Some one = cc (are) in
     let tail : map test_on groups ≡ map Some more = cc (are) in
     let first = first_test_taken j.what j.card c taken.exit one head in
-    ap (λ r. draft_then r (λ next. draft_of next (j ∷ groups ++ others))) taken.made
-    ∙ ap (λ r. draft_then r (λ next. draft_of next (groups ++ others))) first
+    ap (λ r. builder_then r (λ next. builder_of next (j ∷ groups ++ others))) taken.made
+    ∙ ap (λ r. builder_then r (λ next. builder_of next (groups ++ others))) first
     ∙ tests_taken groups others more c (one ∷ []) (length (one ∷ more)) tail (omega arith)
     (omega arith) fits room
-    ∙ others_taken others behind c (one ∷ more) leads
+    ∙ others_taken others following c (one ∷ more) leads
 
 -- the limits and the tests of a statement that is fit
-record Fits (statement : WrittenParts) : Type 0 where
+record Fits (statement : DeckStatementParts) : Type 0 where
   tests : length statement.tests ≤ most_tests
   operations : length statement.operations ≤ most_operations
   condition : may_have statement.condition (length statement.tests) ≡ true
 
-fits_of : (statement : WrittenParts) → is_fit statement ≡ true → Fits statement
+fits_of : (statement : DeckStatementParts) → is_fit statement ≡ true → Fits statement
 fits_of statement fit =
     let n = length statement.tests in
     let m = length statement.operations in
@@ -425,63 +428,65 @@ fits_of statement fit =
       condition = parts.1;
     }
 
-pub either_taken : (items : List PlacedItem) (statement : WrittenParts) →
-    is_fit statement ≡ true → ItemsSay items statement →
-    Ended new_draft items statement.condition statement.tests statement.operations statement.exit
-either_taken items statement fit (inl say) =
+pub either_taken : (items : List PlacedItem) (statement : DeckStatementParts) →
+    is_fit statement ≡ true → ItemsDenote items statement →
+    Ended new_builder items statement.condition statement.tests statement.operations statement.exit
+either_taken items statement fit (inl denote) =
     let fits = fits_of statement fit in
-    let made = said_taken New items Always [] statement refl fits.operations say.say in
-    let same : draft_at made.phase Always [] statement.operations statement.exit
-    ≡ draft_at made.phase statement.condition statement.tests statement.operations statement.exit =
-    cc (say.condition, say.tests) in
+    let made = said_taken New items Always [] statement refl fits.operations denote.denote in
+    let same : builder_at made.phase Always [] statement.operations statement.exit
+    ≡ builder_at made.phase statement.condition statement.tests statement.operations statement.exit =
+    cc (denote.condition, denote.tests) in
     record {
       phase = made.phase;
       whole = made.whole;
       made = made.made ∙ ap Some same;
     }
-either_taken items statement fit (inr say) =
+either_taken items statement fit (inr denote) =
     let fits = fits_of statement fit in
-    also_made new_draft (draft_at Open statement.condition statement.tests [] Next) items say.behind
+    also_made new_builder
+    (builder_at Open statement.condition statement.tests [] Next) items denote.following
     statement.condition statement.tests statement.operations statement.exit
-    (ap (draft_of new_draft) say.in_order
-    ∙ condition_taken say.first say.groups say.others say.behind statement.condition
-    statement.tests say.condition say.tests say.leads fits.condition fits.tests)
-    (said_taken Open say.behind statement.condition statement.tests statement refl fits.operations
-    say.say)
+    (ap (builder_of new_builder) denote.in_order
+    ∙ condition_taken denote.first denote.groups denote.others denote.following statement.condition
+    statement.tests denote.condition denote.tests denote.leads fits.condition fits.tests)
+    (said_taken Open denote.following statement.condition statement.tests statement refl fits.operations
+    denote.denote)
 
--- a statement with this label and these items, by the draft that they make
+-- a statement with this label and these items, by the builder that they make
 pub record Drafts (label : Option PlacedLabel) (items : List PlacedItem) (further : ℕ)
-    (statement : WrittenParts) : Type 0 where
-  pub draft : Draft
-  pub items_make : draft_of new_draft items ≡ Some draft
-  pub whole : is_whole draft ≡ true
-  pub statement_is : statement ≡ statement_from label draft
+    (statement : DeckStatementParts) : Type 0 where
+  pub builder : StatementBuilder
+  pub items_make : builder_of new_builder items ≡ Some builder
+  pub whole : is_whole builder ≡ true
+  pub statement_is : statement ≡ statement_from label builder
   pub few : further ≤ most_continuations
 
 pub drafts_of : (label : Option PlacedLabel) (items : List PlacedItem) (further : ℕ)
-    (statement : WrittenParts) →
-    Says label items further statement → Drafts label items further statement
-drafts_of label items further statement says =
-    let made = either_taken items statement says.fit says.say in
-    let draft = draft_at made.phase statement.condition statement.tests statement.operations
+    (statement : DeckStatementParts) →
+    Denotes label items further statement → Drafts label items further statement
+drafts_of label items further statement denotes =
+    let made = either_taken items statement denotes.fit denotes.denote in
+    let builder = builder_at made.phase statement.condition statement.tests statement.operations
     statement.exit in
     record {
-      draft = draft;
+      builder = builder;
       items_make = made.made;
       whole = made.whole;
-      statement_is = ap (λ (l : Option PlacedLabel). statement_from l draft) says.labelled;
-      few = says.few;
+      statement_is = ap (λ (l : Option PlacedLabel). statement_from l builder) denotes.labelled;
+      few = denotes.few;
     }
 
-pub says_of : (label : Option PlacedLabel) (items : List PlacedItem) (further : ℕ)
-    (statement : WrittenParts) →
-    Drafts label items further statement → Says label items further statement
-says_of label items further statement drafts =
-    let sound = items_sound items new_draft drafts.draft new_sound drafts.items_make in
-    let made : WrittenParts = statement_from label drafts.draft in
-    subst (λ (s : WrittenParts). Says label items further s) (sym drafts.statement_is) (record {
+pub denotes_of : (label : Option PlacedLabel) (items : List PlacedItem) (further : ℕ)
+    (statement : DeckStatementParts) →
+    Drafts label items further statement → Denotes label items further statement
+denotes_of label items further statement drafts =
+    let sound = items_sound items new_builder drafts.builder new_sound drafts.items_make in
+    let made : DeckStatementParts = statement_from label drafts.builder in
+    subst (λ (s : DeckStatementParts). Denotes label items further s) (sym drafts.statement_is)
+    (record {
       labelled = refl;
-      say = say_when_made items label drafts.draft drafts.whole drafts.items_make;
-      fit = statement_fit label drafts.draft sound drafts.whole;
+      denote = denote_when_made items label drafts.builder drafts.whole drafts.items_make;
+      fit = statement_fit label drafts.builder sound drafts.whole;
       few = drafts.few;
     })

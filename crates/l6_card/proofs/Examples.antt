@@ -4,7 +4,7 @@ use Rattle.l6_card.specs.declared.cards.PlacedLabel.{PlacedLabel}
 use Rattle.l6_card.specs.Numerals.{card_width}
 use Rattle.l6_card.specs.Items.{PlacedItem, group, word, item_on}
 use Rattle.l6_card.specs.Card.{Body, Card, plain, labelled, continued, cards_of}
-use Rattle.l6_card.specs.Reads.{placed_items, continued_items, continuations, Says, SaysFrom, CardsSay}
+use Rattle.l6_card.specs.ReadsAs.{placed_items, continued_items, continuations, Denotes, DenotesFrom, CardsDenote}
 use Rattle.l6_card.specs.Worked.{LoopIsRead, HalfIsRefused, loop_deck, set_statement, count_statement}
 
 -- the bodies of the cards
@@ -25,7 +25,7 @@ cards_computed : cards_of loop_deck ≡ loop_cards
 unfolding card_width
 cards_computed = refl
 
--- the items of the second statement: its condition word, the group of its test, and what stands
+-- the items of the second statement: its condition word, the group of its test, and what is
 -- from THEN on
 abbrev first_item : PlacedItem
 first_item = item_on 2 (word (codes "IF"))
@@ -49,14 +49,14 @@ count_items = first_item ∷ test_items ++ then_items
 abbrev next_label : PlacedLabel
 next_label = record { label = codes "NEXT"; card = 2 }
 
-set_says : SaysFrom None set_body (labelled (codes "NEXT") if_body ∷ continued then_body ∷ [])
+set_denotes : DenotesFrom None set_body (labelled (codes "NEXT") if_body ∷ continued then_body ∷ [])
     set_statement
-set_says = record {
+set_denotes = record {
   labelled = refl;
-  say = inl (record {
+  denote = inl (record {
     condition = refl;
     tests = refl;
-    say = record {
+    denote = record {
       groups = item_on 1 (group 1 (codes "A,E,3")) ∷ [];
       last = [];
       in_order = refl;
@@ -68,19 +68,19 @@ set_says = record {
   few = lit≤ tt;
 }
 
-count_says : Says (Some next_label) count_items 1 count_statement
-count_says = record {
+count_denotes : Denotes (Some next_label) count_items 1 count_statement
+count_denotes = record {
   labelled = refl;
-  say = inr (record {
+  denote = inr (record {
     first = first_item;
     groups = test_items;
     others = then_items;
-    behind = operation_items ++ last_items;
+    following = operation_items ++ last_items;
     in_order = refl;
     condition = refl;
     tests = refl;
     leads = refl;
-    say = record {
+    denote = record {
       groups = operation_items;
       last = last_items;
       in_order = refl;
@@ -95,15 +95,15 @@ count_says = record {
 count_computed : placed_items if_body ++ continued_items (continued then_body ∷ []) ≡ count_items
 count_computed = refl
 
-loop_say : CardsSay loop_cards (set_statement ∷ count_statement ∷ [])
-loop_say = (
-  set_says,
+loop_denote : CardsDenote loop_cards (set_statement ∷ count_statement ∷ [])
+loop_denote = (
+  set_denotes,
   (
     (
       next_label,
       refl,
-      subst (λ (items : List PlacedItem). Says (Some next_label) items 1 count_statement)
-          (sym count_computed) count_says,
+      subst (λ (items : List PlacedItem). Denotes (Some next_label) items 1 count_statement)
+          (sym count_computed) count_denotes,
     ),
     tt,
   ),
@@ -113,8 +113,8 @@ pub loop_read : LoopIsRead
 loop_read = record {
   begins = ap continuations cards_computed;
   cards =
-      subst (λ (cards : List Card). CardsSay cards (set_statement ∷ count_statement ∷ []))
-      (sym cards_computed) loop_say;
+      subst (λ (cards : List Card). CardsDenote cards (set_statement ∷ count_statement ∷ []))
+      (sym cards_computed) loop_denote;
   fits = lit≤ tt;
 }
 

@@ -1,4 +1,4 @@
--- What every draft has, and that a statement whose draft is whole is fit for a program.
+-- What every builder has, and that a statement whose builder is whole is fit for a program.
 use Rattle.std.proofs.Common.{◌≡◌, ℕ, ◌+◌, ◌≤◌, List, [], ◌∷◌, ◌++◌, length, Bool, true, false, cond, ltb, leb, eqb, Option, Some, None, Result, Ok, Err, refl, sym, ap, ◌∙◌, subst, arith, length-append}
 use Rattle.std.specs.Prelude.{◌&&◌}
 use Rattle.std.specs.List.{list_all}
@@ -26,10 +26,10 @@ use Rattle.l6_card.specs.Spans.{group_span}
 use Rattle.l6_card.specs.DeckFault.{DeckFault}
 use Rattle.l6_card.specs.Items.{Item, group, word, unclosed, unopened, PlacedItem}
 use Rattle.l6_card.specs.Statement.{placed_exit, is_fit}
-use Rattle.l6_card.specs.inner.Draft.{Draft, Phase, New, Worded, Tested, Open, Closed, new_draft, is_whole_in, is_whole, statement_from, phase_of, with_operation, with_test, with_further_test, with_placed, with_rest, with_word_in, with_group_in, with_item, draft_of}
-use Rattle.l6_card.proofs.Steps.{stands}
+use Rattle.l6_card.specs.inner.StatementBuilder.{StatementBuilder, Phase, New, Worded, Tested, Open, Closed, new_builder, is_whole_in, is_whole, statement_from, phase_of, with_operation, with_test, with_further_test, with_placed, with_rest, with_word_in, with_group_in, with_item, builder_of}
+use Rattle.l6_card.proofs.Steps.{is_prefix}
 
--- a draft in this phase may have this condition with so many tests
+-- a builder in this phase may have this condition with so many tests
 abbrev pub is_sound_in : Phase → Cond → ℕ → Bool
 is_sound_in New Always tests = eqb tests 0
 is_sound_in New _ tests = false
@@ -39,7 +39,7 @@ is_sound_in Tested condition tests = ltb 0 tests && may_have condition tests
 is_sound_in Open condition tests = may_have condition tests
 is_sound_in Closed condition tests = may_have condition tests
 
--- a draft in this phase may have so many operations: none before they may begin
+-- a builder in this phase may have so many operations: none before they may begin
 abbrev pub IsFreshIn : Phase → ℕ → Type 0
 IsFreshIn New operations = operations ≡ 0
 IsFreshIn (Worded condition) operations = operations ≡ 0
@@ -47,12 +47,12 @@ IsFreshIn Tested operations = operations ≡ 0
 IsFreshIn Open operations = Unit {0}
 IsFreshIn Closed operations = Unit {0}
 
--- what every draft has
-pub record IsSound (draft : Draft) : Type 0 where
-  pub tests : length draft.tests ≤ most_tests
-  pub operations : length draft.operations ≤ most_operations
-  pub condition : is_sound_in draft.phase draft.condition (length draft.tests) ≡ true
-  pub fresh : IsFreshIn draft.phase (length draft.operations)
+-- what every builder has
+pub record IsSound (builder : StatementBuilder) : Type 0 where
+  pub tests : length builder.tests ≤ most_tests
+  pub operations : length builder.operations ≤ most_operations
+  pub condition : is_sound_in builder.phase builder.condition (length builder.tests) ≡ true
+  pub fresh : IsFreshIn builder.phase (length builder.operations)
 
 -- a test that decided for what is known
 pub record Decided {A : Type 0} (holds : Bool) (one other : A) : Type 0 where
@@ -85,26 +85,27 @@ sound_open Tested condition tests sound whole = absurd (cc)
 sound_open Open condition tests sound whole = sound
 sound_open Closed condition tests sound whole = sound
 
--- an operation leaves a sound draft, where the condition may have its tests
-operation_sound : (card : ℕ) (span : Span) (draft next : Draft) (found : Option (Op Label)) →
-    IsSound draft → may_have draft.condition (length draft.tests) ≡ true →
-    with_operation card span draft found ≡ Ok next → IsSound next
-operation_sound card span draft next None sound fit made = absurd (cc)
-operation_sound card span draft next (Some operation) sound fit made =
-    let more = draft.operations ++ record { reading = operation; card = card; span = span } ∷ [] in
+-- an operation leaves a sound builder, where the condition may have its tests
+operation_sound : (card : ℕ) (span : Span) (builder next : StatementBuilder)
+    (found : Option (Op Label)) →
+    IsSound builder → may_have builder.condition (length builder.tests) ≡ true →
+    with_operation card span builder found ≡ Ok next → IsSound next
+operation_sound card span builder next None sound fit made = absurd (cc)
+operation_sound card span builder next (Some operation) sound fit made =
+    let more = builder.operations ++ record { reading = operation; card = card; span = span } ∷ [] in
     let so = decided {E =
-    DeckFault} (ltb (length draft.operations) most_operations) (record draft {
+    DeckFault} (ltb (length builder.operations) most_operations) (record builder {
       phase =
           Open;
       operations = more;
     }) next _ made in
-    let room = ltb-true (length draft.operations) most_operations so.holds_so in
+    let room = ltb-true (length builder.operations) most_operations so.holds_so in
     subst IsSound so.same (record {
       tests = sound.tests;
       operations =
           omega (
             arith,
-            length-append draft.operations (record {
+            length-append builder.operations (record {
               reading = operation;
               card = card;
               span = span;
@@ -114,27 +115,28 @@ operation_sound card span draft next (Some operation) sound fit made =
       fresh = tt;
     })
 
--- a test leaves a sound draft, where the condition may have one more
-test_sound : (card : ℕ) (span : Span) (draft next : Draft) (condition : Cond) (found : Option Test)
+-- a test leaves a sound builder, where the condition may have one more
+test_sound : (card : ℕ) (span : Span) (builder next : StatementBuilder) (condition : Cond)
+    (found : Option Test)
     →
-    IsSound draft → length draft.operations ≡ 0 →
-    may_have condition (length draft.tests + 1) ≡ true →
-    with_test card span draft condition found ≡ Ok next → IsSound next
-test_sound card span draft next condition None sound fresh fit made = absurd (cc)
-test_sound card span draft next condition (Some test) sound fresh fit made =
+    IsSound builder → length builder.operations ≡ 0 →
+    may_have condition (length builder.tests + 1) ≡ true →
+    with_test card span builder condition found ≡ Ok next → IsSound next
+test_sound card span builder next condition None sound fresh fit made = absurd (cc)
+test_sound card span builder next condition (Some test) sound fresh fit made =
     let one : Placed Test = record { reading = test; card = card; span = span } in
-    let more = draft.tests ++ one ∷ [] in
-    let so = decided {E = DeckFault} (ltb (length draft.tests) most_tests)
-    (record draft {
+    let more = builder.tests ++ one ∷ [] in
+    let so = decided {E = DeckFault} (ltb (length builder.tests) most_tests)
+    (record builder {
       phase = Tested;
       condition = condition;
       tests = more;
       exit =
           Next;
     }) next _ made in
-    let room = ltb-true (length draft.tests) most_tests so.holds_so in
-    let count : length more ≡ length draft.tests + 1 =
-    omega (arith, length-append draft.tests (one ∷ [])) in
+    let room = ltb-true (length builder.tests) most_tests so.holds_so in
+    let count : length more ≡ length builder.tests + 1 =
+    omega (arith, length-append builder.tests (one ∷ [])) in
     subst IsSound so.same (record {
       tests = omega (arith, count);
       operations = sound.operations;
@@ -144,14 +146,15 @@ test_sound card span draft next condition (Some test) sound fresh fit made =
       fresh = fresh;
     })
 
--- an exit leaves a sound draft, in a phase that the condition and its tests fit
-exit_sound : (card : ℕ) (draft next : Draft) (phase : Phase) (found : Option (Exit Label)) →
-    IsSound draft → is_sound_in phase draft.condition (length draft.tests) ≡ true →
-    IsFreshIn phase (length draft.operations) →
-    with_placed card draft phase found ≡ Ok next → IsSound next
-exit_sound card draft next phase None sound fit fresh made = absurd (cc)
-exit_sound card draft next phase (Some given) sound fit fresh made =
-    let same : record draft { phase = phase; exit = placed_exit card given } ≡ next = cc in
+-- an exit leaves a sound builder, in a phase that the condition and its tests fit
+exit_sound : (card : ℕ) (builder next : StatementBuilder) (phase : Phase)
+    (found : Option (Exit Label)) →
+    IsSound builder → is_sound_in phase builder.condition (length builder.tests) ≡ true →
+    IsFreshIn phase (length builder.operations) →
+    with_placed card builder phase found ≡ Ok next → IsSound next
+exit_sound card builder next phase None sound fit fresh made = absurd (cc)
+exit_sound card builder next phase (Some given) sound fit fresh made =
+    let same : record builder { phase = phase; exit = placed_exit card given } ≡ next = cc in
     subst IsSound same (record {
       tests = sound.tests;
       operations = sound.operations;
@@ -160,40 +163,40 @@ exit_sound card draft next phase (Some given) sound fit fresh made =
       fresh = fresh;
     })
 
--- each condition of the table wants a test
-wants_test : (here : Bool) (condition found : Cond) (others : Option Cond) →
+-- each condition of the table needs a test
+needs_test : (here : Bool) (condition found : Cond) (others : Option Cond) →
     may_have condition 1 ≡ true → (others ≡ Some found → may_have found 1 ≡ true) →
     cond here (Some condition) others ≡ Some found → may_have found 1 ≡ true
-wants_test true condition found others wants later is_found =
+needs_test true condition found others needs later is_found =
     let same : condition ≡ found = cc in
-    ap (λ w. may_have w 1) (sym same) ∙ wants
-wants_test false condition found others wants later is_found = later is_found
+    ap (λ w. may_have w 1) (sym same) ∙ needs
+needs_test false condition found others needs later is_found = later is_found
 
-pub found_wants_test : (lines : List (Line Cond)) (characters : List ℕ) (found : Cond) →
+pub found_needs_test : (lines : List (Line Cond)) (characters : List ℕ) (found : Cond) →
     list_all (λ (line : Line Cond). may_have line.meaning 1) lines ≡ true →
     find_spelled lines characters ≡ Some found → may_have found 1 ≡ true
-found_wants_test [] characters found each is_found = absurd (cc)
-found_wants_test (line ∷ lines) characters found each is_found =
+found_needs_test [] characters found each is_found = absurd (cc)
+found_needs_test (line ∷ lines) characters found each is_found =
     let parts =
     and_parts (may_have line.meaning 1) (list_all (λ (l : Line Cond). may_have l.meaning 1) lines)
     each in
-    wants_test (bytes_eq (codes line.spelling) characters) line.meaning found
+    needs_test (bytes_eq (codes line.spelling) characters) line.meaning found
     (find_spelled lines characters)
-    parts.0 (found_wants_test lines characters found parts.1) is_found
+    parts.0 (found_needs_test lines characters found parts.1) is_found
 
 -- a first word leads to a phase that no tests fit
 first_fits : (found : Option Cond) (condition : Cond) (tests : ℕ) →
     ((w : Cond) → found ≡ Some w → may_have w 1 ≡ true) →
     is_sound_in New condition tests ≡ true → is_sound_in (phase_of found) condition tests ≡ true
-first_fits None Always tests wants sound = sound
-first_fits (Some w) Always tests wants sound =
-    and_from (eqb tests 0) (may_have w 1) sound (wants w refl)
-first_fits found If tests wants sound = absurd (cc)
-first_fits found Not tests wants sound = absurd (cc)
-first_fits found IfAll tests wants sound = absurd (cc)
-first_fits found IfAny tests wants sound = absurd (cc)
-first_fits found IfNone tests wants sound = absurd (cc)
-first_fits found IfNotAll tests wants sound = absurd (cc)
+first_fits None Always tests needs sound = sound
+first_fits (Some w) Always tests needs sound =
+    and_from (eqb tests 0) (may_have w 1) sound (needs w refl)
+first_fits found If tests needs sound = absurd (cc)
+first_fits found Not tests needs sound = absurd (cc)
+first_fits found IfAll tests needs sound = absurd (cc)
+first_fits found IfAny tests needs sound = absurd (cc)
+first_fits found IfNone tests needs sound = absurd (cc)
+first_fits found IfNotAll tests needs sound = absurd (cc)
 
 first_fresh : (found : Option Cond) (operations : ℕ) → operations ≡ 0 →
     IsFreshIn (phase_of found) operations
@@ -222,35 +225,35 @@ tested_always tests fit =
     absurd (omega arith)
 
 -- a further test
-further_sound : (card : ℕ) (span : Span) (draft next : Draft) (condition : Cond)
+further_sound : (card : ℕ) (span : Span) (builder next : StatementBuilder) (condition : Cond)
     (found : Option Test) →
-    IsSound draft → length draft.operations ≡ 0 →
-    is_sound_in Tested condition (length draft.tests) ≡ true →
-    with_further_test card span draft condition found ≡ Ok next → IsSound next
-further_sound card span draft next Always found sound fresh fit made =
-    absurd (tested_always (length draft.tests) fit)
-further_sound card span draft next If found sound fresh fit made = absurd (cc)
-further_sound card span draft next Not found sound fresh fit made = absurd (cc)
-further_sound card span draft next IfAll found sound fresh fit made =
-    test_sound card span draft next IfAll found sound fresh
-    (lt-ltb 0 (length draft.tests + 1) (omega arith)) made
-further_sound card span draft next IfAny found sound fresh fit made =
-    test_sound card span draft next IfAny found sound fresh
-    (lt-ltb 0 (length draft.tests + 1) (omega arith)) made
-further_sound card span draft next IfNone found sound fresh fit made =
-    test_sound card span draft next IfNone found sound fresh
-    (lt-ltb 0 (length draft.tests + 1) (omega arith)) made
-further_sound card span draft next IfNotAll found sound fresh fit made =
-    test_sound card span draft next IfNotAll found sound fresh
-    (lt-ltb 0 (length draft.tests + 1) (omega arith)) made
+    IsSound builder → length builder.operations ≡ 0 →
+    is_sound_in Tested condition (length builder.tests) ≡ true →
+    with_further_test card span builder condition found ≡ Ok next → IsSound next
+further_sound card span builder next Always found sound fresh fit made =
+    absurd (tested_always (length builder.tests) fit)
+further_sound card span builder next If found sound fresh fit made = absurd (cc)
+further_sound card span builder next Not found sound fresh fit made = absurd (cc)
+further_sound card span builder next IfAll found sound fresh fit made =
+    test_sound card span builder next IfAll found sound fresh
+    (lt-ltb 0 (length builder.tests + 1) (omega arith)) made
+further_sound card span builder next IfAny found sound fresh fit made =
+    test_sound card span builder next IfAny found sound fresh
+    (lt-ltb 0 (length builder.tests + 1) (omega arith)) made
+further_sound card span builder next IfNone found sound fresh fit made =
+    test_sound card span builder next IfNone found sound fresh
+    (lt-ltb 0 (length builder.tests + 1) (omega arith)) made
+further_sound card span builder next IfNotAll found sound fresh fit made =
+    test_sound card span builder next IfNotAll found sound fresh
+    (lt-ltb 0 (length builder.tests + 1) (omega arith)) made
 
--- what stands behind THEN
-rest_sound : (card : ℕ) (draft next : Draft) (found : Option (List ℕ)) →
-    IsSound draft → may_have draft.condition (length draft.tests) ≡ true →
-    with_rest card draft found ≡ Ok next → IsSound next
-rest_sound card draft next None sound fit made = absurd (cc)
-rest_sound card draft next (Some []) sound fit made =
-    let same : record draft { phase = Open } ≡ next = cc in
+-- what follows THEN
+rest_sound : (card : ℕ) (builder next : StatementBuilder) (found : Option (List ℕ)) →
+    IsSound builder → may_have builder.condition (length builder.tests) ≡ true →
+    with_rest card builder found ≡ Ok next → IsSound next
+rest_sound card builder next None sound fit made = absurd (cc)
+rest_sound card builder next (Some []) sound fit made =
+    let same : record builder { phase = Open } ≡ next = cc in
     subst IsSound same (record {
       tests = sound.tests;
       operations = sound.operations;
@@ -258,79 +261,81 @@ rest_sound card draft next (Some []) sound fit made =
           fit;
       fresh = tt;
     })
-rest_sound card draft next (Some (first ∷ rest)) sound fit made =
-    exit_sound card draft next Closed (exit_from (first ∷ rest)) sound fit tt made
+rest_sound card builder next (Some (first ∷ rest)) sound fit made =
+    exit_sound card builder next Closed (exit_from (first ∷ rest)) sound fit tt made
 
-group_sound : (phase : Phase) (card : ℕ) (span : Span) (draft next : Draft) (columns : List ℕ) →
-    IsSound draft → is_sound_in phase draft.condition (length draft.tests) ≡ true →
-    IsFreshIn phase (length draft.operations) →
-    with_group_in phase card span draft columns ≡ Ok next → IsSound next
-group_sound New card span draft next columns sound fit fresh made =
-    operation_sound card span draft next (operation_of columns) sound
-    (sound_open New draft.condition (length draft.tests) fit refl) made
-group_sound Open card span draft next columns sound fit fresh made =
-    operation_sound card span draft next (operation_of columns) sound fit made
-group_sound (Worded w) card span draft next columns sound fit fresh made =
-    test_sound card span draft next w (test_of columns) sound fresh
-    (worded_fits w draft.condition (length draft.tests) fit) made
-group_sound Tested card span draft next columns sound fit fresh made =
-    further_sound card span draft next draft.condition (test_of columns) sound fresh fit made
-group_sound Closed card span draft next columns sound fit fresh made = absurd (cc)
+group_sound : (phase : Phase) (card : ℕ) (span : Span) (builder next : StatementBuilder)
+    (columns : List ℕ) →
+    IsSound builder → is_sound_in phase builder.condition (length builder.tests) ≡ true →
+    IsFreshIn phase (length builder.operations) →
+    with_group_in phase card span builder columns ≡ Ok next → IsSound next
+group_sound New card span builder next columns sound fit fresh made =
+    operation_sound card span builder next (operation_of columns) sound
+    (sound_open New builder.condition (length builder.tests) fit refl) made
+group_sound Open card span builder next columns sound fit fresh made =
+    operation_sound card span builder next (operation_of columns) sound fit made
+group_sound (Worded w) card span builder next columns sound fit fresh made =
+    test_sound card span builder next w (test_of columns) sound fresh
+    (worded_fits w builder.condition (length builder.tests) fit) made
+group_sound Tested card span builder next columns sound fit fresh made =
+    further_sound card span builder next builder.condition (test_of columns) sound fresh fit made
+group_sound Closed card span builder next columns sound fit fresh made = absurd (cc)
 
-word_sound : (phase : Phase) (card : ℕ) (draft next : Draft) (characters : List ℕ) →
-    IsSound draft → is_sound_in phase draft.condition (length draft.tests) ≡ true →
-    IsFreshIn phase (length draft.operations) →
-    with_word_in phase card draft characters ≡ Ok next → IsSound next
-word_sound New card draft next characters sound fit fresh made =
-    exit_sound card draft next (phase_of (condition_from characters)) (exit_from characters) sound
-    (first_fits (condition_from characters) draft.condition (length draft.tests)
-    (λ w is_found. found_wants_test conditions characters w refl is_found) fit)
-    (first_fresh (condition_from characters) (length draft.operations) fresh) made
-word_sound Open card draft next characters sound fit fresh made =
-    exit_sound card draft next Closed (exit_from characters) sound fit tt made
-word_sound Tested card draft next characters sound fit fresh made =
+word_sound : (phase : Phase) (card : ℕ) (builder next : StatementBuilder) (characters : List ℕ) →
+    IsSound builder → is_sound_in phase builder.condition (length builder.tests) ≡ true →
+    IsFreshIn phase (length builder.operations) →
+    with_word_in phase card builder characters ≡ Ok next → IsSound next
+word_sound New card builder next characters sound fit fresh made =
+    exit_sound card builder next (phase_of (condition_from characters)) (exit_from characters) sound
+    (first_fits (condition_from characters) builder.condition (length builder.tests)
+    (λ w is_found. found_needs_test conditions characters w refl is_found) fit)
+    (first_fresh (condition_from characters) (length builder.operations) fresh) made
+word_sound Open card builder next characters sound fit fresh made =
+    exit_sound card builder next Closed (exit_from characters) sound fit tt made
+word_sound Tested card builder next characters sound fit fresh made =
     let parts =
-    and_parts (ltb 0 (length draft.tests)) (may_have draft.condition (length draft.tests)) fit in
-    rest_sound card draft next (after_then characters) sound parts.1 made
-word_sound (Worded w) card draft next characters sound fit fresh made = absurd (cc)
-word_sound Closed card draft next characters sound fit fresh made = absurd (cc)
+    and_parts (ltb 0 (length builder.tests)) (may_have builder.condition (length builder.tests)) fit in
+    rest_sound card builder next (after_then characters) sound parts.1 made
+word_sound (Worded w) card builder next characters sound fit fresh made = absurd (cc)
+word_sound Closed card builder next characters sound fit fresh made = absurd (cc)
 
-pub item_sound : (card : ℕ) (draft next : Draft) (i : Item) →
-    IsSound draft → with_item card draft i ≡ Ok next → IsSound next
-item_sound card draft next (group offset columns) sound made =
-    group_sound draft.phase card (group_span offset columns) draft next columns sound
+pub item_sound : (card : ℕ) (builder next : StatementBuilder) (i : Item) →
+    IsSound builder → with_item card builder i ≡ Ok next → IsSound next
+item_sound card builder next (group offset columns) sound made =
+    group_sound builder.phase card (group_span offset columns) builder next columns sound
     sound.condition sound.fresh made
-item_sound card draft next (word columns) sound made =
-    word_sound draft.phase card draft next (spelled columns) sound sound.condition sound.fresh made
-item_sound card draft next unclosed sound made = absurd (cc)
-item_sound card draft next (unopened columns) sound made = absurd (cc)
+item_sound card builder next (word columns) sound made =
+    word_sound builder.phase card builder next (spelled columns) sound sound.condition sound.fresh made
+item_sound card builder next unclosed sound made = absurd (cc)
+item_sound card builder next (unopened columns) sound made = absurd (cc)
 
-pub items_sound : (items : List PlacedItem) (draft final : Draft) →
-    IsSound draft → draft_of draft items ≡ Some final → IsSound final
-items_sound [] draft final sound made =
-    let same : draft ≡ final = cc in
+pub items_sound : (items : List PlacedItem) (builder final : StatementBuilder) →
+    IsSound builder → builder_of builder items ≡ Some final → IsSound final
+items_sound [] builder final sound made =
+    let same : builder ≡ final = cc in
     subst IsSound same sound
-items_sound (i ∷ items) draft final sound made =
-    let first = stands (with_item i.card draft i.what) (λ next. draft_of next items) final made in
+items_sound (i ∷ items) builder final sound made =
+    let first = is_prefix (with_item i.card builder i.what)
+    (λ next. builder_of next items) final made in
     items_sound items first.next final
-    (item_sound i.card draft first.next i.what sound first.is_made) first.rest
+    (item_sound i.card builder first.next i.what sound first.is_made) first.rest
 
--- the draft of a statement without items is sound
-pub new_sound : IsSound new_draft
+-- the builder of a statement without items is sound
+pub new_sound : IsSound new_builder
 new_sound =
     record { tests = omega arith; operations = omega arith; condition = refl; fresh = refl }
 
--- a statement whose draft is whole is fit
-pub statement_fit : (given : Option PlacedLabel) (draft : Draft) →
-    IsSound draft → is_whole draft ≡ true → is_fit (statement_from given draft) ≡ true
-statement_fit given draft sound whole =
-    let tests = le-leb (length draft.tests) most_tests sound.tests in
-    let operations = le-leb (length draft.operations) most_operations sound.operations in
+-- a statement whose builder is whole is fit
+pub statement_fit : (given : Option PlacedLabel) (builder : StatementBuilder) →
+    IsSound builder → is_whole builder ≡ true → is_fit (statement_from given builder) ≡ true
+statement_fit given builder sound whole =
+    let tests = le-leb (length builder.tests) most_tests sound.tests in
+    let operations = le-leb (length builder.operations) most_operations sound.operations in
     let condition =
-    sound_open draft.phase draft.condition (length draft.tests) sound.condition whole in
+    sound_open builder.phase builder.condition (length builder.tests) sound.condition whole in
     and_from
-    (leb (length draft.tests) most_tests && leb (length draft.operations) most_operations)
-    (may_have draft.condition (length draft.tests))
-    (and_from (leb (length draft.tests) most_tests) (leb (length draft.operations) most_operations)
+    (leb (length builder.tests) most_tests && leb (length builder.operations) most_operations)
+    (may_have builder.condition (length builder.tests))
+    (and_from (leb (length builder.tests) most_tests) (leb (length builder.operations) most_operations)
     tests operations)
     condition

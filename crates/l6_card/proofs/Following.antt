@@ -1,32 +1,32 @@
--- A reader's course meets the objections of the deck's pieces.
+-- A reader's pass meets the objections of the deck's pieces.
 use Rattle.std.proofs.Common.{◌≡◌, ℕ, ◌+◌, List, [], ◌∷◌, ◌++◌, map, length, Bool, true, false, cond, ltb, Option, Some, None, Result, Ok, Err, refl, sym, ap, ◌∙◌, arith, length-append, append-nil}
 use Rattle.std.specs.Prelude.{not}
 use Rattle.std.specs.Option.{is_some}
 use Rattle.l6_card.specs.declared.cards.PlacedLabel.{PlacedLabel}
-use Rattle.l6_card.specs.Numerals.{most_written, most_continuations}
+use Rattle.l6_card.specs.Numerals.{most_deck_statements, most_continuations}
 use Rattle.l6_card.specs.DeckFault.{DeckFault, form, limit}
 use Rattle.l6_card.specs.Items.{Item, PlacedItem, item_on, items_of}
 use Rattle.l6_card.specs.Card.{Card, skipped, plain, labelled, continued, unknown, cards_of}
-use Rattle.l6_card.specs.Statement.{WrittenParts, label_on}
-use Rattle.l6_card.specs.Form.{stand, are_whole, are_within_limits}
+use Rattle.l6_card.specs.Statement.{DeckStatementParts, label_on}
+use Rattle.l6_card.specs.Form.{are_prefix, are_whole, are_within_limits}
 use Rattle.l6_card.specs.Pieces.{Piece, ends, begins, label, item, pieces_of_cards}
 use Rattle.l6_card.specs.Fault as told
 use Rattle.l6_card.specs.Fault.{Begun, Known, nothing_known, and_then, fault_in, fault_of}
-use Rattle.l6_card.specs.inner.Draft.{Draft, new_draft, is_whole, statement_from, with_item, draft_then, draft_of}
-use Rattle.l6_card.specs.inner.Course.{Stage, first_stage, stage_if, when_over, when_begun, when_continued, when_labelled, when_drafted, after_pieces, course_of}
-use Rattle.l6_card.proofs.Steps.{draft_of-append}
+use Rattle.l6_card.specs.inner.StatementBuilder.{StatementBuilder, new_builder, is_whole, statement_from, with_item, builder_then, builder_of}
+use Rattle.l6_card.specs.inner.Pass.{Stage, first_stage, stage_if, when_over, when_begun, when_continued, when_labelled, when_drafted, after_pieces, pass_of}
+use Rattle.l6_card.proofs.Steps.{builder_of-append}
 use Rattle.l6_card.proofs.Fitness.{items_sound, new_sound}
 use Rattle.l6_card.proofs.Forms.{View}
 use Rattle.l6_card.proofs.Viewing.{view, items_seen}
 use Rattle.l6_card.proofs.Objections.{objection_of, item_objects, whole_seen}
 
-abbrev staged : List WrittenParts → Bool → Option PlacedLabel → Draft → ℕ → ℕ → Stage
-staged statements is_open given draft card continuations =
+abbrev staged : List DeckStatementParts → Bool → Option PlacedLabel → StatementBuilder → ℕ → ℕ → Stage
+staged statements is_open given builder card continuations =
     record {
       statements = statements;
       is_open = is_open;
       label = given;
-      draft = draft;
+      builder = builder;
       card = card;
       continuations = continuations;
     }
@@ -37,7 +37,7 @@ record SeesStatement (stage : Stage) (over : ℕ) (statement : Begun) : Type 0 w
   is_open : stage.is_open ≡ true
   card : stage.card ≡ statement.card
   continuations : stage.continuations ≡ statement.continuations
-  made : draft_of new_draft statement.items ≡ Some stage.draft
+  made : builder_of new_builder statement.items ≡ Some stage.builder
 
 -- a stage is what is known
 abbrev Sees : Stage → ℕ → Option Begun → Type 0
@@ -61,13 +61,13 @@ Agree R (Ok stage) (Ok known) = R stage known.over known.begun
 Agree R (Err fault) (Err other) = fault ≡ other
 Agree R _ _ = ⊥
 
-then_agree : (R Q : Stage → ℕ → Option Begun → Type 0) (course : Result Stage DeckFault)
+then_agree : (R Q : Stage → ℕ → Option Begun → Type 0) (pass : Result Stage DeckFault)
     (other : Result Known DeckFault)
     (step : Stage → Result Stage DeckFault) (other_step : Known → Result Known DeckFault) →
-    Agree R course other →
+    Agree R pass other →
     ((stage : Stage) (known : Known) → R stage known.over known.begun →
     Agree Q (step stage) (other_step known)) →
-    Agree Q (and_then course step) (and_then other other_step)
+    Agree Q (and_then pass step) (and_then other other_step)
 then_agree R Q (Ok stage) (Ok known) step other_step agree each = each stage known agree
 then_agree R Q (Err fault) (Err other) step other_step agree each = agree
 then_agree R Q (Ok stage) (Err other) step other_step agree each = absurd agree
@@ -82,31 +82,31 @@ if_agree R false false objection other stage known same same' sees = same'
 if_agree R true false objection other stage known same same' sees = absurd (cc)
 if_agree R false true objection other stage known same same' sees = absurd (cc)
 
--- the draft of items is whole exactly if they are
-pub whole_items : (items : List PlacedItem) (draft : Draft) →
-    draft_of new_draft items ≡ Some draft → is_whole draft ≡ are_whole items
-whole_items items draft made =
-    let seen : view new_draft (items ++ []) ≡ view draft [] =
-    items_seen items new_draft draft [] new_sound made in
-    sym (whole_seen draft)
+-- the builder of items is whole exactly if they are
+pub whole_items : (items : List PlacedItem) (builder : StatementBuilder) →
+    builder_of new_builder items ≡ Some builder → is_whole builder ≡ are_whole items
+whole_items items builder made =
+    let seen : view new_builder (items ++ []) ≡ view builder [] =
+    items_seen items new_builder builder [] new_sound made in
+    sym (whole_seen builder)
     ∙ ap (λ (v : View). v.whole) (sym seen)
     ∙ ap are_whole (append-nil items)
 
-ends_agree : (statements : List WrittenParts) (is_open : Bool) (given : Option PlacedLabel)
-    (draft : Draft) (card continuations over : ℕ) (begun : Option Begun) →
-    let stage = staged statements is_open given draft card continuations in
+ends_agree : (statements : List DeckStatementParts) (is_open : Bool) (given : Option PlacedLabel)
+    (builder : StatementBuilder) (card continuations over : ℕ) (begun : Option Begun) →
+    let stage = staged statements is_open given builder card continuations in
     Sees stage over begun → Agree Sees (when_over stage) (told.when_over over begun)
-ends_agree statements true given draft card continuations over None sees = absurd (cc (sees.1))
-ends_agree statements false given draft card continuations over None sees = (sees.0, refl)
-ends_agree statements false given draft card continuations over (Some statement) sees =
+ends_agree statements true given builder card continuations over None sees = absurd (cc (sees.1))
+ends_agree statements false given builder card continuations over None sees = (sees.0, refl)
+ends_agree statements false given builder card continuations over (Some statement) sees =
     absurd (cc (sees.is_open))
-ends_agree statements true given draft card continuations over (Some statement) sees =
-    let all = statements ++ statement_from given draft ∷ [] in
-    if_agree Sees (is_whole draft) (are_whole statement.items) (form card) (form statement.card)
-    (staged all false None new_draft card continuations)
+ends_agree statements true given builder card continuations over (Some statement) sees =
+    let all = statements ++ statement_from given builder ∷ [] in
+    if_agree Sees (is_whole builder) (are_whole statement.items) (form card) (form statement.card)
+    (staged all false None new_builder card continuations)
     (record { over = over + 1; begun = None })
-    (whole_items statement.items draft sees.made) (ap form sees.card)
-    (omega (arith, sees.count, length-append statements (statement_from given draft ∷ [])), refl)
+    (whole_items statement.items builder sees.made) (ap form sees.card)
+    (omega (arith, sees.count, length-append statements (statement_from given builder ∷ [])), refl)
 
 count_of : (stage : Stage) (over : ℕ) (begun : Option Begun) → Sees stage over begun →
     length stage.statements ≡ over
@@ -117,11 +117,12 @@ begins_agree : (stage : Stage) (card over : ℕ) (begun : Option Begun) →
     Sees stage over begun → Agree SeesBegun (when_begun card stage) (told.when_begun card over)
 begins_agree stage card over begun sees =
     let count = count_of stage over begun sees in
-    if_agree SeesBegun (ltb (length stage.statements) most_written) (ltb over most_written)
+    if_agree SeesBegun (ltb (length stage.statements) most_deck_statements)
+    (ltb over most_deck_statements)
     (limit card) (limit card)
-    (staged stage.statements true None new_draft card 0)
+    (staged stage.statements true None new_builder card 0)
     (record { over = over; begun = Some (record { items = []; card = card; continuations = 0 }) })
-    (ap (λ n. ltb n most_written) count) refl
+    (ap (λ n. ltb n most_deck_statements) count) refl
     (record {
       count = sym count;
       is_open = refl;
@@ -130,20 +131,20 @@ begins_agree stage card over begun sees =
       made = refl;
     })
 
-continues_agree : (statements : List WrittenParts) (is_open : Bool) (given : Option PlacedLabel)
-    (draft : Draft) (last continuations card over : ℕ) (begun : Option Begun) →
-    let stage = staged statements is_open given draft last continuations in
+continues_agree : (statements : List DeckStatementParts) (is_open : Bool) (given : Option PlacedLabel)
+    (builder : StatementBuilder) (last continuations card over : ℕ) (begun : Option Begun) →
+    let stage = staged statements is_open given builder last continuations in
     Sees stage over begun →
     Agree SeesBegun (when_continued card stage) (told.when_continued card over begun)
-continues_agree statements true given draft last continuations card over None sees =
+continues_agree statements true given builder last continuations card over None sees =
     absurd (cc (sees.1))
-continues_agree statements false given draft last continuations card over None sees = refl
-continues_agree statements false given draft last continuations card over (Some statement) sees =
+continues_agree statements false given builder last continuations card over None sees = refl
+continues_agree statements false given builder last continuations card over (Some statement) sees =
     absurd (cc (sees.is_open))
-continues_agree statements true given draft last continuations card over (Some statement) sees =
+continues_agree statements true given builder last continuations card over (Some statement) sees =
     if_agree SeesBegun (ltb continuations most_continuations)
     (ltb statement.continuations most_continuations) (limit card) (limit card)
-    (staged statements true given draft card (continuations + 1))
+    (staged statements true given builder card (continuations + 1))
     (record {
       over = over;
       begun = Some (record statement {
@@ -180,14 +181,15 @@ label_agree None stage card known sees = refl
 label_agree (Some given) stage card known sees =
     relabelled stage given known.over known.begun sees
 
-item_agree_in : (made : Result Draft DeckFault) (standing few : Bool) (card : ℕ) (stage : Stage)
+item_agree_in : (made : Result StatementBuilder DeckFault) (prefix few : Bool) (card : ℕ)
+    (stage : Stage)
     (known : Known) →
-    fault_in made ≡ cond (not standing) (Some (form card))
+    fault_in made ≡ cond (not prefix) (Some (form card))
     (cond (not few) (Some (limit card)) None) →
-    ((next : Draft) → made ≡ Ok next →
-    SeesBegun (record stage { draft = next }) known.over known.begun) →
+    ((next : StatementBuilder) → made ≡ Ok next →
+    SeesBegun (record stage { builder = next }) known.over known.begun) →
     Agree SeesBegun (when_drafted made stage)
-    (cond (not standing) (Err (form card)) (cond (not few) (Err (limit card)) (Ok known)))
+    (cond (not prefix) (Err (form card)) (cond (not few) (Err (limit card)) (Ok known)))
 item_agree_in (Ok next) true true card stage known same sees = sees next refl
 item_agree_in (Ok next) true false card stage known same sees = absurd (cc)
 item_agree_in (Ok next) false few card stage known same sees = absurd (cc)
@@ -197,25 +199,26 @@ item_agree_in (Err fault) false few card stage known same sees = cc
 
 item_agree : (stage : Stage) (card : ℕ) (i : Item) (over : ℕ) (begun : Option Begun) →
     SeesBegun stage over begun →
-    Agree SeesBegun (when_drafted (with_item card stage.draft i) stage)
+    Agree SeesBegun (when_drafted (with_item card stage.builder i) stage)
     (told.when_item card i over begun)
 item_agree stage card i over None sees = absurd sees
 item_agree stage card i over (Some statement) sees =
     let one = item_on card i ∷ [] in
     let items = statement.items ++ one in
-    let sound = items_sound statement.items new_draft stage.draft new_sound sees.made in
-    let seen : view new_draft items ≡ view stage.draft one =
-    items_seen statement.items new_draft stage.draft one new_sound sees.made in
-    item_agree_in (with_item card stage.draft i) (stand items) (are_within_limits items) card stage
+    let sound = items_sound statement.items new_builder stage.builder new_sound sees.made in
+    let seen : view new_builder items ≡ view stage.builder one =
+    items_seen statement.items new_builder stage.builder one new_sound sees.made in
+    item_agree_in (with_item card stage.builder i) (are_prefix items)
+    (are_within_limits items) card stage
     (record { over = over; begun = Some (record statement { items = items }) })
-    (item_objects card stage.draft i sound ∙ ap (objection_of card) (sym seen))
+    (item_objects card stage.builder i sound ∙ ap (objection_of card) (sym seen))
     (λ next is_made. record {
       count = sees.count;
       is_open = sees.is_open;
       card = sees.card;
       continuations = sees.continuations;
-      made = draft_of-append statement.items one new_draft stage.draft sees.made
-          ∙ ap (λ r. draft_then r (λ d. Some d)) is_made;
+      made = builder_of-append statement.items one new_builder stage.builder sees.made
+          ∙ ap (λ r. builder_then r (λ d. Some d)) is_made;
     })
 
 items_agree : (items : List Item) (number : ℕ) (rest : List Piece) (stage : Stage)
@@ -228,28 +231,28 @@ items_agree : (items : List Item) (number : ℕ) (rest : List Piece) (stage : St
 items_agree [] number rest stage known sees each =
     each stage known (begun_is_seen stage known.over known.begun sees)
 items_agree (i ∷ items) number rest stage known sees each =
-    then_agree SeesBegun Sees (when_drafted (with_item number stage.draft i) stage)
+    then_agree SeesBegun Sees (when_drafted (with_item number stage.builder i) stage)
     (told.when_item number i known.over known.begun)
     (λ s. after_pieces s (map (item number) items ++ rest))
     (λ k. told.after_pieces k (map (item number) items ++ rest))
     (item_agree stage number i known.over known.begun sees)
     (λ s k sees'. items_agree items number rest s k sees' each)
 
--- a card begins a statement, with these pieces behind
-begun_agree : (number : ℕ) (behind : List Piece) (stage : Stage) (known : Known) →
+-- a card begins a statement, with these pieces after
+begun_agree : (number : ℕ) (following : List Piece) (stage : Stage) (known : Known) →
     Sees stage known.over known.begun →
     ((s : Stage) (k : Known) → SeesBegun s k.over k.begun →
-    Agree Sees (after_pieces s behind) (told.after_pieces k behind)) →
-    Agree Sees (after_pieces stage (ends ∷ begins number ∷ behind))
-    (told.after_pieces known (ends ∷ begins number ∷ behind))
-begun_agree number behind stage known sees each =
+    Agree Sees (after_pieces s following) (told.after_pieces k following)) →
+    Agree Sees (after_pieces stage (ends ∷ begins number ∷ following))
+    (told.after_pieces known (ends ∷ begins number ∷ following))
+begun_agree number following stage known sees each =
     then_agree Sees Sees (when_over stage) (told.when_over known.over known.begun)
-    (λ s. after_pieces s (begins number ∷ behind))
-    (λ k. told.after_pieces k (begins number ∷ behind))
-    (ends_agree stage.statements stage.is_open stage.label stage.draft stage.card
+    (λ s. after_pieces s (begins number ∷ following))
+    (λ k. told.after_pieces k (begins number ∷ following))
+    (ends_agree stage.statements stage.is_open stage.label stage.builder stage.card
     stage.continuations known.over known.begun sees)
     (λ s k sees'. then_agree SeesBegun Sees (when_begun number s) (told.when_begun number k.over)
-    (λ s'. after_pieces s' behind) (λ k'. told.after_pieces k' behind)
+    (λ s'. after_pieces s' following) (λ k'. told.after_pieces k' following)
     (begins_agree s number k.over k.begun sees') each)
 
 cards_agree : (cards : List Card) (stage : Stage) (known : Known) →
@@ -259,7 +262,7 @@ cards_agree : (cards : List Card) (stage : Stage) (known : Known) →
 cards_agree [] stage known sees =
     then_agree Sees Sees (when_over stage) (told.when_over known.over known.begun)
     (λ s. Ok s) (λ k. Ok k)
-    (ends_agree stage.statements stage.is_open stage.label stage.draft stage.card
+    (ends_agree stage.statements stage.is_open stage.label stage.builder stage.card
     stage.continuations known.over known.begun sees)
     (λ s k sees'. sees')
 cards_agree (skipped ∷ cards) stage known sees = cards_agree cards stage known sees
@@ -272,42 +275,42 @@ cards_agree (plain body ∷ cards) stage known sees =
 cards_agree (labelled columns body ∷ cards) stage known sees =
     let items = items_of body.offset body.columns in
     let rest = pieces_of_cards cards in
-    let behind = map (item body.card) items ++ rest in
-    begun_agree body.card (label body.card columns ∷ behind) stage known sees
+    let following = map (item body.card) items ++ rest in
+    begun_agree body.card (label body.card columns ∷ following) stage known sees
     (λ s k begun. then_agree SeesBegun Sees
     (when_labelled body.card (label_on body.card columns) s)
     (told.when_labelled body.card columns k)
-    (λ s'. after_pieces s' behind) (λ k'. told.after_pieces k' behind)
+    (λ s'. after_pieces s' following) (λ k'. told.after_pieces k' following)
     (label_agree (label_on body.card columns) s body.card k begun)
     (λ s' k' begun'. items_agree items body.card rest s' k' begun'
     (λ s'' k'' sees'. cards_agree cards s'' k'' sees')))
 cards_agree (continued body ∷ cards) stage known sees =
     let items = items_of body.offset body.columns in
     let rest = pieces_of_cards cards in
-    let behind = map (item body.card) items ++ rest in
+    let following = map (item body.card) items ++ rest in
     then_agree SeesBegun Sees (when_continued body.card stage)
     (told.when_continued body.card known.over known.begun)
-    (λ s. after_pieces s behind) (λ k. told.after_pieces k behind)
-    (continues_agree stage.statements stage.is_open stage.label stage.draft stage.card
+    (λ s. after_pieces s following) (λ k. told.after_pieces k following)
+    (continues_agree stage.statements stage.is_open stage.label stage.builder stage.card
     stage.continuations body.card known.over known.begun sees)
     (λ s k begun. items_agree items body.card rest s k begun
     (λ s' k' sees'. cards_agree cards s' k' sees'))
 cards_agree (unknown number ∷ cards) stage known sees =
     then_agree Sees Sees (when_over stage) (told.when_over known.over known.begun)
     (λ s. Err (form number)) (λ k. Err (form number))
-    (ends_agree stage.statements stage.is_open stage.label stage.draft stage.card
+    (ends_agree stage.statements stage.is_open stage.label stage.builder stage.card
     stage.continuations known.over known.begun sees)
     (λ s k sees'. refl)
 
-one_fault : (course : Result Stage DeckFault) (other : Result Known DeckFault) →
-    Agree Sees course other → fault_in other ≡ fault_in course
+one_fault : (pass : Result Stage DeckFault) (other : Result Known DeckFault) →
+    Agree Sees pass other → fault_in other ≡ fault_in pass
 one_fault (Ok stage) (Ok known) agree = refl
 one_fault (Err fault) (Err other) agree = ap Some (sym agree)
 one_fault (Ok stage) (Err other) agree = absurd agree
 one_fault (Err fault) (Ok known) agree = absurd agree
 
--- the fault of a deck is the objection at which a reader's course stops
-pub fault_of_course : (deck : List ℕ) → fault_of deck ≡ fault_in (course_of deck)
-fault_of_course deck =
-    one_fault (course_of deck) (told.after_pieces nothing_known (pieces_of_cards (cards_of deck)))
+-- the fault of a deck is the objection at which a reader's pass stops
+pub fault_of_pass : (deck : List ℕ) → fault_of deck ≡ fault_in (pass_of deck)
+fault_of_pass deck =
+    one_fault (pass_of deck) (told.after_pieces nothing_known (pieces_of_cards (cards_of deck)))
     (cards_agree (cards_of deck) first_stage nothing_known (refl, refl))

@@ -14,7 +14,7 @@ pub mod Takings
 pub mod Following
 pub mod Beginnings
 pub mod Settling
-pub mod Courses
+pub mod Passes
 pub mod Offsets
 pub mod Spans
 pub mod Examples

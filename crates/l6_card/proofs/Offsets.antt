@@ -9,7 +9,7 @@ use Rattle.l6_word.specs.Lines.{lines_of, without_return}
 use Rattle.l6_group.specs.Character.{is_blank, is_letter, is_letter_or_digit}
 use Rattle.l6_card.specs.Numerals.{card_width}
 use Rattle.l6_card.specs.Items.{Item, group, word, unclosed, unopened, after_opening, after_blank, after_letter, items_of}
-use Rattle.l6_card.specs.Card.{Body, Card, skipped, plain, labelled, continued, unknown, columns_of, run_of, behind_run, card_of, cards_from, cards_of}
+use Rattle.l6_card.specs.Card.{Body, Card, skipped, plain, labelled, continued, unknown, columns_of, run_of, following_run, card_of, cards_from, cards_of}
 use Rattle.l6_card.specs.Spans.{group_span, bytes_at}
 use Rattle.l6_card.specs.Laws.{is_inner}
 
@@ -18,28 +18,28 @@ pub record HasBytes (deck : List ℕ) (offset : ℕ) (bytes : List ℕ) : Type 0
   pub others : List ℕ
   pub same : drop offset deck ≡ bytes ++ others
 
--- behind its first bytes the deck has the others
-pub behind_bytes : (deck : List ℕ) (offset : ℕ) (bytes others : List ℕ) →
+-- after its first bytes the deck has the others
+pub following_bytes : (deck : List ℕ) (offset : ℕ) (bytes others : List ℕ) →
     drop offset deck ≡ bytes ++ others → drop (offset + length bytes) deck ≡ others
-behind_bytes deck offset bytes others same =
+following_bytes deck offset bytes others same =
     sym (drop-drop (length bytes) offset deck)
     ∙ ap (drop (length bytes)) same
     ∙ drop_at bytes others (length bytes) refl
 
--- the first of some bytes, and the others behind them
-pub first_bytes : (deck : List ℕ) (offset : ℕ) (front behind : List ℕ) →
-    HasBytes deck offset (front ++ behind) → HasBytes deck offset front
-first_bytes deck offset front behind has = record {
-  others = behind ++ has.others;
-  same = has.same ∙ append_assoc front behind has.others;
+-- the first of some bytes, and the others after them
+pub first_bytes : (deck : List ℕ) (offset : ℕ) (front following : List ℕ) →
+    HasBytes deck offset (front ++ following) → HasBytes deck offset front
+first_bytes deck offset front following has = record {
+  others = following ++ has.others;
+  same = has.same ∙ append_assoc front following has.others;
 }
 
-pub last_bytes : (deck : List ℕ) (offset : ℕ) (front behind : List ℕ) →
-    HasBytes deck offset (front ++ behind) → HasBytes deck (offset + length front) behind
-last_bytes deck offset front behind has = record {
+pub last_bytes : (deck : List ℕ) (offset : ℕ) (front following : List ℕ) →
+    HasBytes deck offset (front ++ following) → HasBytes deck (offset + length front) following
+last_bytes deck offset front following has = record {
   others = has.others;
-  same = behind_bytes deck offset front (behind ++ has.others)
-      (has.same ∙ append_assoc front behind has.others);
+  same = following_bytes deck offset front (following ++ has.others)
+      (has.same ∙ append_assoc front following has.others);
 }
 
 -- one byte in front of some
@@ -49,7 +49,7 @@ pub more_bytes : (deck : List ℕ) (offset first : ℕ) (rest bytes : List ℕ) 
 more_bytes deck offset first rest bytes text has = record {
   others = has.others;
   same = text
-      ∙ ap (λ r. first ∷ r) (sym (behind_bytes deck offset (first ∷ []) rest text) ∙ has.same);
+      ∙ ap (λ r. first ∷ r) (sym (following_bytes deck offset (first ∷ []) rest text) ∙ has.same);
 }
 
 -- where a text begins that has a byte, it ends at the end of the deck
@@ -57,7 +57,7 @@ pub text_ends : (deck : List ℕ) (offset first : ℕ) (rest : List ℕ) →
     drop offset deck ≡ first ∷ rest → offset + length rest + 1 ≡ length deck
 text_ends deck offset first rest text = omega (arith, length-drop offset deck, ap length text)
 
--- lines stand in a deck from this offset on, with a line feed or the end behind each
+-- lines are in a deck from this offset on, with a line feed or the end after each
 abbrev pub LinesStand : List ℕ → ℕ → List (List ℕ) → Type 0
 LinesStand deck offset [] = Unit {0}
 LinesStand deck offset (line ∷ lines) =
@@ -68,40 +68,40 @@ LinesStand deck offset (line ∷ lines) =
 lines_onto : (deck : List ℕ) (offset first : ℕ) (rest : List ℕ) (lines : List (List ℕ)) →
     drop offset deck ≡ first ∷ rest → LinesStand deck (offset + 1) lines →
     LinesStand deck offset (onto_first first lines)
-lines_onto deck offset first rest [] text stand = (
+lines_onto deck offset first rest [] text are_prefix = (
   record { others = rest; same = text },
   omega (arith, text_ends deck offset first rest text),
   tt,
 )
-lines_onto deck offset first rest (line ∷ lines) text stand =
+lines_onto deck offset first rest (line ∷ lines) text are_prefix =
     let same : offset + 1 + length line + 1 ≡ offset + length (first ∷ line) + 1 = omega arith in (
-      more_bytes deck offset first rest line text stand.0,
-      omega (arith, stand.1),
-      subst (λ (o : ℕ). LinesStand deck o lines) same stand.2,
+      more_bytes deck offset first rest line text are_prefix.0,
+      omega (arith, are_prefix.1),
+      subst (λ (o : ℕ). LinesStand deck o lines) same are_prefix.2,
     )
 
 lines_first : (deck : List ℕ) (offset first : ℕ) (rest : List ℕ) (feeds : Bool)
     (lines : List (List ℕ)) →
     drop offset deck ≡ first ∷ rest → LinesStand deck (offset + 1) lines →
     LinesStand deck offset (cond feeds ([] ∷ lines) (onto_first first lines))
-lines_first deck offset first rest true lines text stand =
+lines_first deck offset first rest true lines text are_prefix =
     let same : offset + 1 ≡ offset + length {A = ℕ} [] + 1 = omega arith in (
       record { others = first ∷ rest; same = text },
       omega (arith, text_ends deck offset first rest text),
-      subst (λ (o : ℕ). LinesStand deck o lines) same stand,
+      subst (λ (o : ℕ). LinesStand deck o lines) same are_prefix,
     )
-lines_first deck offset first rest false lines text stand =
-    lines_onto deck offset first rest lines text stand
+lines_first deck offset first rest false lines text are_prefix =
+    lines_onto deck offset first rest lines text are_prefix
 
--- the lines of a text stand where the text does
+-- the lines of a text are where the text does
 pub lines_stand : (text deck : List ℕ) (offset : ℕ) → drop offset deck ≡ text →
     LinesStand deck offset (lines_of text)
 lines_stand [] deck offset text = tt
 lines_stand (first ∷ rest) deck offset text =
     lines_first deck offset first rest (eqb first (byte "\n")) (lines_of rest) text
-    (lines_stand rest deck (offset + 1) (behind_bytes deck offset (first ∷ []) rest text))
+    (lines_stand rest deck (offset + 1) (following_bytes deck offset (first ∷ []) rest text))
 
--- a body stands at its offset, which is this one or a later one
+-- a body is at its offset, which is this one or a later one
 pub record BodyStands (deck : List ℕ) (from : ℕ) (body : Body) : Type 0 where
   pub after : from ≤ body.offset
   pub bytes : HasBytes deck body.offset body.columns
@@ -110,19 +110,19 @@ pub record BodyStands (deck : List ℕ) (from : ℕ) (body : Body) : Type 0 wher
 abbrev pub end_of : Body → ℕ
 end_of body = body.offset + length body.columns
 
--- the bodies of cards stand in the deck, the first at this offset or later, and each other one
+-- the bodies of cards are in the deck, the first at this offset or later, and each other one
 -- where
 -- the one before ends or later
-abbrev pub CardsStand : List ℕ → ℕ → List Card → Type 0
-CardsStand deck from [] = from ≤ length deck
-CardsStand deck from (skipped ∷ cards) = CardsStand deck from cards
-CardsStand deck from (plain body ∷ cards) =
-    BodyStands deck from body × CardsStand deck (end_of body) cards
-CardsStand deck from (labelled columns body ∷ cards) =
-    BodyStands deck from body × CardsStand deck (end_of body) cards
-CardsStand deck from (continued body ∷ cards) =
-    BodyStands deck from body × CardsStand deck (end_of body) cards
-CardsStand deck from (unknown number ∷ cards) = CardsStand deck from cards
+abbrev pub CardsArePrefixes : List ℕ → ℕ → List Card → Type 0
+CardsArePrefixes deck from [] = from ≤ length deck
+CardsArePrefixes deck from (skipped ∷ cards) = CardsArePrefixes deck from cards
+CardsArePrefixes deck from (plain body ∷ cards) =
+    BodyStands deck from body × CardsArePrefixes deck (end_of body) cards
+CardsArePrefixes deck from (labelled columns body ∷ cards) =
+    BodyStands deck from body × CardsArePrefixes deck (end_of body) cards
+CardsArePrefixes deck from (continued body ∷ cards) =
+    BodyStands deck from body × CardsArePrefixes deck (end_of body) cards
+CardsArePrefixes deck from (unknown number ∷ cards) = CardsArePrefixes deck from cards
 
 -- what holds of each card that tests may lead to
 by_kind : (P : Card → Type 0) (one two three four : Bool) (a b c d e : Card) →
@@ -133,45 +133,45 @@ by_kind P false false true four a b c d e pa pb pc pd pe = pc
 by_kind P false false false true a b c d e pa pb pc pd pe = pd
 by_kind P false false false false a b c d e pa pb pc pd pe = pe
 
-run_cond : (is_one : Bool) (column : ℕ) (columns run behind : List ℕ) → columns ≡ run ++ behind →
+run_cond : (is_one : Bool) (column : ℕ) (columns run following : List ℕ) → columns ≡ run ++ following →
     column ∷ columns
-    ≡ cond is_one (column ∷ run) [] ++ cond is_one behind (column ∷ columns)
-run_cond true column columns run behind parts = ap (λ c. column ∷ c) parts
-run_cond false column columns run behind parts = refl
+    ≡ cond is_one (column ∷ run) [] ++ cond is_one following (column ∷ columns)
+run_cond true column columns run following parts = ap (λ c. column ∷ c) parts
+run_cond false column columns run following parts = refl
 
 -- the run that columns begin with, and what follows it
-run_parts : (columns : List ℕ) → columns ≡ run_of columns ++ behind_run columns
+run_parts : (columns : List ℕ) → columns ≡ run_of columns ++ following_run columns
 run_parts [] = refl
 run_parts (column ∷ columns) =
-    run_cond (is_letter_or_digit column) column columns (run_of columns) (behind_run columns)
+    run_cond (is_letter_or_digit column) column columns (run_of columns) (following_run columns)
     (run_parts columns)
 
--- a card stands where its columns do, if the cards behind it do
+-- a card is where its columns do, if the cards after it do
 card_stands : (deck : List ℕ) (from number offset : ℕ) (columns : List ℕ) (cards : List Card) →
     from ≤ offset → HasBytes deck offset columns →
-    ((later : ℕ) → later ≤ offset + length columns → CardsStand deck later cards) →
-    CardsStand deck from (card_of number offset columns ∷ cards)
-card_stands deck from number offset [] cards after has stand = stand from (omega arith)
-card_stands deck from number offset (mark ∷ columns) cards after has stand =
+    ((later : ℕ) → later ≤ offset + length columns → CardsArePrefixes deck later cards) →
+    CardsArePrefixes deck from (card_of number offset columns ∷ cards)
+card_stands deck from number offset [] cards after has are_prefix = are_prefix from (omega arith)
+card_stands deck from number offset (mark ∷ columns) cards after has are_prefix =
     let run = run_of (mark ∷ columns) in
-    let behind = behind_run (mark ∷ columns) in
-    let parts : mark ∷ columns ≡ run ++ behind = run_parts (mark ∷ columns) in
+    let following = following_run (mark ∷ columns) in
+    let parts : mark ∷ columns ≡ run ++ following = run_parts (mark ∷ columns) in
     let body : Body = record { card = number; offset = offset + 1; columns = columns } in
     let other : Body =
-    record { card = number; offset = offset + length run; columns = behind } in
-    let none = stand from (omega arith) in
-    let inside : BodyStands deck from body × CardsStand deck (end_of body) cards = (
+    record { card = number; offset = offset + length run; columns = following } in
+    let none = are_prefix from (omega arith) in
+    let inside : BodyStands deck from body × CardsArePrefixes deck (end_of body) cards = (
       record { after = omega arith; bytes = last_bytes deck offset (mark ∷ []) columns has },
-      stand (end_of body) (omega arith),
+      are_prefix (end_of body) (omega arith),
     ) in
-    let split : HasBytes deck offset (run ++ behind) =
+    let split : HasBytes deck offset (run ++ following) =
     subst (λ (c : List ℕ). HasBytes deck offset c) parts has in
-    let count = ap length parts ∙ length-append run behind in
-    let rest : BodyStands deck from other × CardsStand deck (end_of other) cards = (
-      record { after = omega arith; bytes = last_bytes deck offset run behind split },
-      stand (end_of other) (omega (arith, count)),
+    let count = ap length parts ∙ length-append run following in
+    let rest : BodyStands deck from other × CardsArePrefixes deck (end_of other) cards = (
+      record { after = omega arith; bytes = last_bytes deck offset run following split },
+      are_prefix (end_of other) (omega (arith, count)),
     ) in
-    by_kind (λ card. CardsStand deck from (card ∷ cards))
+    by_kind (λ card. CardsArePrefixes deck from (card ∷ cards))
     (eqb mark (byte "*") || list_all is_blank (mark ∷ columns)) (is_blank mark)
     (eqb mark (byte "+")) (is_letter mark)
     skipped (plain body) (continued body) (labelled run other) (unknown number)
@@ -201,24 +201,24 @@ begins_columns line =
           ∙ append_assoc (columns_of line) first.others shorter.others;
     }
 
--- cards stand where their lines do
+-- cards are where their lines do
 pub cards_stand : (lines : List (List ℕ)) (deck : List ℕ) (from number offset : ℕ) →
     from ≤ offset → from ≤ length deck → LinesStand deck offset lines →
-    CardsStand deck from (cards_from number offset lines)
-cards_stand [] deck from number offset after within stand = within
-cards_stand (line ∷ lines) deck from number offset after within stand =
+    CardsArePrefixes deck from (cards_from number offset lines)
+cards_stand [] deck from number offset after within are_prefix = within
+cards_stand (line ∷ lines) deck from number offset after within are_prefix =
     let columns = begins_columns line in
     let count = ap length columns.whole ∙ length-append (columns_of line) columns.others in
     let has : HasBytes deck offset (columns_of line ++ columns.others) =
-    subst (λ (l : List ℕ). HasBytes deck offset l) columns.whole stand.0 in
+    subst (λ (l : List ℕ). HasBytes deck offset l) columns.whole are_prefix.0 in
     card_stands deck from number offset (columns_of line)
     (cards_from (number + 1) (offset + length line + 1) lines) after
     (first_bytes deck offset (columns_of line) columns.others has)
     (λ later soon. cards_stand lines deck later (number + 1) (offset + length line + 1)
-    (omega (arith, count)) (omega (arith, count, stand.1)) stand.2)
+    (omega (arith, count)) (omega (arith, count, are_prefix.1)) are_prefix.2)
 
--- the deck's cards stand in it
-pub deck_stands : (deck : List ℕ) → CardsStand deck 0 (cards_of deck)
+-- the deck's cards are in it
+pub deck_stands : (deck : List ℕ) → CardsArePrefixes deck 0 (cards_of deck)
 deck_stands deck =
     cards_stand (lines_of deck) deck 0 1 0 (omega arith) (omega arith)
     (lines_stand deck deck 0 refl)
@@ -228,59 +228,64 @@ pub record GroupStands (deck : List ℕ) (offset : ℕ) (columns : List ℕ) : T
   pub inner : list_all is_inner columns ≡ true
   pub bytes : bytes_at deck (group_span offset columns) ≡ byte "(" ∷ columns ++ byte ")" ∷ []
 
--- the groups among items stand in the deck, the first at the first of these offsets or later, each
+-- the groups among items are in the deck, the first at the first of these offsets or later, each
 -- other one where the one before ends or later, and the last ends at the second offset or before
-abbrev pub ItemsStand : List ℕ → ℕ → List Item → ℕ → Type 0
-ItemsStand deck from [] end = from ≤ end
-ItemsStand deck from (group offset columns ∷ items) end =
+abbrev pub ItemsArePrefix : List ℕ → ℕ → List Item → ℕ → Type 0
+ItemsArePrefix deck from [] end = from ≤ end
+ItemsArePrefix deck from (group offset columns ∷ items) end =
     (from ≤ offset) × GroupStands deck offset columns
-    × ItemsStand deck (offset + length columns + 2) items end
-ItemsStand deck from (word columns ∷ items) end = ItemsStand deck from items end
-ItemsStand deck from (unclosed ∷ items) end = ItemsStand deck from items end
-ItemsStand deck from (unopened columns ∷ items) end = ItemsStand deck from items end
+    × ItemsArePrefix deck (offset + length columns + 2) items end
+ItemsArePrefix deck from (word columns ∷ items) end = ItemsArePrefix deck from items end
+ItemsArePrefix deck from (unclosed ∷ items) end = ItemsArePrefix deck from items end
+ItemsArePrefix deck from (unopened columns ∷ items) end = ItemsArePrefix deck from items end
 
 -- they stand from any sooner offset on
 pub sooner : (deck : List ℕ) (from later : ℕ) (items : List Item) (end : ℕ) →
-    from ≤ later → ItemsStand deck later items end → ItemsStand deck from items end
-sooner deck from later [] end soon stand = omega (arith, stand)
-sooner deck from later (group offset columns ∷ items) end soon stand =
-    (omega (arith, stand.0), stand.1, stand.2)
-sooner deck from later (word columns ∷ items) end soon stand =
-    sooner deck from later items end soon stand
-sooner deck from later (unclosed ∷ items) end soon stand =
-    sooner deck from later items end soon stand
-sooner deck from later (unopened columns ∷ items) end soon stand =
-    sooner deck from later items end soon stand
+    from ≤ later → ItemsArePrefix deck later items end → ItemsArePrefix deck from items end
+sooner deck from later [] end soon are_prefix = omega (arith, are_prefix)
+sooner deck from later (group offset columns ∷ items) end soon are_prefix =
+    (omega (arith, are_prefix.0), are_prefix.1, are_prefix.2)
+sooner deck from later (word columns ∷ items) end soon are_prefix =
+    sooner deck from later items end soon are_prefix
+sooner deck from later (unclosed ∷ items) end soon are_prefix =
+    sooner deck from later items end soon are_prefix
+sooner deck from later (unopened columns ∷ items) end soon are_prefix =
+    sooner deck from later items end soon are_prefix
 
 -- items in a row
-pub items_stand-append : (deck : List ℕ) (from middle end : ℕ) (front behind : List Item) →
-    ItemsStand deck from front middle → ItemsStand deck middle behind end →
-    ItemsStand deck from (front ++ behind) end
-items_stand-append deck from middle end [] behind stand stand' =
-    sooner deck from middle behind end stand stand'
-items_stand-append deck from middle end (group offset columns ∷ front) behind stand stand' =
-    let next = offset + length columns + 2 in
-    (stand.0, stand.1, items_stand-append deck next middle end front behind stand.2 stand')
-items_stand-append deck from middle end (word columns ∷ front) behind stand stand' =
-    items_stand-append deck from middle end front behind stand stand'
-items_stand-append deck from middle end (unclosed ∷ front) behind stand stand' =
-    items_stand-append deck from middle end front behind stand stand'
-items_stand-append deck from middle end (unopened columns ∷ front) behind stand stand' =
-    items_stand-append deck from middle end front behind stand stand'
+pub items_stand-append : (deck : List ℕ) (from middle end : ℕ) (front following : List Item) →
+    ItemsArePrefix deck from front middle → ItemsArePrefix deck middle following end →
+    ItemsArePrefix deck from (front ++ following) end
+items_stand-append deck from middle end [] following are_prefix are_prefix' =
+    sooner deck from middle following end are_prefix are_prefix'
+items_stand-append deck from middle end
+    (group offset columns ∷ front) following are_prefix are_prefix' =
+    let next = offset + length columns + 2 in (
+      are_prefix.0,
+      are_prefix.1,
+      items_stand-append deck next middle end front following
+          are_prefix.2 are_prefix',
+    )
+items_stand-append deck from middle end (word columns ∷ front) following are_prefix are_prefix' =
+    items_stand-append deck from middle end front following are_prefix are_prefix'
+items_stand-append deck from middle end (unclosed ∷ front) following are_prefix are_prefix' =
+    items_stand-append deck from middle end front following are_prefix are_prefix'
+items_stand-append deck from middle end (unopened columns ∷ front) following are_prefix are_prefix' =
+    items_stand-append deck from middle end front following are_prefix are_prefix'
 
--- so do items whose first may be a `)` with what stands before it, right at this offset
+-- so do items whose first may be a `)` with what is before it, right at this offset
 abbrev pub ItemsBegin : List ℕ → ℕ → List Item → ℕ → Type 0
 ItemsBegin deck from (unopened columns ∷ items) end =
     (list_all is_inner columns ≡ true) × HasBytes deck from (columns ++ byte ")" ∷ [])
-    × ItemsStand deck (from + length columns + 1) items end
-ItemsBegin deck from [] end = ItemsStand deck from [] end
+    × ItemsArePrefix deck (from + length columns + 1) items end
+ItemsBegin deck from [] end = ItemsArePrefix deck from [] end
 ItemsBegin deck from (group offset columns ∷ items) end =
-    ItemsStand deck from (group offset columns ∷ items) end
-ItemsBegin deck from (word columns ∷ items) end = ItemsStand deck from (word columns ∷ items) end
-ItemsBegin deck from (unclosed ∷ items) end = ItemsStand deck from (unclosed ∷ items) end
+    ItemsArePrefix deck from (group offset columns ∷ items) end
+ItemsBegin deck from (word columns ∷ items) end = ItemsArePrefix deck from (word columns ∷ items) end
+ItemsBegin deck from (unclosed ∷ items) end = ItemsArePrefix deck from (unclosed ∷ items) end
 
 begun_stand : (deck : List ℕ) (from : ℕ) (items : List Item) (end : ℕ) →
-    ItemsBegin deck from items end → ItemsStand deck from items end
+    ItemsBegin deck from items end → ItemsArePrefix deck from items end
 begun_stand deck from [] end begin = begin
 begun_stand deck from (group offset columns ∷ items) end begin = begin
 begun_stand deck from (word columns ∷ items) end begin = begin
@@ -299,7 +304,7 @@ group_stands deck offset columns inner has = record {
       (omega (arith, length-append columns (byte ")" ∷ [])));
 }
 
--- what stands behind a column, as far as it is known
+-- what follows a column, as far as it is known
 opening_begins : (deck : List ℕ) (offset : ℕ) (rest : List ℕ) (items : List Item) (end : ℕ) →
     drop offset deck ≡ byte "(" ∷ rest → ItemsBegin deck (offset + 1) items end →
     ItemsBegin deck offset (after_opening offset items) end
@@ -314,7 +319,7 @@ opening_begins deck offset rest (unopened columns ∷ items) end text begin = (
   omega arith,
   group_stands deck offset columns begin.0
       (more_bytes deck offset (byte "(") rest (columns ++ byte ")" ∷ []) text begin.1),
-  subst (λ (o : ℕ). ItemsStand deck o items end) (omega arith) begin.2,
+  subst (λ (o : ℕ). ItemsArePrefix deck o items end) (omega arith) begin.2,
 )
 
 joined_begins : (deck : List ℕ) (offset column : ℕ) (rest columns : List ℕ) (items : List Item)
@@ -325,7 +330,7 @@ joined_begins : (deck : List ℕ) (offset column : ℕ) (rest columns : List ℕ
 joined_begins deck offset column rest columns items end text inner begin = (
   and_from (is_inner column) (list_all is_inner columns) inner begin.0,
   more_bytes deck offset column rest (columns ++ byte ")" ∷ []) text begin.1,
-  subst (λ (o : ℕ). ItemsStand deck o items end) (omega arith) begin.2,
+  subst (λ (o : ℕ). ItemsArePrefix deck o items end) (omega arith) begin.2,
 )
 
 blank_begins : (deck : List ℕ) (offset column : ℕ) (rest : List ℕ) (items : List Item) (end : ℕ) →
@@ -371,7 +376,7 @@ column_begins deck offset column rest items end true opens blank text begin clos
     others = rest;
     same = text ∙ ap (λ c. c ∷ rest) (eqb-true column (byte ")") closes);
   },
-  subst (λ (o : ℕ). ItemsStand deck o items end) (omega arith)
+  subst (λ (o : ℕ). ItemsArePrefix deck o items end) (omega arith)
       (begun_stand deck (offset + 1) items end begin),
 )
 column_begins deck offset column rest items end false true blank text begin closes opens =
@@ -392,10 +397,10 @@ items_begin (column ∷ columns) deck offset end has within =
     (omega (arith, within)))
     refl refl
 
--- the items of a body stand in it
+-- the items of a body are in it
 pub body_items : (deck : List ℕ) (from : ℕ) (body : Body) → BodyStands deck from body →
-    ItemsStand deck from (items_of body.offset body.columns) (end_of body)
-body_items deck from body stands =
-    sooner deck from body.offset (items_of body.offset body.columns) (end_of body) stands.after
+    ItemsArePrefix deck from (items_of body.offset body.columns) (end_of body)
+body_items deck from body is_prefix =
+    sooner deck from body.offset (items_of body.offset body.columns) (end_of body) is_prefix.after
     (begun_stand deck body.offset (items_of body.offset body.columns) (end_of body)
-    (items_begin body.columns deck body.offset (end_of body) stands.bytes (omega arith)))
+    (items_begin body.columns deck body.offset (end_of body) is_prefix.bytes (omega arith)))

@@ -42,33 +42,33 @@ spelled_again (given ∷ columns) =
     spelled_step given columns (is_blank given) refl (spelled_again columns)
 
 -- a word that begins with THEN
-record Chosen (begins : Bool) (rest behind : List ℕ) : Type 0 where
+record Chosen (begins : Bool) (rest following : List ℕ) : Type 0 where
   is_then : begins ≡ true
-  same : rest ≡ behind
+  same : rest ≡ following
 
-then_chosen : (is_then : Bool) (rest behind : List ℕ) →
-    ◌≡◌ {A = Option (List ℕ)} (cond is_then (Some rest) None) (Some behind) →
-    Chosen is_then rest behind
-then_chosen true rest behind found = record { is_then = refl; same = cc }
-then_chosen false rest behind found = absurd (cc)
+then_chosen : (is_then : Bool) (rest following : List ℕ) →
+    ◌≡◌ {A = Option (List ℕ)} (cond is_then (Some rest) None) (Some following) →
+    Chosen is_then rest following
+then_chosen true rest following found = record { is_then = refl; same = cc }
+then_chosen false rest following found = absurd (cc)
 
--- what stands behind THEN in something spelled is spelled so again
-behind_then_in : (characters : List ℕ) (behind : List ℕ) → spelled characters ≡ characters →
-    after_then characters ≡ Some behind → spelled behind ≡ behind
-behind_then_in [] behind same found = absurd (cc)
-behind_then_in (t ∷ []) behind same found = absurd (cc)
-behind_then_in (t ∷ h ∷ []) behind same found = absurd (cc)
-behind_then_in (t ∷ h ∷ e ∷ []) behind same found = absurd (cc)
-behind_then_in (t ∷ h ∷ e ∷ n ∷ rest) behind same found =
+-- what follows THEN in something spelled is spelled so again
+following_then_in : (characters : List ℕ) (following : List ℕ) → spelled characters ≡ characters →
+    after_then characters ≡ Some following → spelled following ≡ following
+following_then_in [] following same found = absurd (cc)
+following_then_in (t ∷ []) following same found = absurd (cc)
+following_then_in (t ∷ h ∷ []) following same found = absurd (cc)
+following_then_in (t ∷ h ∷ e ∷ []) following same found = absurd (cc)
+following_then_in (t ∷ h ∷ e ∷ n ∷ rest) following same found =
     let first = eqb t (byte "T") in
     let second = eqb h (byte "H") in
     let third = eqb e (byte "E") in
     let fourth = eqb n (byte "N") in
-    let chosen = then_chosen (((first && second) && third) && fourth) rest behind found in
+    let chosen = then_chosen (((first && second) && third) && fourth) rest following found in
     let three = and_parts ((first && second) && third) fourth chosen.is_then in
     let two = and_parts (first && second) third three.0 in
     let one = and_parts first second two.0 in
-    let front : t ∷ h ∷ e ∷ n ∷ rest ≡ byte "T" ∷ byte "H" ∷ byte "E" ∷ byte "N" ∷ behind =
+    let front : t ∷ h ∷ e ∷ n ∷ rest ≡ byte "T" ∷ byte "H" ∷ byte "E" ∷ byte "N" ∷ following =
     cc (
       eqb-true t (byte "T") one.0,
       eqb-true h (byte "H") one.1,
@@ -76,15 +76,16 @@ behind_then_in (t ∷ h ∷ e ∷ n ∷ rest) behind same found =
       eqb-true n (byte "N") three.1,
       chosen.same,
     ) in
-    let whole : byte "T" ∷ byte "H" ∷ byte "E" ∷ byte "N" ∷ spelled behind
-    ≡ byte "T" ∷ byte "H" ∷ byte "E" ∷ byte "N" ∷ behind =
+    let whole : byte "T" ∷ byte "H" ∷ byte "E" ∷ byte "N" ∷ spelled following
+    ≡ byte "T" ∷ byte "H" ∷ byte "E" ∷ byte "N" ∷ following =
     sym (ap spelled front) ∙ same ∙ front in
     cc (whole)
 
-pub behind_then_spelled : (columns behind : List ℕ) → after_then (spelled columns) ≡ Some behind →
-    spelled behind ≡ behind
-behind_then_spelled columns behind found =
-    behind_then_in (spelled columns) behind (spelled_again columns) found
+pub following_then_spelled : (columns following : List ℕ) →
+    after_then (spelled columns) ≡ Some following →
+    spelled following ≡ following
+following_then_spelled columns following found =
+    following_then_in (spelled columns) following (spelled_again columns) found
 
 -- what a table has a line for passes a test that each of its lines passes
 found_line : (passes : List ℕ → Bool) (line : Line Cond) (others : Option Cond)

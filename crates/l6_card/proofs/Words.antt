@@ -1,4 +1,4 @@
--- The laws of items: groups stand in parentheses, words are of letters, and blanks vanish.
+-- The laws of items: groups are in parentheses, words are of letters, and blanks vanish.
 use Rattle.std.proofs.Common.{◌≡◌, ℕ, ◌+◌, List, [], ◌∷◌, ◌++◌, true, false, eqb, refl, ap, ◌∙◌, arith}
 use Rattle.std.specs.Prelude.{not}
 use Rattle.std.specs.List.{list_all}
@@ -7,7 +7,7 @@ use Rattle.std.proofs.lemmas.Bool.{and_parts, and_from, not-true}
 use Rattle.l6_word.specs.Split.{lacks}
 use Rattle.l6_group.specs.Character.{is_blank}
 use Rattle.l6_card.specs.Items.{Item, group, word, unclosed, unopened, after_column, after_letter, after_opening, items_of}
-use Rattle.l6_card.specs.Laws.{is_inner, closes_first, end_a_word, GroupsAreInParentheses, BlanksVanish, LettersMakeWords, LettersBeginWords, OpeningsWantClosings, OpeningsDoNotNest}
+use Rattle.l6_card.specs.Laws.{is_inner, closes_first, end_a_word, GroupsAreInParentheses, BlanksVanish, LettersMakeWords, LettersBeginWords, OpeningsNeedClosings, OpeningsDoNotNest}
 use Rattle.l6_card.proofs.Bodies.{closed-front, closes_first-lacks, closes_first-open, blank_column, nothing_blank}
 
 -- columns without a parenthesis lack both
@@ -23,10 +23,10 @@ lacks-inner (column ∷ columns) inner =
     )
 
 pub groups_in_parentheses : GroupsAreInParentheses
-groups_in_parentheses offset columns behind inner =
+groups_in_parentheses offset columns following inner =
     let lacking = lacks-inner columns inner in
-    ap (after_opening offset) (closed-front (offset + 1) columns behind lacking.0 lacking.1)
-    ∙ ap (λ o. group offset columns ∷ items_of o behind) (omega arith)
+    ap (after_opening offset) (closed-front (offset + 1) columns following lacking.0 lacking.1)
+    ∙ ap (λ o. group offset columns ∷ items_of o following) (omega arith)
 
 pub blanks_vanish : BlanksVanish
 blanks_vanish offset blank columns is_one open' =
@@ -41,15 +41,15 @@ opened_unclosed offset (word columns ∷ items) open' = refl
 opened_unclosed offset (unclosed ∷ items) open' = refl
 opened_unclosed offset (unopened columns ∷ items) open' = absurd (cc)
 
-pub openings_want_closings : OpeningsWantClosings
-openings_want_closings offset columns lacking =
+pub openings_need_closings : OpeningsNeedClosings
+openings_need_closings offset columns lacking =
     opened_unclosed offset (items_of (offset + 1) columns)
     (closes_first-lacks (offset + 1) columns lacking)
 
 pub openings_do_not_nest : OpeningsDoNotNest
-openings_do_not_nest offset columns behind inner =
-    opened_unclosed offset (items_of (offset + 1) (columns ++ byte "(" ∷ behind))
-    (closes_first-open (offset + 1) columns behind (lacks-inner columns inner).0)
+openings_do_not_nest offset columns following inner =
+    opened_unclosed offset (items_of (offset + 1) (columns ++ byte "(" ∷ following))
+    (closes_first-open (offset + 1) columns following (lacks-inner columns inner).0)
 
 -- what is no parenthesis and no blank is a letter or the like
 letter_column : (offset letter : ℕ) (items : List Item) → is_blank letter ≡ false →

@@ -16,12 +16,12 @@ run_of [] = []
 run_of (column ∷ columns) = if is_letter_or_digit column then column ∷ run_of columns else []
 
 -- what follows that run
-abbrev pub behind_run : List ℕ → List ℕ
-behind_run [] = []
-behind_run (column ∷ columns) =
-    if is_letter_or_digit column then behind_run columns else column ∷ columns
+abbrev pub following_run : List ℕ → List ℕ
+following_run [] = []
+following_run (column ∷ columns) =
+    if is_letter_or_digit column then following_run columns else column ∷ columns
 
--- the columns of a card behind its column 1 or its label; with the card's number, and the offset of
+-- the columns of a card after its column 1 or its label; with the card's number, and the offset of
 -- the first of them in the deck
 pub record Body : Type 0 where
   pub card : ℕ
@@ -53,7 +53,7 @@ card_of number offset (mark ∷ columns) =
     labelled (run_of (mark ∷ columns)) (record {
       card = number;
       offset = offset + length (run_of (mark ∷ columns));
-      columns = behind_run (mark ∷ columns);
+      columns = following_run (mark ∷ columns);
     })
     else unknown number
 

@@ -9,7 +9,7 @@ pub data DeckFault : Type 0 where
   form : ℕ → DeckFault
   limit : ℕ → DeckFault
 
--- what a fault of the reader says of the deck: want of memory says nothing of it
+-- what a fault of the reader says of the deck: out of memory says nothing of it
 abbrev pub deck_fault : CardFault → Option DeckFault
 deck_fault (Form card) = Some (form card)
 deck_fault (Limit card) = Some (limit card)

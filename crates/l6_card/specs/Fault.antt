@@ -1,11 +1,11 @@
 -- The fault of a deck: the first objection among its pieces.
 use Rattle.std.specs.Prelude.{ℕ, ◌+◌, not, List, [], ◌∷◌, ◌++◌, nat_lt, Option, Some, None, Result, Ok, Err, if◌then◌else◌}
 use Rattle.std.specs.Option.{is_some}
-use Rattle.l6_card.specs.Numerals.{most_written, most_continuations}
+use Rattle.l6_card.specs.Numerals.{most_deck_statements, most_continuations}
 use Rattle.l6_card.specs.Items.{Item, PlacedItem, item_on}
 use Rattle.l6_card.specs.Statement.{label_on}
 use Rattle.l6_card.specs.DeckFault.{DeckFault, form, limit}
-use Rattle.l6_card.specs.Form.{are_whole, stand, are_within_limits}
+use Rattle.l6_card.specs.Form.{are_whole, are_prefix, are_within_limits}
 use Rattle.l6_card.specs.Pieces.{Piece, ends, begins, continues, unknown_card, label, item, pieces_of}
 
 -- what is known of a statement that has begun: its items so far, its last card, and how many cards
@@ -15,7 +15,8 @@ pub record Begun : Type 0 where
   pub card : ℕ
   pub continuations : ℕ
 
--- what the pieces so far come to: how many statements are over, and the one that has begun since
+-- what is known from the pieces so far: how many statements are complete, and the one that has
+-- begun since
 pub record Known : Type 0 where
   pub over : ℕ
   pub begun : Option Begun
@@ -24,7 +25,7 @@ pub record Known : Type 0 where
 abbrev pub nothing_known : Known
 nothing_known = record { over = 0; begun = None }
 
--- the statement that has begun is over: its items must be whole
+-- the statement that has begun is complete: its items must be whole
 abbrev pub when_over : ℕ → Option Begun → Result Known DeckFault
 when_over over None = Ok (record { over = over; begun = None })
 when_over over (Some statement) =
@@ -34,7 +35,7 @@ when_over over (Some statement) =
 -- a card begins a statement, where there is room for one
 abbrev pub when_begun : ℕ → ℕ → Result Known DeckFault
 when_begun card over =
-    if nat_lt over most_written then
+    if nat_lt over most_deck_statements then
     Ok (record {
       over = over;
       begun = Some (record { items = []; card = card; continuations = 0 });
@@ -60,10 +61,11 @@ abbrev pub when_labelled : ℕ → List ℕ → Known → Result Known DeckFault
 when_labelled card columns known =
     if is_some (label_on card columns) then Ok known else Err (form card)
 
--- the statement has these items now, the last on this card: they must stand, within the limits
+-- the statement has these items now, the last on this card: they must be a prefix of a statement,
+-- within the limits
 abbrev pub when_items : ℕ → ℕ → Begun → List PlacedItem → Result Known DeckFault
 when_items card over statement items =
-    if not (stand items) then Err (form card)
+    if not (are_prefix items) then Err (form card)
     else if not (are_within_limits items) then Err (limit card)
     else Ok (record { over = over; begun = Some (record statement { items = items }) })
 
@@ -82,7 +84,7 @@ after_piece known (unknown_card card) = Err (form card)
 after_piece known (label card columns) = when_labelled card columns known
 after_piece known (item card i) = when_item card i known.over known.begun
 
--- what one step makes of what another left, unless that met an objection
+-- a step after another one, unless that met an objection
 abbrev pub and_then : {A : Type 0} → Result A DeckFault → (A → Result A DeckFault) →
     Result A DeckFault
 and_then (Ok known) step = step known
@@ -94,11 +96,11 @@ after_pieces known [] = Ok known
 after_pieces known (piece ∷ pieces) =
     and_then (after_piece known piece) (λ next. after_pieces next pieces)
 
--- the objection at which a course stopped
+-- the objection at which a pass stopped
 abbrev pub fault_in : {A : Type 0} → Result A DeckFault → Option DeckFault
 fault_in (Ok known) = None
 fault_in (Err fault) = Some fault
 
--- the fault of a deck, if it has one: what its pieces come to
+-- the fault of a deck, if it has one: the first objection of its pieces
 abbrev pub fault_of : List ℕ → Option DeckFault
 fault_of deck = fault_in (after_pieces nothing_known (pieces_of deck))

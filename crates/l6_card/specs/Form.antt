@@ -1,5 +1,4 @@
--- The forms in which the items of a statement stand:
--- `[condition test.. THEN] operation.. [exit]`.
+-- The forms that the items of a statement have: `[condition test.. THEN] operation.. [exit]`.
 use Rattle.std.specs.Prelude.{ℕ, ◌+◌, Bool, true, false, ◌&&◌, ◌||◌, List, [], ◌∷◌, ◌++◌, nat_le, Option, Some, None, if◌then◌else◌}
 use Rattle.std.specs.List.{list_all}
 use Rattle.std.specs.Option.{is_some, option_map, unwrap_or}
@@ -33,7 +32,7 @@ abbrev pub condition_in : Item → Option Cond
 condition_in (word columns) = condition_from (spelled columns)
 condition_in _ = None
 
--- the characters behind the THEN that a word begins with
+-- the characters after the THEN that a word begins with
 abbrev pub then_in : Item → Option (List ℕ)
 then_in (word columns) = after_then (spelled columns)
 then_in _ = None
@@ -54,44 +53,44 @@ are_operations_and_exit [] = true
 are_operations_and_exit (i ∷ []) = is_operation i || is_exit i
 are_operations_and_exit (i ∷ items) = is_operation i && are_operations_and_exit items
 
--- the characters that stand behind THEN in the same word are a word of their own, if there are any
+-- the characters that follow THEN in the same word are a word of their own, if there are any
 abbrev pub word_on : ℕ → List ℕ → List PlacedItem
 word_on card [] = []
 word_on card characters = item_on card (word characters) ∷ []
 
--- what stands behind the THEN that items begin with; `THENL` is THEN and the word `L`
-abbrev pub behind_then : List PlacedItem → Option (List PlacedItem)
-behind_then [] = None
-behind_then (i ∷ items) =
+-- what follows the THEN that items begin with; `THENL` is THEN and the word `L`
+abbrev pub following_then : List PlacedItem → Option (List PlacedItem)
+following_then [] = None
+following_then (i ∷ items) =
     option_map (λ characters. word_on i.card characters ++ items) (then_in i.what)
 
--- how many tests items begin with, and what stands behind those
+-- how many tests items begin with, and what follows those
 abbrev pub count_tests : List PlacedItem → ℕ
 count_tests [] = 0
 count_tests (i ∷ items) = if is_test i then count_tests items + 1 else 0
 
-abbrev pub behind_tests : List PlacedItem → List PlacedItem
-behind_tests [] = []
-behind_tests (i ∷ items) = if is_test i then behind_tests items else i ∷ items
+abbrev pub following_tests : List PlacedItem → List PlacedItem
+following_tests [] = []
+following_tests (i ∷ items) = if is_test i then following_tests items else i ∷ items
 
 -- there is a condition, which may have so many tests
-abbrev pub wants : Option Cond → ℕ → Bool
-wants None tests = false
-wants (Some condition) tests = may_have condition tests
+abbrev pub needs : Option Cond → ℕ → Bool
+needs None tests = false
+needs (Some condition) tests = may_have condition tests
 
--- the item is a condition word, and it may have as many tests as stand behind it
+-- the item is a condition word, and it may have as many tests as follow it
 abbrev pub has_its_tests : PlacedItem → List PlacedItem → Bool
-has_its_tests i items = wants (condition_in i.what) (count_tests items)
+has_its_tests i items = needs (condition_in i.what) (count_tests items)
 
--- what stands behind the condition that items begin with: a condition word, its tests and THEN
-abbrev pub behind_condition : List PlacedItem → Option (List PlacedItem)
-behind_condition [] = None
-behind_condition (i ∷ items) =
-    if has_its_tests i items then behind_then (behind_tests items) else None
+-- what follows the condition that items begin with: a condition word, its tests and THEN
+abbrev pub following_condition : List PlacedItem → Option (List PlacedItem)
+following_condition [] = None
+following_condition (i ∷ items) =
+    if has_its_tests i items then following_then (following_tests items) else None
 
--- the body of the items: what stands behind their condition, and all where they have none
+-- the body of the items: what follows their condition, and all where they have none
 abbrev pub body_of : List PlacedItem → List PlacedItem
-body_of items = unwrap_or (behind_condition items) items
+body_of items = unwrap_or (following_condition items) items
 
 -- the items are a whole statement: their body is operations and an exit. A condition word alone is
 -- an exit, to the label of that name.
@@ -103,11 +102,11 @@ abbrev pub are_condition_and_tests : List PlacedItem → Bool
 are_condition_and_tests [] = false
 are_condition_and_tests (i ∷ items) = has_its_tests i items && list_all is_test items
 
--- the items stand: they are a whole statement, or want a THEN to become one
-abbrev pub stand : List PlacedItem → Bool
-stand items = are_whole items || are_condition_and_tests items
+-- the items are a prefix of a statement: they are a whole statement, or need a THEN to become one
+abbrev pub are_prefix : List PlacedItem → Bool
+are_prefix items = are_whole items || are_condition_and_tests items
 
--- how many tests stand among items: those behind a condition word
+-- how many tests are among items: those after a condition word
 abbrev pub tests_among : List PlacedItem → ℕ
 tests_among [] = 0
 tests_among (i ∷ items) = if is_some (condition_in i.what) then count_tests items else 0

@@ -4,7 +4,7 @@ use Rattle.std.specs.Str.{byte}
 use Rattle.l6_group.specs.Character.{is_blank}
 
 -- an item of a body: a group from `(` to `)`, with the offset of its `(` in the deck; a word; a `(`
--- that no `)` closes; a `)` that no `(` opens, with what stands before it
+-- that no `)` closes; a `)` that no `(` opens, with what is before it
 pub data Item : Type 0 where
   group : ℕ → List ℕ → Item
   word : List ℕ → Item
@@ -40,7 +40,7 @@ abbrev pub items_of : ℕ → List ℕ → List Item
 items_of offset [] = []
 items_of offset (column ∷ columns) = after_column offset column (items_of (offset + 1) columns)
 
--- an item, and the number of the card that it stands on
+-- an item, and the number of the card that it is on
 pub record PlacedItem : Type 0 where
   pub what : Item
   pub card : ℕ

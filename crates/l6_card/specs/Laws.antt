@@ -7,42 +7,43 @@ use Rattle.l6_group.specs.Character.{is_blank}
 use Rattle.l6_group.specs.Operation.{operation_of}
 use Rattle.l6_group.specs.Test.{test_of}
 use Rattle.l6_card.specs.declared.cards.Placed.{Placed}
-use Rattle.l6_card.specs.Numerals.{most_written}
+use Rattle.l6_card.specs.Numerals.{most_deck_statements}
 use Rattle.l6_card.specs.Items.{Item, group, word, unclosed, unopened, items_of, PlacedItem}
-use Rattle.l6_card.specs.Statement.{WrittenParts, is_fit}
+use Rattle.l6_card.specs.Statement.{DeckStatementParts, is_fit}
 use Rattle.l6_card.specs.Spans.{bytes_at, all_spans, Rise}
 use Rattle.l6_card.specs.DeckFault.{DeckFault}
 use Rattle.l6_card.specs.Fault.{fault_of}
-use Rattle.l6_card.specs.Form.{are_whole, stand, are_within_limits}
-use Rattle.l6_card.specs.Says.{ItemsSay}
-use Rattle.l6_card.specs.Reads.{Reads}
+use Rattle.l6_card.specs.Form.{are_whole, are_prefix, are_within_limits}
+use Rattle.l6_card.specs.Denotes.{ItemsDenote}
+use Rattle.l6_card.specs.ReadsAs.{ReadsAs}
 
 -- a deck that reads has no fault
 abbrev pub ReadsOnlyWithoutFault : Type 0
 ReadsOnlyWithoutFault =
-    (deck : List ℕ) (statements : List WrittenParts) → Reads deck statements → fault_of deck ≡ None
+    (deck : List ℕ) (statements : List DeckStatementParts) → ReadsAs deck statements →
+    fault_of deck ≡ None
 
 -- a deck without a fault reads
 abbrev pub ReadsWithoutFault : Type 0
 ReadsWithoutFault =
     (deck : List ℕ) → fault_of deck ≡ None →
-    (statements : List WrittenParts) × Reads deck statements
+    (statements : List DeckStatementParts) × ReadsAs deck statements
 
 -- a deck reads in one way
 abbrev pub ReadsInOneWay : Type 0
 ReadsInOneWay =
-    (deck : List ℕ) (one other : List WrittenParts) → Reads deck one → Reads deck other →
+    (deck : List ℕ) (one other : List DeckStatementParts) → ReadsAs deck one → ReadsAs deck other →
     one ≡ other
 
 -- whatever statements the deck says are these
-abbrev pub IsOnlyReading : List ℕ → List WrittenParts → Type 0
-IsOnlyReading deck statements = (others : List WrittenParts) → Reads deck others →
+abbrev pub IsOnlyReading : List ℕ → List DeckStatementParts → Type 0
+IsOnlyReading deck statements = (others : List DeckStatementParts) → ReadsAs deck others →
     others ≡ statements
 
 -- the fault is the first objection to the deck, which does not read
 pub record IsFirstFault (deck : List ℕ) (fault : DeckFault) : Type 0 where
   pub first : fault_of deck ≡ Some fault
-  pub unread : (statements : List WrittenParts) → Reads deck statements → ⊥
+  pub unread : (statements : List DeckStatementParts) → ReadsAs deck statements → ⊥
 
 -- the column is no parenthesis
 abbrev pub is_inner : ℕ → Bool
@@ -58,28 +59,28 @@ pub record IsSpelled {A : Type 0} (read : List ℕ → Option A) (deck : List �
   pub reads : read columns ≡ Some group.reading
 
 -- each test and each operation of a statement is spelled at its span
-pub record AreSpelled (deck : List ℕ) (statement : WrittenParts) : Type 0 where
+pub record AreSpelled (deck : List ℕ) (statement : DeckStatementParts) : Type 0 where
   pub tests : All (IsSpelled test_of deck) statement.tests
   pub operations : All (IsSpelled operation_of deck) statement.operations
 
 -- what a deck says is spelled at its spans
-abbrev pub GroupsStandAtSpans : Type 0
-GroupsStandAtSpans =
-    (deck : List ℕ) (statements : List WrittenParts) → Reads deck statements →
+abbrev pub GroupsAreAtSpans : Type 0
+GroupsAreAtSpans =
+    (deck : List ℕ) (statements : List DeckStatementParts) → ReadsAs deck statements →
     All (AreSpelled deck) statements
 
 -- the spans of what a deck says rise, within the deck
 abbrev pub SpansRise : Type 0
 SpansRise =
-    (deck : List ℕ) (statements : List WrittenParts) → Reads deck statements →
+    (deck : List ℕ) (statements : List DeckStatementParts) → ReadsAs deck statements →
     Rise 0 (all_spans statements) (length deck)
 
 -- a `(`, columns without parentheses and a `)` are a group, whatever follows
 abbrev pub GroupsAreInParentheses : Type 0
 GroupsAreInParentheses =
-    (offset : ℕ) (columns behind : List ℕ) → list_all is_inner columns ≡ true →
-    items_of offset (byte "(" ∷ columns ++ byte ")" ∷ behind)
-    ≡ group offset columns ∷ items_of (offset + length columns + 2) behind
+    (offset : ℕ) (columns following : List ℕ) → list_all is_inner columns ≡ true →
+    items_of offset (byte "(" ∷ columns ++ byte ")" ∷ following)
+    ≡ group offset columns ∷ items_of (offset + length columns + 2) following
 
 -- the first item is a `)` that no `(` opens
 abbrev pub closes_first : List Item → Bool
@@ -117,46 +118,46 @@ LettersBeginWords =
     ≡ word (letter ∷ []) ∷ items_of (offset + 1) columns
 
 -- a `(` is unclosed where no `)` follows, or another `(` comes before it
-abbrev pub OpeningsWantClosings : Type 0
-OpeningsWantClosings =
+abbrev pub OpeningsNeedClosings : Type 0
+OpeningsNeedClosings =
     (offset : ℕ) (columns : List ℕ) → lacks (byte ")") columns ≡ true →
     items_of offset (byte "(" ∷ columns) ≡ unclosed ∷ items_of (offset + 1) columns
 
 abbrev pub OpeningsDoNotNest : Type 0
 OpeningsDoNotNest =
-    (offset : ℕ) (columns behind : List ℕ) → list_all is_inner columns ≡ true →
-    items_of offset (byte "(" ∷ columns ++ byte "(" ∷ behind)
-    ≡ unclosed ∷ items_of (offset + 1) (columns ++ byte "(" ∷ behind)
+    (offset : ℕ) (columns following : List ℕ) → list_all is_inner columns ≡ true →
+    items_of offset (byte "(" ∷ columns ++ byte "(" ∷ following)
+    ≡ unclosed ∷ items_of (offset + 1) (columns ++ byte "(" ∷ following)
 
 -- the statements are no more than a deck may write, and each is fit for a program
-pub record AreWithinLimits (statements : List WrittenParts) : Type 0 where
-  pub count : length statements ≤ most_written
+pub record AreWithinLimits (statements : List DeckStatementParts) : Type 0 where
+  pub count : length statements ≤ most_deck_statements
   pub each : list_all is_fit statements ≡ true
 
--- items stand exactly if they are a whole statement, or the beginning of one
-abbrev pub StandingItemsBecomeWhole : Type 0
-StandingItemsBecomeWhole =
-    (items : List PlacedItem) → stand items ≡ true →
+-- items are a prefix exactly if they are a whole statement, or the beginning of one
+abbrev pub PrefixesBecomeWhole : Type 0
+PrefixesBecomeWhole =
+    (items : List PlacedItem) → are_prefix items ≡ true →
     (more : List PlacedItem) × (are_whole (items ++ more) ≡ true)
 
-abbrev pub BeginningsStand : Type 0
-BeginningsStand =
-    (items more : List PlacedItem) → are_whole (items ++ more) ≡ true → stand items ≡ true
+abbrev pub BeginningsArePrefixes : Type 0
+BeginningsArePrefixes =
+    (items more : List PlacedItem) → are_whole (items ++ more) ≡ true → are_prefix items ≡ true
 
 -- items are whole and within the limits exactly if they say a statement that is fit
-abbrev pub WholeItemsSay : Type 0
-WholeItemsSay =
+abbrev pub WholeItemsDenote : Type 0
+WholeItemsDenote =
     (items : List PlacedItem) → are_whole items ≡ true → are_within_limits items ≡ true →
-    (statement : WrittenParts) × ItemsSay items statement × (is_fit statement ≡ true)
+    (statement : DeckStatementParts) × ItemsDenote items statement × (is_fit statement ≡ true)
 
-abbrev pub ItemsThatSayAreWhole : Type 0
-ItemsThatSayAreWhole =
-    (items : List PlacedItem) (statement : WrittenParts) → ItemsSay items statement →
+abbrev pub ItemsThatDenoteAreWhole : Type 0
+ItemsThatDenoteAreWhole =
+    (items : List PlacedItem) (statement : DeckStatementParts) → ItemsDenote items statement →
     is_fit statement ≡ true → (are_whole items ≡ true) × (are_within_limits items ≡ true)
 
 -- items say one statement, its label apart
-abbrev pub ItemsSayOneStatement : Type 0
-ItemsSayOneStatement =
-    (items : List PlacedItem) (one other : WrittenParts) →
-    ItemsSay items one → ItemsSay items other →
+abbrev pub ItemsDenoteOneStatement : Type 0
+ItemsDenoteOneStatement =
+    (items : List PlacedItem) (one other : DeckStatementParts) →
+    ItemsDenote items one → ItemsDenote items other →
     is_fit one ≡ true → is_fit other ≡ true → one.label ≡ other.label → one ≡ other

@@ -8,8 +8,8 @@ pub mod DeckFault
 pub mod Form
 pub mod Pieces
 pub mod Fault
-pub mod Says
-pub mod Reads
+pub mod Denotes
+pub mod ReadsAs
 pub mod Laws
 pub mod Worked
 pub mod inner

@@ -1,4 +1,4 @@
--- The numbers of the language that decks stand on.
+-- The numbers of the language that decks use.
 use Rattle.std.specs.Prelude.{ℕ, ◌-◌}
 use Rattle.l6_prog.specs.Numerals.{most_statements}
 
@@ -11,8 +11,8 @@ abbrev pub most_deck_bytes : ℕ
 most_deck_bytes = 1048576
 
 -- how many statements a deck may write: the plain DONE that ends every program comes on top
-abbrev pub most_written : ℕ
-most_written = most_statements - 1
+abbrev pub most_deck_statements : ℕ
+most_deck_statements = most_statements - 1
 
 -- how many cards may continue a statement
 abbrev pub most_continuations : ℕ

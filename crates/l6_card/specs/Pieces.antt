@@ -18,7 +18,7 @@ pub data Piece : Type 0 where
 abbrev pub items_on : Body → List Piece
 items_on body = map (item body.card) (items_of body.offset body.columns)
 
--- the pieces of a card: a statement is over only where a card does not continue it
+-- the pieces of a card: a statement is complete only if a card does not continue it
 abbrev pub pieces_of_card : Card → List Piece
 pieces_of_card skipped = []
 pieces_of_card (plain body) = ends ∷ begins body.card ∷ items_on body

@@ -1,11 +1,11 @@
--- Where groups stand in a deck.
+-- Where groups are in a deck.
 use Rattle.std.specs.Prelude.{ℕ, ◌+◌, ◌≤◌, List, [], ◌∷◌, ◌++◌, length, take, drop, map}
 use Rattle.l6_prog.specs.declared.condition.Test.{Test}
 use Rattle.l6_prog.specs.declared.operation.Op.{Op}
 use Rattle.l6_group.specs.declared.label.Label.{Label}
 use Rattle.l6_card.specs.declared.cards.Placed.{Placed}
 use Rattle.l6_card.specs.declared.span.Span.{Span}
-use Rattle.l6_card.specs.Statement.{WrittenParts}
+use Rattle.l6_card.specs.Statement.{DeckStatementParts}
 
 -- the span of a group whose `(` has this offset, with these columns between its parentheses
 abbrev pub group_span : ℕ → List ℕ → Span
@@ -16,13 +16,13 @@ abbrev pub bytes_at : List ℕ → Span → List ℕ
 bytes_at deck span = take span.length (drop span.offset deck)
 
 -- the spans of a statement's groups: the tests come before the operations
-abbrev pub spans_of : WrittenParts → List Span
+abbrev pub spans_of : DeckStatementParts → List Span
 spans_of statement =
     map (λ (test : Placed Test). test.span) statement.tests
     ++ map (λ (operation : Placed (Op Label)). operation.span) statement.operations
 
 -- the spans of all groups of statements, in order
-abbrev pub all_spans : List WrittenParts → List Span
+abbrev pub all_spans : List DeckStatementParts → List Span
 all_spans [] = []
 all_spans (statement ∷ statements) = spans_of statement ++ all_spans statements
 

@@ -13,7 +13,7 @@ use Rattle.l6_card.specs.declared.cards.Placed.{Placed}
 use Rattle.l6_card.specs.declared.cards.PlacedLabel.{PlacedLabel}
 
 -- what a written statement has: labels with the numbers of their cards, groups with their spans too
-pub record WrittenParts : Type 0 where
+pub record DeckStatementParts : Type 0 where
   pub label : Option PlacedLabel
   pub condition : Cond
   pub tests : List (Placed Test)
@@ -25,7 +25,7 @@ abbrev pub label_on : ℕ → List ℕ → Option PlacedLabel
 label_on card columns =
     option_map (λ given. record { label = given; card = card }) (label_of columns)
 
--- an exit that stands on this card
+-- an exit that is on this card
 abbrev pub placed_exit : ℕ → Exit Label → Exit PlacedLabel
 placed_exit card Next = Next
 placed_exit card (ToLabel label) = ToLabel (record { label = label; card = card })
@@ -33,7 +33,7 @@ placed_exit card Done = Done
 placed_exit card Fail = Fail
 
 -- the statement may have so many tests and operations, and its condition so many tests
-abbrev pub is_fit : WrittenParts → Bool
+abbrev pub is_fit : DeckStatementParts → Bool
 is_fit statement =
     may_hold (length statement.tests) (length statement.operations)
     && may_have statement.condition (length statement.tests)

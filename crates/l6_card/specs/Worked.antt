@@ -6,10 +6,10 @@ use Rattle.l6_prog.specs.declared.condition.Comparison.TheVariants.{Greater}
 use Rattle.l6_prog.specs.declared.operand.Operand.TheVariants.{Number}
 use Rattle.l6_prog.specs.declared.operation.Op.TheVariants.{Set, Subtract, PrintDecimal}
 use Rattle.l6_prog.specs.declared.exit.Exit.TheVariants.{Next, Label as ToLabel}
-use Rattle.l6_card.specs.Statement.{WrittenParts}
+use Rattle.l6_card.specs.Statement.{DeckStatementParts}
 use Rattle.l6_card.specs.DeckFault.{form}
 use Rattle.l6_card.specs.Fault.{fault_of}
-use Rattle.l6_card.specs.Reads.{Reads}
+use Rattle.l6_card.specs.ReadsAs.{ReadsAs}
 
 -- a deck that counts A down from 3; its last two cards are one statement, with a label, a condition
 -- and an exit
@@ -21,7 +21,7 @@ abbrev pub name_a : ℕ
 name_a = first_letter
 
 -- its first statement
-abbrev pub set_statement : WrittenParts
+abbrev pub set_statement : DeckStatementParts
 set_statement = record {
   label = None;
   condition = Always;
@@ -36,7 +36,7 @@ set_statement = record {
 }
 
 -- its second statement
-abbrev pub count_statement : WrittenParts
+abbrev pub count_statement : DeckStatementParts
 count_statement = record {
   label = Some (record { label = codes "NEXT"; card = 2 });
   condition = If;
@@ -62,7 +62,7 @@ count_statement = record {
 
 -- the deck says these two statements
 abbrev pub LoopIsRead : Type 0
-LoopIsRead = Reads loop_deck (set_statement ∷ count_statement ∷ [])
+LoopIsRead = ReadsAs loop_deck (set_statement ∷ count_statement ∷ [])
 
 -- a condition and its test that no THEN follows are the fault of the statement's last card: the
 -- comment and the blank card are not its cards, and the next statement begins on card 5

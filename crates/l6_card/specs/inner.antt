@@ -1,6 +1,6 @@
 pub mod Kinds
 pub mod First
-pub mod Draft
-pub mod Course
+pub mod StatementBuilder
+pub mod Pass
 pub mod Drafted
 pub mod Reader

@@ -1,8 +1,8 @@
-//! Cards.
+//! Cards: what a line of a deck is, by its column 1.
 
 ghost use Rattle.std.specs.Prelude.{◌≡◌, ◌+◌, ◌≤◌, ◌++◌, length, take};
 ghost use Rattle.l6_group.specs.Character as spec;
-ghost use Rattle.l6_card.specs.Card.{card_of, columns_of, run_of, behind_run};
+ghost use Rattle.l6_card.specs.Card.{card_of, columns_of, run_of, following_run};
 ghost use Rattle.l6_card.specs.Numerals.{card_width, most_deck_bytes};
 ghost use Rattle.l6_card.specs.inner.Kinds.{card_seen, KindEndsBy};
 
@@ -10,12 +10,12 @@ use crate::limits::CARD_WIDTH;
 use l6_group::{are_blank, is_blank, is_letter};
 use l6_word::without_return;
 
-/// What stands on a card behind its column 1 or its label.
+/// What is on a card after its column 1 or its label.
 #[derive(Clone, Copy)]
 pub(crate) struct Body<'a> {
     /// The card's number, from 1 on.
     pub(crate) card: u32,
-    /// How many bytes of the deck stand before the first column.
+    /// How many bytes of the deck are before the first column.
     pub(crate) offset: usize,
     /// The columns.
     pub(crate) columns: &'a [u8],
@@ -65,11 +65,11 @@ pub(crate) fn kind_of(card: u32, offset: usize, columns: &[u8]) -> Kind<'_>
 {
     match columns.split_first() {
         None => Kind::Skipped,
-        Some((mark, behind)) => {
+        Some((mark, following)) => {
             let body = Body {
                 card,
                 offset: offset + 1,
-                columns: behind,
+                columns: following,
             };
             if *mark == b'*' || are_blank(columns) {
                 Kind::Skipped
@@ -78,11 +78,11 @@ pub(crate) fn kind_of(card: u32, offset: usize, columns: &[u8]) -> Kind<'_>
             } else if *mark == b'+' {
                 Kind::Continued(body)
             } else if is_letter(*mark) {
-                let (label, behind) = split_label(columns);
+                let (label, following) = split_label(columns);
                 let body = Body {
                     card,
                     offset: offset + label.len(),
-                    columns: behind,
+                    columns: following,
                 };
                 Kind::Labelled(label, body)
             } else {
@@ -95,7 +95,7 @@ pub(crate) fn kind_of(card: u32, offset: usize, columns: &[u8]) -> Kind<'_>
 /// The longest run of letters and digits that columns begin with, and what follows it.
 fn split_label(columns: &[u8]) -> (&[u8], &[u8])
     ensures label { result.0.now ≡ run_of columns.now }
-    ensures body { result.1.now ≡ behind_run columns.now }
+    ensures body { result.1.now ≡ following_run columns.now }
     ensures whole { columns.now ≡ result.0.now ++ result.1.now }
 {
     for (place, column) in columns.iter().enumerate() {

@@ -7,7 +7,7 @@ use l6_group::Label;
 use l6_prog::{Cond, Exit, Op, Test};
 use std::marker::Model;
 
-/// A label, given to a statement or named by one, and the card that it stands on, numbered from 1.
+/// A label, given to a statement or named by one, and the card that it is on, numbered from 1.
 #[derive(Debug, Drop)]
 pub struct PlacedLabel {
     /// The label.
@@ -16,7 +16,7 @@ pub struct PlacedLabel {
     pub card: u32,
 }
 
-/// A test or an operation, and where its group stands.
+/// A test or an operation, and where its group is.
 #[derive(Debug, Drop)]
 pub struct Placed<T> {
     /// The test or the operation.
@@ -44,14 +44,14 @@ pub struct Parts {
 
 /// A statement as its cards give it.
 #[derive(Debug, Drop)]
-pub struct Written {
+pub struct DeckStatement {
     parts: Parts,
 }
 
-impl Model for Written {
-    ghost use Rattle.l6_card.specs.Statement.{WrittenParts};
+impl Model for DeckStatement {
+    ghost use Rattle.l6_card.specs.Statement.{DeckStatementParts};
 
-    ghost Value = { WrittenParts };
+    ghost Value = { DeckStatementParts };
 
     ghost view = { λ w. record {
       label = w.parts.label;
@@ -62,7 +62,7 @@ impl Model for Written {
     } };
 }
 
-impl Written {
+impl DeckStatement {
     /// The statement of these parts.
     pub(crate) fn new(parts: Parts) -> Self
         ensures { result ≡ record {
@@ -73,7 +73,7 @@ impl Written {
           exit = parts.exit;
         } }
     {
-        Written { parts }
+        DeckStatement { parts }
     }
 
     /// The label, if it has one.
@@ -83,7 +83,7 @@ impl Written {
         &self.parts.label
     }
 
-    /// The parts, the statement given up for them.
+    /// The parts. The statement is used up.
     pub fn into_parts(self) -> Parts
         ensures label { result.label ≡ self.label }
         ensures condition { result.condition ≡ self.condition }
@@ -91,7 +91,7 @@ impl Written {
         ensures operations { result.operations.items ≡ self.operations }
         ensures exit { result.exit ≡ self.exit }
     {
-        let Written { parts } = self;
+        let DeckStatement { parts } = self;
         parts
     }
 }
@@ -99,35 +99,35 @@ impl Written {
 /// What a deck says: its statements in order, at most 65,534.
 #[derive(Debug, Drop)]
 pub struct Cards {
-    statements: Vec<Written>,
+    statements: Vec<DeckStatement>,
 }
 
 impl Model for Cards {
     ghost use Rattle.std.specs.Prelude.{List};
-    ghost use Rattle.l6_card.specs.Statement.{WrittenParts};
+    ghost use Rattle.l6_card.specs.Statement.{DeckStatementParts};
 
-    ghost Value = { List WrittenParts };
+    ghost Value = { List DeckStatementParts };
 
     ghost view = { λ cards. cards.statements.items };
 }
 
 impl Cards {
     /// These statements.
-    pub(crate) fn new(statements: Vec<Written>) -> Self
+    pub(crate) fn new(statements: Vec<DeckStatement>) -> Self
         ensures { result ≡ statements.items }
     {
         Cards { statements }
     }
 
     /// The statements, in order.
-    pub fn statements(&self) -> &[Written]
+    pub fn statements(&self) -> &[DeckStatement]
         ensures { result.now ≡ self.now }
     {
         self.statements.as_slice()
     }
 
-    /// The statements, in order, the list given up for them.
-    pub fn into_statements(self) -> Vec<Written>
+    /// The statements, in order. The list is used up.
+    pub fn into_statements(self) -> Vec<DeckStatement>
         ensures { result.items ≡ self }
     {
         let Cards { statements } = self;

@@ -9,12 +9,12 @@ use thiserror::Error;
 /// Why a deck cannot be read. Cards are numbered from 1.
 #[derive(Clone, Copy, Debug, Error, PartialEq, Eq)]
 pub enum CardFault {
-    /// Column 1 of this card, its label, an item or a group on it has no reading, or a statement is
-    /// not whole whose last card it is.
+    /// Column 1 of this card, its label, an item or a group on it has no reading, or the statement
+    /// that ends on it is not whole.
     #[error("card {0}: no reading")]
     Form(u32),
     /// The 64th test or operation of a statement, the 16th card that continues one, or the 65,535th
-    /// statement stands on this card.
+    /// statement is on this card.
     #[error("card {0}: past a limit")]
     Limit(u32),
     /// Memory ran out. This says nothing of the deck.

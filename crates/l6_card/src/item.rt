@@ -38,7 +38,7 @@ fn first_of(body: &[u8]) -> First<'_>
         Some((mark, inside)) => {
             if *mark == b'(' {
                 match first_group(inside) {
-                    Some((columns, behind)) => First::Group(columns, behind),
+                    Some((columns, following)) => First::Group(columns, following),
                     None => First::Other,
                 }
             } else {
@@ -48,17 +48,17 @@ fn first_of(body: &[u8]) -> First<'_>
     }
 }
 
-/// The columns of the group whose `(` stands before, and what follows its `)`; `None` where another
+/// The columns of the group whose `(` is before, and what follows its `)`; `None` where another
 /// `(` or the body's end comes first.
 fn first_group(inside: &[u8]) -> Option<(&[u8], &[u8])>
     ensures group { MatchOption result (IsUnclosed inside.now)
         (λ parts. ClosesFirst inside.now parts.0.now parts.1.now) }
-    ensures behind { IfSome result (λ parts. length parts.1.now < length inside.now) }
+    ensures following { IfSome result (λ parts. length parts.1.now < length inside.now) }
 {
     let (columns, rest) = split_at_parenthesis(inside);
-    let (mark, behind) = rest.split_first()?;
+    let (mark, following) = rest.split_first()?;
     if *mark == b')' {
-        Some((columns, behind))
+        Some((columns, following))
     } else {
         None
     }

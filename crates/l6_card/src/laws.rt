@@ -1,10 +1,10 @@
 //! The laws of reading, and that the numbers of the code are those of the language.
 
 ghost use Rattle.std.specs.Prelude.{◌≡◌};
-ghost use Rattle.l6_card.specs.Numerals.{card_width, most_deck_bytes, most_written, most_continuations};
-ghost use Rattle.l6_card.specs.Laws.{ReadsOnlyWithoutFault, ReadsWithoutFault, ReadsInOneWay, GroupsStandAtSpans, SpansRise, StandingItemsBecomeWhole, BeginningsStand, WholeItemsSay, ItemsThatSayAreWhole, ItemsSayOneStatement, GroupsAreInParentheses, BlanksVanish, LettersMakeWords, LettersBeginWords, OpeningsWantClosings, OpeningsDoNotNest};
+ghost use Rattle.l6_card.specs.Numerals.{card_width, most_deck_bytes, most_deck_statements, most_continuations};
+ghost use Rattle.l6_card.specs.Laws.{ReadsOnlyWithoutFault, ReadsWithoutFault, ReadsInOneWay, GroupsAreAtSpans, SpansRise, PrefixesBecomeWhole, BeginningsArePrefixes, WholeItemsDenote, ItemsThatDenoteAreWhole, ItemsDenoteOneStatement, GroupsAreInParentheses, BlanksVanish, LettersMakeWords, LettersBeginWords, OpeningsNeedClosings, OpeningsDoNotNest};
 
-use crate::limits::{CARD_WIDTH, MAX_CONTINUATIONS, MAX_DECK_BYTES, MAX_WRITTEN};
+use crate::limits::{CARD_WIDTH, MAX_CONTINUATIONS, MAX_DECK_BYTES, MAX_DECK_STATEMENTS};
 
 /// Each deck reads exactly if no piece of it objects, and then in one way.
 pub fn reading_is_settled()
@@ -16,29 +16,29 @@ pub fn reading_is_settled()
 /// Whatever a deck says: each test and each operation is spelled by the bytes at its span, and the
 /// spans rise, within the deck.
 pub fn groups_have_their_spans()
-    ensures stand { GroupsStandAtSpans }
+    ensures are_prefix { GroupsAreAtSpans }
     ensures rise { SpansRise }
 {}
 
-/// Items stand exactly if more items behind them can make them a whole statement.
-pub fn standing_items_begin_statements()
-    ensures stand_only_if { StandingItemsBecomeWhole }
-    ensures stand_if { BeginningsStand }
+/// Items are a prefix exactly if further items after them can make them a whole statement.
+pub fn prefixes_begin_statements()
+    ensures stand_only_if { PrefixesBecomeWhole }
+    ensures stand_if { BeginningsArePrefixes }
 {}
 
-/// Items are a whole statement within its limits exactly if they say a statement that is fit, and
-/// they say one.
-pub fn whole_items_say_statements()
-    ensures say { WholeItemsSay }
-    ensures whole { ItemsThatSayAreWhole }
-    ensures one { ItemsSayOneStatement }
+/// Items are a whole statement within its limits exactly if they denote a statement that is fit,
+/// and they denote just one.
+pub fn whole_items_denote_statements()
+    ensures denote { WholeItemsDenote }
+    ensures whole { ItemsThatDenoteAreWhole }
+    ensures one { ItemsDenoteOneStatement }
 {}
 
-/// A group is what stands between parentheses, and a `(` whose `)` is missing is unclosed. Words are
+/// A group is what is between parentheses, and a `(` whose `)` is missing is unclosed. Words are
 /// of letters and the like, up to a group or the end, and blanks vanish outside of groups.
 pub fn items_are_groups_and_words()
     ensures groups { GroupsAreInParentheses }
-    ensures unclosed { OpeningsWantClosings }
+    ensures unclosed { OpeningsNeedClosings }
     ensures nested { OpeningsDoNotNest }
     ensures blanks { BlanksVanish }
     ensures letters { LettersMakeWords }
@@ -50,6 +50,6 @@ pub fn items_are_groups_and_words()
 pub fn decks_have_their_limits()
     ensures width { CARD_WIDTH ≡ card_width }
     ensures bytes { MAX_DECK_BYTES ≡ most_deck_bytes }
-    ensures written { MAX_WRITTEN ≡ most_written }
+    ensures deck_statement { MAX_DECK_STATEMENTS ≡ most_deck_statements }
     ensures continuations { MAX_CONTINUATIONS ≡ most_continuations }
 {}

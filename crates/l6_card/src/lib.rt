@@ -1,10 +1,10 @@
 //! Decks of cards: reading the statements that a deck of cards says.
 #![tactic(auto)]
 
+mod builder;
 mod card;
 mod cards;
 mod deck;
-mod draft;
 mod fault;
 mod item;
 mod laws;
@@ -15,12 +15,12 @@ mod span;
 mod worked;
 
 pub use card::columns_of;
-pub use cards::{Cards, Parts, Placed, PlacedLabel, Written};
+pub use cards::{Cards, DeckStatement, Parts, Placed, PlacedLabel};
 pub use deck::read_deck;
 pub use fault::CardFault;
 pub use laws::{
     decks_have_their_limits, groups_have_their_spans, items_are_groups_and_words,
-    reading_is_settled, standing_items_begin_statements, whole_items_say_statements,
+    prefixes_begin_statements, reading_is_settled, whole_items_denote_statements,
 };
 pub use limits::MAX_DECK_BYTES;
 pub use role::{Role, role_of};

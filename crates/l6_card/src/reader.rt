@@ -5,30 +5,30 @@ ghost use Rattle.l6_card.specs.Numerals.{most_deck_bytes};
 ghost use Rattle.l6_card.specs.Items.{group, word};
 ghost use Rattle.l6_card.specs.Card.{card_of};
 ghost use Rattle.l6_card.specs.Pieces.{ends, begins, continues, label, item, items_on, pieces_of_card};
-ghost use Rattle.l6_card.specs.inner.Course.{first_stage, after_piece, after_pieces};
+ghost use Rattle.l6_card.specs.inner.Pass.{first_stage, after_piece, after_pieces};
 ghost use Rattle.l6_card.specs.inner.First.{letters_of};
-ghost use Rattle.l6_card.specs.inner.Kinds.{body_seen, EndsBy};
+ghost use Rattle.l6_card.specs.inner.Kinds.{body_seen, EndsByOffset};
 ghost use Rattle.l6_card.specs.inner.Reader.{stage_of, Follows};
 
+use crate::builder::StatementBuilder;
 use crate::card::{Body, Kind, kind_of};
-use crate::cards::{PlacedLabel, Written};
-use crate::draft::Draft;
+use crate::cards::{DeckStatement, PlacedLabel};
 use crate::fault::CardFault;
 use crate::item::{First, first_item};
-use crate::limits::{MAX_CONTINUATIONS, MAX_WRITTEN};
+use crate::limits::{MAX_CONTINUATIONS, MAX_DECK_STATEMENTS};
 use l6_group::label_of;
 use std::alloc::Global;
 use std::mem;
 
-/// The statements that are over, and what is known of the one that has begun since. Once a call was
-/// answered by a fault nothing more is read.
+/// The statements that are complete, and what is known of the one that has begun since. Once a call
+/// has answered a fault, nothing more is read.
 #[derive(Drop)]
 pub(crate) struct Reader {
     alloc: Global,
-    statements: Vec<Written>,
+    statements: Vec<DeckStatement>,
     is_open: bool,
     label: Option<PlacedLabel>,
-    draft: Draft,
+    builder: StatementBuilder,
     card: u32,
     continuations: usize,
 }
@@ -43,37 +43,37 @@ impl Reader {
             statements: Vec::new(alloc),
             is_open: false,
             label: None,
-            draft: Draft::new(alloc),
+            builder: StatementBuilder::new(alloc),
             card: 0,
             continuations: 0,
         }
     }
 
-    /// The statements that are over, in order.
-    pub(crate) fn into_statements(self) -> Vec<Written>
+    /// The statements that are complete, in order.
+    pub(crate) fn into_statements(self) -> Vec<DeckStatement>
         ensures { result.items ≡ (stage_of self).statements }
     {
         self.statements
     }
 
-    /// The statement that has begun, if one has, is over.
+    /// The statement that has begun, if one has, is complete.
     pub(crate) fn end(&mut self) -> Result<(), CardFault>
         ensures { Follows result (stage_of self.new) (after_piece (stage_of self.old) ends) }
     {
-        let draft = self
-            .draft
+        let builder = self
+            .builder
             .take(self.alloc)
             .map_err(|_| CardFault::NoMemory)?;
         let label = mem::replace(&mut self.label, None);
         if !self.is_open {
             return Ok(());
         }
-        if !draft.is_whole() {
+        if !builder.is_whole() {
             return Err(CardFault::Form(self.card));
         }
         self.is_open = false;
         self.statements
-            .push(Written::new(draft.into_parts(label)))
+            .push(DeckStatement::new(builder.into_parts(label)))
             .map_err(|_| CardFault::NoMemory)
     }
 
@@ -83,7 +83,7 @@ impl Reader {
             Follows result (stage_of self.new) (after_pieces (stage_of self.old) pieces) }
     {
         self.end()?;
-        if self.statements.len() >= MAX_WRITTEN {
+        if self.statements.len() >= MAX_DECK_STATEMENTS {
             return Err(CardFault::Limit(card));
         }
         self.is_open = true;
@@ -125,7 +125,7 @@ impl Reader {
         ensures { let piece = item card (group offset columns.now) in
             Follows result (stage_of self.new) (after_piece (stage_of self.old) piece) }
     {
-        self.draft.take_group(card, offset, columns)
+        self.builder.take_group(card, offset, columns)
     }
 
     /// The card has a word of the letters of these columns.
@@ -133,12 +133,12 @@ impl Reader {
         ensures { let piece = item card (word (letters_of columns.now)) in
             Follows result (stage_of self.new) (after_piece (stage_of self.old) piece) }
     {
-        self.draft.take_word(card, columns)
+        self.builder.take_word(card, columns)
     }
 
     /// The card has the items of this body.
     fn take_items(&mut self, body: Body<'_>) -> Result<(), CardFault>
-        requires { EndsBy most_deck_bytes body }
+        requires { EndsByOffset most_deck_bytes body }
         ensures { let pieces = items_on (body_seen body.entry) in
             Follows result (stage_of self.new) (after_pieces (stage_of self.old) pieces) }
     {
@@ -149,15 +149,15 @@ impl Reader {
             match first_item(rest) {
                 First::End => return Ok(()),
                 First::Other => return Err(CardFault::Form(card)),
-                First::Group(columns, behind) => {
-                    // A `)` stands between the columns and what is left.
-                    let opening = end - behind.len() - columns.len() - 2;
+                First::Group(columns, following) => {
+                    // A `)` is between the columns and what is left.
+                    let opening = end - following.len() - columns.len() - 2;
                     self.take_group(card, opening, columns)?;
-                    rest = behind;
+                    rest = following;
                 }
-                First::Word(columns, behind) => {
+                First::Word(columns, following) => {
                     self.take_word(card, columns)?;
-                    rest = behind;
+                    rest = following;
                 }
             }
         }
@@ -165,7 +165,7 @@ impl Reader {
 
     /// The card has the label of these columns, and the items of this body.
     fn take_labelled(&mut self, columns: &[u8], body: Body<'_>) -> Result<(), CardFault>
-        requires { EndsBy most_deck_bytes body }
+        requires { EndsByOffset most_deck_bytes body }
         ensures { let body = body_seen body.entry in
             let pieces = label body.card columns.now ∷ items_on body in
             Follows result (stage_of self.new) (after_pieces (stage_of self.old) pieces) }

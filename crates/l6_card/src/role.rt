@@ -19,7 +19,7 @@ pub enum Role {
     Unknown,
 }
 
-/// What the card of a line is to the statements of its deck, wherever it stands there.
+/// What the card of a line is to the statements of its deck, wherever it is there.
 #[tactic(auto, unfolding(crate::specs::Numerals::card_width))]
 pub fn role_of(line: &[u8]) -> Role
     ensures value { result ≡ spec.role_of line.now }

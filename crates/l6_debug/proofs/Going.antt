@@ -11,14 +11,14 @@ use Rattle.l6_run.specs.declared.fault.RunFault.{RunFault}
 use Rattle.l6_run.specs.declared.fault.RunFault.TheVariants.{TooLong, Asm, Load, Read, Write, NoMemory}
 use Rattle.l6_word.specs.Lines.{lines_of}
 use Rattle.l6_store.specs.Rule.{Rule}
-use Rattle.l6_steps.specs.State.{World}
+use Rattle.l6_steps.specs.State.{RunContext}
 use Rattle.l6_debug.specs.declared.command.Reading.{Reading}
 use Rattle.l6_debug.specs.declared.command.Reading.TheVariants.{Quit}
 use Rattle.l6_debug.specs.Command.{reading_of}
-use Rattle.l6_debug.specs.Session.{Session}
+use Rattle.l6_debug.specs.DebuggerState.{DebuggerState}
 use Rattle.l6_debug.specs.Transcript.{answered, answers_from, is_quit, moved}
 use Rattle.l6_debug.specs.Serving.{GoOut, TakesAnswers}
-use Rattle.l6_debug.specs.inner.Sitting.{HaveGoneOut}
+use Rattle.l6_debug.specs.inner.DebuggerRun.{HaveGoneOut}
 
 -- answers of two lists, joined
 concat-both : (one other : List (List ℕ)) → concat (one ++ other) ≡ concat one ++ concat other
@@ -91,11 +91,11 @@ gone-fault T U all now rest old mid new sent (Load part) gone out = absurd out
 gone-fault T U all now rest old mid new sent (Read part) gone out = absurd out
 gone-fault T U all now rest old mid new sent (Write n) gone out =
     let front = concat gone.gone in
-    let behind = concat now ++ concat rest in
-    let whole : concat all ≡ front ++ behind =
+    let following = concat now ++ concat rest in
+    let whole : concat all ≡ front ++ following =
     ap concat gone.are ∙ concat-both gone.gone (now ++ rest)
     ∙ ap (λ text. front ++ text) (concat-both now rest) in
-    let text : take out.count (concat now) ≡ take out.count behind =
+    let text : take out.count (concat now) ≡ take out.count following =
     sym (take-append-le out.count (concat now) (concat rest) (omega (arith, out.short))) in
     record {
       count = length front + out.count;
@@ -103,11 +103,11 @@ gone-fault T U all now rest old mid new sent (Write n) gone out =
         arith,
         out.short,
         ap length whole,
-        length-append front behind,
+        length-append front following,
         length-append (concat now) (concat rest),
       );
       front = subst (Appends old new)
-          (ap (λ more. front ++ more) text ∙ sym (take-append-add front behind out.count)
+          (ap (λ more. front ++ more) text ∙ sym (take-append-add front following out.count)
           ∙ ap (take (length front + out.count)) (sym whole))
           (Appends-trans old mid new front (take out.count (concat now)) gone.out out.front);
       counted = omega (arith, out.counted, gone.counted);
@@ -135,74 +135,88 @@ gone-fault T U all now rest old mid new sent NoMemory gone out =
     }
 
 -- a line that quits has no answer, and none follows
-pub from-quit : (rule : Rule) (world : World) (session : Session) (line : List ℕ)
+pub from-quit : (rule : Rule) (context : RunContext) (debugger_state : DebuggerState) (line : List ℕ)
     (lines : List (List ℕ)) → reading_of line ≡ Quit →
-    answers_from rule world session (line ∷ lines) ≡ []
-from-quit rule world session line lines is =
-    ap (λ r. answered rule world session r
-    ++ (if is_quit r then [] else answers_from rule world (moved rule world session r) lines)) is
+    answers_from rule context debugger_state (line ∷ lines) ≡ []
+from-quit rule context debugger_state line lines is =
+    ap (λ r. answered rule context debugger_state r
+    ++ (if is_quit r then [] else answers_from rule context
+    (moved rule context debugger_state r) lines)) is
 
 -- another one has its answer, in front of those that follow
-pub from-line : (rule : Rule) (world : World) (session : Session) (line : List ℕ)
+pub from-line : (rule : Rule) (context : RunContext) (debugger_state : DebuggerState) (line : List ℕ)
     (lines : List (List ℕ)) (reading : Reading) → reading_of line ≡ reading →
     is_quit reading ≡ false →
-    answers_from rule world session (line ∷ lines)
-    ≡ answered rule world session reading
-    ++ answers_from rule world (moved rule world session reading) lines
-from-line rule world session line lines reading is other =
-    ap (λ r. answered rule world session r
-    ++ (if is_quit r then [] else answers_from rule world (moved rule world session r) lines)) is
-    ∙ ap (λ b. answered rule world session reading
-    ++ (if b then [] else answers_from rule world (moved rule world session reading) lines)) other
+    answers_from rule context debugger_state (line ∷ lines)
+    ≡ answered rule context debugger_state reading
+    ++ answers_from rule context (moved rule context debugger_state reading) lines
+from-line rule context debugger_state line lines reading is other =
+    ap (λ r. answered rule context debugger_state r
+    ++ (if is_quit r then [] else answers_from rule context
+    (moved rule context debugger_state r) lines)) is
+    ∙ ap (λ b. answered rule context debugger_state reading
+    ++ (if b then [] else answers_from rule context
+    (moved rule context debugger_state reading) lines)) other
 
 -- what is left of the answers begins with that to the next line
-line-opened : (rule : Rule) (world same : World) (session : Session) (rest line behind : List ℕ)
+line-opened : (rule : Rule) (context same : RunContext) (debugger_state : DebuggerState)
+    (rest line following : List ℕ)
     (reading : Reading) (all : List (List ℕ)) (old mid : Option (List ℕ)) (sent : ℕ) →
-    same ≡ world → lines_of rest ≡ line ∷ lines_of behind → reading ≡ reading_of line →
+    same ≡ context → lines_of rest ≡ line ∷ lines_of following → reading ≡ reading_of line →
     is_quit reading ≡ false →
-    HaveGoneOut all (answers_from rule world session (lines_of rest)) old mid sent →
+    HaveGoneOut all (answers_from rule context debugger_state (lines_of rest)) old mid sent →
     HaveGoneOut all
-    (answered rule same session reading
-    ++ answers_from rule world (moved rule same session reading) (lines_of behind)) old mid sent
-line-opened rule world same session rest line behind reading all old mid sent is lines read other
+    (answered rule same debugger_state reading
+    ++ answers_from rule context (moved rule same debugger_state reading) (lines_of following)) old
+    mid sent
+line-opened rule context same debugger_state rest line following reading all old mid sent is lines
+    read other
     gone =
     subst (λ r. HaveGoneOut all r old mid sent)
-    (ap (answers_from rule world session) lines
-    ∙ from-line rule world session line (lines_of behind) reading (sym read) other
-    ∙ ap (λ w. answered rule w session reading
-    ++ answers_from rule world (moved rule w session reading) (lines_of behind)) (sym is)) gone
+    (ap (answers_from rule context debugger_state) lines
+    ∙ from-line rule context debugger_state line (lines_of following) reading (sym read) other
+    ∙ ap (λ w. answered rule w debugger_state reading
+    ++ answers_from rule context (moved rule w debugger_state reading) (lines_of following))
+    (sym is)) gone
 
-pub line-gone : (rule : Rule) (world same : World) (session next : Session)
-    (rest line behind : List ℕ) (reading : Reading) (all : List (List ℕ))
+pub line-gone : (rule : Rule) (context same : RunContext) (debugger_state next : DebuggerState)
+    (rest line following : List ℕ) (reading : Reading) (all : List (List ℕ))
     (old mid new : Option (List ℕ)) (sent sent' : ℕ) →
-    same ≡ world → lines_of rest ≡ line ∷ lines_of behind → reading ≡ reading_of line →
-    is_quit reading ≡ false → next ≡ moved rule same session reading →
-    HaveGoneOut all (answers_from rule world session (lines_of rest)) old mid sent →
-    Appends mid new (concat (answered rule same session reading)) →
-    sent' ≡ min (sent + length (concat (answered rule same session reading))) most_counted →
-    HaveGoneOut all (answers_from rule world next (lines_of behind)) old new sent'
-line-gone rule world same session next rest line behind reading all old mid new sent sent' is lines
+    same ≡ context → lines_of rest ≡ line ∷ lines_of following → reading ≡ reading_of line →
+    is_quit reading ≡ false → next ≡ moved rule same debugger_state reading →
+    HaveGoneOut all (answers_from rule context debugger_state (lines_of rest)) old mid sent →
+    Appends mid new (concat (answered rule same debugger_state reading)) →
+    sent' ≡ min (sent + length (concat (answered rule same debugger_state reading))) most_counted →
+    HaveGoneOut all (answers_from rule context next (lines_of following)) old new sent'
+line-gone rule context same debugger_state next rest line following reading all old mid new sent
+    sent' is lines
     read other moves gone out counted =
-    subst (λ s. HaveGoneOut all (answers_from rule world s (lines_of behind)) old new sent')
+    subst (λ s. HaveGoneOut all (answers_from rule context s (lines_of following)) old new sent')
     (sym moves)
-    (gone-more all (answered rule same session reading)
-    (answers_from rule world (moved rule same session reading) (lines_of behind)) old mid new sent
+    (gone-more all (answered rule same debugger_state reading)
+    (answers_from rule context (moved rule same debugger_state reading) (lines_of following)) old
+    mid new sent
     sent'
-    (line-opened rule world same session rest line behind reading all old mid sent is lines read
+    (line-opened rule context same debugger_state rest line following reading all old mid sent is
+    lines read
     other gone) out counted)
 
-pub line-fault : (T U : Type 0) (rule : Rule) (world same : World) (session : Session)
-    (rest line behind : List ℕ) (reading : Reading) (all : List (List ℕ))
+pub line-fault : (T U : Type 0) (rule : Rule) (context same : RunContext)
+    (debugger_state : DebuggerState)
+    (rest line following : List ℕ) (reading : Reading) (all : List (List ℕ))
     (old mid new : Option (List ℕ)) (sent : ℕ) (fault : RunFault) →
-    same ≡ world → lines_of rest ≡ line ∷ lines_of behind → reading ≡ reading_of line →
+    same ≡ context → lines_of rest ≡ line ∷ lines_of following → reading ≡ reading_of line →
     is_quit reading ≡ false →
-    HaveGoneOut all (answers_from rule world session (lines_of rest)) old mid sent →
-    GoOut {Outcome = T} (answered rule same session reading) sent mid new (Err fault) →
+    HaveGoneOut all (answers_from rule context debugger_state (lines_of rest)) old mid sent →
+    GoOut {Outcome = T} (answered rule same debugger_state reading) sent mid new (Err fault) →
     GoOut {Outcome = U} all 0 old new (Err fault)
-line-fault T U rule world same session rest line behind reading all old mid new sent fault is lines
+line-fault T U rule context same debugger_state rest line following reading all old mid new sent
+    fault is lines
     read other gone out =
-    gone-fault T U all (answered rule same session reading)
-    (answers_from rule world (moved rule same session reading) (lines_of behind)) old mid new sent
+    gone-fault T U all (answered rule same debugger_state reading)
+    (answers_from rule context (moved rule same debugger_state reading) (lines_of following)) old
+    mid new sent
     fault
-    (line-opened rule world same session rest line behind reading all old mid sent is lines read
+    (line-opened rule context same debugger_state rest line following reading all old mid sent is
+    lines read
     other gone) out

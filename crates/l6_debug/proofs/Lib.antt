@@ -1,4 +1,4 @@
-pub mod Visits
+pub mod NumberedMachines
 pub mod Stopping
 pub mod Going
 pub mod Rings

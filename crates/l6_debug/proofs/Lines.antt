@@ -47,7 +47,7 @@ past-by : (units : ℕ) (blocks : Blocks) → Fits units blocks → (place : ℕ
 past-by units blocks fits place past None is = is
 past-by units blocks fits place past (Some words) is =
     let block = fits.each place words is in
-    absurd (omega (arith, block.stands.within, past, pow_pos block.level))
+    absurd (omega (arith, block.is_aligned.within, past, pow_pos block.level))
 
 pub none-past : (units : ℕ) (blocks : Blocks) → Fits units blocks → (place : ℕ) →
     end_of units ≤ place → map.get blocks place ≡ None

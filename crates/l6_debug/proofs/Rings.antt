@@ -8,10 +8,10 @@ use Rattle.std.proofs.lemmas.List.Elements.{All-head}
 use Rattle.std.proofs.lemmas.List.Folds.{list_any_at, list_any_more}
 use Rattle.std.proofs.lemmas.Option.{get_or_from_slice_get, slice_get_within}
 use Rattle.circular_buffer.specs.Buffer.{Buffer, buffer, keep_last}
-use Rattle.l6_steps.specs.State.{World}
+use Rattle.l6_steps.specs.State.{RunContext}
 use Rattle.l6_debug.specs.History.{greatest_up_to, if_up_to}
 use Rattle.l6_debug.specs.inner.Ring.{Checkpoints, MayAdd}
-use Rattle.l6_debug.specs.inner.Visit.{Visit}
+use Rattle.l6_debug.specs.inner.NumberedMachine.{NumberedMachine}
 
 -- a number that is not above n, and one that is
 up_to-same : (n k : ℕ) → k ≤ n → if_up_to n k ≡ k
@@ -114,7 +114,7 @@ not-held-at numbers index k n is other before =
     ∙ ne_eqb k n other
 
 -- ---- a ring that is full
--- one more takes the place of the first: it stands behind the others
+-- one more takes the place of the first: it follows the others
 pub next-full : {A : Type 0} (items : List A) (new : A) (capacity : ℕ) →
     length items ≡ capacity → 1 ≤ capacity →
     keep_last capacity (drop 1 items ++ new ∷ []) ≡ keep_last capacity (items ++ new ∷ [])
@@ -137,54 +137,57 @@ back-full {A = A} (other ∷ others) first capacity full some is =
     ∙ ap (λ (x : A). x ∷ others) same
 
 -- the first of those that are kept is of the same run
-pub first-same : (world : World) (items : List Visit) (first : Visit) →
-    All (λ (v : Visit). v.world ≡ world) items → Some first ≡ slice_get items 0 →
-    first.world ≡ world
-first-same world [] first same is = absurd (let none : Some first ≡ None = is in cc)
-first-same world (other ∷ others) first same is =
+pub first-same : (context : RunContext) (items : List NumberedMachine) (first : NumberedMachine) →
+    All (λ (v : NumberedMachine). v.context ≡ context) items → Some first ≡ slice_get items 0 →
+    first.context ≡ context
+first-same context [] first same is = absurd (let none : Some first ≡ None = is in cc)
+first-same context (other ∷ others) first same is =
     let one : first ≡ other = cc is in
-    ap (λ (v : Visit). v.world) one
-    ∙ All-head (λ (v : Visit). v.world ≡ world) other others same
+    ap (λ (v : NumberedMachine). v.context) one
+    ∙ All-head (λ (v : NumberedMachine). v.context ≡ context) other others same
 
 -- what becomes of a full ring
-pub may-add-next : (kept : Checkpoints) (ring popped pushed : Buffer Visit) (visit item : Visit) →
+pub may-add-next : (kept : Checkpoints) (ring popped pushed : Buffer NumberedMachine)
+    (numbered_machine item : NumberedMachine) →
     kept ≡ Some ring → length ring.items ≡ ring.capacity → 1 ≤ ring.capacity →
-    popped ≡ buffer (drop 1 ring.items) ring.capacity → item ≡ visit →
+    popped ≡ buffer (drop 1 ring.items) ring.capacity → item ≡ numbered_machine →
     pushed ≡ buffer (keep_last popped.capacity (popped.items ++ item ∷ [])) popped.capacity →
-    MayAdd kept visit (Some pushed)
-may-add-next kept ring popped pushed visit item there full some is same added =
-    subst (λ k. MayAdd k visit (Some pushed)) (sym there)
-    (inr (ap (λ (b : Buffer Visit). Some b)
+    MayAdd kept numbered_machine (Some pushed)
+may-add-next kept ring popped pushed numbered_machine item there full some is same added =
+    subst (λ k. MayAdd k numbered_machine (Some pushed)) (sym there)
+    (inr (ap (λ (b : Buffer NumberedMachine). Some b)
     (added
-    ∙ ap (λ (b : Buffer Visit). buffer (keep_last b.capacity (b.items ++ item ∷ [])) b.capacity) is
-    ∙ ap (λ (v : Visit).
+    ∙ ap (λ (b : Buffer NumberedMachine). buffer
+    (keep_last b.capacity (b.items ++ item ∷ [])) b.capacity) is
+    ∙ ap (λ (v : NumberedMachine).
     buffer (keep_last ring.capacity (drop 1 ring.items ++ v ∷ [])) ring.capacity) same
-    ∙ ap (λ (vs : List Visit). buffer vs ring.capacity)
-    (next-full ring.items visit ring.capacity full some))))
+    ∙ ap (λ (vs : List NumberedMachine). buffer vs ring.capacity)
+    (next-full ring.items numbered_machine ring.capacity full some))))
 
-pub may-add-none : (kept : Checkpoints) (ring popped pushed : Buffer Visit)
-    (visit first item : Visit) →
+pub may-add-none : (kept : Checkpoints) (ring popped pushed : Buffer NumberedMachine)
+    (numbered_machine first item : NumberedMachine) →
     kept ≡ Some ring → length ring.items ≡ ring.capacity → 1 ≤ ring.capacity →
     popped ≡ buffer (drop 1 ring.items) ring.capacity → Some first ≡ slice_get ring.items 0 →
     item ≡ first →
     pushed ≡ buffer (take popped.capacity (item ∷ popped.items)) popped.capacity →
-    MayAdd kept visit (Some pushed)
-may-add-none kept ring popped pushed visit first item there full some is front same added =
-    subst (λ k. MayAdd k visit (Some pushed)) (sym there)
-    (inl (ap (λ (b : Buffer Visit). Some b)
+    MayAdd kept numbered_machine (Some pushed)
+may-add-none kept ring popped pushed numbered_machine first item there full some is front same added =
+    subst (λ k. MayAdd k numbered_machine (Some pushed)) (sym there)
+    (inl (ap (λ (b : Buffer NumberedMachine). Some b)
     (added
-    ∙ ap (λ (b : Buffer Visit). buffer (take b.capacity (item ∷ b.items)) b.capacity) is
-    ∙ ap (λ (v : Visit). buffer (take ring.capacity (v ∷ drop 1 ring.items)) ring.capacity) same
-    ∙ ap (λ (vs : List Visit). buffer vs ring.capacity)
+    ∙ ap (λ (b : Buffer NumberedMachine). buffer (take b.capacity (item ∷ b.items)) b.capacity) is
+    ∙ ap (λ (v : NumberedMachine). buffer
+    (take ring.capacity (v ∷ drop 1 ring.items)) ring.capacity) same
+    ∙ ap (λ (vs : List NumberedMachine). buffer vs ring.capacity)
     (back-full ring.items first ring.capacity full some front))))
 
 -- what an answer tells once it is known which it is
 pub on-ok : {T E : Type 0} (P : Type 0) (result : Result T E) → is_ok result ≡ true →
     OnOk result P → P
-on-ok P (Ok value) is told = told
-on-ok P (Err error) is told = absurd (let both : false ≡ true = is in cc)
+on-ok P (Ok value) is reported = reported
+on-ok P (Err error) is reported = absurd (let both : false ≡ true = is in cc)
 
 pub on-err : {T E : Type 0} (P : Type 0) (result : Result T E) → is_ok result ≡ false →
     OnErr result P → P
-on-err P (Ok value) is told = absurd (let both : true ≡ false = is in cc)
-on-err P (Err error) is told = told
+on-err P (Ok value) is reported = absurd (let both : true ≡ false = is in cc)
+on-err P (Err error) is reported = reported

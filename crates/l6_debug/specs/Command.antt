@@ -11,11 +11,11 @@ use Rattle.l6_debug.specs.declared.command.Reading.{Reading}
 use Rattle.l6_debug.specs.declared.command.Reading.TheVariants.{Skipped, Wrong, Quit, Asked}
 use Rattle.l6_debug.specs.Numerals.{most_number}
 
--- the words of a line stand between its blanks and tabs
+-- the words of a line are between its blanks and tabs
 abbrev pub words_in : List ℕ → List (List ℕ)
 words_in line = filter (λ word. nat_lt 0 (length word)) (slice_split is_blank line)
 
--- what words ask for that stand alone
+-- what words ask for that are alone
 abbrev pub words_alone : List (Line Reading)
 words_alone =
     "GO" means Asked Go

@@ -1,7 +1,7 @@
 pub mod Numerals
 pub mod Command
 pub mod History
-pub mod Session
+pub mod DebuggerState
 pub mod Answer
 pub mod Transcript
 pub mod Serving

@@ -5,7 +5,7 @@ use Rattle.std.specs.Prelude.{ℕ}
 abbrev pub most_number : ℕ
 most_number = 1000000000
 
--- in how many places the number of a word stands
+-- in how many places the number of a word is
 abbrev pub index_places : ℕ
 index_places = 4
 

@@ -6,13 +6,15 @@ use Rattle.l6_card.specs.Numerals.{most_deck_bytes}
 use Rattle.l6_asm.specs.Assembled.{Assembled}
 use Rattle.l6_asm.specs.AssemblyFault.{assembly_fault}
 use Rattle.l6_asm.specs.Spells.{Spells, IsUnspelled}
+use Rattle.l6_steps.specs.Configuration.{state_at}
 use Rattle.l6_steps.specs.Numerals.{most_input}
+use Rattle.l6_steps.specs.Run.{IsReached}
 use Rattle.l6_run.specs.declared.fault.Part.TheVariants.{Deck, Input, Commands}
 use Rattle.l6_run.specs.declared.fault.RunFault.{RunFault}
 use Rattle.l6_run.specs.declared.fault.RunFault.TheVariants.{TooLong, Asm, Read, Write, NoMemory}
 use Rattle.l6_run.specs.Numerals.{most_command_bytes}
 use Rattle.l6_run.specs.Options.{OptionValues}
-use Rattle.l6_run.specs.Prints.{store_rule, world_under}
+use Rattle.l6_run.specs.Prints.{store_rule, context_under}
 use Rattle.l6_run.specs.Runs.{Reads}
 use Rattle.l6_run.specs.Transfer.{TakesFront}
 use Rattle.l6_debug.specs.Transcript.{answers_to}
@@ -33,7 +35,7 @@ GoOut all before old new (Err NoMemory) = TakesAnswers all old new
 GoOut all before old new (Err other) = ⊥
 
 -- the deck spells a program, and the answers to the commands, of the states of its run under the
--- store's rule, went out so
+-- store's rule, went out so; and each of those states is one to which steps of the written machine lead
 pub record Debugs {Outcome : Type 0} (options : OptionValues) (deck input commands : List ℕ)
     (old new : Option (List ℕ)) (result : Result Outcome RunFault) : Type 0 where
   pub fits : length deck ≤ most_deck_bytes
@@ -42,26 +44,29 @@ pub record Debugs {Outcome : Type 0} (options : OptionValues) (deck input comman
   pub assembly : Assembled
   pub spelled : Spells deck assembly
   pub out : GoOut
-      (answers_to store_rule (world_under options input assembly.program) commands) 0 old new result
+      (answers_to store_rule (context_under options input assembly.program) commands) 0 old new result
+  pub by_steps : (n : ℕ) → IsReached (context_under options input assembly.program)
+      (state_at store_rule (context_under options input assembly.program) n)
 
--- what became of a deck, an input and commands: the first of them that is too long is told, and then
--- that the deck spells no program; want of memory may come before there is one
-abbrev pub Serves : {Outcome : Type 0} → OptionValues → List ℕ → List ℕ → List ℕ →
+-- what became of a deck, an input and commands: the first of them that is too long is reported, and
+-- then that the deck spells no program; out of memory may come before there is one
+abbrev pub ServesSession : {Outcome : Type 0} → OptionValues → List ℕ → List ℕ → List ℕ →
     Option (List ℕ) → Option (List ℕ) → Result Outcome RunFault → Type 0
-Serves options deck input commands old new (Err (TooLong Deck)) = most_deck_bytes < length deck
-Serves options deck input commands old new (Err (TooLong Input)) =
+ServesSession options deck input commands old new (Err (TooLong Deck)) = most_deck_bytes < length deck
+ServesSession options deck input commands old new (Err (TooLong Input)) =
     (length deck ≤ most_deck_bytes) × (most_input < length input)
-Serves options deck input commands old new (Err (TooLong Commands)) =
+ServesSession options deck input commands old new (Err (TooLong Commands)) =
     (length deck ≤ most_deck_bytes) × (length input ≤ most_input)
     × (most_command_bytes < length commands)
-Serves options deck input commands old new (Err (TooLong part)) = ⊥
-Serves options deck input commands old new (Err (Asm fault)) =
+ServesSession options deck input commands old new (Err (TooLong part)) = ⊥
+ServesSession options deck input commands old new (Err (Asm fault)) =
     (length deck ≤ most_deck_bytes) × (length input ≤ most_input)
     × (length commands ≤ most_command_bytes) × IsSomeAnd (assembly_fault fault) (IsUnspelled deck)
-Serves options deck input commands old new (Err (Read part)) = ⊥
-Serves {Outcome = T} options deck input commands old new (Err NoMemory) =
+ServesSession options deck input commands old new (Err (Read part)) = ⊥
+ServesSession {Outcome = T} options deck input commands old new (Err NoMemory) =
     Appends old new [] ⊎ Debugs {Outcome = T} options deck input commands old new (Err NoMemory)
-Serves options deck input commands old new result = Debugs options deck input commands old new result
+ServesSession options deck input commands old new result =
+    Debugs options deck input commands old new result
 
 -- what became of a session: what the readers of the deck, of the input and of the commands gave, and
 -- what went out for it
@@ -72,7 +77,7 @@ DebugsFrom options deck deck' input input' commands commands' taken taken' resul
     Reads Deck deck deck' taken taken' (λ cards.
     Reads Input input input' taken taken' (λ characters.
     Reads Commands commands commands' taken taken' (λ lines.
-    Serves options cards characters lines taken taken' result) result) result) result
+    ServesSession options cards characters lines taken taken' result) result) result) result
 
 -- the session was refused before anything was to go out
 abbrev pub IsRefused : {Outcome : Type 0} → Result Outcome RunFault → Type 0

@@ -4,7 +4,7 @@ use Rattle.l6_debug.specs.declared.command.Command.TheVariants.{Step, Go, Break}
 use Rattle.l6_debug.specs.declared.command.Reading.TheVariants.{Skipped, Wrong, Quit, Asked}
 use Rattle.l6_debug.specs.Command.{reading_of}
 
--- words stand between blanks and tabs, a carriage return at the end is none, and letters are of
+-- words are between blanks and tabs, a carriage return at the end is none, and letters are of
 -- either case
 abbrev pub WordsStandApart : Type 0
 WordsStandApart =

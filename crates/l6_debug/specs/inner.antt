@@ -1,3 +1,3 @@
-pub mod Visit
+pub mod NumberedMachine
 pub mod Ring
-pub mod Sitting
+pub mod DebuggerRun

@@ -5,13 +5,13 @@
 pub(crate) enum Command {
     /// Go so many states on, at most to the last one.
     Step(u64),
-    /// Go to the next state that stands at a marked statement, or to the last one.
+    /// Go to the next state that is at a statement with a breakpoint, or to the last one.
     Go,
     /// Go so many states back, at most to the start.
     Back(u64),
-    /// Mark a statement.
+    /// Set a breakpoint at a statement.
     Break(u64),
-    /// Take the mark off a statement.
+    /// Remove the breakpoint of a statement.
     Clear(u64),
     /// Show what the bugs hold, and how much is saved, taken and printed.
     Show,

@@ -2,11 +2,11 @@
 
 ghost use Rattle.std.specs.Prelude.{◌≡◌, ◌≤◌, slice_index_or, slice_set, true, false, IfOk};
 ghost use Rattle.std.specs.List.{list_any};
-ghost use Rattle.l6_steps.specs.Moment.{first_moment, state_at};
+ghost use Rattle.l6_steps.specs.Configuration.{first_configuration, state_at};
 ghost use Rattle.l6_steps.specs.Numbering.{last_number};
 ghost use Rattle.l6_steps.specs.Numerals.{most_steps};
-ghost use Rattle.l6_debug.specs.History.{number_to, standing_at};
-ghost use Rattle.l6_debug.specs.Session.{after, first_session, is_stop, next_stop};
+ghost use Rattle.l6_debug.specs.History.{number_to, run_state_at};
+ghost use Rattle.l6_debug.specs.DebuggerState.{after, first_debugger_state, is_at_breakpoint, next_breakpoint};
 
 use crate::command::Command;
 use crate::history::History;
@@ -15,48 +15,48 @@ use l6_store::Places;
 use std::alloc::{AllocError, Global};
 use std::marker::Model;
 
-/// A session: a state of a run, and for each statement of the program whether it is marked.
+/// A session: a state of a run, and for each statement of the program whether it has a breakpoint.
 #[derive(Drop)]
 pub(crate) struct Debugger<S: Places> {
     history: History<S>,
-    marks: Vec<bool>,
+    breakpoints: Vec<bool>,
 }
 
 impl<S: Places> Model for Debugger<S> {
     ghost use Rattle.std.specs.Coded.{codes};
-    ghost use Rattle.l6_debug.specs.inner.Sitting.{Sitting};
+    ghost use Rattle.l6_debug.specs.inner.DebuggerRun.{DebuggerRun};
 
-    ghost Value = { Sitting };
+    ghost Value = { DebuggerRun };
 
     ghost coded = { Prim.hlevel (codes) };
 
     ghost view = { λ debugger. record {
-      world = debugger.history.world;
-      session = record { number = debugger.history.number; marks = debugger.marks.items };
+      context = debugger.history.context;
+      debugger_state = record { number = debugger.history.number; breakpoints = debugger.breakpoints.items };
     } };
 }
 
 impl<S: Places> Debugger<S> {
-    /// A session at the start, in which no statement is marked. The caller owes a machine that stands
-    /// there.
+    /// A session at the start, in which no statement has a breakpoint. The caller owes a machine
+    /// that is there.
     pub(crate) fn new(alloc: Global, machine: Machine<S>) -> Result<Self, AllocError>
     where
         S: Drop,
-        requires { machine.moment ≡ first_moment S.rule machine.world }
-        ensures world { IfOk result (λ debugger. debugger.world ≡ machine.world) }
-        ensures session { IfOk result (λ debugger.
-            debugger.session ≡ first_session machine.world) }
+        requires { machine.configuration ≡ first_configuration S.rule machine.context }
+        ensures context { IfOk result (λ debugger. debugger.context ≡ machine.context) }
+        ensures debugger_state { IfOk result (λ debugger.
+            debugger.debugger_state ≡ first_debugger_state machine.context) }
     {
-        let marks = vec![in alloc; false; machine.program().statements().len()]?;
+        let breakpoints = vec![in alloc; false; machine.program().statements().len()]?;
         Ok(Debugger {
             history: History::new(alloc, machine),
-            marks,
+            breakpoints,
         })
     }
 
     /// The machine, at the state of the session.
     pub(crate) fn machine(&self) -> &Machine<S>
-        ensures { result.now ≡ standing_at S.rule self.now.world self.now.session.number }
+        ensures { result.now ≡ run_state_at S.rule self.now.context self.now.debugger_state.number }
     {
         self.history.machine()
     }
@@ -65,17 +65,17 @@ impl<S: Places> Debugger<S> {
     pub(crate) fn obey(&mut self, alloc: Global, command: Command)
     where
         S: Drop,
-        ensures world { self.new.world ≡ self.old.world }
-        ensures session { self.new.session
-            ≡ after S.rule self.old.world self.old.session command }
+        ensures context { self.new.context ≡ self.old.context }
+        ensures debugger_state { self.new.debugger_state
+            ≡ after S.rule self.old.context self.old.debugger_state command }
     {
         let number = self.history.number();
         match command {
             Command::Step(count) => self.go_to(alloc, number.saturating_add(count)),
             Command::Go => self.go(alloc),
             Command::Back(count) => self.go_to(alloc, number.saturating_sub(count)),
-            Command::Break(statement) => self.mark(statement, true),
-            Command::Clear(statement) => self.mark(statement, false),
+            Command::Break(statement) => self.breakpoint(statement, true),
+            Command::Clear(statement) => self.breakpoint(statement, false),
             _ => {}
         }
     }
@@ -84,73 +84,73 @@ impl<S: Places> Debugger<S> {
     fn go_to(&mut self, alloc: Global, number: u64)
     where
         S: Drop,
-        ensures world { self.new.world ≡ self.old.world }
-        ensures session { self.new.session ≡ record self.old.session {
-          number = number_to S.rule self.old.world number;
+        ensures context { self.new.context ≡ self.old.context }
+        ensures debugger_state { self.new.debugger_state ≡ record self.old.debugger_state {
+          number = number_to S.rule self.old.context number;
         } }
-        ensures bound { last_number S.rule self.old.world ≤ most_steps }
+        ensures bound { last_number S.rule self.old.context ≤ most_steps }
     {
         self.history.to(alloc, number);
     }
 
-    /// Goes to the first later state that stands at a marked statement, or to the last one.
+    /// Goes to the first later state that is at a statement with a breakpoint, or to the last one.
     fn go(&mut self, alloc: Global)
     where
         S: Drop,
-        ensures world { self.new.world ≡ self.old.world }
-        ensures session { self.new.session ≡ record self.old.session {
-          number = next_stop S.rule self.old.world self.old.session;
+        ensures context { self.new.context ≡ self.old.context }
+        ensures debugger_state { self.new.debugger_state ≡ record self.old.debugger_state {
+          number = next_breakpoint S.rule self.old.context self.old.debugger_state;
         } }
     {
-        if !self.has_marks() {
+        if !self.has_breakpoints() {
             return self.go_to(alloc, u64::MAX);
         }
         while self.history.step(alloc) {
-            if self.is_stop() {
+            if self.is_at_breakpoint() {
                 return;
             }
         }
     }
 
-    /// Marks a statement, or takes its mark off, if there is such a statement.
-    fn mark(&mut self, statement: u64, is_marked: bool)
-        ensures world { self.new.world ≡ self.old.world }
-        ensures session { self.new.session ≡ record self.old.session {
-          marks = slice_set self.old.session.marks statement is_marked;
+    /// Sets the breakpoint of a statement, or removes it, if there is such a statement.
+    fn breakpoint(&mut self, statement: u64, has_breakpoint: bool)
+        ensures context { self.new.context ≡ self.old.context }
+        ensures debugger_state { self.new.debugger_state ≡ record self.old.debugger_state {
+          breakpoints = slice_set self.old.debugger_state.breakpoints statement has_breakpoint;
         } }
     {
-        if let Some(mark) = self.marks.get_mut(statement as usize) {
-            *mark = is_marked;
+        if let Some(breakpoint) = self.breakpoints.get_mut(statement as usize) {
+            *breakpoint = has_breakpoint;
         }
     }
 
-    /// Whether a statement is marked.
-    fn has_marks(&self) -> bool
-        ensures { result ≡ list_any (λ mark. mark) self.now.session.marks }
+    /// Whether a statement has a breakpoint.
+    fn has_breakpoints(&self) -> bool
+        ensures { result ≡ list_any (λ breakpoint. breakpoint) self.now.debugger_state.breakpoints }
     {
-        for mark in &self.marks {
-            if *mark {
+        for breakpoint in &self.breakpoints {
+            if *breakpoint {
                 return true;
             }
         }
         false
     }
 
-    /// Whether the state stands at the condition of a marked statement.
-    fn is_stop(&self) -> bool
-        ensures { result ≡ is_stop self.now.session.marks
-            (state_at S.rule self.now.world self.now.session.number) }
+    /// Whether the state is at the condition of a statement with a breakpoint.
+    fn is_at_breakpoint(&self) -> bool
+        ensures { result ≡ is_at_breakpoint self.now.debugger_state.breakpoints
+            (state_at S.rule self.now.context self.now.debugger_state.number) }
     {
         let at = self.machine().at();
-        at.action == 0 && self.is_marked(at.statement)
+        at.action == 0 && self.has_breakpoint(at.statement)
     }
 
-    /// Whether a statement is marked.
-    fn is_marked(&self, statement: u16) -> bool
-        ensures { result ≡ slice_index_or self.now.session.marks statement false }
+    /// Whether a statement has a breakpoint.
+    fn has_breakpoint(&self, statement: u16) -> bool
+        ensures { result ≡ slice_index_or self.now.debugger_state.breakpoints statement false }
     {
-        match self.marks.get(usize::from(statement)) {
-            Some(mark) => *mark,
+        match self.breakpoints.get(usize::from(statement)) {
+            Some(breakpoint) => *breakpoint,
             None => false,
         }
     }

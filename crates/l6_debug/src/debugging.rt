@@ -7,11 +7,11 @@ ghost use Rattle.l6_store.specs.Store.{fresh};
 ghost use Rattle.l6_steps.specs.Limits.{are_allowed};
 ghost use Rattle.l6_steps.specs.Numerals.{most_input};
 ghost use Rattle.l6_run.specs.Numerals.{most_command_bytes};
-ghost use Rattle.l6_run.specs.Patience.{Fared, FaredWith, lent_reader, lent_writer};
+ghost use Rattle.l6_run.specs.Patience.{RetriesAccounted, RetriesAccountedWith, reader_use, writer_use};
 ghost use Rattle.l6_run.specs.Runs.{IsOfPart};
 ghost use Rattle.l6_run.specs.Transfer.{GivesAtMost};
 ghost use Rattle.l6_run.specs.declared.fault.Part.TheVariants.{Deck, Input, Commands};
-ghost use Rattle.l6_debug.specs.Serving.{DebugsFrom, GoOut, IsRefused, Serves};
+ghost use Rattle.l6_debug.specs.Serving.{DebugsFrom, GoOut, IsRefused, ServesSession};
 ghost use Rattle.l6_debug.specs.Transcript.{answers_to};
 
 use crate::debugger::Debugger;
@@ -54,12 +54,12 @@ pub fn debug<D: Source, I: Source, C: Source, W: Sink>(
     ensures commands_at_most { GivesAtMost (most_command_bytes + 1)
         (C.left commands.old) (C.left commands.new) }
 
-    // How the devices fared.
-    ensures fared { Fared (
-        lent_reader Deck (D.health deck.old) (D.health deck.new) result ∷
-        lent_reader Input (I.health input.old) (I.health input.new) result ∷
-        lent_reader Commands (C.health commands.old) (C.health commands.new) result ∷
-        lent_writer (W.health writer.old) (W.health writer.new) result ∷ []) }
+    // The retries of the devices are accounted for.
+    ensures retries { RetriesAccounted (
+        reader_use Deck (D.health deck.old) (D.health deck.new) result ∷
+        reader_use Input (I.health input.old) (I.health input.new) result ∷
+        reader_use Commands (C.health commands.old) (C.health commands.new) result ∷
+        writer_use (W.health writer.old) (W.health writer.new) result ∷ []) }
 {
     let mut patience = Patience::new();
     let cards = read_part(alloc, deck, Part::Deck, &mut patience)?;
@@ -80,7 +80,7 @@ pub fn debug<D: Source, I: Source, C: Source, W: Sink>(
 ///
 /// # Errors
 ///
-/// As `debug`, but for the readers' troubles.
+/// Those of `debug`, except the readers' troubles.
 pub fn debug_deck<W: Sink>(
     alloc: Global,
     options: Options,
@@ -90,10 +90,11 @@ pub fn debug_deck<W: Sink>(
     writer: &mut W,
     patience: &mut Patience,
 ) -> Result<(), RunFault>
-    ensures done { Serves options deck.now input.now commands.now
+    ensures done { ServesSession options deck.now input.now commands.now
         (W.taken writer.old) (W.taken writer.new) result }
     ensures refused { IsRefused result → writer.new ≡ writer.old }
-    ensures fared { FaredWith (lent_writer (W.health writer.old) (W.health writer.new) result ∷ [])
+    ensures retries { RetriesAccountedWith
+        (writer_use (W.health writer.old) (W.health writer.new) result ∷ [])
         patience.old patience.new }
 {
     if deck.len() > MAX_DECK_BYTES {
@@ -141,13 +142,14 @@ where
     requires allowed { are_allowed limits ≡ true }
     ensures answers { GoOut (answers_to S.rule (record {
       program = program;
-      setting = record {
+      parameters = record {
         units = (S.store store).units;
         limits = limits;
         input = characters_of input.now;
       };
     }) commands.now) 0 (W.taken writer.old) (W.taken writer.new) result }
-    ensures fared { FaredWith (lent_writer (W.health writer.old) (W.health writer.new) result ∷ [])
+    ensures retries { RetriesAccountedWith
+        (writer_use (W.health writer.old) (W.health writer.new) result ∷ [])
         patience.old patience.new }
 {
     let machine = match Machine::with_program(alloc, program, input, store, limits) {

@@ -2,14 +2,15 @@
 
 ghost use Rattle.std.specs.Prelude.{◌≡◌, ◌+◌, ◌-◌, ◌==◌, ◌<◌, ◌≤◌, ◌↔◌, [], true, length};
 ghost use Rattle.std.specs.List.{list_any};
-ghost use Rattle.l6_steps.specs.Moment.{first_moment};
+ghost use Rattle.l6_steps.specs.Configuration.{first_configuration};
 ghost use Rattle.l6_steps.specs.Numbering.{last_number};
 ghost use Rattle.l6_steps.specs.Numerals.{most_steps};
-ghost use Rattle.l6_debug.specs.History.{greatest_up_to, number_to, standing_at, way_from};
+ghost use Rattle.l6_steps.specs.Run.{IsReached};
+ghost use Rattle.l6_debug.specs.History.{greatest_up_to, number_to, run_state_at, way_from};
 ghost use Rattle.l6_debug.specs.Numerals.{most_kept};
 
+use crate::numbered_machine::NumberedMachine;
 use crate::ring::Ring;
-use crate::visit::Visit;
 use l6_machine::Machine;
 use l6_store::Places;
 use std::alloc::Global;
@@ -22,51 +23,53 @@ pub(crate) const STRIDE: u64 = 4096;
 /// the start has the number 0, and each step leads to the next one, also a step that traps, which is
 /// not counted.
 ///
-/// Going forward a copy is kept at each state whose number is a multiple of 4,096, if there is memory
-/// for one. So to go back takes no more than a copy and 4,096 steps, as long as the states are kept
-/// about where one goes; without memory for copies it takes more steps, and nothing else changes.
+/// Going forward a copy is kept at each state whose number is a multiple of 4,096, if there is
+/// memory for one. So to go back takes no more than a copy and 4,095 steps, as long as states near
+/// the goal are kept. Without memory for copies it takes more steps, and nothing else changes.
 #[derive(Drop)]
 pub struct History<S: Places> {
-    present: Visit<S>,
+    present: NumberedMachine<S>,
     ring: Ring<S>,
 }
 
 impl<S: Places> Model for History<S> {
     ghost use Rattle.std.specs.Coded.{codes};
     ghost use Rattle.l6_debug.specs.History as histories;
-    ghost use Rattle.l6_debug.specs.inner.Ring.{numbers_of, AreKept};
+    ghost use Rattle.l6_debug.specs.inner.Ring.{numbers_of, AreCheckpoints};
 
     ghost Value = { histories.History };
 
     ghost coded = { Prim.hlevel (codes) };
 
     ghost view = { λ h. record {
-      world = h.present.world;
+      context = h.present.context;
       number = h.present.number;
-      kept = numbers_of h.ring.visits;
+      kept = numbers_of h.ring.numbered_machines;
     } };
 
-    ghost invariant = { λ h. AreKept h.present.world h.ring.visits };
+    ghost invariant = { λ h. AreCheckpoints h.present.context h.ring.numbered_machines };
 }
 
 impl<S: Places> History<S> {
     /// The history of a run that has not begun, with no checkpoint. The caller owes a machine that
-    /// stands at the start.
+    /// is at the start.
     pub fn new(alloc: Global, machine: Machine<S>) -> Self
-        requires { machine.moment ≡ first_moment S.rule machine.world }
-        ensures world { result.world ≡ machine.world }
+        requires { machine.configuration ≡ first_configuration S.rule machine.context }
+        ensures context { result.context ≡ machine.context }
         ensures number { result.number ≡ 0 }
         ensures kept { result.kept ≡ [] }
     {
         History {
-            present: Visit::new(machine),
+            present: NumberedMachine::new(machine),
             ring: Ring::new(alloc),
         }
     }
 
-    /// The machine, at the state to which the history has gone.
+    /// The machine, at the state to which the history has gone. Steps of the written machine lead
+    /// to that state.
     pub fn machine(&self) -> &Machine<S>
-        ensures { result.now ≡ standing_at S.rule self.now.world self.now.number }
+        ensures value { result.now ≡ run_state_at S.rule self.now.context self.now.number }
+        ensures reached { IsReached result.now.context result.now.configuration.state }
     {
         self.present.machine()
     }
@@ -74,8 +77,8 @@ impl<S: Places> History<S> {
     /// The number of that state, at most that of the last one.
     pub fn number(&self) -> u64
         ensures value { result ≡ self.now.number }
-        ensures within { result ≤ last_number S.rule self.now.world }
-        ensures bound { last_number S.rule self.now.world ≤ most_steps }
+        ensures within { result ≤ last_number S.rule self.now.context }
+        ensures bound { last_number S.rule self.now.context ≤ most_steps }
         ensures few { length self.now.kept ≤ most_kept }
     {
         self.present.number()
@@ -88,16 +91,17 @@ impl<S: Places> History<S> {
         self.ring.holds(number)
     }
 
-    /// Goes to the state of a number, or to the last one where that comes first. A state further back
-    /// is come to from the nearest one before it that is kept, or from the start. Answers how many
-    /// states were run through; where memory is refused that may be more, and nothing else changes.
+    /// Goes to the state of a number, or to the last one where that comes first. A state further
+    /// back is reached from the nearest one before it that is kept, or from the start. Answers how
+    /// many states were run through; if copies are refused memory that may be more, and nothing
+    /// else changes.
     pub fn to(&mut self, alloc: Global, number: u64) -> u64
     where
         S: Drop,
-        ensures world { self.new.world ≡ self.old.world }
-        ensures number { self.new.number ≡ number_to S.rule self.old.world number }
+        ensures context { self.new.context ≡ self.old.context }
+        ensures number { self.new.number ≡ number_to S.rule self.old.context number }
         ensures ran { result ≡ self.new.number - way_from self.old number }
-        ensures bound { last_number S.rule self.old.world ≤ most_steps }
+        ensures bound { last_number S.rule self.old.context ≤ most_steps }
     {
         if number < self.number() {
             self.go_back(alloc, number);
@@ -109,11 +113,11 @@ impl<S: Places> History<S> {
     fn go_back(&mut self, alloc: Global, number: u64)
     where
         S: Drop,
-        ensures world { self.new.world ≡ self.old.world }
+        ensures context { self.new.context ≡ self.old.context }
         ensures number { self.new.number ≡ greatest_up_to number self.old.kept }
     {
         match self.ring.nearest(number) {
-            Some(index) => self.ring.recall(alloc, &mut self.present, index),
+            Some(index) => self.ring.restore(alloc, &mut self.present, index),
             None => self.present.restart(),
         }
     }
@@ -124,8 +128,8 @@ impl<S: Places> History<S> {
     where
         S: Drop,
         requires { self.old.number ≤ number }
-        ensures world { self.new.world ≡ self.old.world }
-        ensures number { self.new.number ≡ number_to S.rule self.old.world number }
+        ensures context { self.new.context ≡ self.old.context }
+        ensures number { self.new.number ≡ number_to S.rule self.old.context number }
         ensures ran { result ≡ self.new.number - self.old.number }
     {
         let mut ran = 0;
@@ -145,9 +149,9 @@ impl<S: Places> History<S> {
     where
         S: Drop,
         requires { self.old.number ≤ number }
-        ensures world { self.new.world ≡ self.old.world }
-        ensures within { self.new.number ≤ number_to S.rule self.old.world number }
-        ensures stops { result ≡ 0 → number_to S.rule self.old.world number ≤ self.new.number }
+        ensures context { self.new.context ≡ self.old.context }
+        ensures within { self.new.number ≤ number_to S.rule self.old.context number }
+        ensures stops { result ≡ 0 → number_to S.rule self.old.context number ≤ self.new.number }
         ensures ran { self.new.number ≡ self.old.number + result }
     {
         let here = self.number();
@@ -163,9 +167,9 @@ impl<S: Places> History<S> {
     pub(crate) fn step(&mut self, alloc: Global) -> bool
     where
         S: Drop,
-        ensures world { self.new.world ≡ self.old.world }
-        ensures number { self.new.number ≡ number_to S.rule self.old.world (self.old.number + 1) }
-        ensures went { (result ≡ true) ↔ (self.old.number < last_number S.rule self.old.world) }
+        ensures context { self.new.context ≡ self.old.context }
+        ensures number { self.new.number ≡ number_to S.rule self.old.context (self.old.number + 1) }
+        ensures went { (result ≡ true) ↔ (self.old.number < last_number S.rule self.old.context) }
     {
         let went = self.present.step();
         if went {
@@ -179,7 +183,7 @@ impl<S: Places> History<S> {
     fn keep(&mut self, alloc: Global)
     where
         S: Drop,
-        ensures world { self.new.world ≡ self.old.world }
+        ensures context { self.new.context ≡ self.old.context }
         ensures number { self.new.number ≡ self.old.number }
     {
         let number = self.present.number();

@@ -12,7 +12,7 @@ pub fn numbers_have_their_limit()
     ensures { MAX_NUMBER ≡ most_number }
 {}
 
-/// Checkpoints are tried as far apart, and as many are kept, as a history says.
+/// Checkpoints are as far apart as `History` says, and as many are kept.
 pub fn checkpoints_have_their_places()
     ensures apart { STRIDE ≡ stride }
     ensures kept { MAX_KEPT ≡ most_kept }

@@ -6,11 +6,11 @@ mod debugger;
 mod debugging;
 mod history;
 mod laws;
+mod numbered_machine;
 mod obeying;
 mod reading;
 mod ring;
 mod showing;
-mod visit;
 mod worked;
 
 pub use debugging::{debug, debug_deck};

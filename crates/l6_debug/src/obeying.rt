@@ -4,7 +4,7 @@ ghost use Rattle.std.specs.Prelude.{◌≡◌, ◌+◌, min, length, [], ◌∷�
 ghost use Rattle.std.specs.List.{concat};
 ghost use Rattle.l6_word.specs.Lines.{lines_of};
 ghost use Rattle.l6_run.specs.Numerals.{most_counted};
-ghost use Rattle.l6_run.specs.Patience.{FaredWith, lent_writer};
+ghost use Rattle.l6_run.specs.Patience.{RetriesAccountedWith, writer_use};
 ghost use Rattle.l6_debug.specs.Serving.{GoOut};
 ghost use Rattle.l6_debug.specs.Transcript.{answered, answers_from, is_quit, moved};
 
@@ -28,15 +28,16 @@ pub(crate) fn obey_all<S: Places, W: Sink>(
 ) -> Result<(), RunFault>
 where
     S: Drop,
-    ensures answers { let session = debugger.old.session in
-        GoOut (answers_from S.rule debugger.old.world session (lines_of commands.now)) 0
+    ensures answers { let debugger_state = debugger.old.debugger_state in
+        GoOut (answers_from S.rule debugger.old.context debugger_state (lines_of commands.now)) 0
         (W.taken writer.old) (W.taken writer.new) result }
-    ensures fared { FaredWith (lent_writer (W.health writer.old) (W.health writer.new) result ∷ [])
+    ensures retries { RetriesAccountedWith
+        (writer_use (W.health writer.old) (W.health writer.new) result ∷ [])
         patience.old patience.new }
 {
     let mut sent = 0;
     let mut rest = commands;
-    while let Some((line, behind)) = first_line(rest) {
+    while let Some((line, following)) = first_line(rest) {
         let reading = reading_of(line);
         if is_quit(reading) {
             return Ok(());
@@ -45,7 +46,7 @@ where
             Ok(more) => sent = more,
             Err(fault) => return Err(fault),
         }
-        rest = behind;
+        rest = following;
     }
     Ok(())
 }
@@ -72,14 +73,16 @@ fn obey<S: Places, W: Sink>(
 ) -> Result<u64, RunFault>
 where
     S: Drop,
-    ensures world { debugger.new.world ≡ debugger.old.world }
-    ensures session { debugger.new.session
-        ≡ moved S.rule debugger.old.world debugger.old.session reading }
-    ensures answers { GoOut (answered S.rule debugger.old.world debugger.old.session reading) before
+    ensures context { debugger.new.context ≡ debugger.old.context }
+    ensures debugger_state { debugger.new.debugger_state
+        ≡ moved S.rule debugger.old.context debugger.old.debugger_state reading }
+    ensures answers { GoOut (answered S.rule debugger.old.context debugger.old.debugger_state reading) before
         (W.taken writer.old) (W.taken writer.new) result }
-    ensures counted { let answers = answered S.rule debugger.old.world debugger.old.session reading in
+    ensures counted { let answers = answered S.rule debugger.old.context
+        debugger.old.debugger_state reading in
         IfOk result (λ sent. sent ≡ min (before + length (concat answers)) most_counted) }
-    ensures fared { FaredWith (lent_writer (W.health writer.old) (W.health writer.new) result ∷ [])
+    ensures retries { RetriesAccountedWith
+        (writer_use (W.health writer.old) (W.health writer.new) result ∷ [])
         patience.old patience.new }
 {
     let text = answer_to(alloc, debugger, reading)?;
@@ -95,10 +98,10 @@ fn answer_to<S: Places>(
 ) -> Result<Vec<u8>, AllocError>
 where
     S: Drop,
-    ensures world { debugger.new.world ≡ debugger.old.world }
-    ensures session { debugger.new.session
-        ≡ moved S.rule debugger.old.world debugger.old.session reading }
-    ensures text { let answers = answered S.rule debugger.old.world debugger.old.session reading in
+    ensures context { debugger.new.context ≡ debugger.old.context }
+    ensures debugger_state { debugger.new.debugger_state
+        ≡ moved S.rule debugger.old.context debugger.old.debugger_state reading }
+    ensures text { let answers = answered S.rule debugger.old.context debugger.old.debugger_state reading in
         IfOk result (λ text. text.items ≡ concat answers) }
 {
     let mut text = Vec::new(alloc);

@@ -13,23 +13,23 @@ use l6_word::without_return;
 pub(crate) const MAX_NUMBER: u64 = 1_000_000_000;
 
 /// How many characters the longest word of a command has.
-const MAX_VERB: usize = 6;
+const MAX_COMMAND_WORD: usize = 6;
 
 /// The word that a command begins with.
-type Verb<'a> = Spelling<'a, MAX_VERB>;
+type CommandWord<'a> = Spelling<'a, MAX_COMMAND_WORD>;
 
-/// What a line of commands is. Its words stand between blanks and tabs, and their letters may be of
+/// What a line of commands is. Its words are between blanks and tabs, and their letters may be of
 /// either case.
 pub(crate) fn reading_of(line: &[u8]) -> Reading
     ensures { result ≡ spec.reading_of line.now }
 {
-    let Some((verb, behind)) = first_word(without_return(line)) else {
+    let Some((verb, following)) = first_word(without_return(line)) else {
         return Reading::Skipped;
     };
-    let Some((number, behind)) = first_word(behind) else {
+    let Some((number, following)) = first_word(following) else {
         return reading_alone(verb).unwrap_or(Reading::Wrong);
     };
-    if first_word(behind).is_some() {
+    if first_word(following).is_some() {
         return Reading::Wrong;
     }
     match command_with(verb, number) {
@@ -42,7 +42,7 @@ pub(crate) fn reading_of(line: &[u8]) -> Reading
 fn reading_alone(verb: &[u8]) -> Option<Reading>
     ensures { result ≡ spec.reading_alone verb.now }
 {
-    let verb: Verb<'_> = spelled(verb)?;
+    let verb: CommandWord<'_> = spelled(verb)?;
     match verb.as_slice() {
         b"GO" => Some(Reading::Asked(Command::Go)),
         b"SHOW" => Some(Reading::Asked(Command::Show)),
@@ -59,7 +59,7 @@ fn reading_alone(verb: &[u8]) -> Option<Reading>
 fn command_with(verb: &[u8], digits: &[u8]) -> Option<Command>
     ensures { result ≡ spec.command_with verb.now digits.now }
 {
-    let verb: Verb<'_> = spelled(verb)?;
+    let verb: CommandWord<'_> = spelled(verb)?;
     match verb.as_slice() {
         b"STEP" => Some(Command::Step(number_of(digits)?)),
         b"BACK" => Some(Command::Back(number_of(digits)?)),
@@ -82,17 +82,17 @@ fn number_of(digits: &[u8]) -> Option<u64>
     }
 }
 
-/// The first word of a line, and what stands behind it; `None` where it has none.
+/// The first word of a line, and what follows it; `None` where it has none.
 fn first_word(line: &[u8]) -> Option<(&[u8], &[u8])>
     ensures { let words = spec.words_in line.now in
         MatchOption result (words ≡ []) (λ parts. words ≡ parts.0.now ∷ spec.words_in parts.1.now) }
 {
     let mut rest = line;
-    while let Some((word, behind)) = split_at_blank(rest) {
+    while let Some((word, following)) = split_at_blank(rest) {
         if !word.is_empty() {
-            return Some((word, behind));
+            return Some((word, following));
         }
-        rest = behind;
+        rest = following;
     }
     if rest.is_empty() {
         return None;
@@ -100,7 +100,7 @@ fn first_word(line: &[u8]) -> Option<(&[u8], &[u8])>
     Some((rest, &[]))
 }
 
-/// The bytes in front of the first blank and those behind it, or `None` where no blank stands.
+/// The bytes in front of the first blank and those after it, or `None` where no blank is.
 fn split_at_blank(bytes: &[u8]) -> Option<(&[u8], &[u8])>
     ensures parts { let parts = slice_split is_blank bytes.now in
         MatchOption result (parts ≡ bytes.now ∷ [])

@@ -20,10 +20,10 @@ use l6_store::{Place, Places};
 use l6_word::{UNIT_SIZE, Window, Word, octal12};
 use std::alloc::{AllocError, Global};
 
-/// In how many places the index of a word stands.
+/// How many columns the index of a word has.
 const INDEX_PLACES: usize = 4;
 
-/// Adds what is answered to a command, of the state at which the machine stands.
+/// Adds what is answered to a command, of the state at which the machine is.
 pub(crate) fn push_answer<S: Places>(
     alloc: Global,
     text: &mut Vec<u8>,
@@ -31,12 +31,12 @@ pub(crate) fn push_answer<S: Places>(
     command: Command,
 ) -> Result<(), AllocError>
     ensures { OnOk result (text.new.items ≡ text.old.items
-        ++ spec.text_of machine.now.world machine.now.moment.state command) }
+        ++ spec.answer_text machine.now.context machine.now.configuration.state command) }
 {
     match command {
         Command::Step(_) | Command::Go | Command::Back(_) => push_status(alloc, text, machine),
-        Command::Break(statement) => push_mark(text, machine, statement, b"BREAK AT "),
-        Command::Clear(statement) => push_mark(text, machine, statement, b"CLEARED "),
+        Command::Break(statement) => push_breakpoint(text, machine, statement, b"BREAK AT "),
+        Command::Clear(statement) => push_breakpoint(text, machine, statement, b"CLEARED "),
         Command::Show => push_shown(alloc, text, machine),
         Command::Fields => push_fields(text, machine.definitions()),
         Command::Block(place) => push_block(text, place, block_at(machine.store(), place)),
@@ -46,14 +46,14 @@ pub(crate) fn push_answer<S: Places>(
     }
 }
 
-/// Adds the line of a state: where it stands, or how the run has ended.
+/// Adds the line of a state: where it is, or how the run has ended.
 fn push_status<S: Places>(
     alloc: Global,
     text: &mut Vec<u8>,
     machine: &Machine<S>,
 ) -> Result<(), AllocError>
     ensures { OnOk result (text.new.items ≡ text.old.items
-        ++ spec.status machine.now.world machine.now.moment.state) }
+        ++ spec.status machine.now.context machine.now.configuration.state) }
 {
     if machine.is_last() {
         let line = ending_line(alloc, machine)?;
@@ -64,10 +64,10 @@ fn push_status<S: Places>(
     text.extend_from_slice(b"\n")
 }
 
-/// Adds where a state stands, and how many steps are counted.
+/// Adds where a state is, and how many steps are counted.
 fn push_place<S: Places>(text: &mut Vec<u8>, machine: &Machine<S>) -> Result<(), AllocError>
     ensures { OnOk result
-        (text.new.items ≡ text.old.items ++ spec.place_line machine.now.moment.state) }
+        (text.new.items ≡ text.old.items ++ spec.place_line machine.now.configuration.state) }
 {
     text.extend_from_slice(b"AT ")?;
     push_decimal(text, machine.at().statement)?;
@@ -78,18 +78,18 @@ fn push_place<S: Places>(text: &mut Vec<u8>, machine: &Machine<S>) -> Result<(),
     text.extend_from_slice(b" STEPS")
 }
 
-/// Adds what is told of a statement's mark, if the program has such a statement.
-fn push_mark<S: Places>(
+/// Adds what is said of a statement's breakpoint, if the program has such a statement.
+fn push_breakpoint<S: Places>(
     text: &mut Vec<u8>,
     machine: &Machine<S>,
     statement: u64,
-    told: &[u8],
+    reported: &[u8],
 ) -> Result<(), AllocError>
     ensures { OnOk result (text.new.items ≡ text.old.items
-        ++ spec.marked machine.now.world statement told.now) }
+        ++ spec.breakpoint_line machine.now.context statement reported.now) }
 {
     if statement < machine.program().statements().len() as u64 {
-        push_told(text, told, statement)
+        push_told(text, reported, statement)
     } else {
         text.extend_from_slice(b"?? NO SUCH STATEMENT\n")
     }
@@ -102,7 +102,7 @@ fn push_shown<S: Places>(
     machine: &Machine<S>,
 ) -> Result<(), AllocError>
     ensures { OnOk result (text.new.items ≡ text.old.items
-        ++ spec.shown machine.now.world machine.now.moment.state) }
+        ++ spec.shown machine.now.context machine.now.configuration.state) }
 {
     push_status(alloc, text, machine)?;
     push_bugs(text, machine.bugs())?;
@@ -153,7 +153,7 @@ fn push_name(text: &mut Vec<u8>, name: u8) -> Result<(), AllocError>
 /// Adds how much is saved, taken and printed.
 fn push_counts<S: Places>(text: &mut Vec<u8>, machine: &Machine<S>) -> Result<(), AllocError>
     ensures { OnOk result
-        (text.new.items ≡ text.old.items ++ spec.counts_line machine.now.moment.state.memory) }
+        (text.new.items ≡ text.old.items ++ spec.counts_line machine.now.configuration.state.memory) }
 {
     push_depths(text, machine.depths())?;
     push_amounts(text, machine.taken(), machine.output().len())
@@ -233,7 +233,7 @@ fn block_at<S: Places>(store: &S, place: u64) -> Option<&[u64]>
         MatchOption result (found ≡ None) (λ words. found ≡ Some words.now) }
     ensures words { IfSome result (λ words. All (λ word. word < 2 ^ word_bits) words.now) }
 {
-    // no block stands past the last unit
+    // there is no block past the last unit
     let end = u64::from(store.units() + 1) * u64::from(UNIT_SIZE);
     if end <= place {
         return None;
@@ -255,10 +255,10 @@ fn push_block(text: &mut Vec<u8>, place: u64, block: Option<&[u64]>) -> Result<(
 }
 
 /// Adds a line of a few words and a number.
-fn push_told(text: &mut Vec<u8>, told: &[u8], number: u64) -> Result<(), AllocError>
-    ensures { OnOk result (text.new.items ≡ text.old.items ++ spec.told_of told.now number) }
+fn push_told(text: &mut Vec<u8>, reported: &[u8], number: u64) -> Result<(), AllocError>
+    ensures { OnOk result (text.new.items ≡ text.old.items ++ spec.told_of reported.now number) }
 {
-    text.extend_from_slice(told)?;
+    text.extend_from_slice(reported)?;
     push_decimal(text, number)?;
     text.extend_from_slice(b"\n")
 }

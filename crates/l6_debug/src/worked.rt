@@ -2,7 +2,7 @@
 
 ghost use Rattle.l6_debug.specs.Worked.{OthersAreWrong, WordsStandApart};
 
-/// Words stand between blanks and tabs, and their letters are of either case.
+/// Words are between blanks and tabs, and their letters are of either case.
 pub fn words_stand_apart()
     ensures { WordsStandApart }
 {}

@@ -4,21 +4,21 @@ use Rattle.std.proofs.lemmas.List.Elements.{filter_agree}
 use Rattle.std.specs.List.{filter}
 use Rattle.std.specs.FinMap as places
 use Rattle.l6_steps.specs.State.{Memory}
-use Rattle.l6_draw.specs.Reach.{AreReached, is_reached, reached_places}
+use Rattle.l6_draw.specs.Reach.{AreReachable, is_reached, reached_places}
 use Rattle.l6_draw.proofs.Reaching.{are_reached}
 
-pub kept_is : (memory : Memory) (found kept : List ℕ) (marks : List Bool)
+pub kept_is : (memory : Memory) (found kept : List ℕ) (visited : List Bool)
     → found ≡ places.keys memory.blocks
-    → ((place : ℕ) → get_or marks place false ≡ is_reached memory place)
-    → kept ≡ filter (λ place. get_or marks place false) found → kept ≡ reached_places memory
-kept_is memory found kept marks all told is =
-    is ∙ filter_agree (λ place. get_or marks place false) (is_reached memory) told found
+    → ((place : ℕ) → get_or visited place false ≡ is_reached memory place)
+    → kept ≡ filter (λ place. get_or visited place false) found → kept ≡ reached_places memory
+kept_is memory found kept visited all told is =
+    is ∙ filter_agree (λ place. get_or visited place false) (is_reached memory) told found
     ∙ ap (filter (is_reached memory)) all
 
-pub kept_are_reached : (memory : Memory) (found kept : List ℕ) (marks : List Bool)
+pub kept_are_reached : (memory : Memory) (found kept : List ℕ) (visited : List Bool)
     → found ≡ places.keys memory.blocks
-    → ((place : ℕ) → get_or marks place false ≡ is_reached memory place)
-    → kept ≡ filter (λ place. get_or marks place false) found → AreReached memory kept
-kept_are_reached memory found kept marks all told is =
-    subst (λ (reached : List ℕ). AreReached memory reached)
-    (sym (kept_is memory found kept marks all told is)) (are_reached memory)
+    → ((place : ℕ) → get_or visited place false ≡ is_reached memory place)
+    → kept ≡ filter (λ place. get_or visited place false) found → AreReachable memory kept
+kept_are_reached memory found kept visited all told is =
+    subst (λ (reached : List ℕ). AreReachable memory reached)
+    (sym (kept_is memory found kept visited all told is)) (are_reached memory)

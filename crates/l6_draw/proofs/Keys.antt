@@ -33,8 +33,11 @@ is_less Greater is = absurd is
 below_rest : (place : ℕ) (entries : List (ℕ × List ℕ)) → T (below_all nat_cmp place entries)
     → AllByRecursion (λ other. nat_cmp place other ≡ Less) (map (λ e. e.0) entries)
 below_rest place [] is = tt
-below_rest place (entry ∷ entries) is =
-    (is_less (nat_cmp place entry.0) (first_of_both _ _ is), below_rest place entries (second_of_both _ _ is))
+below_rest place (entry ∷ entries) is = (
+  is_less (nat_cmp place entry.0) (first_of_both _ _ is),
+  below_rest place entries
+      (second_of_both _ _ is),
+)
 
 sorted_keys : (entries : List (ℕ × List ℕ)) → T (is_sorted nat_cmp entries)
     → IsStrictlySortedBy nat_cmp (map (λ e. e.0) entries)

@@ -16,4 +16,5 @@ letters-more letter below =
 
 pub letters-none : (letter : ℕ) → letter ≡ name_count → letters_from letter ≡ []
 unfolding letters_from
-letters-none letter is = ap (range_with_len letter) (let none : name_count - letter ≡ 0 = omega arith in none)
+letters-none letter is =
+    ap (range_with_len letter) (let none : name_count - letter ≡ 0 = omega arith in none)

@@ -54,7 +54,8 @@ pub stretch-more : (memory : Memory) (starts : List ℕ) (index from end : ℕ)
     → text ++ flat_map (line_of memory) (stretches_from memory from end (drop index starts)) ≡ all
     → block ++ flat_map (line_of memory)
     (stretches_from memory (get_or starts index 0 + size) end (drop (index + 1) starts)) ≡ all
-stretch-more memory starts index from end text free block all reached gap size within far added is test line
+stretch-more memory starts index from end text free block all reached gap size within far added is
+    test line
     before =
     one_stretch memory (get_or starts index 0) (drop (index + 1) starts) from end text free block
     reached gap size far added is test line

@@ -37,7 +37,8 @@ any_gives test (y ∷ xs) passes =
     elim (or_cases (test y) (list_any test xs) passes)
     as (λ _. (x : ℕ) × Contains (y ∷ xs) x × (test x ≡ true)) [
       | inl here ↦ (y, first_in y xs, here)
-      | inr later ↦ (let found = any_gives test xs later in (found.0, later_in y found.0 xs found.1, found.2))
+      | inr later ↦ (let found =
+          any_gives test xs later in (found.0, later_in y found.0 xs found.1, found.2))
     ]
 
 pub any_held : (xs : List ℕ) (x : ℕ) → Contains xs x → list_any (λ held. held == x) xs ≡ true
@@ -56,7 +57,8 @@ filter_keeps test (y ∷ xs) x is passes =
     elim (test y) as (λ b. test y ≡ b → Contains (cond b (y ∷ filter test xs) (filter test xs)) x) [
       | true ↦ λ _.
           elim (first_or_later y x xs is) as (λ _. Contains (y ∷ filter test xs) x) [
-            | inl same ↦ subst (λ (z : ℕ). Contains (y ∷ filter test xs) z) same (first_in y (filter test xs))
+            | inl same ↦ subst (λ (z : ℕ). Contains (y ∷ filter test xs) z) same
+                (first_in y (filter test xs))
             | inr later ↦ later_in y x (filter test xs) (filter_keeps test xs x later passes)
           ]
       | false ↦ λ fails.
@@ -73,9 +75,13 @@ filter_has test (y ∷ xs) x is =
     elim (test y) as (λ b. test y ≡ b → Contains (cond b (y ∷ filter test xs) (filter test xs)) x
     → Contains (y ∷ xs) x × (test x ≡ true)) [
       | true ↦ λ passes inside.
-          elim (first_or_later y x (filter test xs) inside) as (λ _. Contains (y ∷ xs) x × (test x ≡ true)) [
-            | inl same ↦
-                (subst (λ (z : ℕ). Contains (y ∷ xs) z) same (first_in y xs), ap test (sym same) ∙ passes)
+          elim (first_or_later y x (filter test xs) inside) as
+          (λ _. Contains (y ∷ xs) x × (test x ≡ true)) [
+            | inl same ↦ (
+              subst (λ (z : ℕ). Contains (y ∷ xs) z) same (first_in y xs),
+              ap test (sym same)
+                  ∙ passes,
+            )
             | inr later ↦ (let rest = filter_has test xs x later in (later_in y x xs rest.0, rest.1))
           ]
       | false ↦ λ _ inside. (let rest = filter_has test xs x inside in (later_in y x xs rest.0, rest.1))

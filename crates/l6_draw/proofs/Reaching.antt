@@ -7,7 +7,7 @@ use Rattle.std.specs.List.{Contains, filter, list_any}
 use Rattle.std.specs.FinMap as places
 use Rattle.l6_store.specs.Blocks.{IsLive}
 use Rattle.l6_steps.specs.State.{Memory}
-use Rattle.l6_draw.specs.Reach.{AreReached, IsPath, IsReached, held_by_bugs, held_in, is_reached, is_within, reached_places}
+use Rattle.l6_draw.specs.Reach.{AreReachable, IsPath, IsReachable, held_by_bugs, held_in, is_reached, is_within, reached_places}
 use Rattle.l6_draw.specs.Laws.{ReachIsDecided, ReachIsSettled}
 use Rattle.l6_draw.proofs.Members.{any_gives, any_held, any_made, filter_has, filter_keeps, held_any}
 use Rattle.l6_draw.proofs.Keys.{key_live, keys_rise, live_key, same_rising}
@@ -85,11 +85,11 @@ within_cases memory count place is =
 
 -- a path ends where the test says so
 pub within_reached : (memory : Memory) (count place : ℕ) → is_within memory count place ≡ true
-    → IsReached memory place
+    → IsReachable memory place
 within_reached memory zero place is = absurd (cc)
 within_reached memory (suc count) place is =
     let live = within_live memory (suc count) place is in
-    elim (within_cases memory count place is) as (λ _. IsReached memory place) [
+    elim (within_cases memory count place is) as (λ _. IsReachable memory place) [
       | inl bug ↦ ([], (bug, live))
       | inr block ↦
           (let path = within_reached memory count block.before block.reached in
@@ -102,7 +102,8 @@ grows : (memory : Memory) (count place : ℕ) → is_within memory count place �
 grows memory zero place is = absurd (cc)
 grows memory (suc count) place is =
     let live = within_live memory (suc count) place is in
-    elim (within_cases memory count place is) as (λ _. is_within memory (suc (suc count)) place ≡ true) [
+    elim (within_cases memory count place is) as
+    (λ _. is_within memory (suc (suc count)) place ≡ true) [
       | inl bug ↦ within_bug memory (suc count) place live bug
       | inr block ↦ within_block memory (suc count) block.before place live
           (grows memory count block.before block.reached) block.held
@@ -117,7 +118,8 @@ closed_next : (memory : Memory) (count : ℕ) → Closed memory count → Closed
 closed_next memory count closed = record {
   stays = λ place is.
       let live = within_live memory (suc (suc count)) place is in
-      elim (within_cases memory (suc count) place is) as (λ _. is_within memory (suc count) place ≡ true) [
+      elim (within_cases memory (suc count) place is) as
+      (λ _. is_within memory (suc count) place ≡ true) [
         | inl bug ↦ within_bug memory count place live bug
         | inr block ↦ within_block memory count block.before place live
             (closed.stays block.before block.reached) block.held
@@ -182,11 +184,11 @@ closed_at_last memory =
     ]
 
 pub reached-is : (memory : Memory) (place : ℕ) → is_reached memory place ≡ true
-    → IsReached memory place
+    → IsReachable memory place
 unfolding is_reached
 reached-is memory place is = within_reached memory (places.len memory.blocks) place is
 
-pub is-reached : (memory : Memory) (place : ℕ) → IsReached memory place
+pub is-reached : (memory : Memory) (place : ℕ) → IsReachable memory place
     → is_reached memory place ≡ true
 unfolding is_reached
 is-reached memory place path =
@@ -200,12 +202,13 @@ reached-live memory place is = within_live memory (places.len memory.blocks) pla
 pub reach-decided : ReachIsDecided
 reach-decided memory place = (reached-is memory place, is-reached memory place)
 
-pub are_reached : (memory : Memory) → AreReached memory (reached_places memory)
+pub are_reached : (memory : Memory) → AreReachable memory (reached_places memory)
 are_reached memory = record {
   rising = IsStrictlyIncreasing-filter (is_reached memory) (places.keys memory.blocks)
       (keys_rise memory.blocks);
   each = λ place. (
-    (λ is. reached-is memory place (filter_has (is_reached memory) (places.keys memory.blocks) place is).1),
+    (λ is. reached-is memory place
+        (filter_has (is_reached memory) (places.keys memory.blocks) place is).1),
     (λ path.
         let passes = is-reached memory place path in
         filter_keeps (is_reached memory) (places.keys memory.blocks) place

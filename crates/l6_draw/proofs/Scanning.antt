@@ -14,17 +14,17 @@ use Rattle.l6_store.proofs.Live.{live_size, live_words}
 use Rattle.l6_draw.proofs.Keys.{key_live, keys_rise, live_key, same_rising}
 use Rattle.l6_draw.proofs.Members.{none_in}
 
--- where a block stands: it begins behind the first unit and ends within the store
+-- where a block is: it begins after the first unit and ends within the store
 pub live_above : (units : ℕ) (blocks : Blocks) → Fits units blocks → (place : ℕ)
     → IsLive blocks place → unit_size ≤ place
 live_above units blocks fits place live =
-    (fits.each place (block_at blocks place) (live_words blocks place live)).stands.above
+    (fits.each place (block_at blocks place) (live_words blocks place live)).is_aligned.above
 
 pub live_within : (units : ℕ) (blocks : Blocks) → Fits units blocks → (place : ℕ)
     → IsLive blocks place → place + length (block_at blocks place) ≤ end_of units
 live_within units blocks fits place live =
     let block = fits.each place (block_at blocks place) (live_words blocks place live) in
-    let within = block.stands.within in
+    let within = block.is_aligned.within in
     let size = block.size in
     omega arith
 
@@ -80,7 +80,7 @@ scanned-none units blocks fits = record {
       absurd (let above = live_above units blocks fits start live in omega arith);
 }
 
--- behind a place where no block begins
+-- after a place where no block begins
 pub scanned-past : (blocks : Blocks) (place : ℕ) (found : List ℕ) → (IsLive blocks place → ⊥)
     → Scanned blocks place found → Scanned blocks (place + 1) found
 scanned-past blocks place found none scanned = record {
@@ -96,7 +96,7 @@ scanned-past blocks place found none scanned = record {
       ];
 }
 
--- and behind a block
+-- and after a block
 pub scanned-block : (units : ℕ) (blocks : Blocks) → Fits units blocks → (place size : ℕ)
     (found : List ℕ) → IsLive blocks place → size ≡ length (block_at blocks place)
     → Scanned blocks place found → Scanned blocks (place + size) (found ++ place ∷ [])

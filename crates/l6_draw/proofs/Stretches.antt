@@ -15,8 +15,8 @@ use Rattle.l6_draw.proofs.Keys.{below_later, key_live, keys_sorted, live_key}
 use Rattle.l6_draw.proofs.Members.{first_in, first_or_later, later_in}
 use Rattle.l6_draw.proofs.Scanning.{live_above, live_apart, live_some, live_within}
 
--- what is true of the blocks that are left, behind a place: they rise from there on, all others end
--- before it, and the store begins there or a word of a block stands before it
+-- what is true of the blocks that are left, after a place: they rise from there on, all others end
+-- before it, and the store begins there or a word of a block is before it
 record Left (units : ℕ) (memory : Memory) (place : ℕ) (starts : List ℕ) : Type 0 where
   sorted : IsStrictlySortedBy nat_cmp starts
   live : (start : ℕ) → Contains starts start → IsLive memory.blocks start
@@ -36,11 +36,11 @@ last_word memory start live some = record {
   below = omega arith;
 }
 
-left_behind : (units : ℕ) (memory : Memory) → Fits units memory.blocks → (place start : ℕ)
+left_following : (units : ℕ) (memory : Memory) → Fits units memory.blocks → (place start : ℕ)
     (starts : List ℕ) → Left units memory place (start ∷ starts)
     → Left units memory (start + size_at memory start) starts
 unfolding IsStrictlySortedBy
-left_behind units memory fits place start starts left =
+left_following units memory fits place start starts left =
     let here = left.live start (first_in start starts) in
     let first = left.above start (first_in start starts) in
     record {
@@ -52,7 +52,8 @@ left_behind units memory fits place start starts left =
           (below_later start other starts left.sorted.0 is);
       others = λ other live.
           elim (left.others other live)
-          as (λ _. Contains starts other ⊎ (other + size_at memory other ≤ start + size_at memory start)) [
+          as (λ _. Contains starts other
+          ⊎ (other + size_at memory other ≤ start + size_at memory start)) [
             | inl among ↦ elim (first_or_later start other starts among)
                 as (λ _. Contains starts other
                 ⊎ (other + size_at memory other ≤ start + size_at memory start)) [
@@ -114,7 +115,8 @@ each_whole : (units : ℕ) (memory : Memory) → Fits units memory.blocks → (p
     (starts : List ℕ) → Left units memory place starts
     → AllByRecursion (IsWhole units memory) (stretches_from memory place (end_of units) starts)
 each_whole units memory fits place [] left = (
-  run_up_to units memory place (end_of units) [] left (λ start is. absurd (let none = is.1 in omega arith))
+  run_up_to units memory place (end_of units) [] left
+      (λ start is. absurd (let none = is.1 in omega arith))
       (inl refl),
   tt,
 )
@@ -125,7 +127,7 @@ each_whole units memory fits place (start ∷ starts) left =
       (
         (here, refl),
         each_whole units memory fits (start + size_at memory start) starts
-            (left_behind units memory fits place start starts left),
+            (left_following units memory fits place start starts left),
       ),
     )
 
@@ -138,12 +140,13 @@ side_by_side units memory fits place (start ∷ starts) left =
     let first = left.above start (first_in start starts) in
     let reaches : place + (start - place) ≡ start = omega arith in
     let rest = side_by_side units memory fits (start + size_at memory start) starts
-    (left_behind units memory fits place start starts left) in (
+    (left_following units memory fits place start starts left) in (
       refl,
       (
         sym reaches,
         subst (λ (p : ℕ). AreSideBySide (p + size_at memory start) (end_of units)
-            (stretches_from memory (start + size_at memory start) (end_of units) starts)) (sym reaches) rest,
+            (stretches_from memory (start + size_at memory start) (end_of units) starts))
+            (sym reaches) rest,
       ),
     )
 

@@ -29,7 +29,8 @@ sum_from units blocks fits from within (start ∷ starts) sorted live above =
     let rest = sum_from units blocks fits (start + size_in blocks start)
     (live_within units blocks fits start here) starts sorted.1
     (λ other is. live other (later_in start other starts is))
-    (λ other is. live_apart units blocks fits start other here (live other (later_in start other starts is))
+    (λ other is. live_apart units blocks fits start other here
+    (live other (later_in start other starts is))
     (below_later start other starts sorted.0 is)) in
     let sum = sum_by-cons (size_in blocks) start starts in
     omega arith
@@ -53,7 +54,7 @@ place_within units blocks fits starts index all within =
 end_small : (units : ℕ) → units ≤ most_units → end_of units < 2 ^ 32
 end_small units most = omega arith
 
--- the place behind it, where its words are looked up in a store
+-- the place after it, where its words are looked up in a store
 pub place_small : (units : ℕ) (given held : Blocks) → given ≡ held → Fits units given
     → units ≤ most_units → (starts : List ℕ) (index : ℕ) → starts ≡ places.keys held
     → index < length starts → (words : List ℕ) → words ≡ block_at given (get_or starts index 0)

@@ -16,7 +16,7 @@ use Rattle.l6_draw.specs.Reach.{held_by, letters, reached_places}
 abbrev pub character_of : ℕ → ℕ
 character_of name = if nat_lt name digit_count then byte "0" + name else byte "A" + (name - digit_count)
 
--- the line of an arrow from a name to a number, behind so many blanks: none where no block begins there
+-- the line of an arrow from a name to a number, after so many blanks: none where no block begins there
 abbrev pub arrow : Memory → List ℕ → ℕ → ℕ → List ℕ
 arrow memory margin name number =
     if places.contains_key memory.blocks number

@@ -5,22 +5,22 @@ use Rattle.std.specs.List.{AllByRecursion}
 use Rattle.l6_word.specs.Numerals.{unit_size}
 use Rattle.l6_store.specs.Blocks.{Blocks, Fits, IsLive, LiesIn, end_of}
 use Rattle.l6_steps.specs.State.{Memory}
-use Rattle.l6_draw.specs.Reach.{AreReached, IsReached, is_reached, reached_places}
+use Rattle.l6_draw.specs.Reach.{AreReachable, IsReachable, is_reached, reached_places}
 use Rattle.l6_draw.specs.StoreMap.{Stretch, size_at, stretches}
 
--- the test tells whether a path ends at a place
+-- the test is true exactly if a path ends at the place
 abbrev pub ReachIsDecided : Type 0
 ReachIsDecided =
-    (memory : Memory) (place : ℕ) → (is_reached memory place ≡ true) ↔ IsReached memory place
+    (memory : Memory) (place : ℕ) → (is_reached memory place ≡ true) ↔ IsReachable memory place
 
 -- the places that are reached are a rising list, and no other list is
 abbrev pub ReachIsSettled : Type 0
 ReachIsSettled =
-    (memory : Memory) → AreReached memory (reached_places memory)
-    × ((others : List ℕ) → AreReached memory others → others ≡ reached_places memory)
+    (memory : Memory) → AreReachable memory (reached_places memory)
+    × ((others : List ℕ) → AreReachable memory others → others ≡ reached_places memory)
 
 -- words of a store that lie in no block and are a longest run of such: before them the store begins or
--- a word of a block stands, and behind them it ends or a block begins
+-- a word of a block is, and after them it ends or a block begins
 pub record IsFreeRun (units : ℕ) (blocks : Blocks) (from size : ℕ) : Type 0 where
   pub free : (place : ℕ) → from ≤ place → place < from + size → LiesIn blocks place → ⊥
   pub begins : (from ≡ unit_size) ⊎ LiesIn blocks (from - 1)

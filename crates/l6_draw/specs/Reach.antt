@@ -1,4 +1,4 @@
--- Which blocks a program can still come to, from its bugs and along its fields.
+-- Which blocks a program can still reach, from its bugs and along its fields.
 use Rattle.std.specs.Prelude.{ℕ, zero, suc, ◌-◌, ◌==◌, ◌&&◌, ◌||◌, Bool, false, List, [], ◌∷◌, map, slice_get, Option, Some, None, option_map, ◌↔◌}
 use Rattle.std.specs.List.{Contains, filter, filter_map, list_any, range_with_len}
 use Rattle.std.specs.List.Sorted.{IsStrictlyIncreasing}
@@ -31,7 +31,7 @@ held_by words (Some window) = option_map (windows.take window) (slice_get words 
 abbrev pub held_in : Memory → ℕ → List ℕ
 held_in memory place = filter_map (held_by (block_at memory.blocks place)) memory.definitions
 
--- a path, its last place first: a bug holds the first place, each further one stands in a field of
+-- a path, its last place first: a bug holds the first place, each further one is in a field of
 -- the block before it, and a block begins at each. What is saved on the pushdowns begins no path.
 abbrev pub IsPath : Memory → List ℕ → Type 0
 IsPath memory [] = ⊥
@@ -41,13 +41,13 @@ IsPath memory (place ∷ (before ∷ older)) =
     × IsPath memory (before ∷ older)
 
 -- a place is reached if a path ends there
-abbrev pub IsReached : Memory → ℕ → Type 0
-IsReached memory place = (older : List ℕ) × IsPath memory (place ∷ older)
+abbrev pub IsReachable : Memory → ℕ → Type 0
+IsReachable memory place = (older : List ℕ) × IsPath memory (place ∷ older)
 
 -- these are the places that are reached, rising and each once
-pub record AreReached (memory : Memory) (reached : List ℕ) : Type 0 where
+pub record AreReachable (memory : Memory) (reached : List ℕ) : Type 0 where
   pub rising : IsStrictlyIncreasing reached
-  pub each : (place : ℕ) → Contains reached place ↔ IsReached memory place
+  pub each : (place : ℕ) → Contains reached place ↔ IsReachable memory place
 
 -- whether a path of at most so many places ends there
 abbrev pub is_within : Memory → ℕ → ℕ → Bool
@@ -56,7 +56,8 @@ is_within memory (suc count) place =
     places.contains_key memory.blocks place
     && (list_any (λ held. held == place) (held_by_bugs memory)
     || list_any
-    (λ before. is_within memory count before && list_any (λ held. held == place) (held_in memory before))
+    (λ before. is_within memory count before && list_any (λ held. held == place)
+    (held_in memory before))
     (places.keys memory.blocks))
 
 -- whether a place is reached: a path need not come to a block twice

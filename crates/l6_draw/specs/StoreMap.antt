@@ -26,7 +26,7 @@ block_from memory place =
     record { from = place; size = size_at memory place; is_block = true }
 
 -- the stretches from a place up to the end of the store, where these blocks begin, places rising: the
--- words up to the next block, that block, and what is behind it
+-- words up to the next block, that block, and what is after it
 abbrev pub stretches_from : Memory → ℕ → ℕ → List ℕ → List Stretch
 stretches_from memory place end [] = words_up_to place end ∷ []
 stretches_from memory place end (start ∷ starts) =

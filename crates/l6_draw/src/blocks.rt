@@ -18,7 +18,7 @@ use l6_store::{Place, Places};
 use l6_word::{UNIT_SIZE, Window, Word};
 use std::alloc::{AllocError, Global};
 
-/// The place behind a store of so many units.
+/// The place after a store of so many units.
 pub(crate) fn end_of(units: u32) -> Place
     requires { units ≤ most_units }
     ensures { result ≡ store.end_of units }
@@ -60,7 +60,7 @@ pub(crate) fn words_at<S: Places>(store: &S, place: Place) -> &[u64]
 pub(crate) fn bug<S: Places>(machine: &Machine<S>, letter: u8) -> Word
     requires letter { first_letter ≤ letter }
     requires name { letter < name_count }
-    ensures { result ≡ content machine.now.moment.state.memory (Bug letter) }
+    ensures { result ≡ content machine.now.configuration.state.memory (Bug letter) }
 {
     match Name::new(letter) {
         Some(name) => machine.bug(name),

@@ -16,12 +16,16 @@ use l6_store::{Place, Places};
 use l6_word::Word;
 use std::alloc::{AllocError, Global};
 
-/// A drawing of the blocks that the machine's program can still come to: a line for each bug that
-/// holds the place of a block; each of those blocks, places rising, with its size and a line for each
-/// field in it that holds the place of a block; and how many blocks these are.
+/// A drawing of the blocks that the machine's program can still reach: a line for each bug that
+/// holds the place of a block; each of those blocks, places rising, with its size and a line for
+/// each field in it that holds the place of a block; and how many blocks these are.
+///
+/// # Errors
+///
+/// Memory ran out.
 #[tactic(auto, unfolding(crate::specs::Drawing::drawing))]
 pub fn drawing<S: Places>(alloc: Global, machine: &Machine<S>) -> Result<Vec<u8>, AllocError>
-    ensures { IfOk result (λ text. text.items ≡ spec.drawing machine.now.moment.state.memory) }
+    ensures { IfOk result (λ text. text.items ≡ spec.drawing machine.now.configuration.state.memory) }
 {
     let places = reachable(alloc, machine)?;
     let mut text = Vec::new(alloc);
@@ -35,7 +39,7 @@ pub fn drawing<S: Places>(alloc: Global, machine: &Machine<S>) -> Result<Vec<u8>
 /// Adds the lines of the bugs.
 fn push_bugs<S: Places>(text: &mut Vec<u8>, machine: &Machine<S>) -> Result<(), AllocError>
     ensures { OnOk result (text.new.items ≡ text.old.items
-        ++ flat_map (spec.bug_line machine.now.moment.state.memory) letters) }
+        ++ flat_map (spec.bug_line machine.now.configuration.state.memory) letters) }
 {
     for letter in DIGITS..NAMES {
         push_arrow(text, machine, b"", letter, bug(machine, letter))?;
@@ -50,7 +54,7 @@ fn push_blocks<S: Places>(
     places: &[Place],
 ) -> Result<(), AllocError>
     ensures { OnOk result (text.new.items ≡ text.old.items
-        ++ flat_map (spec.block_lines machine.now.moment.state.memory) places.now) }
+        ++ flat_map (spec.block_lines machine.now.configuration.state.memory) places.now) }
 {
     for place in places {
         push_block(text, machine, *place)?;
@@ -65,7 +69,7 @@ fn push_block<S: Places>(
     place: Place,
 ) -> Result<(), AllocError>
     ensures { OnOk result (text.new.items
-        ≡ text.old.items ++ spec.block_lines machine.now.moment.state.memory place) }
+        ≡ text.old.items ++ spec.block_lines machine.now.configuration.state.memory place) }
 {
     let words = words_at(machine.store(), place);
     text.extend_from_slice(b"BLOCK ")?;
@@ -83,7 +87,7 @@ fn push_fields<S: Places>(
     words: &[u64],
 ) -> Result<(), AllocError>
     requires { All (λ word. word < 2 ^ word_bits) words.now }
-    ensures { let memory = machine.now.moment.state.memory in
+    ensures { let memory = machine.now.configuration.state.memory in
         OnOk result (text.new.items ≡ text.old.items
         ++ flat_map (spec.field_line memory words.now) (enumerate_from 0 memory.definitions)) }
 {
@@ -95,7 +99,7 @@ fn push_fields<S: Places>(
     Ok(())
 }
 
-/// Adds the line of an arrow from the name of this number to a number, behind some blanks, if a block
+/// Adds the line of an arrow from the name of this number to a number, after some blanks, if a block
 /// begins there.
 fn push_arrow<S: Places>(
     text: &mut Vec<u8>,
@@ -106,7 +110,7 @@ fn push_arrow<S: Places>(
 ) -> Result<(), AllocError>
     requires { name < name_count }
     ensures { OnOk result (text.new.items ≡ text.old.items
-        ++ spec.arrow machine.now.moment.state.memory margin.now name number) }
+        ++ spec.arrow machine.now.configuration.state.memory margin.now name number) }
 {
     if machine.store().live(number).is_some() {
         text.extend_from_slice(margin)?;

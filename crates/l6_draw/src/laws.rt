@@ -9,8 +9,8 @@ pub fn reach_is_settled()
     ensures settled { ReachIsSettled }
 {}
 
-/// The map of a store tells whole blocks and longest runs of free words, side by side from the store's
-/// first place to its end.
+/// The map of a store shows whole blocks and longest runs of free words, side by side from the
+/// store's first place to its end.
 pub fn map_is_whole()
     ensures { MapIsWhole }
 {}

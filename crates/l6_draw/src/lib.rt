@@ -1,4 +1,4 @@
-//! What a machine's memory looks like: which blocks its program can still come to, a drawing of them,
+//! What a machine's memory looks like: which blocks its program can still reach, a drawing of them,
 //! and a map of the store.
 #![tactic(auto)]
 

@@ -9,25 +9,29 @@ ghost use Rattle.l6_draw.specs.Reach.{is_reached};
 ghost use Rattle.l6_draw.specs.StoreMap as spec;
 
 use crate::blocks::{end_of, places, words_at};
-use crate::walk::{is_marked, marks};
+use crate::walk::{is_visited, visited};
 use l6_machine::{Machine, push_decimal};
 use l6_store::{Place, Places};
 use l6_word::UNIT_SIZE;
 use std::alloc::{AllocError, Global};
 
-/// A map of the machine's store: in the order of places a line for each block, with ` LOST` behind it
-/// where the program can come to it no more, and a line for each longest run of words that lie in no
-/// block; and how many words lie in blocks and how many do not.
+/// A map of the machine's store: in the order of places a line for each block, with ` LOST` after
+/// it if the program can no longer reach it, and a line for each longest run of words that are in
+/// no block; and how many words are in blocks and how many are not.
+///
+/// # Errors
+///
+/// Memory ran out.
 #[tactic(auto, unfolding(crate::specs::StoreMap::store_map))]
 pub fn store_map<S: Places>(alloc: Global, machine: &Machine<S>) -> Result<Vec<u8>, AllocError>
     ensures { IfOk result (λ text. text.items
-        ≡ spec.store_map machine.now.world.setting.units machine.now.moment.state.memory) }
+        ≡ spec.store_map machine.now.context.parameters.units machine.now.configuration.state.memory) }
 {
     let store = machine.store();
     let places = places(alloc, store)?;
-    let marks = marks(alloc, machine, places.len())?;
+    let visited = visited(alloc, machine, places.len())?;
     let mut text = Vec::new(alloc);
-    push_stretches(&mut text, machine, &places, &marks)?;
+    push_stretches(&mut text, machine, &places, &visited)?;
     let used = used_in(store, &places);
     push_sums(
         &mut text,
@@ -43,13 +47,13 @@ fn push_stretches<S: Places>(
     text: &mut Vec<u8>,
     machine: &Machine<S>,
     places: &[Place],
-    marks: &[bool],
+    visited: &[bool],
 ) -> Result<(), AllocError>
-    requires places { places.now ≡ map.keys machine.now.moment.state.memory.blocks }
-    requires marks { (place : ℕ) → slice_index_or marks.now place false
-        ≡ is_reached machine.now.moment.state.memory place }
-    ensures { let units = machine.now.world.setting.units in
-        let memory = machine.now.moment.state.memory in
+    requires places { places.now ≡ map.keys machine.now.configuration.state.memory.blocks }
+    requires visited { (place : ℕ) → slice_index_or visited.now place false
+        ≡ is_reached machine.now.configuration.state.memory place }
+    ensures { let units = machine.now.context.parameters.units in
+        let memory = machine.now.configuration.state.memory in
         OnOk result (text.new.items ≡ text.old.items
         ++ flat_map (spec.line_of memory)
         (spec.stretches_from memory unit_size (blocks.end_of units) places.now)) }
@@ -60,7 +64,7 @@ fn push_stretches<S: Places>(
     for place in places {
         push_free(text, from, place.saturating_sub(from))?;
         let size = words_at(store, *place).len() as Place;
-        push_block(text, *place, size, is_marked(marks, *place))?;
+        push_block(text, *place, size, is_visited(visited, *place))?;
         from = *place + size;
     }
     push_free(text, from, end.saturating_sub(from))

@@ -1,4 +1,4 @@
-//! The walk over what is reached.
+//! The walk that finds what is reached, as the mark phase of mark and sweep does.
 
 ghost use Rattle.std.specs.Prelude.{◌≡◌, ℕ, ◌<◌, ◌≤◌, ◌++◌, ◌↔◌, false, [], length, replicate, slice_index_or, option_to_list, ◌^◌, IfOk, IsSome, IsTrue, OnOk};
 ghost use Rattle.l6_draw.specs.Reach.{held_by_bugs, held_in, is_reached};
@@ -12,11 +12,11 @@ use l6_word::Word;
 use std::alloc::{AllocError, Global};
 use std::marker::Model;
 
-/// Which places are marked, and at which of them the walk has still to look.
+/// Which places are visited, and which of them the walk has not looked at yet.
 #[derive(Drop)]
 struct Walk {
     // by the number of the place
-    marks: Vec<bool>,
+    visited: Vec<bool>,
     waiting: Vec<Place>,
 }
 
@@ -29,47 +29,48 @@ impl Model for Walk {
 
     ghost coded = { Prim.hlevel (codes) };
 
-    ghost view = { λ walk. record { marks = walk.marks.items; waiting = walk.waiting.items } };
+    ghost view = { λ walk. record { visited = walk.visited.items; waiting = walk.waiting.items } };
 
-    ghost invariant = { λ walk. length walk.marks.items ≤ 2 ^ 32 };
+    ghost invariant = { λ walk. length walk.visited.items ≤ 2 ^ 32 };
 }
 
 impl Walk {
-    /// None of the places before this one is marked yet, and there is room for so many blocks.
+    /// A walk over the places below this one, none of them visited yet, with room for so many
+    /// blocks.
     fn new(alloc: Global, end: Place, blocks: usize) -> Result<Self, AllocError>
-        ensures { IfOk result (λ walk. walk ≡ record { marks = replicate end false; waiting = [] }) }
+        ensures { IfOk result (λ walk. walk ≡ record { visited = replicate end false; waiting = [] }) }
     {
         Ok(Walk {
-            marks: vec![in alloc; false; end as usize]?,
+            visited: vec![in alloc; false; end as usize]?,
             waiting: Vec::with_capacity(alloc, blocks)?,
         })
     }
 
-    /// Whether a block begins at the place of this number, and it has no mark yet.
+    /// Whether a block begins at the place of this number, and is not visited yet.
     fn is_new<S: Places>(&self, store: &S, number: Word) -> bool
-        ensures value { result ≡ is_new (S.store store.now).blocks self.now.marks number }
-        ensures within { IsTrue result → number < length self.now.marks }
+        ensures value { result ≡ is_new (S.store store.now).blocks self.now.visited number }
+        ensures within { IsTrue result → number < length self.now.visited }
         ensures place { IsTrue result → number < 2 ^ 32 }
     {
         let index = number.get() as usize;
-        index < self.marks.len() && !self.marks[index] && store.live(number).is_some()
+        index < self.visited.len() && !self.visited[index] && store.live(number).is_some()
     }
 
-    /// Marks the place of this number if it is new.
+    /// Marks the place of this number as visited, and lists it, if it is new.
     #[tactic(auto, unfolding(crate::specs::inner::Walk::met))]
     fn meet<S: Places>(&mut self, store: &S, number: Word) -> Result<(), AllocError>
         ensures { OnOk result (self.new ≡ met (S.store store.now).blocks number self.old) }
     {
         if self.is_new(store, number) {
-            self.marks[number.get() as usize] = true;
+            self.visited[number.get() as usize] = true;
             self.waiting.push(number.get() as Place)?;
         }
         Ok(())
     }
 
-    /// Meets what the bugs hold.
+    /// Marks what the bugs hold.
     fn meet_bugs<S: Places>(&mut self, machine: &Machine<S>) -> Result<(), AllocError>
-        ensures { let memory = machine.now.moment.state.memory in
+        ensures { let memory = machine.now.configuration.state.memory in
             OnOk result (self.new ≡ all_met memory.blocks (held_by_bugs memory) self.old) }
     {
         for letter in DIGITS..NAMES {
@@ -78,13 +79,13 @@ impl Walk {
         Ok(())
     }
 
-    /// Meets what the fields hold in the block at a place.
+    /// Marks what the fields hold in the block at a place.
     fn meet_fields<S: Places>(
         &mut self,
         machine: &Machine<S>,
         place: Place,
     ) -> Result<(), AllocError>
-        ensures { let memory = machine.now.moment.state.memory in
+        ensures { let memory = machine.now.configuration.state.memory in
             OnOk result (self.new ≡ all_met memory.blocks (held_in memory place) self.old) }
     {
         let words = words_at(machine.store(), place);
@@ -96,9 +97,9 @@ impl Walk {
         Ok(())
     }
 
-    /// Takes a place at which the walk has still to look, if there is one.
+    /// Takes a place that the walk has not looked at yet, if there is one.
     fn next(&mut self) -> Option<Place>
-        ensures marks { self.new.marks ≡ self.old.marks }
+        ensures visited { self.new.visited ≡ self.old.visited }
         ensures waiting { self.old.waiting ≡ self.new.waiting ++ option_to_list result }
         ensures none { IsSome result ↔ (0 < length self.old.waiting) }
     {
@@ -107,28 +108,28 @@ impl Walk {
 }
 
 /// For each place whether it is reached, in a store with so many blocks.
-pub(crate) fn marks<S: Places>(
+pub(crate) fn visited<S: Places>(
     alloc: Global,
     machine: &Machine<S>,
     blocks: usize,
 ) -> Result<Vec<bool>, AllocError>
-    ensures { IfOk result (λ marks. (place : ℕ) → slice_index_or marks.items place false
-        ≡ is_reached machine.now.moment.state.memory place) }
+    ensures { IfOk result (λ visited. (place : ℕ) → slice_index_or visited.items place false
+        ≡ is_reached machine.now.configuration.state.memory place) }
 {
     let mut walk = Walk::new(alloc, end_of(machine.store().units()), blocks)?;
     walk.meet_bugs(machine)?;
     while let Some(place) = walk.next() {
         walk.meet_fields(machine, place)?;
     }
-    Ok(walk.marks)
+    Ok(walk.visited)
 }
 
-/// Whether a place is marked.
-pub(crate) fn is_marked(marks: &[bool], place: Place) -> bool
-    ensures { result ≡ slice_index_or marks.now place false }
+/// Whether a place is visited.
+pub(crate) fn is_visited(visited: &[bool], place: Place) -> bool
+    ensures { result ≡ slice_index_or visited.now place false }
 {
-    match marks.get(place as usize) {
-        Some(mark) => *mark,
+    match visited.get(place as usize) {
+        Some(visit) => *visit,
         None => false,
     }
 }

@@ -8,19 +8,19 @@ use Rattle.l6_group.specs.Element.{is_comma, elements_of}
 use Rattle.l6_group.specs.Test.{test_from}
 use Rattle.l6_group.specs.Operation.{operation_from}
 
-elements-front : (front behind : List ℕ) →
+elements-front : (front following : List ℕ) →
     lacks (byte ",") front ≡ true →
-    elements_of (front ++ byte "," ∷ behind) ≡ front ∷ elements_of behind
-elements-front [] behind lacking = refl
-elements-front (first ∷ rest) behind lacking =
+    elements_of (front ++ byte "," ∷ following) ≡ front ∷ elements_of following
+elements-front [] following lacking = refl
+elements-front (first ∷ rest) following lacking =
     let parts = lacks-cons (byte ",") first rest lacking in
-    rw parts.0 (ap (onto_first first) (elements-front rest behind parts.1))
+    rw parts.0 (ap (onto_first first) (elements-front rest following parts.1))
 
 -- the first element ends at the first comma
-elements-cut : {columns front behind : List ℕ} →
-    IsCutAt (byte ",") columns front behind → elements_of columns ≡ front ∷ elements_of behind
-elements-cut {columns} {front} {behind} cut = ap elements_of cut.whole
-    ∙ elements-front front behind cut.first
+elements-cut : {columns front following : List ℕ} →
+    IsCutAt (byte ",") columns front following → elements_of columns ≡ front ∷ elements_of following
+elements-cut {columns} {front} {following} cut = ap elements_of cut.whole
+    ∙ elements-front front following cut.first
 
 -- columns without a comma are one element
 elements-lacks : (columns : List ℕ) → lacks (byte ",") columns ≡ true →
@@ -30,7 +30,7 @@ elements-lacks (first ∷ rest) lacking =
     let parts = lacks-cons (byte ",") first rest lacking in
     rw parts.0 (ap (onto_first first) (elements-lacks rest parts.1))
 
--- columns that may have been cut at their first comma: one element, or the first and those behind
+-- columns that may have been cut at their first comma: one element, or the first and those after
 -- it
 pub elements-first : (columns : List ℕ) (found : Option (Bor (List ℕ) × Bor (List ℕ))) →
     IfNone found (lacks (byte ",") columns ≡ true) →
@@ -46,17 +46,17 @@ pub record HasElement (elements : List (List ℕ)) : Type 0 where
   pub others : List (List ℕ)
   pub all : elements ≡ first ∷ others
 
-element_behind : (is_mark : Bool) (column : ℕ) (parts : List (List ℕ)) →
+element_following : (is_mark : Bool) (column : ℕ) (parts : List (List ℕ)) →
     HasElement (cond is_mark ([] ∷ parts) (onto_first column parts))
-element_behind true column parts = record { first = []; others = parts; all = refl }
-element_behind false column [] = record { first = column ∷ []; others = []; all = refl }
-element_behind false column (part ∷ parts) =
+element_following true column parts = record { first = []; others = parts; all = refl }
+element_following false column [] = record { first = column ∷ []; others = []; all = refl }
+element_following false column (part ∷ parts) =
     record { first = column ∷ part; others = parts; all = refl }
 
 -- columns have an element
 has_element : (columns : List ℕ) → HasElement (elements_of columns)
 has_element [] = record { first = []; others = []; all = refl }
-has_element (column ∷ columns) = element_behind (is_comma column) column (elements_of columns)
+has_element (column ∷ columns) = element_following (is_comma column) column (elements_of columns)
 
 -- six elements or more are no operation
 pub operation_from-many : (a b d e f others : List ℕ) →

@@ -7,9 +7,9 @@ use Rattle.std.proofs.lemmas.Bool.{le-ltb, and_right}
 use Rattle.l6_group.specs.Number.{number_from}
 use Rattle.l6_word.specs.Numerals.{word_bits}
 
--- the number that digits make behind a value, where there is a digit
-abbrev pub number_behind : ℕ → ℕ → Bool → List ℕ → Option ℕ
-number_behind base value begun digits =
+-- the number that digits make after a value, where there is a digit
+abbrev pub number_following : ℕ → ℕ → Bool → List ℕ → Option ℕ
+number_following base value begun digits =
     let number = number_from_digits_after base value digits in
     if (begun || nat_lt 0 (length digits)) && nat_lt number
     (2 ^ word_bits) then Some number else None
@@ -17,7 +17,7 @@ number_behind base value begun digits =
 -- the same, of digits that were read
 abbrev pub number_after : ℕ → ℕ → Bool → Option (List ℕ) → Option ℕ
 number_after base value begun None = None
-number_after base value begun (Some digits) = number_behind base value begun digits
+number_after base value begun (Some digits) = number_following base value begun digits
 
 -- what follows a value too large for a word makes no number
 pub large_number : (base value : ℕ) (begun : Bool) (others : Option (List ℕ)) →

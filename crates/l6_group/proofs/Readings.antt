@@ -11,7 +11,7 @@ use Rattle.l6_group.specs.Number.{onto_read, each_read}
 abbrev pub with_read : List ℕ → Option (List ℕ) → Option (List ℕ)
 with_read front others = option_map (λ all. front ++ all) others
 
--- an element from a place on: the character there is read as this, and then come those behind it
+-- an element from a place on: the character there is read as this, and then come those after it
 pub read_on : (read : ℕ → Option ℕ) (element : List ℕ) (place one : ℕ) → place < length element →
     is_blank (get_or element place 0) ≡ false → read (get_or element place 0) ≡ Some one →
     each_read read (drop place element) ≡ onto_read (Some one)

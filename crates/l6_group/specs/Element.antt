@@ -18,7 +18,7 @@ is_comma given = given == byte ","
 abbrev pub elements_of : List ℕ → List (List ℕ)
 elements_of columns = slice_split is_comma columns
 
--- the names of an element, its blanks left out; none where another character stands in it
+-- the names of an element, its blanks left out; none where another character is in it
 abbrev pub names_of : List ℕ → Option (List ℕ)
 names_of element = each_read name_of element
 

@@ -13,7 +13,7 @@ use Rattle.l6_group.specs.Numerals.{most_text_characters}
 use Rattle.l6_group.specs.Character.{is_blank}
 use Rattle.l6_group.specs.Spelling.{◌>>=◌}
 
--- what one character is read as, in front of what those behind it are
+-- what one character is read as, in front of what those after it are
 abbrev pub onto_read : Option ℕ → Option (List ℕ) → Option (List ℕ)
 onto_read None others = None
 onto_read (Some one) others = option_map (λ all. one ∷ all) others

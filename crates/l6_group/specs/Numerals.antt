@@ -1,4 +1,4 @@
--- The numbers of the language that groups stand on.
+-- The numbers of the language that groups use.
 use Rattle.std.specs.Prelude.{ℕ}
 
 -- how many characters a label may have

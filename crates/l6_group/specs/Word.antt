@@ -38,8 +38,8 @@ conditions =
 abbrev pub condition_from : List ℕ → Option Cond
 condition_from characters = find_spelled conditions characters
 
--- the characters behind a THEN that they begin with
+-- the characters after a THEN that they begin with
 abbrev pub after_then : List ℕ → Option (List ℕ)
-after_then (t ∷ h ∷ e ∷ n ∷ behind) =
-    if t == byte "T" && h == byte "H" && e == byte "E" && n == byte "N" then Some behind else None
+after_then (t ∷ h ∷ e ∷ n ∷ following) =
+    if t == byte "T" && h == byte "H" && e == byte "E" && n == byte "N" then Some following else None
 after_then _ = None

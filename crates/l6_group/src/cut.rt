@@ -5,7 +5,7 @@ ghost use Rattle.l6_group.specs.Element as spec;
 
 use l6_word::split_at_mark;
 
-/// The first element of a group and the columns behind its comma; `None` where there is no comma,
+/// The first element of a group and the columns after its comma; `None` where there is no comma,
 /// and so no second element.
 pub(crate) fn first_element(columns: &[u8]) -> Option<(&[u8], &[u8])>
     ensures { let elements = spec.elements_of columns.now in

@@ -17,7 +17,7 @@ use std::marker::Model;
 /// How many characters a label may have.
 pub const MAX_LABEL_CHARACTERS: usize = 6;
 
-/// What names a statement in a deck: a capital letter, and up to 5 capital letters or digits behind
+/// What names a statement in a deck: a capital letter, and up to 5 capital letters or digits after
 /// it. `DONE` and `FAIL` are no labels.
 // A deck keeps one for each operation that may name a label, so it is as small as can be.
 #[derive(Debug, Drop)]

@@ -14,8 +14,8 @@ use l6_prog::{Chain, Op, Operand};
 /// How many characters the longest spelling has.
 const MAX_SPELLING: usize = 2;
 
-/// What is done: a spelling of the table of operations or of tests.
-pub(crate) type Verb<'a> = Spelling<'a, MAX_SPELLING>;
+/// The spelling of an operation or a test, as the tables have it.
+pub(crate) type OperationWord<'a> = Spelling<'a, MAX_SPELLING>;
 
 /// The operation that a group with these columns between its parentheses spells. The number of
 /// elements decides how they are read.
@@ -44,7 +44,7 @@ pub fn operation_of(columns: &[u8]) -> Option<Op<Label>>
 fn of_one(verb: &[u8]) -> Option<Op<Label>>
     ensures { result ≡ spec.of_one verb.now }
 {
-    let verb: Verb<'_> = spelled(verb)?;
+    let verb: OperationWord<'_> = spelled(verb)?;
     match verb.as_slice() {
         b"PL" => Some(Op::PrintLine),
         _ => None,
@@ -55,7 +55,7 @@ fn of_one(verb: &[u8]) -> Option<Op<Label>>
 fn of_two(a: &[u8], verb: &[u8]) -> Option<Op<Label>>
     ensures { result ≡ spec.of_two a.now verb.now }
 {
-    let verb: Verb<'_> = spelled(verb)?;
+    let verb: OperationWord<'_> = spelled(verb)?;
     match verb.as_slice() {
         b"FR" => free(a),
         b"DO" => call(a),
@@ -105,7 +105,7 @@ fn print_text(text: &[u8]) -> Option<Op<Label>>
 fn of_three(a: &[u8], verb: &[u8], b: &[u8]) -> Option<Op<Label>>
     ensures { result ≡ spec.of_three a.now verb.now b.now }
 {
-    let verb: Verb<'_> = spelled(verb)?;
+    let verb: OperationWord<'_> = spelled(verb)?;
     match verb.as_slice() {
         b"I" => exchange(a, b),
         b"FC" => content_operation(a, b),
@@ -173,7 +173,7 @@ fn print_characters(chain: &[u8], count: &[u8]) -> Option<Op<Label>>
 fn content_operation(verb: &[u8], chain: &[u8]) -> Option<Op<Label>>
     ensures { result ≡ spec.content_operation verb.now chain.now }
 {
-    let verb: Verb<'_> = spelled(verb)?;
+    let verb: OperationWord<'_> = spelled(verb)?;
     match verb.as_slice() {
         b"S" => Some(Op::SaveContent(chain_of(chain)?)),
         b"R" => Some(Op::RestoreContent(chain_of(chain)?)),
@@ -185,7 +185,7 @@ fn content_operation(verb: &[u8], chain: &[u8]) -> Option<Op<Label>>
 fn definition_operation(verb: &[u8], field: &[u8]) -> Option<Op<Label>>
     ensures { result ≡ spec.definition_operation verb.now field.now }
 {
-    let verb: Verb<'_> = spelled(verb)?;
+    let verb: OperationWord<'_> = spelled(verb)?;
     match verb.as_slice() {
         b"S" => Some(Op::SaveDefinition(field_of(field)?)),
         b"R" => Some(Op::RestoreDefinition(field_of(field)?)),
@@ -228,7 +228,7 @@ fn with_letter(letter: u8, chain: Chain, value: Operand) -> Option<Op<Label>>
 fn of_four(a: &[u8], verb: &[u8], b: &[u8], d: &[u8]) -> Option<Op<Label>>
     ensures { result ≡ spec.of_four a.now verb.now b.now d.now }
 {
-    let verb: Verb<'_> = spelled(verb)?;
+    let verb: OperationWord<'_> = spelled(verb)?;
     match verb.as_slice() {
         b"GT" => Some(Op::Get(chain_of(a)?, operand_of(b)?, Some(chain_of(d)?), None)),
         b"IN" => Some(Op::Input(chain_of(a)?, operand_of(b)?, Some(label_of(d)?))),
@@ -256,7 +256,7 @@ fn definition(verb: &[u8], word: &[u8], first: &[u8], last: &[u8]) -> Option<Op<
 fn of_five(a: &[u8], verb: &[u8], b: &[u8], d: &[u8], e: &[u8]) -> Option<Op<Label>>
     ensures { result ≡ spec.of_five a.now verb.now b.now d.now e.now }
 {
-    let verb: Verb<'_> = spelled(verb)?;
+    let verb: OperationWord<'_> = spelled(verb)?;
     match verb.as_slice() {
         b"GT" => {
             Some(Op::Get(

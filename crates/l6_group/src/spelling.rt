@@ -14,7 +14,7 @@ pub struct Spelling<'a, const ROOM: usize> {
     characters: Characters<'a, ROOM>,
 }
 
-/// Where characters stand. Most elements are spelled as they stand on the card, and need no copy.
+/// Where the characters are. Most elements are spelled as they are on the card, and need no copy.
 #[derive(Drop)]
 enum Characters<'a, const ROOM: usize> {
     /// On the card.

@@ -5,7 +5,7 @@ ghost use Rattle.l6_group.specs.Test as spec;
 
 use crate::cut::first_element;
 use crate::element::chain_of;
-use crate::operation::Verb;
+use crate::operation::OperationWord;
 use crate::spelling::spelled;
 use crate::value::value_of;
 use l6_prog::{Comparison, Test};
@@ -26,7 +26,7 @@ pub fn test_of(columns: &[u8]) -> Option<Test>
 fn of_three(target: &[u8], verb: &[u8], operand: &[u8]) -> Option<Test>
     ensures { result ≡ spec.of_three target.now verb.now operand.now }
 {
-    let verb: Verb<'_> = spelled(verb)?;
+    let verb: OperationWord<'_> = spelled(verb)?;
     let (letter, suffix) = verb.as_slice().split_first()?;
     Some(Test {
         comparison: comparison_of(*letter)?,

@@ -39,13 +39,13 @@ pub fn condition_from(characters: &[u8]) -> Option<Cond>
     }
 }
 
-/// The characters behind a THEN that they begin with.
+/// The characters after a THEN that they begin with.
 pub fn after_then(characters: &[u8]) -> Option<&[u8]>
     ensures { MatchOption result (spec.after_then characters.now ≡ None)
-        (λ behind. spec.after_then characters.now ≡ Some behind.now) }
+        (λ following. spec.after_then characters.now ≡ Some following.now) }
 {
     match characters {
-        [b'T', b'H', b'E', b'N', behind @ ..] => Some(behind),
+        [b'T', b'H', b'E', b'N', following @ ..] => Some(following),
         _ => None,
     }
 }

@@ -21,11 +21,11 @@ module _ {A : Type 0} (at : List ℕ → Option (A × List ℕ)) (front : List A
   left more = omega arith
 
   -- one more was read
-  pub goes_on : (x : A) (behind words : List ℕ) → counter < count → at rest ≡ Some (x, behind) →
+  pub goes_on : (x : A) (following words : List ℕ) → counter < count → at rest ≡ Some (x, following) →
       with_front front (many at (count - counter) rest) ≡ many at count words →
-      with_front (front ++ x ∷ []) (many at (count - (counter + 1)) behind) ≡ many at count words
-  goes_on x behind words more read so_far =
-      sym (with_front-more front x (many at (count - (counter + 1)) behind))
+      with_front (front ++ x ∷ []) (many at (count - (counter + 1)) following) ≡ many at count words
+  goes_on x following words more read so_far =
+      sym (with_front-more front x (many at (count - (counter + 1)) following))
       ∙ sym (ap (λ n. with_front front (many at n rest)) (left more)
       ∙ ap (λ found. with_front front (found >>= (λ first.
       many at (count - (counter + 1)) first.1 >>= (λ others. Some (first.0 ∷ others.0, others.1)))))

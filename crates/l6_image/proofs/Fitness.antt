@@ -17,7 +17,7 @@ use Rattle.l6_image.specs.Numerals.{no_name}
 use Rattle.l6_image.specs.Row.{Slot, absent, chain, number, text, Row, sixes, slot_words, row_head, row_words, is_name, is_word, is_slot, is_row}
 use Rattle.l6_image.specs.Table.{row_of, row_of_test}
 use Rattle.l6_image.specs.Image.{header, test_words, operation_words, words_in_statement, body, words_in, HasImage, has_values}
-use Rattle.l6_image.specs.Version.{mark, most_in}
+use Rattle.l6_image.specs.Version.{magic, most_in}
 use Rattle.l6_image.specs.declared.version.Version.{Version}
 use Rattle.l6_image.specs.declared.version.Version.TheVariants.{One, Two}
 use Rattle.l6_image.proofs.Packing.{packed-below}
@@ -126,9 +126,9 @@ fine-slot (text codes) known =
       count = omega (arith, length-sixes codes, is.few);
     })
 
-mark_words : (version : Version) → is_word (mark version) ≡ true
-mark_words One = refl
-mark_words Two = refl
+magic_words : (version : Version) → is_word (magic version) ≡ true
+magic_words One = refl
+magic_words Two = refl
 
 module _ (version : Version) where
   fine-row : (row : Row) → Known version row → Fine most_of_row (row_words version row)
@@ -143,7 +143,8 @@ module _ (version : Version) where
       (fine-slot row.second known.second))
       (fine-slot row.third known.third))
 
-  fine-test : (test : Test) → is_row (row_of_test test) ≡ true → Fine most_of_row (test_words version test)
+  fine-test : (test : Test) → is_row (row_of_test test) ≡ true →
+      Fine most_of_row (test_words version test)
   fine-test test known = fine-row (row_of_test test) (known_test version test known)
 
   fine-operation : (operation : Op ℕ) → KnownOperation version operation →
@@ -151,24 +152,29 @@ module _ (version : Version) where
   fine-operation operation known =
       fine-row (row_of operation) (known_operation version operation known.values known.targets)
 
-  pub fine-statement : (s : Parts) → KnownStatement version s → Fine most_of_statement (words_in_statement version s)
+  pub fine-statement : (s : Parts) → KnownStatement version s →
+      Fine most_of_statement (words_in_statement version s)
   fine-statement s known =
       let parts = known_parts version s known in
-      let tests = fine-flat_map (λ test. is_row (row_of_test test) ≡ true) (test_words version) most_of_row
+      let tests = fine-flat_map (λ test. is_row (row_of_test test) ≡ true)
+      (test_words version) most_of_row
       fine-test s.tests parts.tests in
-      let operations = fine-flat_map (KnownOperation version) (operation_words version) most_of_row fine-operation
+      let operations = fine-flat_map (KnownOperation version)
+      (operation_words version) most_of_row fine-operation
       s.operations parts.operations in
-      let all = flat_map (test_words version) s.tests ++ flat_map (operation_words version) s.operations in
+      let all = flat_map (test_words version) s.tests
+      ++ flat_map (operation_words version) s.operations in
       fine-more (1 + (length s.tests * most_of_row + length s.operations * most_of_row))
       most_of_statement (header s ∷ all) (omega (arith, known.tests, known.operations))
       (fine-cons (length s.tests * most_of_row + length s.operations * most_of_row) (header s) all
       (packed-below (header_fields s) (header_fit version s known))
       (fine-append (length s.tests * most_of_row) (length s.operations * most_of_row)
-      (flat_map (test_words version) s.tests) (flat_map (operation_words version) s.operations) tests operations))
+      (flat_map (test_words version) s.tests)
+      (flat_map (operation_words version) s.operations) tests operations))
 
-  -- the mark is a word
-  mark-word : is_word (mark version) ≡ true
-  mark-word = mark_words version
+  -- the magic word is a word
+  magic-word : is_word (magic version) ≡ true
+  magic-word = magic_words version
 
   -- the words of a program are words
   pub words_in-words : (program : List Parts) → HasImage version program →
@@ -176,10 +182,11 @@ module _ (version : Version) where
   unfolding words_in
   words_in-words program has =
       let known = known_program version program has in
-      let fine = fine-flat_map (KnownStatement version) (words_in_statement version) most_of_statement fine-statement
+      let fine = fine-flat_map (KnownStatement version)
+      (words_in_statement version) most_of_statement fine-statement
       program known.each in
       rw (
-        mark-word,
+        magic-word,
         is_word-below (length program) (omega (arith, known.count, most-below version)),
         is_word-below (length (body version program))
             (omega (arith, known.count, fine.count, most-below version)),

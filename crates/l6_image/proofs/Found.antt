@@ -14,7 +14,7 @@ use Rattle.l6_prog.specs.Numerals.{name_count}
 use Rattle.l6_prog.specs.Chain.{is_chain}
 use Rattle.l6_prog.specs.Target.{is_below, targets_of_operation}
 use Rattle.l6_image.specs.Numerals.{no_name}
-use Rattle.l6_image.specs.Bits.{Field, bits}
+use Rattle.l6_image.specs.Bits.{BitField, bits}
 use Rattle.l6_image.specs.Version.{label_number, most_in}
 use Rattle.l6_image.specs.declared.version.Version.{Version}
 use Rattle.l6_image.specs.declared.version.Version.TheVariants.{One, Two}
@@ -85,7 +85,7 @@ label-below One (Some label) below = omega (arith, below)
 label-below Two (Some label) below = omega (arith, below)
 
 -- the fields of a row's first word, which have room for what they hold
-abbrev pub head_fields : Version → Row → List Field
+abbrev pub head_fields : Version → Row → List BitField
 head_fields version row =
     bits 6 row.code ∷ bits 2 (kind row.first) ∷ bits 2 (kind row.second)
     ∷ bits 2 (kind row.third) ∷ bits 6 (unwrap_or row.field no_name)
@@ -141,7 +141,8 @@ label_in-again Two word (Some label) below is =
 row_at-again : (version : Version) (row : Row) (head : ℕ) (rest : List ℕ) →
     Known version row →
     unpacked (6 ∷ 2 ∷ 2 ∷ 2 ∷ 6 ∷ 18 ∷ []) head ≡ values (head_fields version row) →
-    row_at version (head ∷ slot_words row.first ++ (slot_words row.second ++ (slot_words row.third ++ rest)))
+    row_at version (head ∷ slot_words row.first
+    ++ (slot_words row.second ++ (slot_words row.third ++ rest)))
     ≡ Some (row, rest)
 unfolding row_at
 row_at-again version row head rest known is =

@@ -71,13 +71,13 @@ first_other-none (word ∷ words) number each =
     (ltb-true word (2 ^ word_bits) parts.0)
     ∙ first_other-none words (number + 1) parts.1
 
--- the first line of a text, and what is behind it
+-- the first line of a text, and what is after it
 record Line (text : List ℕ) : Type 0 where
   line : List ℕ
   lines : List (List ℕ)
-  behind : List ℕ
+  following : List ℕ
   is : whole_lines text ≡ line ∷ lines
-  whole : text ≡ line ++ behind
+  whole : text ≡ line ++ following
 
 first_line : (first : ℕ) (rest : List ℕ) (ends : Bool) → eqb first (byte "\n") ≡ ends →
     Line (first ∷ rest)
@@ -85,48 +85,48 @@ first_line first rest true feed =
     record {
       line = first ∷ [];
       lines = whole_lines rest;
-      behind = rest;
+      following = rest;
       is = rw feed refl;
       whole = refl;
     }
 first_line first [] false feed =
-    record { line = first ∷ []; lines = []; behind = []; is = rw feed refl; whole = refl }
+    record { line = first ∷ []; lines = []; following = []; is = rw feed refl; whole = refl }
 first_line first (second ∷ rest) false feed =
     let others = first_line second rest (eqb second (byte "\n")) refl in
     record {
       line = first ∷ others.line;
       lines = others.lines;
-      behind = others.behind;
+      following = others.following;
       is = rw feed (ap (onto_first first) others.is);
       whole = ap (λ xs. first ∷ xs) others.whole;
     }
 
 -- a text whose first line is one of a word begins with a word
-begins-line : (line behind : List ℕ) → is_word_line line ≡ true →
-    begins_with_word (line ++ behind) ≡ true
-begins-line line behind is =
+begins-line : (line following : List ℕ) → is_word_line line ≡ true →
+    begins_with_word (line ++ following) ≡ true
+begins-line line following is =
     let count = eqb (length line) (word_octals + 1) in
     let feed = eqb (get_or line word_octals 0) (byte "\n") in
     let digits = is_octal12 (take word_octals line) in
     let parts = and_parts (count && feed) digits is in
     let others = and_parts count feed parts.0 in
     let whole : length line ≡ word_octals + 1 = eqb-true (length line) (word_octals + 1) others.0 in
-    let long : nat_le (word_octals + 1) (length (line ++ behind)) ≡ true =
-    le-leb (word_octals + 1) (length (line ++ behind))
-    (omega (arith, whole, length-append line behind)) in
-    let last : get_or (line ++ behind) word_octals 0 ≡ get_or line word_octals 0 =
-    get_or_append_left line behind 0 word_octals (omega (arith, whole)) in
-    let front : take word_octals (line ++ behind) ≡ take word_octals line =
-    take-append-le word_octals line behind (omega (arith, whole)) in
+    let long : nat_le (word_octals + 1) (length (line ++ following)) ≡ true =
+    le-leb (word_octals + 1) (length (line ++ following))
+    (omega (arith, whole, length-append line following)) in
+    let last : get_or (line ++ following) word_octals 0 ≡ get_or line word_octals 0 =
+    get_or_append_left line following 0 word_octals (omega (arith, whole)) in
+    let front : take word_octals (line ++ following) ≡ take word_octals line =
+    take-append-le word_octals line following (omega (arith, whole)) in
     rw (long, last, front, others.1, parts.1) refl
 
 -- the first line of a text that begins with no word is the first that is not one of a word
-other_line : (line behind : List ℕ) → begins_with_word (line ++ behind) ≡ false →
+other_line : (line following : List ℕ) → begins_with_word (line ++ following) ≡ false →
     is_word_line line ≡ false
-other_line line behind none = by_test (is_word_line line) refl
+other_line line following none = by_test (is_word_line line) refl
   where
     by_test : (is : Bool) → is_word_line line ≡ is → is_word_line line ≡ false
-    by_test true is = absurd (both_ways false refl (sym none ∙ begins-line line behind is))
+    by_test true is = absurd (both_ways false refl (sym none ∙ begins-line line following is))
     by_test false is = is
 
 pub first_other-stops : (number : ℕ) (text : List ℕ) → eqb (length text) 0 ≡ false →
@@ -134,22 +134,22 @@ pub first_other-stops : (number : ℕ) (text : List ℕ) → eqb (length text) 0
 first_other-stops number [] some none = absurd (cc)
 first_other-stops number (first ∷ rest) some none =
     let is = first_line first rest (eqb first (byte "\n")) refl in
-    let other = other_line is.line is.behind
+    let other = other_line is.line is.following
     (sym (ap begins_with_word is.whole) ∙ none) in
     ap (first_other number) is.is ∙ rw other refl
 
 -- a text of one word more
-pub text-more : (text rest behind words more : List ℕ) (word : ℕ) →
-    text ≡ text_of_words words ++ rest → rest ≡ word_line word ++ behind →
-    more ≡ words ++ word ∷ [] → text ≡ text_of_words more ++ behind
-text-more text rest behind words more word so_far found written =
+pub text-more : (text rest following words more : List ℕ) (word : ℕ) →
+    text ≡ text_of_words words ++ rest → rest ≡ word_line word ++ following →
+    more ≡ words ++ word ∷ [] → text ≡ text_of_words more ++ following
+text-more text rest following words more word so_far found written =
     let lines : text_of_words more ≡ text_of_words words ++ word_line word =
     ap text_of_words written ∙ flat_map-append word_line words (word ∷ [])
     ∙ ap (λ line. text_of_words words ++ line)
     (flat_map-cons word_line word [] ∙ append-nil (word_line word)) in
     so_far ∙ ap (λ xs. text_of_words words ++ xs) found
-    ∙ sym (append_assoc (text_of_words words) (word_line word) behind)
-    ∙ ap (λ xs. xs ++ behind) (sym lines)
+    ∙ sym (append_assoc (text_of_words words) (word_line word) following)
+    ∙ ap (λ xs. xs ++ following) (sym lines)
 
 -- one word more
 pub words-more : (words more : List ℕ) (word : ℕ) → list_all is_word words ≡ true →

@@ -10,11 +10,11 @@ use Rattle.l6_image.specs.Row.{is_word}
 use Rattle.l6_image.specs.Image.{words_in}
 use Rattle.l6_image.specs.declared.version.Version.{Version}
 use Rattle.l6_image.specs.Text.{text_of_words, text_in, whole_lines, first_other, IsImageOf}
-use Rattle.l6_image.specs.Load.{Loads, Tells}
+use Rattle.l6_image.specs.Load.{Loads, TextHasFault}
 use Rattle.l6_image.specs.inner.Faults.{load_fault}
 use Rattle.l6_image.specs.inner.Loading.{program_in}
 use Rattle.l6_image.specs.inner.Seen.{Fails}
-use Rattle.l6_image.specs.inner.TextFault.{TellsLine}
+use Rattle.l6_image.specs.inner.TextFault.{TextHasLineFault}
 use Rattle.l6_image.proofs.Fitness.{words_in-words}
 use Rattle.l6_image.proofs.Lines.{first_other-none}
 use Rattle.l6_image.proofs.Texts.{words-are, program_in-words, same_found}
@@ -29,7 +29,7 @@ lines-none text program is =
 
 -- a text with another line is no image
 pub line_loads : (text : List ℕ) (fault : LoadFault) (program : List Parts) →
-    TellsLine text fault → IsImageOf text program → Loads program (Err fault)
+    TextHasLineFault text fault → IsImageOf text program → Loads program (Err fault)
 line_loads text (NotWords line) program tells is =
     let none = lines-none text program is in absurd (cc)
 line_loads text NotAnImage program tells is = absurd tells
@@ -54,7 +54,7 @@ module _ (text words : List ℕ) (each : list_all is_word words ≡ true)
   no_other = ap (λ t. first_other 1 (whole_lines t)) lines ∙ first_other-none words 1 each
 
   pub words_tell : (fault : ReadFault) → Fails fault (program_in words) →
-      Tells text (load_fault fault)
+      TextHasFault text (load_fault fault)
   words_tell reads.NotAnImage fails =
       (no_other, λ is. words_load reads.NotAnImage is.0 fails is.1)
   words_tell reads.NoMemory fails = tt
@@ -80,6 +80,6 @@ module _ (text words : List ℕ) (each : list_all is_word words ≡ true)
       ∙ sym (words-are text words is.0 program each is.1 lines is.2))
 
   pub others_tell : (found : Version × List Parts) → program_in words ≡ Some found →
-      (words_in found.0 found.1 ≡ words → ⊥) → Tells text NotAnImage
+      (words_in found.0 found.1 ≡ words → ⊥) → TextHasFault text NotAnImage
   others_tell found found_there differ =
       (no_other, λ image. others_load found image.0 found_there differ image.1)

@@ -2,14 +2,14 @@
 use Rattle.std.proofs.Common.{◌≡◌, ℕ, ◌+◌, ◌*◌, ◌/◌, ◌%◌, ◌^◌, ◌<◌, List, [], ◌∷◌, refl, ap, sym, ◌∙◌, arith}
 use Rattle.std.proofs.lemmas.Nat.{mul-add-lt, div-mul-add, pow-add, pow_pos}
 use Rattle.std.proofs.Math.Nat.{mul-add-div_right, mul-add-mod_self_right, mod-eq_of_lt}
-use Rattle.l6_image.specs.Bits.{Field, width, packed}
+use Rattle.l6_image.specs.Bits.{BitField, width, packed}
 
 -- how many bits each field has, and what it holds
-abbrev pub counts : List Field → List ℕ
+abbrev pub counts : List BitField → List ℕ
 counts [] = []
 counts (field ∷ fields) = field.count ∷ counts fields
 
-abbrev pub values : List Field → List ℕ
+abbrev pub values : List BitField → List ℕ
 values [] = []
 values (field ∷ fields) = field.value ∷ values fields
 
@@ -18,7 +18,7 @@ total [] = 0
 total (count ∷ counts) = count + total counts
 
 -- each field has room for what it holds
-abbrev pub AllFit : List Field → Type 0
+abbrev pub AllFit : List BitField → Type 0
 AllFit [] = Unit {0}
 AllFit (field ∷ fields) = (field.value < 2 ^ field.count) × AllFit fields
 
@@ -27,19 +27,19 @@ abbrev pub unpacked : List ℕ → ℕ → List ℕ
 unpacked [] word = []
 unpacked (count ∷ counts) word = word / 2 ^ total counts % 2 ^ count ∷ unpacked counts word
 
-width-total : (fields : List Field) → width fields ≡ total (counts fields)
+width-total : (fields : List BitField) → width fields ≡ total (counts fields)
 width-total [] = refl
 width-total (field ∷ fields) = ap (λ n. field.count + n) (width-total fields)
 
 -- a word of fields has no more bits than they
-pub packed-below : (fields : List Field) → AllFit fields → packed fields < 2 ^ width fields
+pub packed-below : (fields : List BitField) → AllFit fields → packed fields < 2 ^ width fields
 packed-below [] fit = omega arith
 packed-below (field ∷ fields) fit =
     let below = mul-add-lt field.value (2 ^ width fields) (packed fields) (2 ^ field.count)
     fit.0 (packed-below fields fit.1) in
     omega (arith, below, pow-add 2 field.count (width fields))
 
--- what stands to the left of fields does not change them
+-- what is to the left of fields does not change them
 unpacked-left : (sizes : List ℕ) (left word : ℕ) →
     unpacked sizes (left * 2 ^ total sizes + word) ≡ unpacked sizes word
 unpacked-left [] left word = refl
@@ -57,7 +57,7 @@ unpacked-left (size ∷ sizes) left word =
     ∙ ap (λ vs. word / low % 2 ^ size ∷ vs) others
 
 -- what was packed is found
-pub unpacked-packed : (fields : List Field) → AllFit fields →
+pub unpacked-packed : (fields : List BitField) → AllFit fields →
     unpacked (counts fields) (packed fields) ≡ values fields
 unpacked-packed [] fit = refl
 unpacked-packed (field ∷ fields) fit =

@@ -12,8 +12,8 @@ use Rattle.l6_prog.specs.declared.exit.Exit.{Exit}
 use Rattle.l6_prog.specs.declared.exit.Exit.TheVariants.{Next, Label, Done, Fail}
 use Rattle.l6_prog.specs.Statement.{Parts}
 use Rattle.l6_prog.specs.Target.{targets_of_operation}
-use Rattle.l6_image.specs.Bits.{Field, bits}
-use Rattle.l6_image.specs.Version.{mark, most_in}
+use Rattle.l6_image.specs.Bits.{BitField, bits}
+use Rattle.l6_image.specs.Version.{magic, most_in}
 use Rattle.l6_image.specs.declared.version.Version.{Version}
 use Rattle.l6_image.specs.declared.version.Version.TheVariants.{One, Two}
 use Rattle.l6_image.specs.Row.{is_row}
@@ -77,7 +77,7 @@ exit-below Done = omega arith
 exit-below Fail = omega arith
 
 -- the fields of a header, which have room for what they hold
-abbrev pub header_fields : Parts → List Field
+abbrev pub header_fields : Parts → List BitField
 header_fields s =
     bits 3 (condition_code s.condition) ∷ bits 6 (length s.tests)
     ∷ bits 6 (length s.operations) ∷ bits 3 (exit_code s.exit)
@@ -90,17 +90,23 @@ most-below Two = omega arith
 
 module _ (version : Version) where
   -- a test, and an operation
-  test_at-again : (test : Test) → is_row (row_of_test test) ≡ true → Again (test_words version) (test_at version) test
+  test_at-again : (test : Test) → is_row (row_of_test test) ≡ true →
+      Again (test_words version) (test_at version) test
   unfolding test_at
   test_at-again test known rest =
-      rw (row-again version (row_of_test test) rest (known_test version test known), test_again test known) refl
+      rw (
+        row-again version (row_of_test test) rest
+            (known_test version test known),
+        test_again test known,
+      ) refl
 
   operation_at-again : (operation : Op ℕ) → KnownOperation version operation →
       Again (operation_words version) (operation_at version) operation
   unfolding operation_at
   operation_at-again operation known rest =
       rw (
-        row-again version (row_of operation) rest (known_operation version operation known.values known.targets),
+        row-again version (row_of operation) rest
+            (known_operation version operation known.values known.targets),
         operation_again operation known.values
             (below-more (most_in version) (2 ^ 16) (targets_of_operation operation)
             (omega (arith, most-below version))
@@ -145,7 +151,8 @@ module _ (version : Version) where
         each-again (test_words version) (test_at version) (λ test. is_row (row_of_test test) ≡ true)
             test_at-again s.tests parts.tests (flat_map (operation_words version) s.operations ++ rest),
         operations,
-        each-again (operation_words version) (operation_at version) (KnownOperation version) operation_at-again
+        each-again (operation_words version) (operation_at version)
+            (KnownOperation version) operation_at-again
             s.operations parts.operations rest,
         condition,
         condition-again s.condition,
@@ -154,7 +161,8 @@ module _ (version : Version) where
         exit-again s.exit,
       ) refl
 
-  statement_at-again : (s : Parts) → KnownStatement version s → Again (words_in_statement version) (statement_at version) s
+  statement_at-again : (s : Parts) → KnownStatement version s →
+      Again (words_in_statement version) (statement_at version) s
   statement_at-again s known rest =
       ap (λ ws. statement_at version (header s ∷ ws))
       (append_assoc (flat_map (test_words version) s.tests)
@@ -174,8 +182,8 @@ module _ (version : Version) where
       ∙ rw (each-again (words_in_statement version) (statement_at version) (KnownStatement version)
       statement_at-again program known.each []) refl
 
--- the version is found again in its mark
-version_of-again : (version : Version) → version_of (mark version) ≡ Some version
+-- the version is found again in its magic word
+version_of-again : (version : Version) → version_of (magic version) ≡ Some version
 version_of-again One = refl
 version_of-again Two = refl
 

@@ -10,7 +10,7 @@ use Rattle.l6_image.specs.Bits.{six}
 use Rattle.l6_image.specs.Numerals.{no_name}
 use Rattle.l6_image.specs.Row.{chain, is_name, is_slot, sixes}
 
--- the first of some codes stand in one word, and the others behind it
+-- the first of some codes are in one word, and the others after it
 sixes-step : (codes : List ℕ) → eqb (length codes) 0 ≡ false →
     sixes codes ≡ six 0 codes ∷ sixes (drop 6 codes)
 sixes-step [] some = absurd (cc)
@@ -55,13 +55,13 @@ names-known names chained a b c d e f = rw chained (each names (few_names names 
         (λ some. e (omega (arith, some))) (λ some. f (omega (arith, some)))
         (λ past. absurd (omega (arith, few, past))))
 
--- the codes in front are written, and those behind are left
-pub sixes-more : (words more codes behind : List ℕ) (room : ℕ) → eqb (length codes) 0 ≡ false →
-    room ≡ min 6 (length codes) → behind ≡ drop room codes → more ≡ words ++ six 0 codes ∷ [] →
-    more ++ sixes behind ≡ words ++ sixes codes
-sixes-more words more codes behind room some is left written =
-    let rest : behind ≡ drop 6 codes =
+-- the codes in front are written, and those after are left
+pub sixes-more : (words more codes following : List ℕ) (room : ℕ) → eqb (length codes) 0 ≡ false →
+    room ≡ min 6 (length codes) → following ≡ drop room codes → more ≡ words ++ six 0 codes ∷ [] →
+    more ++ sixes following ≡ words ++ sixes codes
+sixes-more words more codes following room some is left written =
+    let rest : following ≡ drop 6 codes =
     left ∙ ap (λ n. drop n codes) is ∙ drop_min 6 codes in
-    ap (λ ws. ws ++ sixes behind) written ∙ ap (λ cs. (words ++ six 0 codes ∷ []) ++ sixes cs) rest
+    ap (λ ws. ws ++ sixes following) written ∙ ap (λ cs. (words ++ six 0 codes ∷ []) ++ sixes cs) rest
     ∙ append_assoc words (six 0 codes ∷ []) (sixes (drop 6 codes))
     ∙ ap (λ ws. words ++ ws) (sym (sixes-step codes some))

@@ -32,7 +32,7 @@ items-unpacked word =
     ap (λ n. word / 2 ^ 30 % 64 ∷ word / 2 ^ 24 % 64 ∷ word / 2 ^ 18 % 64 ∷ word / 2 ^ 12 % 64
     ∷ word / 2 ^ 6 % 64 ∷ n % 64 ∷ []) whole
 
--- items that pass a test, and what stands behind them, have six bits
+-- items that pass a test, and what follows them, have six bits
 pub item-below : (p : ℕ → Bool) → ((n : ℕ) → p n ≡ true → n < 2 ^ 6) → (filling : ℕ) →
     filling < 2 ^ 6 → (items : List ℕ) (place : ℕ) → list_all p items ≡ true →
     get_or items place filling < 2 ^ 6
@@ -57,7 +57,7 @@ items-again p small filling below items each =
 pub name-small : (n : ℕ) → is_name n ≡ true → n < 2 ^ 6
 name-small n is = omega (arith, ltb-true n name_count is)
 
--- names and what fills the word behind them
+-- names and what fills the word after them
 names-filled : (names : List ℕ) → length names ≤ most_names →
     filled no_name names ≡ names ++ replicate (most_names - length names) no_name
 names-filled [] few = refl
@@ -114,7 +114,7 @@ length-sixes (a ∷ b ∷ c ∷ d ∷ []) = refl
 length-sixes (a ∷ b ∷ c ∷ d ∷ e ∷ []) = refl
 length-sixes (a ∷ b ∷ c ∷ d ∷ e ∷ f ∷ codes) = omega (arith, length-sixes codes)
 
--- the items of their words are the codes, and zeros behind them
+-- the items of their words are the codes, and zeros after them
 record Padded (codes : List ℕ) : Type 0 where
   count : ℕ
   is : flat_map items_in (sixes codes) ≡ codes ++ replicate count 0
@@ -193,9 +193,9 @@ codes_at-again codes rest known =
     (omega (arith, count, length-append (sixes codes) rest)) in
     let front : take needed (sixes codes ++ rest) ≡ sixes codes =
     ap (λ n. take n (sixes codes ++ rest)) count ∙ take-append_seam (sixes codes) rest in
-    let behind : drop needed (sixes codes ++ rest) ≡ rest =
+    let following : drop needed (sixes codes ++ rest) ≡ rest =
     ap (λ n. drop n (sixes codes ++ rest)) count ∙ drop-append_seam (sixes codes) rest in
-    rw (fits, there, front, behind, codes-found codes is.few is.each) refl
+    rw (fits, there, front, following, codes-found codes is.few is.each) refl
 
 -- an operand is found again, and what follows it
 pub slot-again : (slot : Slot) (rest : List ℕ) → is_slot slot ≡ true →

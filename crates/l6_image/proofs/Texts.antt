@@ -27,7 +27,7 @@ octal12-length word fits =
     (digits_tell_words word fits).0 in
     eqb-true (length digits) word_octals parts.0
 
--- the digits in front of a text, and what is behind them
+-- the digits in front of a text, and what is after them
 line-front : (word : ℕ) (rest : List ℕ) → word < 2 ^ word_bits →
     take word_octals (word_line word ++ rest) ≡ octal12 word
 line-front word rest fits =
@@ -35,9 +35,9 @@ line-front word rest fits =
     ∙ ap (λ n. take n (octal12 word ++ byte "\n" ∷ rest)) (sym (octal12-length word fits))
     ∙ take-append_seam (octal12 word) (byte "\n" ∷ rest)
 
-line-behind : (word : ℕ) (rest : List ℕ) → word < 2 ^ word_bits →
+line-following : (word : ℕ) (rest : List ℕ) → word < 2 ^ word_bits →
     drop word_octals (word_line word ++ rest) ≡ byte "\n" ∷ rest
-line-behind word rest fits =
+line-following word rest fits =
     ap (drop word_octals) (append_assoc (octal12 word) (byte "\n" ∷ []) rest)
     ∙ ap (λ n. drop n (octal12 word ++ byte "\n" ∷ rest)) (sym (octal12-length word fits))
     ∙ drop-append_seam (octal12 word) (byte "\n" ∷ rest)
@@ -55,7 +55,7 @@ same-rest : (one other : ℕ) (xs ys : List ℕ) → one < 2 ^ word_bits → oth
     word_line one ++ xs ≡ word_line other ++ ys → xs ≡ ys
 same-rest one other xs ys fits too same =
     let rest : byte "\n" ∷ xs ≡ byte "\n" ∷ ys =
-    sym (line-behind one xs fits) ∙ ap (drop word_octals) same ∙ line-behind other ys too in
+    sym (line-following one xs fits) ∙ ap (drop word_octals) same ∙ line-following other ys too in
     cc
 
 -- a line is not empty

@@ -2,26 +2,26 @@
 use Rattle.std.specs.Prelude.{ℕ, ◌+◌, ◌*◌, ◌^◌, List, [], ◌∷◌, slice_index_or}
 
 -- some bits of a word, and the number in them
-pub record Field : Type 0 where
+pub record BitField : Type 0 where
   pub count : ℕ
   pub value : ℕ
 
 -- so many bits, with this number in them
-abbrev pub bits : ℕ → ℕ → Field
+abbrev pub bits : ℕ → ℕ → BitField
 bits count value = record { count = count; value = value }
 
 -- how many bits fields have together
-abbrev pub width : List Field → ℕ
+abbrev pub width : List BitField → ℕ
 width [] = 0
 width (field ∷ fields) = field.count + width fields
 
 -- the word of these fields, the first one leftmost
-abbrev pub packed : List Field → ℕ
+abbrev pub packed : List BitField → ℕ
 packed [] = 0
 packed (field ∷ fields) = field.value * 2 ^ width fields + packed fields
 
--- the item at a place, as one of six fields of a word; behind the last item the filling stands
-abbrev pub item : ℕ → List ℕ → ℕ → Field
+-- the item at a place, as one of six fields of a word; after the last item the filling is
+abbrev pub item : ℕ → List ℕ → ℕ → BitField
 item filling items place = bits 6 (slice_index_or items place filling)
 
 -- the word of the first six items

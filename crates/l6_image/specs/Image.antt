@@ -12,7 +12,7 @@ use Rattle.l6_prog.specs.Program.{program_of}
 use Rattle.l6_image.specs.Bits.{bits, packed}
 use Rattle.l6_image.specs.Row.{row_words, is_row}
 use Rattle.l6_image.specs.Table.{row_of, row_of_test}
-use Rattle.l6_image.specs.Version.{mark, most_in}
+use Rattle.l6_image.specs.Version.{magic, most_in}
 use Rattle.l6_image.specs.declared.version.Version.{Version}
 use Rattle.l6_image.specs.declared.version.Version.TheVariants.{Two}
 
@@ -62,10 +62,10 @@ words_in_statement version statement =
 abbrev pub body : Version → List Parts → List ℕ
 body version program = flat_map (words_in_statement version) program
 
--- the words of a program: the mark, how many statements it has, how many words follow, and these
+-- the words of a program: the magic word, how many statements it has, how many words follow, and these
 unfoldable pub words_in : Version → List Parts → List ℕ
 words_in version program =
-    mark version ∷ length program ∷ length (body version program) ∷ body version program
+    magic version ∷ length program ∷ length (body version program) ∷ body version program
 
 -- what is written is of the second version
 abbrev pub statement_words : Parts → List ℕ

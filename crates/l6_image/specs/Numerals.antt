@@ -1,7 +1,7 @@
--- The numbers that images stand on.
+-- The numbers that images use.
 use Rattle.std.specs.Prelude.{ℕ, ◌^◌}
 
--- stands where a name could stand and none does
+-- Takes the place of a name where there is none
 abbrev pub no_name : ℕ
 no_name = 63
 

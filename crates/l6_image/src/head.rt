@@ -11,7 +11,7 @@ use l6_prog::Name;
 
 /// What an operand is.
 #[derive(Clone, Copy)]
-pub(crate) enum Kind {
+pub(crate) enum OperandKind {
     /// There is none.
     Absent,
     /// The names of a chain.
@@ -28,39 +28,39 @@ pub(crate) struct Head {
     /// Which test or operation it is.
     pub(crate) code: u8,
     /// The kinds of its operands.
-    pub(crate) first: Kind,
-    pub(crate) second: Kind,
-    pub(crate) third: Kind,
+    pub(crate) first: OperandKind,
+    pub(crate) second: OperandKind,
+    pub(crate) third: OperandKind,
     /// The field that it names, if it names one.
     pub(crate) field: Option<Name>,
     /// The label that it has, if it has one.
     pub(crate) label: Option<u16>,
 }
 
-impl Kind {
+impl OperandKind {
     /// The number of the kind.
     fn code(self) -> u8
         ensures value { result ≡ kind_code self }
         ensures range { result < 4 }
     {
         match self {
-            Kind::Absent => 0,
-            Kind::Chain => 1,
-            Kind::Number => 2,
-            Kind::Text => 3,
+            OperandKind::Absent => 0,
+            OperandKind::Chain => 1,
+            OperandKind::Number => 2,
+            OperandKind::Text => 3,
         }
     }
 }
 
 /// The kind of a number, of which the last two bits count.
-fn kind_in(number: u64) -> Kind
+fn kind_in(number: u64) -> OperandKind
     ensures { kind_code result ≡ number % 4 }
 {
     match number % 4 {
-        0 => Kind::Absent,
-        1 => Kind::Chain,
-        2 => Kind::Number,
-        _ => Kind::Text,
+        0 => OperandKind::Absent,
+        1 => OperandKind::Chain,
+        2 => OperandKind::Number,
+        _ => OperandKind::Text,
     }
 }
 
@@ -68,9 +68,9 @@ impl Head {
     /// The head of these parts.
     pub(crate) fn new(
         code: u8,
-        first: Kind,
-        second: Kind,
-        third: Kind,
+        first: OperandKind,
+        second: OperandKind,
+        third: OperandKind,
         field: Option<Name>,
         label: Option<u16>,
     ) -> Self

@@ -12,7 +12,7 @@ use std::alloc::AllocError;
 /// How many names or codes one word holds.
 const ITEMS_PER_WORD: usize = 6;
 
-/// Stands where a name could stand and none does.
+/// Takes the place of a name where there is none.
 pub(crate) const NO_NAME: u8 = 63;
 
 /// The word of a chain's names.
@@ -56,7 +56,7 @@ fn codes_word(codes: &[u8]) -> u64
     )
 }
 
-/// The code at a place, or 0 behind the last.
+/// The code at a place, or 0 after the last.
 fn code_at(codes: &[u8], place: usize) -> u8
     ensures { result ≡ slice_index_or codes.now place 0 }
 {
@@ -78,15 +78,15 @@ fn six_items(a: u8, b: u8, c: u8, d: u8, e: u8, f: u8) -> u64
         + u64::from(f)
 }
 
-/// Writes the codes behind the words, six in each word.
+/// Writes the codes after the words, six in each word.
 pub(crate) fn push_codes(words: &mut Vec<u64>, codes: &[u8]) -> Result<(), AllocError>
     ensures { OnOk result (words.new.items ≡ words.old.items ++ sixes codes.now) }
 {
     let mut rest = codes;
     while !rest.is_empty() {
         words.push(codes_word(rest))?;
-        let (_, behind) = rest.split_at(ITEMS_PER_WORD.min(rest.len()));
-        rest = behind;
+        let (_, following) = rest.split_at(ITEMS_PER_WORD.min(rest.len()));
+        rest = following;
     }
     Ok(())
 }

@@ -1,18 +1,18 @@
-//! That the numbers of the code are those of images, and that texts tell programs.
+//! That the numbers of the code are those of images, and that texts determine programs.
 
 ghost use Rattle.std.specs.Prelude.{◌≡◌};
 ghost use Rattle.l6_image.specs.Load.{TextsTellPrograms};
 ghost use Rattle.l6_image.specs.Numerals.{no_name, most_bytes};
-ghost use Rattle.l6_image.specs.Version.{mark, most_in};
+ghost use Rattle.l6_image.specs.Version.{magic, most_in};
 ghost use Rattle.l6_image.specs.declared.version.Version.TheVariants.{One, Two};
 
 use crate::items::NO_NAME;
 use crate::loading::MAX_BYTES;
-use crate::version::{MARK_ONE, MARK_TWO, MOST_IN_ONE, MOST_IN_TWO};
+use crate::version::{MAGIC_ONE, MAGIC_TWO, MOST_IN_ONE, MOST_IN_TWO};
 
 /// The numbers of the code are those of images.
 pub fn images_have_their_numbers()
-    ensures marks { (MARK_ONE ≡ mark One) × (MARK_TWO ≡ mark Two) }
+    ensures marks { (MAGIC_ONE ≡ magic One) × (MAGIC_TWO ≡ magic Two) }
     ensures most { (MOST_IN_ONE ≡ most_in One) × (MOST_IN_TWO ≡ most_in Two) }
     ensures no_name { NO_NAME ≡ no_name }
     ensures bytes { MAX_BYTES ≡ most_bytes }

@@ -2,7 +2,7 @@
 
 ghost use Rattle.std.specs.Prelude.{◌≡◌, ◌≤◌, ◌↔◌, List, length, IfOk, IfErr, IsTrue};
 ghost use Rattle.l6_prog.specs.Statement.{Parts};
-ghost use Rattle.l6_image.specs.Load.{Loads, Tells};
+ghost use Rattle.l6_image.specs.Load.{Loads, TextHasFault};
 ghost use Rattle.l6_image.specs.Numerals.{most_bytes};
 ghost use Rattle.l6_image.specs.Text as texts;
 ghost use Rattle.l6_image.specs.Version.{most_in};
@@ -22,18 +22,20 @@ pub const MAX_BYTES: usize = 1 << 23;
 
 /// The program of which this is the image's text. The caller owes at most 8,388,608 bytes.
 ///
-/// Where a line is not twelve octal digits and a line feed, the answer is `NotWords` with the number
-/// of the first such line, counted from 1. Where there is none, and the text is no image, it is
+/// # Errors
+///
+/// If a line is not twelve octal digits and a line feed, the answer is `NotWords` with the number
+/// of the first such line, counted from 1. If there is none, and the text is no image, it is
 /// `NotAnImage`.
-// The words are read with no regard to bits that must be zero, to counts and to words behind the
-// last statement. What was read is then written again, and must come to the same words.
+// The words are read without regard to bits that must be zero, to counts and to words after the
+// last statement. What was read is then written again, and must give the same words.
 pub fn load(alloc: Global, text: &[u8]) -> Result<Program, LoadFault>
     requires { length text.now ≤ most_bytes }
 
     ensures sound { IfOk result (texts.IsImageOf text.now) }
     ensures complete { (program : List Parts) → texts.IsImageOf text.now program →
         Loads program result }
-    ensures fault { IfErr result (Tells text.now) }
+    ensures fault { IfErr result (TextHasFault text.now) }
 {
     let words = words_in(alloc, text)?;
     let (version, program) = program_in(alloc, &words)?;
@@ -44,7 +46,7 @@ pub fn load(alloc: Global, text: &[u8]) -> Result<Program, LoadFault>
     Ok(program)
 }
 
-/// The version of an image's words, and the program that they tell.
+/// The version of an image's words, and their program.
 #[tactic(auto, unfolding(crate::specs::inner::Loading::program_in))]
 fn program_in(alloc: Global, words: &[u64]) -> Result<(Version, Program), ReadFault>
     ensures found { Gives (λ found. found) result (spec.program_in words.now) }
@@ -62,7 +64,7 @@ fn program_in(alloc: Global, words: &[u64]) -> Result<(Version, Program), ReadFa
     Ok((version, program))
 }
 
-/// Whether two lists of words are one.
+/// Whether two lists of words are equal.
 fn are_same(one: &[u64], other: &[u64]) -> bool
     ensures { IsTrue result ↔ (one.now ≡ other.now) }
 {

@@ -4,12 +4,12 @@ ghost use Rattle.l6_image.specs.inner.Heads.{kind_code};
 ghost use Rattle.l6_image.specs.inner.Reading as spec;
 ghost use Rattle.l6_image.specs.inner.Seen.{slot_seen, Finds};
 
-use crate::head::{Head, Kind};
+use crate::head::{Head, OperandKind};
 use crate::version::Version;
 use l6_prog::{MAX_CHARACTERS, Name};
 use std::marker::Model;
 
-/// An operand, as it stands in words.
+/// An operand, as it is in words.
 #[derive(Clone, Copy)]
 pub(crate) enum Slot<'a> {
     /// There is none.
@@ -22,7 +22,7 @@ pub(crate) enum Slot<'a> {
     Text(usize, &'a [u64]),
 }
 
-/// A test or an operation, as it stands in words.
+/// A test or an operation, as it is in words.
 #[derive(Drop)]
 pub(crate) struct Row<'a> {
     pub(crate) code: u8,
@@ -49,7 +49,7 @@ impl<'a> Model for Row<'a> {
     } };
 }
 
-/// The first row of words in a version, and the words behind it.
+/// The first row of words in a version, and the words after it.
 #[tactic(auto, unfolding(crate::specs::inner::Reading::row_at))]
 pub(crate) fn row_at(version: Version, words: &[u64]) -> Option<(Row<'_>, &[u64])>
     ensures { Finds (λ found. (found.0, found.1.now)) result (spec.row_at version words.now) }
@@ -77,30 +77,30 @@ pub(crate) fn row_at(version: Version, words: &[u64]) -> Option<(Row<'_>, &[u64]
     Some((row, rest))
 }
 
-/// The operand of a kind in front of words, and the words behind it.
+/// The operand of a kind in front of words, and the words after it.
 #[tactic(auto, unfolding(crate::specs::inner::Reading::slot_at))]
-fn slot_at(kind: Kind, words: &[u64]) -> Option<(Slot<'_>, &[u64])>
+fn slot_at(kind: OperandKind, words: &[u64]) -> Option<(Slot<'_>, &[u64])>
     ensures { Finds (λ found. (slot_seen found.0, found.1.now)) result
         (spec.slot_at (kind_code kind) words.now) }
 {
     match kind {
-        Kind::Absent => Some((Slot::Absent, words)),
-        Kind::Chain => {
+        OperandKind::Absent => Some((Slot::Absent, words)),
+        OperandKind::Chain => {
             let (word, rest) = words.split_first()?;
             Some((Slot::Chain(*word), rest))
         }
-        Kind::Number => {
+        OperandKind::Number => {
             let (word, rest) = words.split_first()?;
             Some((Slot::Number(*word), rest))
         }
-        Kind::Text => {
+        OperandKind::Text => {
             let (count, rest) = words.split_first()?;
             codes_at(*count, rest)
         }
     }
 }
 
-/// So many codes in front of words, and the words behind theirs.
+/// So many codes in front of words, and the words after theirs.
 fn codes_at(count: u64, words: &[u64]) -> Option<(Slot<'_>, &[u64])>
     ensures { Finds (λ found. (slot_seen found.0, found.1.now)) result
         (spec.codes_at count words.now) }

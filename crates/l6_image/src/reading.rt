@@ -1,4 +1,4 @@
-//! The table of rows, read backwards. What a row has besides is not looked at.
+//! The table of rows, read backwards. Anything else that a row has is ignored.
 
 ghost use Rattle.std.specs.Prelude.{◌≡◌};
 ghost use Rattle.l6_image.specs.inner.Back as spec;

@@ -1,4 +1,4 @@
-//! Rows, written behind words: a first word, and the words of the operands.
+//! Rows, written after words: a first word, and the words of the operands.
 
 ghost use Rattle.std.specs.Prelude.{◌≡◌, OnOk};
 ghost use Rattle.l6_image.specs.Row as spec;
@@ -6,7 +6,7 @@ ghost use Rattle.l6_image.specs.Table.{operand as slot_of};
 ghost use Rattle.l6_image.specs.inner.Heads.{kind_code};
 ghost use Rattle.l6_image.specs.inner.Writing.{Writes, WritesSlot};
 
-use crate::head::{Head, Kind};
+use crate::head::{Head, OperandKind};
 use crate::items::{names_word, push_codes};
 use crate::version::Version;
 use l6_prog::{Chain, Name, Operand, PrintText};
@@ -17,9 +17,15 @@ pub(crate) fn push_none(version: Version, words: &mut Vec<u64>, code: u8) -> Res
     ensures { OnOk result (Writes version words.old.items words.new.items
         (spec.row code spec.absent spec.absent spec.absent None None)) }
 {
-    words.push(Head::new(code, Kind::Absent, Kind::Absent, Kind::Absent, None, None).word(
-        version,
-    ))?;
+    words.push(Head::new(
+        code,
+        OperandKind::Absent,
+        OperandKind::Absent,
+        OperandKind::Absent,
+        None,
+        None,
+    )
+    .word(version))?;
     Ok(())
 }
 
@@ -35,9 +41,9 @@ pub(crate) fn push_field(
 {
     words.push(Head::new(
         code,
-        Kind::Absent,
-        Kind::Absent,
-        Kind::Absent,
+        OperandKind::Absent,
+        OperandKind::Absent,
+        OperandKind::Absent,
         Some(field),
         None,
     )
@@ -55,7 +61,15 @@ pub(crate) fn push_one(
     ensures { OnOk result (Writes version words.old.items words.new.items
         (spec.row code (spec.chain chain.now) spec.absent spec.absent None None)) }
 {
-    words.push(Head::new(code, Kind::Chain, Kind::Absent, Kind::Absent, None, None).word(version))?;
+    words.push(Head::new(
+        code,
+        OperandKind::Chain,
+        OperandKind::Absent,
+        OperandKind::Absent,
+        None,
+        None,
+    )
+    .word(version))?;
     push_chain(words, chain)
 }
 
@@ -73,9 +87,9 @@ pub(crate) fn push_two(
 {
     words.push(Head::new(
         code,
-        Kind::Chain,
+        OperandKind::Chain,
         kind_of(operand),
-        Kind::Absent,
+        OperandKind::Absent,
         None,
         label,
     )
@@ -95,7 +109,15 @@ pub(crate) fn push_chains(
     ensures { OnOk result (Writes version words.old.items words.new.items
         (spec.row code (spec.chain first.now) (spec.chain second.now) spec.absent None None)) }
 {
-    words.push(Head::new(code, Kind::Chain, Kind::Chain, Kind::Absent, None, None).word(version))?;
+    words.push(Head::new(
+        code,
+        OperandKind::Chain,
+        OperandKind::Chain,
+        OperandKind::Absent,
+        None,
+        None,
+    )
+    .word(version))?;
     push_chain(words, first)?;
     push_chain(words, second)
 }
@@ -113,9 +135,15 @@ pub(crate) fn push_three(
     ensures { OnOk result (Writes version words.old.items words.new.items
         (spec.row code (spec.chain first.now) (slot_of second.now) (spec.chain third.now) None label)) }
 {
-    words.push(Head::new(code, Kind::Chain, kind_of(second), Kind::Chain, None, label).word(
-        version,
-    ))?;
+    words.push(Head::new(
+        code,
+        OperandKind::Chain,
+        kind_of(second),
+        OperandKind::Chain,
+        None,
+        label,
+    )
+    .word(version))?;
     push_chain(words, first)?;
     push_operand(words, second)?;
     push_chain(words, third)
@@ -159,9 +187,15 @@ pub(crate) fn push_statement(
     ensures { OnOk result (Writes version words.old.items words.new.items
         (spec.row code (spec.number statement) spec.absent spec.absent None label)) }
 {
-    words.push(Head::new(code, Kind::Number, Kind::Absent, Kind::Absent, None, label).word(
-        version,
-    ))?;
+    words.push(Head::new(
+        code,
+        OperandKind::Number,
+        OperandKind::Absent,
+        OperandKind::Absent,
+        None,
+        label,
+    )
+    .word(version))?;
     words.push(u64::from(statement))?;
     Ok(())
 }
@@ -176,19 +210,27 @@ pub(crate) fn push_text(
     ensures { OnOk result (Writes version words.old.items words.new.items
         (spec.row code (spec.text text.now) spec.absent spec.absent None None)) }
 {
-    words.push(Head::new(code, Kind::Text, Kind::Absent, Kind::Absent, None, None).word(version))?;
+    words.push(Head::new(
+        code,
+        OperandKind::Text,
+        OperandKind::Absent,
+        OperandKind::Absent,
+        None,
+        None,
+    )
+    .word(version))?;
     let codes = text.codes();
     words.push(codes.len() as u64)?;
     push_codes(words, codes)
 }
 
 /// The kind of an operand.
-fn kind_of(operand: &Operand) -> Kind
+fn kind_of(operand: &Operand) -> OperandKind
     ensures { kind_code result ≡ spec.kind (slot_of operand.now) }
 {
     match operand {
-        Operand::Chain(_) => Kind::Chain,
-        Operand::Number(_) => Kind::Number,
+        Operand::Chain(_) => OperandKind::Chain,
+        Operand::Number(_) => OperandKind::Number,
     }
 }
 

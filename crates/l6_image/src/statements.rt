@@ -12,8 +12,8 @@ use crate::version::{Version, target_in};
 use l6_prog::{Cond, Exit, Op, Statement, Test};
 use std::alloc::Global;
 
-/// The statements that an image's words tell behind its mark. Their number and words behind the last
-/// statement are not looked at.
+/// The statements in an image's words after its magic word. How many words are said to follow, and
+/// words after the last statement, are ignored.
 #[tactic(auto, unfolding(crate::specs::inner::Statements::statements_of))]
 pub(crate) fn statements_of(
     alloc: Global,
@@ -28,7 +28,7 @@ pub(crate) fn statements_of(
     Ok(statements)
 }
 
-/// So many statements in front of words, and the words behind them.
+/// So many statements in front of words, and the words after them.
 fn statements_at(
     alloc: Global,
     version: Version,
@@ -41,14 +41,14 @@ fn statements_at(
     let mut statements = Vec::new(alloc);
     let mut rest = words;
     for _ in 0..count {
-        let (statement, behind) = statement_at(alloc, version, rest)?;
+        let (statement, following) = statement_at(alloc, version, rest)?;
         statements.push(statement)?;
-        rest = behind;
+        rest = following;
     }
     Ok((statements, rest))
 }
 
-/// The first statement of words, and the words behind it.
+/// The first statement of words, and the words after it.
 #[tactic(auto, unfolding(crate::specs::inner::Statements::statement_at))]
 fn statement_at(
     alloc: Global,
@@ -65,7 +65,7 @@ fn statement_at(
     Ok((Statement::new(condition, tests, operations, exit), rest))
 }
 
-/// So many tests in front of words, and the words behind them.
+/// So many tests in front of words, and the words after them.
 fn tests_at(
     alloc: Global,
     version: Version,
@@ -78,14 +78,14 @@ fn tests_at(
     let mut tests = Vec::new(alloc);
     let mut rest = words;
     for _ in 0..count {
-        let (test, behind) = test_at(version, rest)?;
+        let (test, following) = test_at(version, rest)?;
         tests.push(test)?;
-        rest = behind;
+        rest = following;
     }
     Ok((tests, rest))
 }
 
-/// So many operations in front of words, and the words behind them.
+/// So many operations in front of words, and the words after them.
 fn operations_at(
     alloc: Global,
     version: Version,
@@ -98,14 +98,14 @@ fn operations_at(
     let mut operations = Vec::new(alloc);
     let mut rest = words;
     for _ in 0..count {
-        let (operation, behind) = operation_at(version, rest)?;
+        let (operation, following) = operation_at(version, rest)?;
         operations.push(operation)?;
-        rest = behind;
+        rest = following;
     }
     Ok((operations, rest))
 }
 
-/// The first test of words, and the words behind it.
+/// The first test of words, and the words after it.
 #[tactic(auto, unfolding(crate::specs::inner::Statements::test_at))]
 fn test_at(version: Version, words: &[u64]) -> Result<(Test, &[u64]), ReadFault>
     ensures { Gives (λ found. (found.0, found.1.now)) result (spec.test_at version words.now) }
@@ -115,7 +115,7 @@ fn test_at(version: Version, words: &[u64]) -> Result<(Test, &[u64]), ReadFault>
     Ok((test, rest))
 }
 
-/// The first operation of words, and the words behind it.
+/// The first operation of words, and the words after it.
 #[tactic(auto, unfolding(crate::specs::inner::Statements::operation_at))]
 fn operation_at(version: Version, words: &[u64]) -> Result<(Op, &[u64]), ReadFault>
     ensures { Gives (λ found. (found.0, found.1.now)) result (spec.operation_at version words.now) }

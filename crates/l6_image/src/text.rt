@@ -9,7 +9,7 @@ ghost use Rattle.l6_image.specs.Row.{is_word};
 ghost use Rattle.l6_image.specs.Text as spec;
 ghost use Rattle.l6_image.specs.declared.version.Version.TheVariants.{Two};
 ghost use Rattle.l6_image.specs.inner.Lines.{begins_with_word};
-ghost use Rattle.l6_image.specs.inner.TextFault.{TellsLine};
+ghost use Rattle.l6_image.specs.inner.TextFault.{TextHasLineFault};
 
 use crate::fault::LoadFault;
 use crate::writing::words_of;
@@ -21,6 +21,10 @@ use std::alloc::{AllocError, Global};
 const LINE_BYTES: usize = OCTALS + 1;
 
 /// The text of a program's image: a line for each of its words.
+///
+/// # Errors
+///
+/// Memory ran out.
 #[tactic(auto, unfolding(crate::specs::Text::text_in))]
 pub fn text_of(alloc: Global, program: &Program) -> Result<Vec<u8>, AllocError>
     ensures text { IfOk result (λ text. text.items ≡ spec.text_of program.now) }
@@ -49,21 +53,21 @@ pub(crate) fn words_in(alloc: Global, text: &[u8]) -> Result<Vec<u64>, LoadFault
     requires { length text.now ≤ most_bytes }
     ensures words { IfOk result (λ words. text.now ≡ spec.text_of_words words.items) }
     ensures known { IfOk result (λ words. list_all is_word words.items ≡ true) }
-    ensures fault { IfErr result (TellsLine text.now) }
+    ensures fault { IfErr result (TextHasLineFault text.now) }
 {
     let mut words = Vec::with_capacity(alloc, text.len() / LINE_BYTES)?;
     let mut rest = text;
     while !rest.is_empty() {
-        let Some((word, behind)) = first_word(rest) else {
+        let Some((word, following)) = first_word(rest) else {
             return Err(LoadFault::NotWords(words.len() as u32 + 1));
         };
         words.push(word)?;
-        rest = behind;
+        rest = following;
     }
     Ok(words)
 }
 
-/// The word of the first line of a text, and the text behind it; `None` where that line is not one
+/// The word of the first line of a text, and the text after it; `None` where that line is not one
 /// of a word.
 fn first_word(text: &[u8]) -> Option<(u64, &[u8])>
     ensures found { IfSome result (λ found.

@@ -1,5 +1,5 @@
-//! What depends on the version of the format: its mark, how many statements a program may have, and
-//! how the last 18 bits of a row's first word tell a label.
+//! What depends on the version of the format: its magic word, how many statements a program may
+//! have, and how the last 18 bits of a row's first word give a label.
 
 ghost use Rattle.std.specs.Prelude.{◌≡◌, ◌<◌, ◌^◌, unwrap_or};
 ghost use Rattle.l6_image.specs.Version as spec;
@@ -15,10 +15,10 @@ pub enum Version {
 }
 
 /// The first word of an image of the first version, which is the text `L6IMG1`.
-pub(crate) const MARK_ONE: u64 = 0o542651554721;
+pub(crate) const MAGIC_ONE: u64 = 0o542651554721;
 
 /// The first word of an image of the second version, which is the text `L6IMG2`.
-pub(crate) const MARK_TWO: u64 = 0o542651554722;
+pub(crate) const MAGIC_TWO: u64 = 0o542651554722;
 
 /// How many statements a program may have in the first version.
 pub(crate) const MOST_IN_ONE: u64 = 4095;
@@ -26,7 +26,7 @@ pub(crate) const MOST_IN_ONE: u64 = 4095;
 /// How many statements a program may have in the second version.
 pub(crate) const MOST_IN_TWO: u64 = 65_535;
 
-/// The bit that says in the first version whether a row has a label. The statement's number stands to
+/// The bit that says in the first version whether a row has a label. The statement's number is to
 /// the right of it.
 const LABEL_FLAG: u64 = 1 << 12;
 
@@ -39,19 +39,19 @@ impl Version {
         ensures { result ≡ fields.version_of word }
     {
         match word {
-            MARK_ONE => Some(Version::One),
-            MARK_TWO => Some(Version::Two),
+            MAGIC_ONE => Some(Version::One),
+            MAGIC_TWO => Some(Version::Two),
             _ => None,
         }
     }
 
     /// The first word of an image.
-    pub(crate) fn mark(self) -> u64
-        ensures { result ≡ spec.mark self }
+    pub(crate) fn magic(self) -> u64
+        ensures { result ≡ spec.magic self }
     {
         match self {
-            Version::One => MARK_ONE,
-            Version::Two => MARK_TWO,
+            Version::One => MAGIC_ONE,
+            Version::Two => MAGIC_TWO,
         }
     }
 
@@ -77,7 +77,7 @@ impl Version {
         }
     }
 
-    /// The label that the last bits of a row's first word tell, if they tell one.
+    /// The label that the last bits of a row's first word give, if they give one.
     pub(crate) fn label_in(self, word: u64) -> Option<u16>
         ensures { result ≡ fields.label_in self word }
     {
@@ -94,7 +94,7 @@ impl Version {
     }
 }
 
-/// The target that the last bits of a header tell.
+/// The target that the last bits of a header give.
 pub(crate) fn target_in(word: u64) -> u16
     ensures { result ≡ fields.target_in word }
 {

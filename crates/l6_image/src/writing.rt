@@ -16,8 +16,12 @@ use crate::version::{Version, target_bits};
 use l6_prog::{Cond, Exit, Op, Program, Statement, Test};
 use std::alloc::{AllocError, Global};
 
-/// The words of a program's image: the mark, how many statements there are, how many words follow,
-/// and the words of the statements, in order.
+/// The words of a program's image: the magic word, how many statements there are, how many words
+/// follow, and the words of the statements, in order.
+///
+/// # Errors
+///
+/// Memory ran out.
 pub fn words_of(alloc: Global, program: &Program) -> Result<Vec<u64>, AllocError>
     ensures words { IfOk result (λ words. words.items ≡ spec.words_of program.now) }
     // Every program has an image.
@@ -40,7 +44,7 @@ pub(crate) fn words_in(
 {
     let statements = program.statements();
     let mut words = Vec::new(alloc);
-    words.push(version.mark())?;
+    words.push(version.magic())?;
     words.push(statements.len() as u64)?;
     words.push(0)?;
     push_statements(version, &mut words, statements)?;
@@ -50,11 +54,15 @@ pub(crate) fn words_in(
 
 /// The words of a statement: the first word, those of its tests and those of its operations. The
 /// caller owes that there are no more of these than a statement of a program may have.
+///
+/// # Errors
+///
+/// Memory ran out.
 pub fn statement_words(alloc: Global, statement: &Statement) -> Result<Vec<u64>, AllocError>
     requires { IsTrue (fits statement.now) }
     ensures words { IfOk result (λ words. words.items ≡ spec.statement_words statement.now) }
     ensures known { OnOk result (spec.has_values statement.now ≡ true) }
-    // Where each target is one that a program may have, each is below 2^36.
+    // If each target is one that a program may have, each word is below 2^36.
     ensures fit { IfOk result (λ words.
         list_all (is_below most_statements) (targets_of statement.now) ≡ true
         → list_all is_word words.items ≡ true) }

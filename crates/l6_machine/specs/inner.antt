@@ -1,2 +1,2 @@
 pub mod Progress
-pub mod Code
+pub mod CompiledProgram

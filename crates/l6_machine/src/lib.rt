@@ -2,9 +2,9 @@
 #![tactic(auto)]
 
 mod decimal;
+mod execution;
 mod finding;
 mod machine;
-mod performing;
 mod progress;
 mod returning;
 

@@ -7,7 +7,7 @@ ghost use Rattle.l6_prog.specs.Numerals.{first_letter, letter_count, name_count}
 ghost use Rattle.l6_store.specs.Blocks.{Fits};
 ghost use Rattle.l6_store.specs.Store.{fresh};
 ghost use Rattle.l6_steps.specs.Limits.{are_allowed};
-ghost use Rattle.l6_steps.specs.Moment.{first_moment, moment_after, EndsBy, IsNumbered};
+ghost use Rattle.l6_steps.specs.Configuration.{first_configuration, configuration_after, EndsBy, IsNumbered};
 ghost use Rattle.l6_steps.specs.Numerals.{most_entries, most_input, most_output, most_steps};
 ghost use Rattle.l6_steps.specs.Output.{BeginAlike};
 ghost use Rattle.l6_steps.specs.State.{is_at_limit, is_last};
@@ -17,7 +17,7 @@ ghost use Rattle.l6_steps.specs.Run.{EndsIn, IsReached};
 ghost use Rattle.l6_machine.specs.Counting.{number_of};
 
 use crate::progress::Progress;
-use l6_instructions::Code;
+use l6_instructions::CompiledProgram;
 use l6_prog::{Name, Program};
 use l6_registers::{Depths, Registers};
 use l6_steps::{Halt, Limits, Position, StepResult, Trap};
@@ -31,7 +31,7 @@ use thiserror::Error;
 /// Why a machine was not made.
 #[derive(Clone, Copy, Debug, Error, PartialEq, Eq)]
 pub enum MachineFault {
-    /// A growth was refused.
+    /// Memory ran out.
     #[error("out of memory")]
     NoMemory,
     /// More than 1,000,000,000 steps or 16,777,216 bytes of output.
@@ -62,18 +62,18 @@ fn check(limits: Limits) -> Result<(), MachineFault>
     }
 }
 
-/// Code that machines share.
-fn shared(alloc: Global, code: Code) -> Result<Rc<Code, Global>, AllocError>
+/// A compiled program that machines share.
+fn shared(alloc: Global, code: CompiledProgram) -> Result<Rc<CompiledProgram, Global>, AllocError>
     ensures { IfOk result (λ shared. shared.value ≡ code) }
 {
     Ok(Rc::new(alloc, code)?)
 }
 
-/// A machine with a program to run and a store of blocks, at some moment of its run.
+/// A machine with a program to run and a store of blocks, at some configuration of its run.
 #[derive(Drop)]
 pub struct Machine<S: Places> {
     // it never changes, so the copies of a machine share it
-    code: Rc<Code, Global>,
+    code: Rc<CompiledProgram, Global>,
     registers: Registers<S>,
     progress: Progress,
 }
@@ -81,28 +81,33 @@ pub struct Machine<S: Places> {
 impl<S: Places> Model for Machine<S> {
     ghost use Rattle.std.specs.Coded.{codes};
     ghost use Rattle.l6_store.specs.Blocks.{blocks_code};
-    ghost use Rattle.l6_steps.specs.Standing.{Standing};
+    ghost use Rattle.l6_steps.specs.RunState.{RunState};
 
-    ghost Value = { Standing };
+    ghost Value = { RunState };
 
     ghost coded = { Prim.hlevel (codes, blocks_code) };
 
-    ghost use Rattle.l6_machine.specs.inner.Code.{course_of, IsSoundAt};
-    ghost use Rattle.l6_machine.specs.inner.Progress.{moment_of, world_of};
+    ghost use Rattle.l6_machine.specs.inner.CompiledProgram.{control_of, IsInRunAt};
+    ghost use Rattle.l6_machine.specs.inner.Progress.{configuration_of, context_of};
 
     ghost view = { λ m. record {
-      world = world_of m.code.value.program m.registers;
-      moment = moment_of m.registers (course_of m.code.value.layout m.progress);
+      context = context_of m.code.value.program m.registers;
+      configuration = configuration_of m.registers (control_of m.code.value.layout m.progress);
     } };
 
-    ghost invariant = { λ m. IsSoundAt S.rule m.code.value m.registers m.progress };
+    ghost invariant = { λ m. IsInRunAt S.rule m.code.value m.registers m.progress };
 }
 
 impl<S: Places> Machine<S> {
-    /// A machine before the first step of the program. All that a run needs is taken from memory
-    /// here: a copy of the program and its instructions, a copy of the input, and room for the output
-    /// and for all that may be saved. Where no machine is made, the store is dropped. Requires a store
-    /// that is new or reset, and at most `MAX_INPUT` bytes of input.
+    /// A machine before the first step of the program. All memory that a run needs is allocated
+    /// here: for a copy of the program and its instructions, a copy of the input, and room for the
+    /// output and for everything that may be saved. If no machine is made, the store is dropped.
+    /// The caller owes a store that is new or reset, and at most `MAX_INPUT` bytes of input.
+    ///
+    /// # Errors
+    ///
+    /// `BadLimits` exactly if the limits are out of range, before anything is allocated; or out of
+    /// memory.
     pub fn new(
         alloc: Global,
         program: &Program,
@@ -114,16 +119,16 @@ impl<S: Places> Machine<S> {
         S: Drop,
         requires input { length input.now ≤ most_input }
         requires fresh { S.store store ≡ fresh S.rule (S.store store).units }
-        ensures start { IfOk result (λ m. m.moment ≡ first_moment S.rule m.world) }
-        ensures world { IfOk result (λ m. m.world ≡ record {
+        ensures start { IfOk result (λ m. m.configuration ≡ first_configuration S.rule m.context) }
+        ensures context { IfOk result (λ m. m.context ≡ record {
           program = program.now;
-          setting = record {
+          parameters = record {
             units = (S.store store).units;
             limits = limits;
             input = characters_of input.now;
           };
         }) }
-        ensures reached { IfOk result (λ m. IsReached m.world m.moment.state) }
+        ensures reached { IfOk result (λ m. IsReached m.context m.configuration.state) }
         ensures bad_limits { IsErrOf result MachineFault.BadLimits ↔ (are_allowed limits ≡ false) }
         ensures allowed { OnOk result (are_allowed limits ≡ true) }
     {
@@ -131,7 +136,11 @@ impl<S: Places> Machine<S> {
         Self::with_program(alloc, program.duplicate(alloc)?, input, store, limits)
     }
 
-    /// The same for who needs the program no longer: the machine takes it, and no copy is made.
+    /// Like `new`, but takes ownership of the program, and makes no copy of it.
+    ///
+    /// # Errors
+    ///
+    /// Those of `new`.
     pub fn with_program(
         alloc: Global,
         program: Program,
@@ -143,21 +152,21 @@ impl<S: Places> Machine<S> {
         S: Drop,
         requires input { length input.now ≤ most_input }
         requires fresh { S.store store ≡ fresh S.rule (S.store store).units }
-        ensures start { IfOk result (λ m. m.moment ≡ first_moment S.rule m.world) }
-        ensures world { IfOk result (λ m. m.world ≡ record {
+        ensures start { IfOk result (λ m. m.configuration ≡ first_configuration S.rule m.context) }
+        ensures context { IfOk result (λ m. m.context ≡ record {
           program = program;
-          setting = record {
+          parameters = record {
             units = (S.store store).units;
             limits = limits;
             input = characters_of input.now;
           };
         }) }
-        ensures reached { IfOk result (λ m. IsReached m.world m.moment.state) }
+        ensures reached { IfOk result (λ m. IsReached m.context m.configuration.state) }
         ensures bad_limits { IsErrOf result MachineFault.BadLimits ↔ (are_allowed limits ≡ false) }
         ensures allowed { OnOk result (are_allowed limits ≡ true) }
     {
         check(limits)?;
-        let code = Code::new(alloc, program)?;
+        let code = CompiledProgram::new(alloc, program)?;
         let registers = Registers::new(alloc, input, store, limits)?;
         let start = Position {
             statement: 0,
@@ -180,39 +189,40 @@ impl<S: Places> Machine<S> {
     /// at its limit. Each bug stays a word, and so does each word of a block; the blocks stay
     /// within the store, each at a multiple of its size, and no two share a word.
     pub fn step(&mut self) -> StepResult
-        ensures moment { self.new.moment ≡ moment_after S.rule self.old.world self.old.moment }
-        ensures world { self.new.world ≡ self.old.world }
-        ensures step { is_last self.old.world self.old.moment.state ≡ false
-            → Step self.old.world self.old.moment.state self.new.moment.state }
-        ensures trapped { (trap : Trap) → self.old.moment.state.ending ≡ None →
+        ensures configuration { self.new.configuration
+            ≡ configuration_after S.rule self.old.context self.old.configuration }
+        ensures context { self.new.context ≡ self.old.context }
+        ensures step { is_last self.old.context self.old.configuration.state ≡ false
+            → Step self.old.context self.old.configuration.state self.new.configuration.state }
+        ensures trapped { (trap : Trap) → self.old.configuration.state.ending ≡ None →
             result ≡ StepResult.Trapped trap
-            → self.new.moment ≡ record {
-              state = record self.old.moment.state { ending = Some (Halt.Trap trap) };
-              order = self.old.moment.order;
+            → self.new.configuration ≡ record {
+              state = record self.old.configuration.state { ending = Some (Halt.Trap trap) };
+              order = self.old.configuration.order;
             } }
-        ensures last { is_last self.old.world self.old.moment.state ≡ true →
-            self.new.moment ≡ self.old.moment }
-        ensures reached { IsReached self.new.world self.new.moment.state }
-        ensures numbered { IsNumbered S.rule self.new.world self.new.moment }
+        ensures last { is_last self.old.context self.old.configuration.state ≡ true →
+            self.new.configuration ≡ self.old.configuration }
+        ensures reached { IsReached self.new.context self.new.configuration.state }
+        ensures numbered { IsNumbered S.rule self.new.context self.new.configuration }
         ensures answer { result
-            ≡ answer self.old.world self.old.moment.state self.new.moment.state }
+            ≡ answer self.old.context self.old.configuration.state self.new.configuration.state }
         ensures counted { result ≡ StepResult.Went →
-            self.new.moment.state.count ≡ self.old.moment.state.count + 1 }
-        ensures within { self.new.moment.state.count ≤ self.new.world.setting.limits.steps }
-        ensures words { All (λ word. word < 2 ^ word_bits) self.new.moment.state.memory.bugs }
+            self.new.configuration.state.count ≡ self.old.configuration.state.count + 1 }
+        ensures within { self.new.configuration.state.count ≤ self.new.context.parameters.limits.steps }
+        ensures words { All (λ word. word < 2 ^ word_bits) self.new.configuration.state.memory.bugs }
         ensures saved_words { All (λ word. word < 2 ^ word_bits)
-            self.new.moment.state.memory.saved_contents }
-        ensures blocks { Fits self.new.world.setting.units self.new.moment.state.memory.blocks }
+            self.new.configuration.state.memory.saved_contents }
+        ensures blocks { Fits self.new.context.parameters.units self.new.configuration.state.memory.blocks }
     {
         self.progress.step(&self.code, &mut self.registers)
     }
 
     /// Makes steps until the run has ended or is at its limit.
     pub fn run(&mut self)
-        ensures ends { EndsIn self.new.world self.new.moment.state }
-        ensures by_rule { EndsBy S.rule self.new.world self.new.moment.state }
-        ensures numbered { IsNumbered S.rule self.new.world self.new.moment }
-        ensures world { self.new.world ≡ self.old.world }
+        ensures ends { EndsIn self.new.context self.new.configuration.state }
+        ensures by_rule { EndsBy S.rule self.new.context self.new.configuration.state }
+        ensures numbered { IsNumbered S.rule self.new.context self.new.configuration }
+        ensures context { self.new.context ≡ self.old.context }
     {
         self.progress.run(&self.code, &mut self.registers);
     }
@@ -220,13 +230,14 @@ impl<S: Places> Machine<S> {
     /// Makes steps until the run has ended, is at its limit or has counted as many as this. Answers
     /// how many steps were made, the one that traps among them.
     pub fn run_to(&mut self, count: u64) -> u64
-        ensures stops { is_last self.new.world self.new.moment.state ≡ false →
-            count ≤ self.new.moment.state.count }
-        ensures ran { number_of self.new.moment.state
-            ≡ number_of self.old.moment.state + result }
-        ensures few { result ≤ count - self.old.moment.state.count }
-        ensures numbered { IsNumbered S.rule self.new.world self.new.moment }
-        ensures world { self.new.world ≡ self.old.world }
+        ensures stops { is_last self.new.context self.new.configuration.state ≡ false →
+            count ≤ self.new.configuration.state.count }
+        ensures ran { number_of self.new.configuration.state
+            ≡ number_of self.old.configuration.state + result }
+        ensures reached { IsReached self.new.context self.new.configuration.state }
+        ensures few { result ≤ count - self.old.configuration.state.count }
+        ensures numbered { IsNumbered S.rule self.new.context self.new.configuration }
+        ensures context { self.new.context ≡ self.old.context }
     {
         self.progress.run_to(&self.code, &mut self.registers, count)
     }
@@ -234,9 +245,9 @@ impl<S: Places> Machine<S> {
     /// Goes back to the state before the first step. The store has its first order again, too, and
     /// nothing of the input is taken.
     pub fn reset(&mut self)
-        ensures start { self.new.moment ≡ first_moment S.rule self.new.world }
-        ensures world { self.new.world ≡ self.old.world }
-        ensures reached { IsReached self.new.world self.new.moment.state }
+        ensures start { self.new.configuration ≡ first_configuration S.rule self.new.context }
+        ensures context { self.new.context ≡ self.old.context }
+        ensures reached { IsReached self.new.context self.new.configuration.state }
     {
         self.registers.reset();
         self.progress = Progress {
@@ -246,9 +257,13 @@ impl<S: Places> Machine<S> {
         };
     }
 
-    /// The same machine once more, at the same moment of the same run, with a store of its own. All
-    /// that its run needs is taken from memory here, but for the program and the input, which the two
-    /// share.
+    /// A copy of the machine, at the same configuration of the same run, with a store of its own.
+    /// The two share the program and the input; everything else that its run needs is allocated
+    /// here.
+    ///
+    /// # Errors
+    ///
+    /// Memory ran out.
     pub fn duplicate(&self, alloc: Global) -> Result<Self, AllocError>
     where
         S: Drop,
@@ -261,13 +276,17 @@ impl<S: Places> Machine<S> {
         })
     }
 
-    /// Comes to the moment of another machine of the same world, in the memory that it has. The caller
-    /// owes that the shorter of the two outputs is the beginning of the other, as outputs of one run
-    /// are. Where the program or the input can't be shared once more, nothing changes.
+    /// Comes to the configuration of another machine of the same context, in the memory that it
+    /// has. The caller owes that the shorter of the two outputs is the beginning of the other, as
+    /// outputs of one run are.
+    ///
+    /// # Errors
+    ///
+    /// The program or the input could not be shared once more. Then nothing has changed.
     pub fn take_from(&mut self, other: &Self) -> Result<(), AllocError>
-        requires world { self.old.world ≡ other.now.world }
-        requires output { BeginAlike self.old.moment.state.memory.output
-            other.now.moment.state.memory.output }
+        requires context { self.old.context ≡ other.now.context }
+        requires output { BeginAlike self.old.configuration.state.memory.output
+            other.now.configuration.state.memory.output }
         ensures ok { OnOk result (self.new ≡ other.now) }
         ensures err { OnErr result (self.new ≡ self.old) }
     {
@@ -280,14 +299,14 @@ impl<S: Places> Machine<S> {
 
     /// The program.
     pub fn program(&self) -> &Program
-        ensures { result.now ≡ self.now.world.program }
+        ensures { result.now ≡ self.now.context.program }
     {
         self.code.program()
     }
 
     /// How far the run may go.
     pub fn limits(&self) -> Limits
-        ensures value { result ≡ self.now.world.setting.limits }
+        ensures value { result ≡ self.now.context.parameters.limits }
         ensures allowed { are_allowed result ≡ true }
     {
         self.registers.limits()
@@ -296,26 +315,26 @@ impl<S: Places> Machine<S> {
     /// What the bug of a letter holds. The caller owes a letter (`Name::is_letter`).
     pub fn bug(&self, name: Name) -> Word
         requires { first_letter ≤ name }
-        ensures { result ≡ slice_index self.now.moment.state.memory.bugs (index_of name) }
+        ensures { result ≡ slice_index self.now.configuration.state.memory.bugs (index_of name) }
     {
         self.registers.bug(name)
     }
 
     /// What the bugs hold, A to Z.
     pub fn bugs(&self) -> &[Word]
-        ensures value { result.now ≡ self.now.moment.state.memory.bugs }
+        ensures value { result.now ≡ self.now.configuration.state.memory.bugs }
         ensures count { length result.now ≡ letter_count }
     {
         self.registers.bugs()
     }
 
-    /// How many contents and definitions are saved, and for how many returns calls wait: each at
-    /// most `MAX_ENTRIES`.
+    /// How many contents and definitions are saved, and how many calls wait for their return: each
+    /// at most `MAX_ENTRIES`.
     pub fn depths(&self) -> Depths
-        ensures contents { result.contents ≡ length self.now.moment.state.memory.saved_contents }
+        ensures contents { result.contents ≡ length self.now.configuration.state.memory.saved_contents }
         ensures definitions { result.definitions
-            ≡ length self.now.moment.state.memory.saved_definitions }
-        ensures returns { result.returns ≡ length self.now.moment.state.memory.returns }
+            ≡ length self.now.configuration.state.memory.saved_definitions }
+        ensures returns { result.returns ≡ length self.now.configuration.state.memory.returns }
         ensures within { (result.contents ≤ most_entries)
             × (result.definitions ≤ most_entries) × (result.returns ≤ most_entries) }
     {
@@ -324,14 +343,14 @@ impl<S: Places> Machine<S> {
 
     /// What a field of this name is defined as, if it is.
     pub fn definition(&self, name: Name) -> Option<Window>
-        ensures { result ≡ slice_index_or self.now.moment.state.memory.definitions name None }
+        ensures { result ≡ slice_index_or self.now.configuration.state.memory.definitions name None }
     {
         self.definitions()[usize::from(name.number())]
     }
 
     /// What each name is defined as, if it is, by its number.
     pub fn definitions(&self) -> &[Option<Window>]
-        ensures value { result.now ≡ self.now.moment.state.memory.definitions }
+        ensures value { result.now ≡ self.now.configuration.state.memory.definitions }
         ensures count { length result.now ≡ name_count }
     {
         self.registers.definitions()
@@ -339,24 +358,26 @@ impl<S: Places> Machine<S> {
 
     /// The store, as the run has left it.
     pub fn store(&self) -> &S
-        ensures units { (S.store result.now).units ≡ self.now.world.setting.units }
-        ensures blocks { (S.store result.now).blocks ≡ self.now.moment.state.memory.blocks }
-        ensures order { (S.store result.now).order ≡ self.now.moment.order }
+        ensures units { (S.store result.now).units ≡ self.now.context.parameters.units }
+        ensures blocks { (S.store result.now).blocks ≡ self.now.configuration.state.memory.blocks }
+        ensures order { (S.store result.now).order ≡ self.now.configuration.order }
     {
         self.registers.places()
     }
 
-    /// Where the run stands.
+    /// Where the run is.
     pub fn at(&self) -> Position
-        ensures { result ≡ self.now.moment.state.at }
+        ensures { result ≡ self.now.configuration.state.at }
     {
         self.code.position(self.progress.place)
     }
 
-    /// How many steps have been counted, at most as many as the run may count.
+    /// How many steps have been counted, at most as many as the run may count. Steps of the written
+    /// machine lead to the state.
     pub fn count(&self) -> u64
-        ensures value { result ≡ self.now.moment.state.count }
-        ensures within { result ≤ self.now.world.setting.limits.steps }
+        ensures value { result ≡ self.now.configuration.state.count }
+        ensures reached { IsReached self.now.context self.now.configuration.state }
+        ensures within { result ≤ self.now.context.parameters.limits.steps }
         ensures bound { result ≤ most_steps }
     {
         self.progress.count
@@ -364,15 +385,15 @@ impl<S: Places> Machine<S> {
 
     /// How many characters of the input have been taken.
     pub fn taken(&self) -> usize
-        ensures { result ≡ self.now.moment.state.memory.taken }
+        ensures { result ≡ self.now.configuration.state.memory.taken }
     {
         self.registers.taken()
     }
 
     /// What has been printed, at most as much as the run may print.
     pub fn output(&self) -> &[u8]
-        ensures value { result.now ≡ self.now.moment.state.memory.output }
-        ensures within { length result.now ≤ self.now.world.setting.limits.output }
+        ensures value { result.now ≡ self.now.configuration.state.memory.output }
+        ensures within { length result.now ≤ self.now.context.parameters.limits.output }
         ensures bound { length result.now ≤ most_output }
     {
         self.registers.output()
@@ -380,21 +401,21 @@ impl<S: Places> Machine<S> {
 
     /// How the run has ended, if it has.
     pub fn ending(&self) -> Option<Halt>
-        ensures { result ≡ self.now.moment.state.ending }
+        ensures { result ≡ self.now.configuration.state.ending }
     {
         self.progress.ending
     }
 
     /// Whether the run has ended or is at its limit, and so goes no further.
     pub fn is_last(&self) -> bool
-        ensures { result ≡ is_last self.now.world self.now.moment.state }
+        ensures { result ≡ is_last self.now.context self.now.configuration.state }
     {
         self.ending().is_some() || self.at_limit()
     }
 
     /// Whether the run has not ended, and has counted as many steps as it may.
     pub fn at_limit(&self) -> bool
-        ensures { result ≡ is_at_limit self.now.world self.now.moment.state }
+        ensures { result ≡ is_at_limit self.now.context self.now.configuration.state }
     {
         self.ending().is_none() && self.count() == self.registers.limits().steps
     }

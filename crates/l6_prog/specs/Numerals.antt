@@ -1,4 +1,4 @@
--- The numbers of the language that programs stand on.
+-- The numbers of the language that programs use.
 use Rattle.std.specs.Prelude.{ℕ, ◌+◌}
 
 -- how many digits there are, 0 to 9, and how many letters, A to Z

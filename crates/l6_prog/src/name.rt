@@ -59,7 +59,7 @@ impl Name {
     }
 }
 
-/// The name `0`, which stands in the unused places of an `ArrayVec`.
+/// The name `0`, which is in the unused places of an `ArrayVec`.
 impl Default for Name {
     ghost is_default = { λ name. name ≡ 0 };
 

@@ -3,11 +3,11 @@
 use crate::chain::Chain;
 use l6_word::Word;
 
-/// What an operation reads: the content of a chain, or a number that stands for itself.
+/// What an operation reads: the content of a chain, or a number.
 #[derive(Clone, Debug, Drop)]
 pub enum Operand {
     /// The content of what a chain leads to.
     Chain(Chain),
-    /// A number, which stands for itself.
+    /// A number.
     Number(Word),
 }

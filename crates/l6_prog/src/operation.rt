@@ -14,9 +14,9 @@ use std::alloc::AllocError;
 /// in a deck.
 ///
 /// A variant's line shows how it is written on a card: c and c2 are chains, cd is a chain or a
-/// number, f is a name, and L and L2 are labels. The *content* of c is what stands where c leads
-/// to, and c *becomes* a value when that value is stored there, cut to the bits that the place has:
-/// its *width*.
+/// number, f is a name, and L and L2 are labels. The *content* of c is what the locus holds to
+/// which c leads, and c *becomes* a value when that value is assigned there, cut to as many bits as
+/// the locus has: its *width*.
 #[derive(Debug, Drop)]
 pub enum Op<L = u16> {
     /// `(c,E,cd)`: c becomes the operand.
@@ -67,11 +67,11 @@ pub enum Op<L = u16> {
     /// `(c,FR)`, `(c,FR,cd)`: frees the block at the content of c. Then c becomes the operand, or 0
     /// without one, unless c lay in that block.
     Free(Chain, Option<Operand>),
-    /// `(L,DO)`, `(L,DO,L2)`: calls the statement L. After its DONE the run goes on behind the
+    /// `(L,DO)`, `(L,DO,L2)`: calls the statement L. After its DONE the run goes on after the
     /// call, and after its FAIL at the fail label L2.
     Call(L, Option<L>),
     /// `(c,IN,cd)`, `(c,IN,cd,L)`: takes as many characters of the input as the operand says, and c
-    /// becomes the number that they stand for. Where the input has too few left, the run goes to L.
+    /// becomes the number that they stand for. If the input has too few left, the run goes to L.
     Input(Chain, Operand, Option<L>),
     /// `(c,PR,cd)`: prints the last characters that the content of c stands for, as many as the
     /// operand says.

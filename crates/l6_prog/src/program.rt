@@ -56,8 +56,11 @@ impl Model for Program {
 }
 
 impl Program {
-    /// The program of these statements. Where they are none the answer is the first of `Limit`,
-    /// `Target` and `Shape` that applies, and the list is given up.
+    /// The program of these statements. If they are no program, the list is dropped.
+    ///
+    /// # Errors
+    ///
+    /// The first of `Limit`, `Target` and `Shape` that applies.
     pub fn new(statements: Vec<Statement>) -> Result<Self, ProgFault>
         ensures { result ≡ program_of statements.items }
     {
@@ -89,9 +92,9 @@ impl Program {
         self.statements.as_slice()
     }
 
-    /// The statement of this number. Beside it the caller learns what every program has: how many
-    /// statements there are at most, that each target is the number of one, and that behind any but
-    /// the plain `DONE` there is another.
+    /// The statement of this number, which the caller owes to be one of the program. The clauses
+    /// also say what every program has: how many statements there are at most, that each target is
+    /// the number of one, and that after any but the plain `DONE` there is another.
     pub fn statement(&self, number: u16) -> &Statement
         requires { number < length self.now }
         ensures value { result.now ≡ slice_index_or self.now number plain_done }
@@ -104,7 +107,11 @@ impl Program {
         &self.statements[usize::from(number)]
     }
 
-    /// The same program once more.
+    /// A copy of the program.
+    ///
+    /// # Errors
+    ///
+    /// Memory ran out.
     pub fn duplicate(&self, alloc: Global) -> Result<Self, AllocError>
         ensures { IfOk result (λ copy. copy ≡ self.now) }
     {
@@ -140,7 +147,7 @@ fn each_target_is_a_statement(statements: &[Statement]) -> bool
     true
 }
 
-/// Whether each condition has as many tests as it wants.
+/// Whether each condition has as many tests as it needs.
 fn each_has_its_tests(statements: &[Statement]) -> bool
     ensures { result ≡ list_all has_its_tests statements.now }
 {

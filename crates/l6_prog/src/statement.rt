@@ -94,7 +94,11 @@ impl Statement {
         each_leads_below(&self.operations, end) && self.exit.leads_below(end)
     }
 
-    /// The same statement once more.
+    /// A copy of the statement.
+    ///
+    /// # Errors
+    ///
+    /// Memory ran out.
     pub fn duplicate(&self, alloc: Global) -> Result<Self, AllocError>
         ensures { IfOk result (λ copy. copy ≡ self.now) }
     {

@@ -1,5 +1,6 @@
--- The fields of the memory, of its title and of both together, as the machine stores them. A struct of plain
--- fields is made of nothing; what it owns behind its pointer stands beside. Assumes `Logic`.
+-- The fields of the memory, of its deallocation token and of both together, as the machine stores
+-- them. A struct of plain fields is made of nothing; what it owns after its pointer is beside.
+-- Assumes `Logic`.
 use Rattle.std.proofs.Common.{◌≡◌, ℕ, ◌<◌, ◌^◌, List, [], ◌∷◌, ◌++◌, refl, ap, ◌∙◌, w64}
 use seplogic.Ra.Ura.{Ura}
 use base.Fml.{Fml}
@@ -15,11 +16,11 @@ use denote.Struct.Declared as Declared
 use denote.Struct.Owning.{shape}
 use denote.Struct.Struct.{Shape, Struct, Struct-Makes, within}
 use denote.Struct.Tuple.{Tuple, tuple_type}
-use Rattle.l6_raw.specs.contracts.memory.Memory as Memory
+use Rattle.l6_raw.specs.contracts.memory.RawMemory as RawMemory
 
--- the memory's fields alone, without what it owns behind its pointer
+-- the memory's fields alone, without what it owns after its pointer
 abbrev pub Fields : RattleType
-Fields = Struct (shape Memory.the_type)
+Fields = Struct (shape RawMemory.the_type)
 
 abbrev pub memory_val : Ptr → ℕ → ℕ → Val
 memory_val start room written =
@@ -29,9 +30,9 @@ abbrev pub fields_own : Ptr → ℕ → ℕ → Fml
 fields_own start room written =
     Fields.own_val (start, (room, (written, tt))) (memory_val start room written ∷ [])
 
--- the title has no field that the machine knows, but a mark of its allocator's type
-abbrev pub title_val : Val
-title_val = vstruct (vcons (vstruct vnil) vnil)
+-- the token has no field that the machine knows, but a mark of its allocator's type
+abbrev pub token_val : Val
+token_val = vstruct (vcons (vstruct vnil) vnil)
 
 -- a struct whose one field is a struct without fields
 abbrev Marked : RattleType
@@ -43,8 +44,8 @@ Marked = Struct (record {
 })
 
 -- so that is what is stored of it
-pub title_told : (vs : List Val) → Is Marked (tt, tt) vs → vs ≡ title_val ∷ []
-title_told vs is =
+pub token_told : (vs : List Val) → Is Marked (tt, tt) vs → vs ≡ token_val ∷ []
+token_told vs is =
     let fields = is.1 in
     fields.0 ∙ ap (λ (field : List Val). vstruct (of_list (field ++ [])) ∷ []) fields.1.0.1.0
 
@@ -56,7 +57,7 @@ module _ {M : Type 1} {𝓤 : Ura M} (𝓛 : Logic 𝓤) where
         (ptr_val start ∷ [], (vint w64 room ∷ [], (vint w64 written ∷ [], tt))),
         (refl, (refl, ((refl, room_fits), ((refl, written_fits), tt)))),
       ) in
-      Struct-Makes 𝓛 (shape Memory.the_type)
+      Struct-Makes 𝓛 (shape RawMemory.the_type)
       ((λ x vs. tt), ((λ x vs. (tt, tt)), ((λ x vs. (tt, tt)), tt))) (start, (room, (written, tt)))
       (memory_val start room written ∷ []) stored
 

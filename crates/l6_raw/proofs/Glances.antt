@@ -1,5 +1,5 @@
--- A field of plain data is read through a `&`: its cell is opened, with the value that it is known to hold,
--- and shut again. Assumes `Logic`.
+-- A field of plain data is read through a `&`: its cell is opened, with the value that it is known
+-- to hold, and shut again. Assumes `Logic`.
 use Rattle.std.proofs.Common.{◌≡◌, ℕ, ◌<◌, ◌^◌, List, [], ◌∷◌, refl, w64}
 use seplogic.Ra.Ura.{Ura}
 use base.Fml.{Lft, Share, flft}
@@ -20,7 +20,8 @@ use denote.Steps.{looks, shuts, peeks}
 use denote.Struct.Laws.{RawPtr-laws}
 
 -- a type whose values tell how they are stored, and own nothing
-pub record Readable {M : Type 1} {𝓤 : Ura M} (𝓛 : Logic 𝓤) (R : RattleType) (value : R.Denot) : Type 1 where
+pub record Readable {M : Type 1} {𝓤 : Ura M} (𝓛 : Logic 𝓤) (R : RattleType)
+    (value : R.Denot) : Type 1 where
   pub stored : List Val
   pub opens : Opens 𝓛 R
   pub known : (vs : List Val) → Is R value vs → vs ≡ stored

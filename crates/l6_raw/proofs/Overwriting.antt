@@ -35,7 +35,7 @@ pub are_words-zeros : (count : ℕ) → AreWords (replicate count 0)
 are_words-zeros count =
     All-replicate (λ (word : ℕ). word < 2 ^ word_bits) count 0 (pow_pos word_bits)
 
--- before and behind those that were overwritten each word is as it was, ..
+-- before and after those that were overwritten each word is as it was, ..
 pub get_or-overwritten_before : (words : List ℕ) (place : ℕ) (others : List ℕ) (at : ℕ)
     → place ≤ length words → at < place
     → get_or (overwritten words place others) at 0 ≡ get_or words at 0
@@ -55,10 +55,10 @@ get_or-overwritten_in words place others index within below =
     ∙ ap (λ (i : ℕ). get_or (others ++ drop (place + length others) words) i 0) back
     ∙ get_or_append_left others (drop (place + length others) words) 0 index below
 
-pub get_or-overwritten_behind : (words : List ℕ) (place : ℕ) (others : List ℕ) (at : ℕ)
+pub get_or-overwritten_following : (words : List ℕ) (place : ℕ) (others : List ℕ) (at : ℕ)
     → place ≤ length words → place + length others ≤ at
     → get_or (overwritten words place others) at 0 ≡ get_or words at 0
-get_or-overwritten_behind words place others at within past =
+get_or-overwritten_following words place others at within past =
     let rest : List ℕ = drop (place + length others) words in
     let sum : place + length others + (at - place - length others) ≡ at = omega arith in
     get_or-append_right (take place words) (others ++ rest) place at 0
@@ -78,7 +78,7 @@ overwritten_more words place others word below =
     let front : List ℕ = take place words in
     let index : at - place ≡ count = omega arith in
     let first : count - count ≡ 0 = omega arith in
-    let behind : suc at ≡ place + length (others ++ word ∷ []) =
+    let following : suc at ≡ place + length (others ++ word ∷ []) =
     omega (arith, length-append others (word ∷ [])) in
     let past_others : set (others ++ drop at words) count word
     ≡ (others ++ word ∷ []) ++ drop (place + length (others ++ word ∷ [])) words =
@@ -86,7 +86,7 @@ overwritten_more words place others word below =
     ∙ ap (λ (i : ℕ). others ++ set (drop at words) i word) first
     ∙ ap (λ (rest : List ℕ). others ++ set rest 0 word) (drop-cons words at 0 below)
     ∙ sym (append_assoc others (word ∷ []) (drop (suc at) words))
-    ∙ ap (λ (i : ℕ). (others ++ word ∷ []) ++ drop i words) behind in
+    ∙ ap (λ (i : ℕ). (others ++ word ∷ []) ++ drop i words) following in
     set-append_right front (others ++ drop at words) place at word
     (length-take-le place words (omega (arith, below))) (omega arith)
     ∙ ap (λ (i : ℕ). front ++ set (others ++ drop at words) i word) index
@@ -132,9 +132,9 @@ copied_more words from to count done source target apart below =
       | inl before ↦
           get_or-overwritten_before words to others (from + done) (omega arith)
           (omega (arith, before))
-      | inr behind ↦
-          get_or-overwritten_behind words to others (from + done) (omega arith)
-          (omega (arith, behind, size))
+      | inr following ↦
+          get_or-overwritten_following words to others (from + done) (omega arith)
+          (omega (arith, following, size))
     ] in
     let place : to + done ≡ to + length others = omega (arith, size) in
     ap (set (overwritten words to others) (to + done)) as_it_was

@@ -4,7 +4,7 @@ use Rattle.std.proofs.lemmas.Bool.{cases_lt}
 use Rattle.std.proofs.lemmas.List.{get_or_past, get_or-take, get_or-drop, ext_get_or}
 use Rattle.l6_raw.specs.Words.{overwritten}
 use Rattle.l6_raw.specs.inner.Pages.{AreUnused}
-use Rattle.l6_raw.proofs.Overwriting.{get_or-overwritten_before, get_or-overwritten_in, get_or-overwritten_behind, length-overwritten, length-range}
+use Rattle.l6_raw.proofs.Overwriting.{get_or-overwritten_before, get_or-overwritten_in, get_or-overwritten_following, length-overwritten, length-range}
 
 -- a word of so many from a place on
 in_range : (words : List ℕ) (place count k : ℕ) → k < count →
@@ -15,7 +15,7 @@ in_range words place count k below =
     ∙ get_or-take count (drop place words) k 0 below
     ∙ get_or-drop place words k 0
 
--- so far the words are the others, and behind they are as they were
+-- so far the words are the others, and after they are as they were
 pub record AreTaken (was words now : List ℕ) (first : ℕ) : Type 0 where
   pub long : length now ≡ length words
   pub taken : (at : ℕ) → at < first → get_or now at 0 ≡ get_or words at 0
@@ -61,30 +61,30 @@ taken_more was words now first count next taken begun within past same =
                       (omega (arith, size, inside, from))
                       ∙ in_range words first count (at - first) (omega (arith, inside, from))
                       ∙ ap (λ (i : ℕ). get_or words i 0) there
-                  | inr behind ↦
-                      get_or-overwritten_behind now first others at place
-                      (omega (arith, size, behind))
-                      ∙ taken.rest at from ∙ same at behind below
+                  | inr following ↦
+                      get_or-overwritten_following now first others at place
+                      (omega (arith, size, following))
+                      ∙ taken.rest at from ∙ same at following below
                 ]
           ];
       rest = λ at after.
-          get_or-overwritten_behind now first others at place (omega (arith, size, after, past))
+          get_or-overwritten_following now first others at place (omega (arith, size, after, past))
           ∙ taken.rest at (omega (arith, after, past));
     }
 
--- behind the last word both are 0
+-- after the last word both are 0
 pub same_past : (was words : List ℕ) (at : ℕ) → length was ≡ length words → length words ≤ at →
     get_or was at 0 ≡ get_or words at 0
 same_past was words at long past =
     get_or_past was at 0 (omega (arith, long, past)) ∙ sym (get_or_past words at 0 past)
 
--- and so they are behind the first word of a page that neither has used
+-- and so they are after the first word of a page that neither has used
 pub same_unused : (was words : List ℕ) (used also : List Bool) (number at : ℕ) →
     AreUnused was used → AreUnused words also → get_or used number false ≡ false →
     get_or also number false ≡ false → number * 1024 + 1 ≤ at → at < number * 1024 + 1024 →
     get_or was at 0 ≡ get_or words at 0
 same_unused was words used also number at was_unused unused one other from below =
     let here : number ≡ at / 1024 = omega (arith, from, below) in
-    let behind : at % 1024 ≡ 0 → ⊥ = λ none. omega (arith, from, below, none) in
-    was_unused.zeros at behind (ap (λ (n : ℕ). get_or used n false) (sym here) ∙ one)
-    ∙ sym (unused.zeros at behind (ap (λ (n : ℕ). get_or also n false) (sym here) ∙ other))
+    let following : at % 1024 ≡ 0 → ⊥ = λ none. omega (arith, from, below, none) in
+    was_unused.zeros at following (ap (λ (n : ℕ). get_or used n false) (sym here) ∙ one)
+    ∙ sym (unused.zeros at following (ap (λ (n : ℕ). get_or also n false) (sym here) ∙ other))

@@ -1,4 +1,4 @@
--- Room for words behind those that are written: it gives the room of the next word, and with the words
+-- Room for words after those that are written: it gives the room of the next word, and with the words
 -- themselves it is the whole room again. Assumes `Logic`.
 use Rattle.std.proofs.Common.{◌≡◌, ℕ, ◌+◌, ◌*◌, List, [], ◌∷◌, length, refl, sym, ◌∙◌, w64, arith}
 use seplogic.Ra.Ura.{Ura}
@@ -19,7 +19,7 @@ module _ {M : Type 1} {𝓤 : Ura M} (𝓛 : Logic 𝓤) (block : ℕ) where
   abbrev pub room_at : ℕ → ℕ → Fml
   room_at count from = froom (row_of count) block from
 
-  -- where words stand there is room for them
+  -- where words are there is room for them
   room_of_row : (words : List ℕ) (from : ℕ) →
       ent 𝓤 (sem 𝓛 (row_at 𝓛 block words from)) (sem 𝓛 (room_at (length words) from))
   room_of_row [] from =
@@ -34,7 +34,7 @@ module _ {M : Type 1} {𝓤 : Ura M} (𝓛 : Logic 𝓤) (block : ℕ) where
       move ! (1 ∷ 0 ∷ []) $
       by ! (𝓛.laws.room_cons (ty_int w64) (length words) block from)
 
-  -- the words, and the room behind them, are room for all
+  -- the words, and the room after them, are room for all
   pub emptied : (words : List ℕ) (more from : ℕ) →
       ent 𝓤
       (⋆ 𝓛 (‵ (array_at 𝓛 block words from) ∷ ‵ (room_at more (from + length words * 8)) ∷ []))

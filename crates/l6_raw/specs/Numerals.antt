@@ -1,4 +1,4 @@
--- The numbers that regions stand on.
+-- The numbers that regions use.
 use Rattle.std.specs.Prelude.{ℕ}
 
 -- how many bits a word has

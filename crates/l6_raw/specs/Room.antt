@@ -12,15 +12,15 @@ use denote.Struct.Lending.{lent_at}
 abbrev pub row_of : ℕ → Ty
 row_of count = ty_array (ty_int w64) count
 
--- room for the words behind the first ones, from so many on
-abbrev pub room_behind : Ptr → ℕ → ℕ → Fml
-room_behind start room count = room_for (row_of (room - count)) (start +ₚ (count * 8))
+-- room for the words after the first ones, from so many on
+abbrev pub room_following : Ptr → ℕ → ℕ → Fml
+room_following start room count = room_for (row_of (room - count)) (start +ₚ (count * 8))
 
--- these words from its start on, and behind them room for as many more as it has room for
+-- these words from its start on, and after them room for as many more as it has room for
 abbrev pub words_and_room : Ptr → ℕ → List ℕ → Fml
 words_and_room start room words =
     fsep (lies_at (Array u64 (length words)) full_share start words)
-    (room_behind start room (length words))
+    (room_following start room (length words))
 
 -- what a `&` to it may read: the words
 abbrev pub words_lent : Ptr → List ℕ → Lft → Fml

@@ -1,4 +1,4 @@
-//! A region of words in one piece of memory. Others see a list of words.
+//! A region of words in one piece of raw memory. Its callers see a list of words.
 #![tactic(auto)]
 
 mod laws;

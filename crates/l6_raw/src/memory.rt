@@ -1,5 +1,5 @@
-//! A piece of raw memory for words. The raw pointer stands in this module alone: its five functions are
-//! proved by hand, and all else of the crate is safe code over them.
+//! A piece of raw memory for words. The raw pointer is in this module alone: its five functions are
+//! proved by hand, and everything else in the crate is safe code over them.
 
 ghost use Rattle.std.specs.Prelude.{[], ℕ, List, ◌≡◌, ◌+◌, ◌<◌, ◌≤◌, ◌^◌, ◌++◌, ◌∷◌, length, slice_set, IfOk};
 ghost use denote.RawPtr.{Ptr};
@@ -13,7 +13,7 @@ const WORD_BYTES: usize = 8;
 
 /// Room for words in one piece of raw memory. The first `written` of them are written. It is linear:
 /// it can be given back, and neither copied nor forgotten.
-pub(crate) struct Memory {
+pub(crate) struct RawMemory {
     start: *mut u64,
     room: usize,
     written: usize,
@@ -23,30 +23,30 @@ pub(crate) struct Memory {
     ghost small: { room < 2 ^ 32 },
 }
 
-impl Model for Memory {
+impl Model for RawMemory {
     ghost also_owns = { λ memory. words_and_room memory.start memory.room memory.words };
 
     ghost also_shares = { λ memory _ κ. words_lent memory.start memory.words κ };
 }
 
 /// The right to give a piece of memory back to the allocator that it came from. It is linear, too.
-pub(crate) struct Title<A: Allocator> {
+pub(crate) struct DeallocToken<A: Allocator> {
     giver: PhantomData<A>,
     ghost alloc: { A },
     ghost start: { Ptr },
     ghost room: { ℕ },
 }
 
-impl<A: Allocator> Model for Title<A> {
-    ghost also_owns = { λ title. A.dealloc_token title.alloc (row_of title.room) title.start };
+impl<A: Allocator> Model for DeallocToken<A> {
+    ghost also_owns = { λ token. A.dealloc_token token.alloc (row_of token.room) token.start };
 }
 
-impl Memory {
+impl RawMemory {
     /// Room for so many words, none of them written.
     pub(crate) fn take<A: Allocator>(
         alloc: &A,
         room: usize,
-    ) -> Result<(Memory, Title<A>), AllocError>
+    ) -> Result<(RawMemory, DeallocToken<A>), AllocError>
         requires { room < 2 ^ 32 }
         ensures { IfOk result (λ taken. (taken.0.words ≡ [])
             × (taken.0.room ≡ room)
@@ -57,24 +57,24 @@ impl Memory {
         match alloc.allocate(room * WORD_BYTES, WORD_BYTES) {
             Ok(block) => {
                 let start = block as *mut u64;
-                let memory = Memory {
+                let memory = RawMemory {
                     start,
                     room,
                     written: 0,
                 };
-                let title = Title { giver: PhantomData };
-                Ok((memory, title))
+                let token = DeallocToken { giver: PhantomData };
+                Ok((memory, token))
             }
             Err(refused) => Err(refused),
         }
     }
 
     /// Gives it back.
-    pub(crate) fn free<A: Allocator>(self, title: Title<A>, alloc: &A)
-        requires { (title.start ≡ self.start) × (title.room ≡ self.room) × (title.alloc ≡ alloc.now) }
+    pub(crate) fn free<A: Allocator>(self, token: DeallocToken<A>, alloc: &A)
+        requires { (token.start ≡ self.start) × (token.room ≡ self.room) × (token.alloc ≡ alloc.now) }
     {
-        let Title { giver: _ } = title;
-        let Memory {
+        let DeallocToken { giver: _ } = token;
+        let RawMemory {
             start,
             room,
             written: _,
@@ -82,7 +82,7 @@ impl Memory {
         unsafe { alloc.deallocate(start as *mut u8, room * WORD_BYTES, WORD_BYTES) }
     }
 
-    /// Writes one word more.
+    /// Writes one more word, after the others.
     pub(crate) fn append(&mut self, word: u64)
         requires { length self.old.words < self.old.room }
         ensures { (self.new.words ≡ self.old.words ++ word ∷ [])
@@ -93,7 +93,7 @@ impl Memory {
         self.written += 1;
     }
 
-    /// Puts a word in the place of the one of this index.
+    /// Overwrites the word of this index.
     pub(crate) fn write(&mut self, index: usize, word: u64)
         requires { index < length self.old.words }
         ensures { (self.new.words ≡ slice_set self.old.words index word)
@@ -103,7 +103,7 @@ impl Memory {
         unsafe { *self.start.add(index) = word };
     }
 
-    /// The words that are written, lent and not copied.
+    /// The words that are written, borrowed and not copied.
     pub(crate) fn words(&self) -> &[u64]
         ensures { result.now ≡ self.now.words }
     {

@@ -1,11 +1,11 @@
-//! The region: a list of words, as others see it.
+//! The region: a list of words, as its callers see it.
 
 ghost use Rattle.std.specs.Prelude.{◌≡◌, ◌+◌, ◌<◌, ◌≤◌, ◌^◌, ◌%◌, ◌⊎◌, ◌++◌, length, replicate, slice_index, slice_range, slice_set, IfOk};
 ghost use Rattle.l6_raw.specs.Numerals.{most_words, word_bits};
 ghost use Rattle.l6_raw.specs.Words.{AreWords, overwritten};
 ghost use Rattle.l6_raw.specs.inner.Pages.{most_pages, page_size, AreUnused};
 
-use crate::memory::{Memory, Title};
+use crate::memory::{DeallocToken, RawMemory};
 use std::alloc::{AllocError, Global};
 use std::marker::Model;
 
@@ -18,8 +18,8 @@ const PAGES: usize = 256;
 /// by another call than `write_first`; all but the first word of an unused page are 0. So `take_from`
 /// leaves the pages out that are unused in both regions.
 pub struct Region {
-    memory: Memory,
-    title: Title<Global>,
+    memory: RawMemory,
+    token: DeallocToken<Global>,
     alloc: Global,
     // whether each page is used
     used: [bool; PAGES],
@@ -35,26 +35,27 @@ impl Model for Region {
 
     ghost view = { λ region. region.memory.words };
 
-    // all of the room is written, and the title is that of this memory
+    // all of the room is written, and the token is that of this memory
     ghost invariant = { λ region. (region.memory.room ≡ length region.memory.words)
-        × (region.title.start ≡ region.memory.start)
-        × (region.title.room ≡ region.memory.room)
-        × (region.title.alloc ≡ region.alloc)
+        × (region.token.start ≡ region.memory.start)
+        × (region.token.room ≡ region.memory.room)
+        × (region.token.alloc ≡ region.alloc)
         × (length region.memory.words ≤ most_words)
         × AreWords region.memory.words
         × AreUnused region.memory.words region.used };
 }
 
-/// Its memory is given back, once: `Memory` and `Title` can be neither copied nor forgotten.
+/// Gives the memory back. That can happen only once, since `RawMemory` and `DeallocToken` can be
+/// neither copied nor forgotten.
 impl Drop for Region {
     fn drop(self) {
         let Region {
             memory,
-            title,
+            token,
             alloc,
             used: _,
         } = self;
-        memory.free(title, &alloc);
+        memory.free(token, &alloc);
     }
 }
 
@@ -69,16 +70,20 @@ impl Region {
     pub const PAGE_SIZE: usize = 1024;
 
     /// So many words, all 0.
+    ///
+    /// # Errors
+    ///
+    /// Memory ran out.
     pub fn new(alloc: Global, count: usize) -> Result<Self, AllocError>
         requires some { 1 ≤ count }
         requires most { count ≤ most_words }
         ensures { IfOk result (λ region. region ≡ replicate count 0) }
     {
-        let (mut memory, title) = Memory::take(&alloc, count)?;
+        let (mut memory, token) = RawMemory::take(&alloc, count)?;
         append_zeros(&mut memory, count);
         Ok(Region {
             memory,
-            title,
+            token,
             alloc,
             used: [false; PAGES],
         })
@@ -113,7 +118,7 @@ impl Region {
         self.memory.write(first, word);
     }
 
-    /// So many words from an index on, lent and not copied.
+    /// So many words from an index on, borrowed and not copied.
     pub fn words(&self, index: usize, count: usize) -> &[u64]
         requires { index + count ≤ length self.now }
         ensures value { result.now ≡ slice_range self.now index (index + count) }
@@ -130,7 +135,8 @@ impl Region {
         clear(&mut self.memory, index, count);
     }
 
-    /// Copies so many words from one index on to another on. The two ranges are apart.
+    /// Copies so many words from one index on to another on. The caller owes that the two ranges
+    /// are apart.
     pub fn copy(&mut self, from: usize, to: usize, count: usize)
         requires source { from + count ≤ length self.old }
         requires target { to + count ≤ length self.old }
@@ -145,24 +151,28 @@ impl Region {
         }
     }
 
-    /// The same words once more, in memory of their own.
+    /// A copy of the words, in memory of its own.
+    ///
+    /// # Errors
+    ///
+    /// Memory ran out.
     pub fn duplicate(&self, alloc: Global) -> Result<Self, AllocError>
         ensures { IfOk result (λ region. region ≡ self.now) }
     {
         let words = self.memory.words();
-        let (mut memory, title) = Memory::take(&alloc, words.len())?;
+        let (mut memory, token) = RawMemory::take(&alloc, words.len())?;
         append_words(&mut memory, words);
         let mut used = [false; PAGES];
         used.copy_from_slice(&self.used);
         Ok(Region {
             memory,
-            title,
+            token,
             alloc,
             used,
         })
     }
 
-    /// Takes over the words of another region, which has as many.
+    /// Takes over the words of another region. The caller owes that it has as many.
     pub fn take_from(&mut self, other: &Region)
         requires { length self.old ≡ length other.now }
         ensures { self.new ≡ other.now }
@@ -179,7 +189,7 @@ impl Region {
 
 /// Overwrites all words with as many others. Of a page that is unused in both only the first word is
 /// written: the others are 0 before and after.
-fn overwrite(memory: &mut Memory, words: &[u64], used: &[bool], other_used: &[bool])
+fn overwrite(memory: &mut RawMemory, words: &[u64], used: &[bool], other_used: &[bool])
     requires long { length memory.old.words ≡ length words.now }
     requires most { length words.now ≤ most_words }
     requires pages { (length used.now ≡ most_pages) × (length other_used.now ≡ most_pages) }
@@ -201,8 +211,8 @@ fn overwrite(memory: &mut Memory, words: &[u64], used: &[bool], other_used: &[bo
     }
 }
 
-/// Puts words in the place of those from an index on.
-fn put(memory: &mut Memory, index: usize, words: &[u64])
+/// Overwrites the words from an index on with others.
+fn put(memory: &mut RawMemory, index: usize, words: &[u64])
     requires { index + length words.now ≤ length memory.old.words }
     ensures words { memory.new.words ≡ overwritten memory.old.words index words.now }
     ensures room { memory.new.room ≡ memory.old.room }
@@ -213,8 +223,8 @@ fn put(memory: &mut Memory, index: usize, words: &[u64])
     }
 }
 
-/// Writes so many zeros more.
-fn append_zeros(memory: &mut Memory, count: usize)
+/// Appends so many zeros.
+fn append_zeros(memory: &mut RawMemory, count: usize)
     requires { length memory.old.words + count ≤ memory.old.room }
     ensures words { memory.new.words ≡ memory.old.words ++ replicate count 0 }
     ensures room { memory.new.room ≡ memory.old.room }
@@ -225,8 +235,8 @@ fn append_zeros(memory: &mut Memory, count: usize)
     }
 }
 
-/// Writes these words more.
-fn append_words(memory: &mut Memory, words: &[u64])
+/// Appends these words.
+fn append_words(memory: &mut RawMemory, words: &[u64])
     requires { length memory.old.words + length words.now ≤ memory.old.room }
     ensures words { memory.new.words ≡ memory.old.words ++ words.now }
     ensures room { memory.new.room ≡ memory.old.room }
@@ -238,7 +248,7 @@ fn append_words(memory: &mut Memory, words: &[u64])
 }
 
 /// Makes so many words from an index on 0.
-fn clear(memory: &mut Memory, index: usize, count: usize)
+fn clear(memory: &mut RawMemory, index: usize, count: usize)
     requires { index + count ≤ length memory.old.words }
     ensures words { memory.new.words ≡ overwritten memory.old.words index (replicate count 0) }
     ensures room { memory.new.room ≡ memory.old.room }

@@ -89,7 +89,7 @@ inside_next width column place codes some is over =
     inside_by width 0 (place + 1) codes
     (subst (λ cs. 0 < length cs) (over_at width column place codes within is over) some)
 
--- behind the first of what is left
+-- after the first of what is left
 pub tail_of : (xs rest : List ℕ) (n x : ℕ) → drop n xs ≡ x ∷ rest → drop (n + 1) xs ≡ rest
 tail_of xs rest n x is =
     elim (cases_lt n (length xs)) as (λ _. drop (n + 1) xs ≡ rest) [
@@ -255,16 +255,16 @@ unfolding input_width
 counted_on count n m is more = omega (arith, is, more)
 
 -- a line more
-pub one_kept : (text codes rest line behind new : List ℕ) (count : ℕ) →
-    KeepsLines text codes rest count → lines_of rest ≡ line ∷ lines_of behind →
-    length behind < length rest → new ≡ codes ++ kept_line input_width (without_return line) →
-    KeepsLines text new behind (count + 80)
-one_kept text codes rest line behind new count keeps cut shorter more =
+pub one_kept : (text codes rest line following new : List ℕ) (count : ℕ) →
+    KeepsLines text codes rest count → lines_of rest ≡ line ∷ lines_of following →
+    length following < length rest → new ≡ codes ++ kept_line input_width (without_return line) →
+    KeepsLines text new following (count + 80)
+one_kept text codes rest line following new count keeps cut shorter more =
     let f : List ℕ → List ℕ = λ l. filled input_width (without_return l) in
     let own = without_return line in
     let lines = keeps.lines ++ own ∷ [] in
-    let rest_is : characters_of rest ≡ f line ++ characters_of behind =
-    ap (flat_map f) cut ∙ flat_map-cons f line (lines_of behind) in
+    let rest_is : characters_of rest ≡ f line ++ characters_of following =
+    ap (flat_map f) cut ∙ flat_map-cons f line (lines_of following) in
     let single : (h : List ℕ → List ℕ) → flat_map h (own ∷ []) ≡ h own =
     λ h. flat_map-cons h own [] ∙ append-nil (h own) in
     let longer : length lines ≡ length keeps.lines + 1 = length-append keeps.lines (own ∷ []) in
@@ -275,10 +275,10 @@ one_kept text codes rest line behind new count keeps cut shorter more =
           ∙ ap (λ cs. flat_map (kept_line input_width) keeps.lines ++ cs)
           (sym (single (kept_line input_width)))
           ∙ sym (flat_map-append (kept_line input_width) keeps.lines (own ∷ []));
-      are = ap (λ cs. cs ++ characters_of behind)
+      are = ap (λ cs. cs ++ characters_of following)
           (flat_map-append (filled input_width) keeps.lines (own ∷ [])
           ∙ ap (λ cs. flat_map (filled input_width) keeps.lines ++ cs) (single (filled input_width)))
-          ∙ append_assoc (flat_map (filled input_width) keeps.lines) (f line) (characters_of behind)
+          ∙ append_assoc (flat_map (filled input_width) keeps.lines) (f line) (characters_of following)
           ∙ ap (λ cs. flat_map (filled input_width) keeps.lines ++ cs) (sym rest_is)
           ∙ keeps.are;
       counted = counted_on count (length keeps.lines) (length lines) keeps.counted longer;

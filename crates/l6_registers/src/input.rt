@@ -18,14 +18,14 @@ pub const INPUT_WIDTH: usize = 80;
 /// How many codes of characters there are.
 const CODES: u64 = 64;
 
-/// What stands behind the codes of a line: no character has this code.
+/// What follows the codes of a line: no character has this code.
 const LINE_END: u8 = 64;
 
 /// The code of a blank.
 const BLANK: u8 = 0;
 
-/// The input of a run, and how far it is taken. The codes of each line are kept, cut to the width of
-/// a line, with an end behind them; the blanks that fill a line are not kept, but counted off.
+/// The input of a run, and how much of it is taken. The codes of each line are kept, cut to the
+/// width of a line, with an end after them; the blanks that fill a line are not kept, but counted.
 #[derive(Drop)]
 pub(crate) struct Input {
     // they never change, so the copies of an input share them
@@ -33,7 +33,7 @@ pub(crate) struct Input {
     // how many characters there are, and how many are taken
     count: usize,
     taken: usize,
-    // where the next one stands: its place among the codes, and its column in its line
+    // where the next one is: its place among the codes, and its column in its line
     place: usize,
     column: usize,
 }
@@ -59,10 +59,10 @@ impl Input {
         let mut codes = Vec::with_capacity(alloc, text.len() + 1)?;
         let mut count = 0;
         let mut rest = text;
-        while let Some((line, behind)) = first_line(rest) {
+        while let Some((line, following)) = first_line(rest) {
             push_line(&mut codes, without_return(line))?;
             count += INPUT_WIDTH;
-            rest = behind;
+            rest = following;
         }
         Ok(Input {
             codes: Rc::new(alloc, codes)?,
@@ -73,7 +73,7 @@ impl Input {
         })
     }
 
-    /// The same input once more, of which as many characters are taken.
+    /// A copy of the input, of which as many characters are taken.
     pub(crate) fn duplicate(&self) -> Result<Self, AllocError>
         ensures { IfOk result (λ copy. copy ≡ self.now) }
     {
@@ -145,7 +145,7 @@ impl Input {
     }
 }
 
-/// Keeps a line behind the others.
+/// Keeps a line after the others.
 fn push_line(codes: &mut Vec<u8>, line: &[u8]) -> Result<(), AllocError>
     ensures { OnOk result
         (codes.new.items ≡ codes.old.items ++ kept_line input_width line.now) }
@@ -157,7 +157,7 @@ fn push_line(codes: &mut Vec<u8>, line: &[u8]) -> Result<(), AllocError>
     Ok(())
 }
 
-/// The code of the next character, and the place and the column of the one behind it. At a line's end
+/// The code of the next character, and the place and the column of the one after it. At a line's end
 /// it is in the next line.
 fn next_of(codes: &[u8], place: usize, column: usize) -> (u8, usize, usize)
     requires some { 0 < length (spread input_width column (drop place codes.now)) }
@@ -175,7 +175,7 @@ fn next_of(codes: &[u8], place: usize, column: usize) -> (u8, usize, usize)
     }
 }
 
-/// The same within a line: at its end stands a blank, until it has its width.
+/// The same within a line: at its end is a blank, until it has its width.
 fn next_in_line(codes: &[u8], place: usize, column: usize) -> (u8, usize, usize)
     requires some { place < length codes.now }
     requires blank { slice_index codes.now place ≡ line_end → column < input_width }

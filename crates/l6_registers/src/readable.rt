@@ -1,5 +1,5 @@
-//! Where chains lead, name by name, or why they can't be followed. The quick way of most steps, which
-//! tells no trap, is in `fields.rt`.
+//! Where chains lead, name by name, or why they can't be followed. The quick way of most steps,
+//! which has no traps, is in `fields.rt`.
 
 ghost use Rattle.std.specs.Prelude.{◌≡◌, ◌<◌, ◌≤◌, ◌^◌, length, option_map, slice_index_or, IfOk, IfSome, None};
 ghost use Rattle.std.specs.FinMap as map;
@@ -31,7 +31,7 @@ pub(crate) trait Readable: Sized {
         ensures level { IfSome result (λ level. level ≤ largest_level) }
         ensures place { IfSome result (λ _. pointer < end_of most_units) };
 
-    /// What stands at a locus.
+    /// What is at a locus.
     fn content(&self, locus: Locus) -> Word
         requires { IsIn (memory self.now) locus }
         ensures { result ≡ content (memory self.now) locus };

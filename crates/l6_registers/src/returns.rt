@@ -8,7 +8,7 @@ ghost use Rattle.l6_steps.specs.Row.{leave_by, done, fail, row};
 ghost use Rattle.l6_steps.specs.Stack.{has_room};
 ghost use Rattle.l6_steps.specs.Step.{returns_after};
 ghost use Rattle.l6_steps.specs.inner.Places.{FindsRoom};
-ghost use Rattle.l6_registers.specs.inner.Registers.{AreHeld, Does};
+ghost use Rattle.l6_registers.specs.inner.Registers.{AreHeld, Executes};
 
 use crate::registers::Registers;
 use l6_prog::{Exit, Op};
@@ -16,9 +16,9 @@ use l6_steps::{Jump, Position, Return, Trap};
 use l6_store::Places;
 
 impl<S: Places> Registers<S> {
-    /// Calls a statement, where one more call may wait for its return.
+    /// Calls a statement, if there is room for one more return.
     pub(crate) fn call(&mut self, called: u16, fail: Option<u16>) -> Result<Jump, Trap>
-        ensures done { Does S.rule (λ setting choice. row setting choice (Op.Call called fail))
+        ensures done { Executes S.rule (λ parameters choice. row parameters choice (Op.Call called fail))
             self.old self.new result }
     {
         if self.saved.returns.has_room() {
@@ -30,7 +30,7 @@ impl<S: Places> Registers<S> {
 
     /// Leaves a statement by its exit, and answers where the run goes on.
     pub(crate) fn leave_by(&mut self, exit: Exit) -> Result<Jump, Trap>
-        ensures done { Does S.rule (λ setting choice. leave_by exit) self.old self.new result }
+        ensures done { Executes S.rule (λ parameters choice. leave_by exit) self.old self.new result }
         ensures held { AreHeld S.rule self.new }
     {
         let result = match exit {
@@ -39,14 +39,14 @@ impl<S: Places> Registers<S> {
             Exit::Done => self.done(),
             Exit::Fail => self.fail(),
         };
-        self.recall();
+        self.reveal_invariant();
         result
     }
 
-    /// Goes on behind the latest call that waits for its return, or ends the run.
+    /// Goes on after the latest call that waits for its return, or ends the run.
     #[inline(never)]
     fn done(&mut self) -> Result<Jump, Trap>
-        ensures { Does S.rule (λ setting choice memory. done memory.returns memory)
+        ensures { Executes S.rule (λ parameters choice memory. done memory.returns memory)
             self.old self.new result }
     {
         match self.saved.returns.pop() {
@@ -58,7 +58,7 @@ impl<S: Places> Registers<S> {
     /// Goes to the fail label of the latest call that waits for its return, or ends the run.
     #[inline(never)]
     fn fail(&mut self) -> Result<Jump, Trap>
-        ensures { Does S.rule (λ setting choice memory. fail memory.returns memory)
+        ensures { Executes S.rule (λ parameters choice memory. fail memory.returns memory)
             self.old self.new result }
     {
         let Some(latest) = self.saved.returns.latest() else {
@@ -69,7 +69,7 @@ impl<S: Places> Registers<S> {
         Ok(Jump::To(label))
     }
 
-    /// Whether one more call may wait for its return.
+    /// Whether there is room for one more return.
     #[inline(always)]
     pub fn may_wait(&self) -> bool
         ensures { result ≡ has_room self.now.memory.returns }
@@ -77,7 +77,7 @@ impl<S: Places> Registers<S> {
         self.saved.returns.has_room()
     }
 
-    /// Has a call wait for its return, which is behind it. Another jump changes nothing.
+    /// Pushes the return address of a call: the position after it. Another jump changes nothing.
     #[inline(always)]
     pub fn wait(&mut self, jump: Jump, at: Position)
         requires room { FindsRoom jump self.old.memory.returns }
@@ -91,11 +91,11 @@ impl<S: Places> Registers<S> {
     {
         if let Jump::Call(_, fail) = jump {
             self.saved.returns.push(Return {
-                at: at.behind(),
+                at: at.following(),
                 fail,
             });
         }
-        self.recall();
+        self.reveal_invariant();
     }
 
     /// Takes off the latest return for which a call waits, as the exit DONE does. Where none waits,
@@ -103,7 +103,7 @@ impl<S: Places> Registers<S> {
     #[inline(always)]
     pub fn go_back(&mut self) -> Option<Return>
         ensures done { IfSome result (λ latest.
-            Does S.rule (λ setting choice. leave_by exits.Done) self.old self.new
+            Executes S.rule (λ parameters choice. leave_by exits.Done) self.old self.new
             (Ok (jumps.Back latest.at))) }
         ensures latest { IfSome result (λ latest.
             self.old.memory.returns ≡ latest ∷ self.new.memory.returns) }
@@ -111,7 +111,7 @@ impl<S: Places> Registers<S> {
         ensures held { AreHeld S.rule self.new }
     {
         let latest = self.saved.returns.pop();
-        self.recall();
+        self.reveal_invariant();
         latest
     }
 
@@ -120,7 +120,7 @@ impl<S: Places> Registers<S> {
     #[inline(always)]
     pub fn go_to_fail(&mut self) -> Option<u16>
         ensures done { IfSome result (λ label.
-            Does S.rule (λ setting choice. leave_by exits.Fail) self.old self.new
+            Executes S.rule (λ parameters choice. leave_by exits.Fail) self.old self.new
             (Ok (jumps.To label))) }
         ensures latest { IfSome result (λ label.
             (latest : Return) × (latest.fail ≡ Some label)
@@ -128,10 +128,10 @@ impl<S: Places> Registers<S> {
         ensures none { IfNone result (self.new ≡ self.old) }
         ensures held { AreHeld S.rule self.new }
     {
-        self.recall();
+        self.reveal_invariant();
         let label = self.saved.returns.latest()?.fail?;
         self.saved.returns.pop();
-        self.recall();
+        self.reveal_invariant();
         Some(label)
     }
 }

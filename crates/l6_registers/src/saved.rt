@@ -8,8 +8,8 @@ use l6_steps::Return;
 use l6_word::{Window, Word};
 use std::alloc::{AllocError, Global};
 
-/// How many contents and definitions are saved, and for how many returns calls wait: each at most
-/// 1,024.
+/// How many contents and definitions are saved, and how many calls wait for their return: each at
+/// most 1,024.
 #[derive(Clone, Copy, Debug, PartialEq, Eq, Hash)]
 pub struct Depths {
     /// How many contents are saved.
@@ -42,7 +42,7 @@ impl Saved {
         })
     }
 
-    /// The same once more, with as much room.
+    /// A copy, with as much room.
     pub(crate) fn duplicate(&self, alloc: Global) -> Result<Self, AllocError>
         ensures contents { IfOk result (λ copy. copy.contents ≡ self.now.contents) }
         ensures definitions { IfOk result (λ copy. copy.definitions ≡ self.now.definitions) }
@@ -55,7 +55,7 @@ impl Saved {
         })
     }
 
-    /// Becomes the same as what else is saved, in the memory that it has.
+    /// Becomes equal to another, in the memory that it has.
     pub(crate) fn take_from(&mut self, other: &Saved)
         ensures contents { self.new.contents ≡ other.now.contents }
         ensures definitions { self.new.definitions ≡ other.now.definitions }

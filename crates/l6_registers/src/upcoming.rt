@@ -16,7 +16,7 @@ use l6_store::{Level, Place, Places};
 use l6_word::{Window, Word};
 use std::marker::Model;
 
-/// The memory as it will be once a block of zeros stands at a vacant place, and that place is
+/// The memory as it will be once a block of zeros is at a vacant place, and that place is
 /// assigned to a locus. A chain that can't be followed through it leaves nothing to undo.
 #[derive(Drop)]
 pub(crate) struct Upcoming<'a, S: Places> {
@@ -44,7 +44,7 @@ impl<'a, S: Places> Model for Upcoming<'a, S> {
 }
 
 impl<'a, S: Places> Upcoming<'a, S> {
-    /// The memory of registers once a block of this level stands at a place, which is assigned to a
+    /// The memory of registers once a block of this level is at a place, which is assigned to a
     /// locus.
     pub(crate) fn new(registers: &'a Registers<S>, level: Level, place: Place, at: Locus) -> Self
         requires { IsUpcoming registers.now.memory level place at }

@@ -48,13 +48,13 @@ GivesAtMost-after a b d bytes n most room before more = record {
   within = omega (arith, length-append bytes more.bytes, more.within);
 }
 
--- what was appended stands in the front of what was read into
+-- what was appended is in the front of what was read into
 pub appended-front : (old new front rest : List ℕ) (n : ℕ) →
     n ≤ length front → new ≡ old ++ take n (front ++ rest) → new ≡ old ++ take n front
 appended-front old new front rest n few is =
     is ∙ ap (λ l. old ++ l) (take-append-le n front rest few)
 
--- what a write takes of the rest of a text stands after what was taken before
+-- what a write takes of the rest of a text is after what was taken before
 pub Appends-rest : (a b d : Option (List ℕ)) (text : List ℕ) (n m : ℕ) →
     Appends a b (take n text) → Appends b d (take m (take (length text - n) (drop n text))) →
     Appends a d (take (n + m) text)

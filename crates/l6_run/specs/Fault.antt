@@ -29,12 +29,12 @@ part_text Input = codes "input"
 part_text Commands = codes "commands"
 part_text Job = codes "job"
 
--- why a job is not done whose deck was not assembled: want of memory is told as such
+-- why a job is not done whose deck was not assembled: out of memory is reported as such
 abbrev pub unassembled : AsmFault → RunFault
 unassembled asm.NoMemory = NoMemory
 unassembled fault = Asm fault
 
--- why a job is not done whose image was not loaded: want of memory is told as such
+-- why a job is not done whose image was not loaded: out of memory is reported as such
 abbrev pub unloaded : LoadFault → RunFault
 unloaded load.NoMemory = NoMemory
 unloaded fault = Load fault

@@ -1,6 +1,10 @@
 -- The laws of printouts.
 use Rattle.std.specs.Prelude.{◌≡◌, ◌≤◌, ℕ, List, length}
+use Rattle.l6_card.specs.Numerals.{most_deck_bytes}
+use Rattle.l6_asm.specs.Assembled.{Assembled}
+use Rattle.l6_asm.specs.Spells.{Spells}
 use Rattle.l6_image.specs.Numerals.{most_bytes}
+use Rattle.l6_image.specs.Text.{IsImageOf}
 use Rattle.l6_run.specs.declared.ending.Ending.{Ending}
 use Rattle.l6_run.specs.Options.{OptionValues}
 use Rattle.l6_run.specs.Prints.{Prints, PrintsLoaded}
@@ -14,9 +18,28 @@ PrintsInOneWay =
     Prints options deck input ending text → Prints options deck input ending' text' →
     (ending ≡ ending') × (text ≡ text')
 
--- a deck and the text of its image, if that is no longer than it may be, print the same
+-- an image with an input has one printout, and its run one ending
+abbrev pub PrintsLoadedInOneWay : Type 0
+PrintsLoadedInOneWay =
+    (options : OptionValues) (image input : List ℕ) (ending ending' : Ending)
+    (text text' : List ℕ) →
+    PrintsLoaded options image input ending text →
+    PrintsLoaded options image input ending' text' → (ending ≡ ending') × (text ≡ text')
+
+-- a deck and an image of the program that it spells, of either version, print the same, if neither is
+-- longer than it may be
 abbrev pub ImagesPrintAsDecks : Type 0
 ImagesPrintAsDecks =
+    (options : OptionValues) (deck image input : List ℕ) (assembly : Assembled) (ending : Ending)
+    (text : List ℕ) →
+    length deck ≤ most_deck_bytes → length image ≤ most_bytes →
+    Spells deck assembly → IsImageOf image assembly.program →
+    (Prints options deck input ending text → PrintsLoaded options image input ending text)
+    × (PrintsLoaded options image input ending text → Prints options deck input ending text)
+
+-- so do a deck and the image that is written of it
+abbrev pub WrittenImagesPrintAsDecks : Type 0
+WrittenImagesPrintAsDecks =
     (options : OptionValues) (deck image input : List ℕ) (ending : Ending) (text : List ℕ) →
     WritesImage deck image → length image ≤ most_bytes →
     (Prints options deck input ending text → PrintsLoaded options image input ending text)

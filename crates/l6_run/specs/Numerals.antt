@@ -1,4 +1,4 @@
--- The numbers of the language that jobs stand on.
+-- The numbers of the language that jobs use.
 use Rattle.std.specs.Prelude.{ℕ, ◌-◌, ◌^◌}
 
 -- how many bytes a job may have
@@ -13,9 +13,9 @@ most_command_bytes = 1048576
 abbrev pub most_counted : ℕ
 most_counted = 2 ^ 64 - 1
 
--- how many reads and writes a call repeats that were interrupted
-abbrev pub most_repeats : ℕ
-most_repeats = 1000
+-- how many reads and writes a call retries after interruptions
+abbrev pub most_retries : ℕ
+most_retries = 1000
 
 -- what a user has who chooses nothing: so many units, steps, and bytes of output
 abbrev pub default_units : ℕ

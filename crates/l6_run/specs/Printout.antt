@@ -16,7 +16,7 @@ ending_of (Some halts.Done) = Done
 ending_of (Some halts.Fail) = Fail
 ending_of (Some (halts.Trap trap)) = Trap trap
 
--- the text of an ending; a trap says where the run stands
+-- the text of an ending; a trap says where the run is
 abbrev pub ending_text : Ending → Position → List ℕ
 ending_text Done at = codes "DONE"
 ending_text Fail at = codes "FAIL"
@@ -25,7 +25,7 @@ ending_text (Trap trap) at =
     ++ codes " AT " ++ decimal at.statement ++ codes "." ++ decimal at.action
 ending_text Limit at = codes "LIMIT"
 
--- the line that tells of a last state
+-- the line that says how a run has ended
 abbrev pub ending_line : State → List ℕ
 ending_line final =
     codes "== " ++ ending_text (ending_of final.ending) final.at

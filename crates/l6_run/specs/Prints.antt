@@ -6,17 +6,17 @@ use Rattle.l6_card.specs.Numerals.{most_deck_bytes}
 use Rattle.l6_asm.specs.AssemblyFault.{assembly_fault}
 use Rattle.l6_asm.specs.Assembled.{Assembled}
 use Rattle.l6_asm.specs.Spells.{Spells, IsUnspelled}
-use Rattle.l6_image.specs.Load.{Tells}
+use Rattle.l6_image.specs.Load.{TextHasFault}
 use Rattle.l6_image.specs.Numerals.{most_bytes}
 use Rattle.l6_image.specs.Text.{IsImageOf}
 use Rattle.l6_image.specs.declared.fault.LoadFault.{LoadFault}
 use Rattle.l6_image.specs.declared.fault.LoadFault.TheVariants as load
 use Rattle.l6_store.specs.Rule.{Rule}
 use Rattle.l6_store.specs.Buddy.{buddy_rule}
-use Rattle.l6_steps.specs.Moment.{EndsBy}
+use Rattle.l6_steps.specs.Configuration.{EndsBy}
 use Rattle.l6_steps.specs.Numerals.{most_input}
 use Rattle.l6_steps.specs.Run.{EndsIn}
-use Rattle.l6_steps.specs.State.{State, World}
+use Rattle.l6_steps.specs.State.{State, RunContext}
 use Rattle.l6_run.specs.declared.ending.Ending.{Ending}
 use Rattle.l6_run.specs.declared.fault.Part.TheVariants.{Deck, Image, Input}
 use Rattle.l6_run.specs.declared.fault.RunFault.{RunFault}
@@ -24,11 +24,11 @@ use Rattle.l6_run.specs.declared.fault.RunFault.TheVariants.{TooLong, Asm, Load}
 use Rattle.l6_run.specs.Options.{OptionValues}
 use Rattle.l6_run.specs.Printout.{ending_of, printout}
 
--- the world in which a program runs under these options, with this input
-abbrev pub world_under : OptionValues → List ℕ → List Parts → World
-world_under options input program = record {
+-- the context in which a program runs under these options, with this input
+abbrev pub context_under : OptionValues → List ℕ → List Parts → RunContext
+context_under options input program = record {
   program = program;
-  setting = record {
+  parameters = record {
     units = options.units;
     limits = options.limits;
     input = characters_of input;
@@ -39,12 +39,13 @@ world_under options input program = record {
 abbrev pub store_rule : Rule
 store_rule = buddy_rule
 
--- a whole run of the world, which is the one under the rule, ends in a state with this ending and
+-- a whole run of the context, which is the one under the rule, ends in a state with this ending and
 -- this printout
-pub record RunPrints (rule : Rule) (world : World) (ending : Ending) (text : List ℕ) : Type 0 where
+pub record RunPrints (rule : Rule) (context : RunContext) (ending : Ending)
+    (text : List ℕ) : Type 0 where
   pub final : State
-  pub ends : EndsIn world final
-  pub by_rule : EndsBy rule world final
+  pub ends : EndsIn context final
+  pub by_rule : EndsBy rule context final
   pub ended : ending ≡ ending_of final.ending
   pub printed : text ≡ printout final
 
@@ -57,7 +58,7 @@ pub record Prints (options : OptionValues) (deck input : List ℕ) (ending : End
   pub input_fits : length input ≤ most_input
   pub assembly : Assembled
   pub spelled : Spells deck assembly
-  pub run : RunPrints store_rule (world_under options input assembly.program) ending text
+  pub run : RunPrints store_rule (context_under options input assembly.program) ending text
 
 -- why a deck is not run: it or its input is too long, or it spells no program
 abbrev pub RefusesDeck : List ℕ → List ℕ → RunFault → Type 0
@@ -78,12 +79,12 @@ pub record PrintsLoaded (options : OptionValues) (image input : List ℕ) (endin
   pub input_fits : length input ≤ most_input
   pub program : List Parts
   pub loaded : IsImageOf image program
-  pub run : RunPrints store_rule (world_under options input program) ending text
+  pub run : RunPrints store_rule (context_under options input program) ending text
 
--- why a text is no image, which no want of memory says
+-- why a text is no image, where out of memory is no such reason
 abbrev pub IsNoImage : List ℕ → LoadFault → Type 0
 IsNoImage text load.NoMemory = ⊥
-IsNoImage text fault = Tells text fault
+IsNoImage text fault = TextHasFault text fault
 
 -- why an image is not run: its text or its input is too long, or the text is that of no image
 abbrev pub RefusesImage : List ℕ → List ℕ → RunFault → Type 0

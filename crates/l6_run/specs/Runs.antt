@@ -44,14 +44,15 @@ RunsImage options image image' input input' taken taken' result =
     Serves (PrintsLoaded options lines characters) (RefusesImage lines characters)
     taken taken' result) result) result
 
--- what became of a deck of which a text was to be written: what its reader gave, and what went out for it
+-- what became of a deck of which a text was to be written: what its reader gave, and what went out
+-- for it
 abbrev pub WritesText : (List ℕ → List ℕ → Type 0) → Option (List ℕ) → Option (List ℕ) →
     Option (List ℕ) → Option (List ℕ) → Result (Unit {0}) RunFault → Type 0
 WritesText Writes deck deck' taken taken' result =
     Reads Deck deck deck' taken taken' (λ cards.
     Serves (λ _ text. Writes cards text) (RefusesCards cards) taken taken' result) result
 
--- what became of an image that was to be written anew: what its reader gave, and what went out for it
+-- what became of an image that was to be written again: what its reader gave, and what went out for it
 abbrev pub Rewrites : Option (List ℕ) → Option (List ℕ) → Option (List ℕ) → Option (List ℕ) →
     Result (Unit {0}) RunFault → Type 0
 Rewrites image image' taken taken' result =

@@ -1,4 +1,5 @@
--- What is written of a deck that is not run, its image or its listing, and of an image that is renewed.
+-- What is written of a deck that is not run, its image or its listing, and of an image that is
+-- rewritten.
 use Rattle.std.specs.Prelude.{◌≡◌, ℕ, ◌<◌, ◌≤◌, List, length, IsSomeAnd}
 use Rattle.l6_card.specs.Numerals.{most_deck_bytes}
 use Rattle.l6_asm.specs.AssemblyFault.{assembly_fault}
@@ -39,8 +40,8 @@ RefusesCards deck (Asm fault) =
     (length deck ≤ most_deck_bytes) × IsSomeAnd (assembly_fault fault) (IsUnspelled deck)
 RefusesCards deck other = ⊥
 
--- the text is that of the image once more, of the version that is written: the image is no longer than it
--- may be and is that of a program, of which this is the text
+-- the text is that of the image once more, of the version that is written: the image is no longer
+-- than it may be and is that of a program, of which this is the text
 pub record RewritesImage (image text : List ℕ) : Type 0 where
   pub fits : length image ≤ most_bytes
   pub program : List Parts
@@ -48,7 +49,7 @@ pub record RewritesImage (image text : List ℕ) : Type 0 where
   pub known : HasImage Two program
   pub written : text ≡ text_of program
 
--- why an image is not written anew: it is too long, or its text is that of no image
+-- why an image is not written again: it is too long, or its text is that of no image
 abbrev pub RefusesRewriting : List ℕ → RunFault → Type 0
 RefusesRewriting image (TooLong Image) = most_bytes < length image
 RefusesRewriting image (Load fault) = (length image ≤ most_bytes) × IsNoImage image fault

@@ -9,7 +9,7 @@ mod loaded;
 mod options;
 mod patience;
 mod printing;
-mod repeating;
+mod retrying;
 mod runner;
 mod running;
 mod script;
@@ -22,11 +22,11 @@ pub use ending::Ending;
 pub use fault::{MAX_COMMAND_BYTES, MAX_JOB_BYTES, Part, RunFault};
 pub use laws::{
     commands_have_their_limit, images_print_as_decks, jobs_have_their_limit,
-    printouts_are_determined, repeats_have_their_limit,
+    printouts_are_determined, retries_have_their_limit,
 };
 pub use loaded::run_image_text;
 pub use options::Options;
-pub use patience::{MAX_REPEATS, Patience};
+pub use patience::{MAX_RETRIES, Patience};
 pub use printing::{ending_line, ending_of, printout, push_whole_lines};
 pub use runner::{run, run_image};
 pub use running::run_deck;

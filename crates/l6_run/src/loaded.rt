@@ -5,7 +5,7 @@ ghost use Rattle.l6_image.specs.Numerals.{most_bytes};
 ghost use Rattle.l6_steps.specs.Numerals.{most_input};
 ghost use Rattle.l6_run.specs.Prints.{PrintsLoaded, RefusesImage};
 ghost use Rattle.l6_run.specs.inner.Running.{HasNoText};
-ghost use Rattle.l6_run.specs.Patience.{FaredWith, lent_writer};
+ghost use Rattle.l6_run.specs.Patience.{RetriesAccountedWith, writer_use};
 ghost use Rattle.l6_run.specs.Serves.{IsUnwritten, Serves};
 
 use crate::device::Sink;
@@ -35,7 +35,8 @@ pub fn run_image_text<W: Sink>(
     ensures done { Serves (PrintsLoaded options image.now input.now)
         (RefusesImage image.now input.now) (W.taken writer.old) (W.taken writer.new) result }
     ensures unwritten { IsUnwritten result → writer.new ≡ writer.old }
-    ensures fared { FaredWith (lent_writer (W.health writer.old) (W.health writer.new) result ∷ [])
+    ensures retries { RetriesAccountedWith
+        (writer_use (W.health writer.old) (W.health writer.new) result ∷ [])
         patience.old patience.new }
 {
     if image.len() > MAX_BYTES {

@@ -1,13 +1,13 @@
-//! How often a call repeats what was interrupted.
+//! How often a call retries what was interrupted.
 
 ghost use Rattle.std.specs.Prelude.{◌≡◌};
 
 use std::marker::Model;
 
-/// How many reads and writes a call repeats that were interrupted.
-pub const MAX_REPEATS: u32 = 1_000;
+/// How many reads and writes a call retries after interruptions.
+pub const MAX_RETRIES: u32 = 1_000;
 
-/// How many interrupted reads and writes are still repeated. The readers and the writer of a call
+/// How many interrupted reads and writes are still retried. The readers and the writer of a call
 /// share it.
 #[derive(Debug, PartialEq, Eq, Drop)]
 pub struct Patience {
@@ -28,24 +28,24 @@ impl Model for Patience {
 
 impl Patience {
     ghost use Rattle.std.specs.Prelude.{◌-◌, nat_lt};
-    ghost use Rattle.l6_run.specs.Numerals.{most_repeats};
+    ghost use Rattle.l6_run.specs.Numerals.{most_retries};
 
-    /// The patience of a call at its start: 1,000 repeats.
+    /// The patience of a call at its start: 1,000 retries.
     pub fn new() -> Self
-        ensures { result ≡ most_repeats }
+        ensures { result ≡ most_retries }
     {
-        Patience { left: MAX_REPEATS }
+        Patience { left: MAX_RETRIES }
     }
 
-    /// How many repeats are left.
+    /// How many retries are left.
     pub fn left(&self) -> u32
         ensures { result ≡ self.now }
     {
         self.left
     }
 
-    // Takes a repeat off, if one is left, and answers whether one was.
-    pub(crate) fn repeat(&mut self) -> bool
+    // Takes a retry off, if one is left, and answers whether one was.
+    pub(crate) fn retry(&mut self) -> bool
         ensures one { result ≡ nat_lt 0 self.old }
         ensures left { self.new ≡ self.old - 1 }
     {
@@ -62,9 +62,9 @@ impl Patience {
 /// The patience of a call at its start.
 impl Default for Patience {
     ghost use Rattle.std.specs.Prelude.{◌≡◌};
-    ghost use Rattle.l6_run.specs.Numerals.{most_repeats};
+    ghost use Rattle.l6_run.specs.Numerals.{most_retries};
 
-    ghost is_default = { λ patience. patience ≡ most_repeats };
+    ghost is_default = { λ patience. patience ≡ most_retries };
 
     fn default() -> Self {
         Patience::new()

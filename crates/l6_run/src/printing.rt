@@ -1,4 +1,4 @@
-//! The printout of a run: its output, and a line that tells how it has ended.
+//! The printout of a run: its output, and a line that says how it has ended.
 
 ghost use Rattle.std.specs.Prelude.{◌≡◌, ◌++◌, true, OnOk, IfOk, ◌-◌, length, slice_get};
 ghost use Rattle.l6_steps.specs.State.{is_last};
@@ -12,8 +12,8 @@ use std::alloc::{AllocError, Global};
 
 /// How the machine's run has ended. The caller owes a last state.
 pub fn ending_of<S: Places>(machine: &Machine<S>) -> Ending
-    requires { is_last machine.now.world machine.now.moment.state ≡ true }
-    ensures { result ≡ ending_of machine.now.moment.state.ending }
+    requires { is_last machine.now.context machine.now.configuration.state ≡ true }
+    ensures { result ≡ ending_of machine.now.configuration.state.ending }
 {
     match machine.ending() {
         None => Ending::Limit,
@@ -23,11 +23,15 @@ pub fn ending_of<S: Places>(machine: &Machine<S>) -> Ending
     }
 }
 
-/// The line that tells how the machine's run has ended, without a line feed. The caller owes a last
+/// The line that says how the machine's run has ended, without a line feed. The caller owes a last
 /// state.
+///
+/// # Errors
+///
+/// Memory ran out.
 pub fn ending_line<S: Places>(alloc: Global, machine: &Machine<S>) -> Result<Vec<u8>, AllocError>
-    requires { is_last machine.now.world machine.now.moment.state ≡ true }
-    ensures { IfOk result (λ line. line.items ≡ ending_line machine.now.moment.state) }
+    requires { is_last machine.now.context machine.now.configuration.state ≡ true }
+    ensures { IfOk result (λ line. line.items ≡ ending_line machine.now.configuration.state) }
 {
     let mut line = Vec::from_slice(alloc, b"== ")?;
     push_ending(&mut line, ending_of(machine), machine.at())?;
@@ -38,9 +42,13 @@ pub fn ending_line<S: Places>(alloc: Global, machine: &Machine<S>) -> Result<Vec
 }
 
 /// All that the machine's run prints. The caller owes a last state.
+///
+/// # Errors
+///
+/// Memory ran out.
 pub fn printout<S: Places>(alloc: Global, machine: &Machine<S>) -> Result<Vec<u8>, AllocError>
-    requires { is_last machine.now.world machine.now.moment.state ≡ true }
-    ensures { IfOk result (λ text. text.items ≡ printout machine.now.moment.state) }
+    requires { is_last machine.now.context machine.now.configuration.state ≡ true }
+    ensures { IfOk result (λ text. text.items ≡ printout machine.now.configuration.state) }
 {
     let output = machine.output();
     let line = ending_line(alloc, machine)?;
@@ -52,6 +60,10 @@ pub fn printout<S: Places>(alloc: Global, machine: &Machine<S>) -> Result<Vec<u8
 }
 
 /// Adds an output, and the line feed that it lacks.
+///
+/// # Errors
+///
+/// Memory ran out.
 pub fn push_whole_lines(text: &mut Vec<u8>, output: &[u8]) -> Result<(), AllocError>
     ensures { OnOk result
         (text.new.items ≡ text.old.items ++ (output.now ++ missing_line_feed output.now)) }
@@ -85,7 +97,7 @@ fn push_ending(line: &mut Vec<u8>, ending: Ending, at: Position) -> Result<(), A
     }
 }
 
-/// Adds a trap, and where the run stands.
+/// Adds a trap, and where the run is.
 fn push_trap(line: &mut Vec<u8>, trap: Trap, at: Position) -> Result<(), AllocError>
     ensures { OnOk result (line.new.items ≡ line.old.items ++ ending_text (Ending.Trap trap) at) }
 {

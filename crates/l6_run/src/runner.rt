@@ -4,7 +4,7 @@ ghost use Rattle.std.specs.Prelude.{◌≡◌, ◌+◌, [], ◌∷◌};
 ghost use Rattle.l6_card.specs.Numerals.{most_deck_bytes};
 ghost use Rattle.l6_image.specs.Numerals.{most_bytes};
 ghost use Rattle.l6_steps.specs.Numerals.{most_input};
-ghost use Rattle.l6_run.specs.Patience.{Fared, lent_reader, lent_writer};
+ghost use Rattle.l6_run.specs.Patience.{RetriesAccounted, reader_use, writer_use};
 ghost use Rattle.l6_run.specs.Runs.{IsOfPart, Runs, RunsImage};
 ghost use Rattle.l6_run.specs.Serves.{IsUnwritten};
 ghost use Rattle.l6_run.specs.Transfer.{GivesAtMost};
@@ -42,11 +42,11 @@ pub fn run<D: Source, I: Source, W: Sink>(
     ensures deck_at_most { GivesAtMost (most_deck_bytes + 1) (D.left deck.old) (D.left deck.new) }
     ensures input_at_most { GivesAtMost (most_input + 1) (I.left input.old) (I.left input.new) }
 
-    // How the devices fared.
-    ensures fared { Fared (
-        lent_reader Deck (D.health deck.old) (D.health deck.new) result ∷
-        lent_reader Input (I.health input.old) (I.health input.new) result ∷
-        lent_writer (W.health writer.old) (W.health writer.new) result ∷ []) }
+    // The retries of the devices are accounted for.
+    ensures retries { RetriesAccounted (
+        reader_use Deck (D.health deck.old) (D.health deck.new) result ∷
+        reader_use Input (I.health input.old) (I.health input.new) result ∷
+        writer_use (W.health writer.old) (W.health writer.new) result ∷ []) }
 {
     let mut patience = Patience::new();
     let cards = read_part(alloc, deck, Part::Deck, &mut patience)?;
@@ -83,11 +83,11 @@ pub fn run_image<D: Source, I: Source, W: Sink>(
     ensures image_at_most { GivesAtMost (most_bytes + 1) (D.left image.old) (D.left image.new) }
     ensures input_at_most { GivesAtMost (most_input + 1) (I.left input.old) (I.left input.new) }
 
-    // How the devices fared.
-    ensures fared { Fared (
-        lent_reader Image (D.health image.old) (D.health image.new) result ∷
-        lent_reader Input (I.health input.old) (I.health input.new) result ∷
-        lent_writer (W.health writer.old) (W.health writer.new) result ∷ []) }
+    // The retries of the devices are accounted for.
+    ensures retries { RetriesAccounted (
+        reader_use Image (D.health image.old) (D.health image.new) result ∷
+        reader_use Input (I.health input.old) (I.health input.new) result ∷
+        writer_use (W.health writer.old) (W.health writer.new) result ∷ []) }
 {
     let mut patience = Patience::new();
     let text = read_part(alloc, image, Part::Image, &mut patience)?;

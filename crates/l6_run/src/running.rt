@@ -6,9 +6,9 @@ ghost use Rattle.l6_card.specs.Numerals.{most_deck_bytes};
 ghost use Rattle.l6_store.specs.Store.{fresh};
 ghost use Rattle.l6_steps.specs.Limits.{are_allowed};
 ghost use Rattle.l6_steps.specs.Numerals.{most_input};
-ghost use Rattle.l6_run.specs.Prints.{Prints, RefusesDeck, RunPrints, store_rule, world_under};
+ghost use Rattle.l6_run.specs.Prints.{Prints, RefusesDeck, RunPrints, store_rule, context_under};
 ghost use Rattle.l6_run.specs.inner.Running.{HasNoText};
-ghost use Rattle.l6_run.specs.Patience.{FaredWith, lent_writer};
+ghost use Rattle.l6_run.specs.Patience.{RetriesAccountedWith, writer_use};
 ghost use Rattle.l6_run.specs.Serves.{IsUnwritten, Serves};
 
 use crate::device::Sink;
@@ -42,7 +42,8 @@ pub fn run_deck<W: Sink>(
     ensures done { Serves (Prints options deck.now input.now) (RefusesDeck deck.now input.now)
         (W.taken writer.old) (W.taken writer.new) result }
     ensures unwritten { IsUnwritten result → writer.new ≡ writer.old }
-    ensures fared { FaredWith (lent_writer (W.health writer.old) (W.health writer.new) result ∷ [])
+    ensures retries { RetriesAccountedWith
+        (writer_use (W.health writer.old) (W.health writer.new) result ∷ [])
         patience.old patience.new }
 {
     if deck.len() > MAX_DECK_BYTES {
@@ -82,7 +83,7 @@ pub(crate) fn printout_under(
 ) -> Result<(Ending, Vec<u8>), RunFault>
     requires input { length input.now ≤ most_input }
     ensures prints { IfOk result (λ found. RunPrints store_rule
-        (world_under options input.now program) found.0 found.1.items) }
+        (context_under options input.now program) found.0 found.1.items) }
     ensures refuses { IfErr result (λ fault. fault ≡ RunFault.NoMemory) }
 {
     let store = match Buddy::new(alloc, options.units()) {
@@ -109,7 +110,7 @@ where
     requires allowed { are_allowed limits ≡ true }
     ensures prints { IfOk result (λ found. RunPrints S.rule (record {
       program = program;
-      setting = record {
+      parameters = record {
         units = (S.store store).units;
         limits = limits;
         input = characters_of input.now;

@@ -9,9 +9,9 @@ use crate::device::{Host, Sink, Source, Trouble};
 use std::io;
 use std::io::ErrorKind;
 
-/// A device with troubles that are told beforehand. It takes no memory of its own: over a slice
-/// (`&[u8]`, `&mut [u8]`) it takes none at all. Over `std::io::repeat` and `std::io::sink` it has no
-/// end.
+/// A device with troubles that are set beforehand. It allocates nothing itself; over a slice
+/// (`&[u8]`, `&mut [u8]`) nothing is allocated at all. Over `std::io::repeat` and `std::io::sink`
+/// it has no end.
 #[derive(Debug, Drop)]
 pub struct Script<T> {
     host: Host<T>,

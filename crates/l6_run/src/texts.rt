@@ -1,9 +1,9 @@
-//! What is written of a deck that is not run, its image and its listing, and of an image that is
-//! renewed.
+//! What is written of a deck that is not run, its image or its listing, and of an image that is
+//! rewritten.
 
 ghost use Rattle.std.specs.Prelude.{◌≡◌, ◌≤◌, length, [], ◌∷◌, IfOk, IfErr};
 ghost use Rattle.l6_card.specs.Numerals.{most_deck_bytes};
-ghost use Rattle.l6_run.specs.Patience.{FaredWith, lent_writer};
+ghost use Rattle.l6_run.specs.Patience.{RetriesAccountedWith, writer_use};
 ghost use Rattle.l6_run.specs.Serves.{IsUnwritten, Serves};
 ghost use Rattle.l6_image.specs.Numerals.{most_bytes};
 ghost use Rattle.l6_run.specs.Texts.{RefusesCards, RefusesRewriting, RewritesImage, WritesImage, WritesListing};
@@ -32,7 +32,8 @@ pub fn write_deck_image<W: Sink>(
     ensures done { Serves (λ _ text. WritesImage deck.now text) (RefusesCards deck.now)
         (W.taken writer.old) (W.taken writer.new) result }
     ensures unwritten { IsUnwritten result → writer.new ≡ writer.old }
-    ensures fared { FaredWith (lent_writer (W.health writer.old) (W.health writer.new) result ∷ [])
+    ensures retries { RetriesAccountedWith
+        (writer_use (W.health writer.old) (W.health writer.new) result ∷ [])
         patience.old patience.new }
 {
     if deck.len() > MAX_DECK_BYTES {
@@ -67,7 +68,8 @@ pub fn write_deck_listing<W: Sink>(
     ensures done { Serves (λ _ text. WritesListing deck.now text) (RefusesCards deck.now)
         (W.taken writer.old) (W.taken writer.new) result }
     ensures unwritten { IsUnwritten result → writer.new ≡ writer.old }
-    ensures fared { FaredWith (lent_writer (W.health writer.old) (W.health writer.new) result ∷ [])
+    ensures retries { RetriesAccountedWith
+        (writer_use (W.health writer.old) (W.health writer.new) result ∷ [])
         patience.old patience.new }
 {
     if deck.len() > MAX_DECK_BYTES {
@@ -88,7 +90,7 @@ fn listing_of(alloc: Global, deck: &[u8]) -> Result<Vec<u8>, RunFault>
     Ok(text)
 }
 
-/// Writes the text of an image anew, in the version that is written.
+/// Rewrites an image in the current version, the second one.
 ///
 /// # Errors
 ///
@@ -102,7 +104,8 @@ pub fn rewrite_image_text<W: Sink>(
     ensures done { Serves (λ _ text. RewritesImage image.now text) (RefusesRewriting image.now)
         (W.taken writer.old) (W.taken writer.new) result }
     ensures unwritten { IsUnwritten result → writer.new ≡ writer.old }
-    ensures fared { FaredWith (lent_writer (W.health writer.old) (W.health writer.new) result ∷ [])
+    ensures retries { RetriesAccountedWith
+        (writer_use (W.health writer.old) (W.health writer.new) result ∷ [])
         patience.old patience.new }
 {
     if image.len() > MAX_BYTES {
@@ -112,7 +115,7 @@ pub fn rewrite_image_text<W: Sink>(
     write_text(writer, text.as_slice(), 0, patience)
 }
 
-/// The text of an image, in the version that is written.
+/// The text of an image, rewritten in the current version.
 fn renewed(alloc: Global, image: &[u8]) -> Result<Vec<u8>, RunFault>
     requires { length image.now ≤ most_bytes }
     ensures image { IfOk result (λ text. RewritesImage image.now text.items) }

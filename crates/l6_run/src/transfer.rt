@@ -4,14 +4,14 @@ ghost use Rattle.std.specs.Prelude.{◌≡◌, ◌+◌, ◌-◌, ◌^◌, ◌<�
 ghost use Rattle.std.specs.Io.KnownBytes.{Appends};
 ghost use Rattle.l6_run.specs.Fault.{limit_of};
 ghost use Rattle.l6_run.specs.Numerals.{most_counted};
-ghost use Rattle.l6_run.specs.Patience.{FaredWith, lent_reader, lent_writer};
+ghost use Rattle.l6_run.specs.Patience.{RetriesAccountedWith, reader_use, writer_use};
 ghost use Rattle.l6_run.specs.Transfer.{EndsReading, EndsWriting, GivesAtMost, GivesPart};
 ghost use Rattle.l6_run.specs.inner.Transfer.{GivesMore, IsReadFault};
 
 use crate::device::{Sink, Source};
 use crate::fault::{Part, RunFault};
 use crate::patience::Patience;
-use crate::repeating::{read_patiently, write_patiently};
+use crate::retrying::{read_patiently, write_patiently};
 use std::alloc::Global;
 
 /// The most bytes that one read asks for.
@@ -21,8 +21,8 @@ const CHUNK: usize = 65_536;
 ///
 /// # Errors
 ///
-/// `TooLong` where more came than the part may have, `Read` where the reader has failed or was
-/// interrupted once more than is repeated, and `NoMemory`.
+/// `TooLong` if more came than the part may have, `Read` if the reader has failed or was
+/// interrupted when no retry was left, and `NoMemory`.
 pub fn read_part<R: Source>(
     alloc: Global,
     reader: &mut R,
@@ -35,8 +35,9 @@ pub fn read_part<R: Source>(
         (EndsReading part (R.left reader.old) (R.left reader.new)) }
     ensures at_most { GivesAtMost (limit_of part + 1) (R.left reader.old) (R.left reader.new) }
 
-    // How the reader fared.
-    ensures fared { FaredWith (lent_reader part (R.health reader.old) (R.health reader.new) result ∷ [])
+    // The reader's retries are accounted for.
+    ensures retries { RetriesAccountedWith
+        (reader_use part (R.health reader.old) (R.health reader.new) result ∷ [])
         patience.old patience.new }
 {
     let mut chunk = vec![in alloc; 0; CHUNK]?;
@@ -67,7 +68,8 @@ fn read_more<R: Source>(
     ensures err { IfErr result (IsReadFault part) }
     ensures at_most { GivesAtMost (limit_of part + 1 - vec_len bytes.old)
         (R.left reader.old) (R.left reader.new) }
-    ensures fared { FaredWith (lent_reader part (R.health reader.old) (R.health reader.new) result ∷ [])
+    ensures retries { RetriesAccountedWith
+        (reader_use part (R.health reader.old) (R.health reader.new) result ∷ [])
         patience.old patience.new }
 {
     let room = chunk.len().min(part.limit() + 1 - bytes.len());
@@ -84,8 +86,8 @@ fn read_more<R: Source>(
 ///
 /// # Errors
 ///
-/// `Write` where the writer has failed or was interrupted once more than is repeated, with how many
-/// bytes of the answer went out.
+/// `Write` if the writer has failed or was interrupted when no retry was left, with how many bytes
+/// of the answer went out.
 pub fn write_text<W: Sink>(
     writer: &mut W,
     text: &[u8],
@@ -99,8 +101,9 @@ pub fn write_text<W: Sink>(
     ensures empty { length text.now ≡ 0
         → (writer.new ≡ writer.old) × (patience.new ≡ patience.old) }
 
-    // How the writer fared.
-    ensures fared { FaredWith (lent_writer (W.health writer.old) (W.health writer.new) result ∷ [])
+    // The writer's retries are accounted for.
+    ensures retries { RetriesAccountedWith
+        (writer_use (W.health writer.old) (W.health writer.new) result ∷ [])
         patience.old patience.new }
 {
     let mut count = 0;

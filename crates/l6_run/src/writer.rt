@@ -1,8 +1,8 @@
-//! The image and the listing of a deck that a reader gives, and an image that is renewed.
+//! The image and the listing of a deck that a reader gives, and an image that is rewritten.
 
 ghost use Rattle.std.specs.Prelude.{◌≡◌, ◌+◌, [], ◌∷◌};
 ghost use Rattle.l6_card.specs.Numerals.{most_deck_bytes};
-ghost use Rattle.l6_run.specs.Patience.{Fared, lent_reader, lent_writer};
+ghost use Rattle.l6_run.specs.Patience.{RetriesAccounted, reader_use, writer_use};
 ghost use Rattle.l6_image.specs.Numerals.{most_bytes};
 ghost use Rattle.l6_run.specs.Runs.{Rewrites, WritesText};
 ghost use Rattle.l6_run.specs.Serves.{IsUnwritten};
@@ -33,10 +33,10 @@ pub fn write_image<D: Source, W: Sink>(
     ensures unwritten { IsUnwritten result → writer.new ≡ writer.old }
     ensures at_most { GivesAtMost (most_deck_bytes + 1) (D.left deck.old) (D.left deck.new) }
 
-    // How the devices fared.
-    ensures fared { Fared (
-        lent_reader Deck (D.health deck.old) (D.health deck.new) result ∷
-        lent_writer (W.health writer.old) (W.health writer.new) result ∷ []) }
+    // The retries of the devices are accounted for.
+    ensures retries { RetriesAccounted (
+        reader_use Deck (D.health deck.old) (D.health deck.new) result ∷
+        writer_use (W.health writer.old) (W.health writer.new) result ∷ []) }
 {
     let mut patience = Patience::new();
     let cards = read_part(alloc, deck, Part::Deck, &mut patience)?;
@@ -59,17 +59,17 @@ pub fn write_listing<D: Source, W: Sink>(
     ensures unwritten { IsUnwritten result → writer.new ≡ writer.old }
     ensures at_most { GivesAtMost (most_deck_bytes + 1) (D.left deck.old) (D.left deck.new) }
 
-    // How the devices fared.
-    ensures fared { Fared (
-        lent_reader Deck (D.health deck.old) (D.health deck.new) result ∷
-        lent_writer (W.health writer.old) (W.health writer.new) result ∷ []) }
+    // The retries of the devices are accounted for.
+    ensures retries { RetriesAccounted (
+        reader_use Deck (D.health deck.old) (D.health deck.new) result ∷
+        writer_use (W.health writer.old) (W.health writer.new) result ∷ []) }
 {
     let mut patience = Patience::new();
     let cards = read_part(alloc, deck, Part::Deck, &mut patience)?;
     write_deck_listing(alloc, cards.as_slice(), writer, &mut patience)
 }
 
-/// Reads the text of an image whole, and writes it anew, in the version that is written.
+/// Reads the text of an image whole, and rewrites it in the current version, the second one.
 ///
 /// # Errors
 ///
@@ -86,10 +86,10 @@ pub fn rewrite_image<D: Source, W: Sink>(
     ensures unwritten { IsUnwritten result → writer.new ≡ writer.old }
     ensures at_most { GivesAtMost (most_bytes + 1) (D.left image.old) (D.left image.new) }
 
-    // How the devices fared.
-    ensures fared { Fared (
-        lent_reader Image (D.health image.old) (D.health image.new) result ∷
-        lent_writer (W.health writer.old) (W.health writer.new) result ∷ []) }
+    // The retries of the devices are accounted for.
+    ensures retries { RetriesAccounted (
+        reader_use Image (D.health image.old) (D.health image.new) result ∷
+        writer_use (W.health writer.old) (W.health writer.new) result ∷ []) }
 {
     let mut patience = Patience::new();
     let text = read_part(alloc, image, Part::Image, &mut patience)?;

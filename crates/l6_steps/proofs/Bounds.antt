@@ -36,14 +36,14 @@ use Rattle.l6_steps.specs.Bounds.{IsDefinition, IsWithinBounds, IsWord}
 use Rattle.l6_steps.specs.Calculation.{calculated}
 use Rattle.l6_steps.specs.Characters.{count_of, last_characters, left_of, number_of, take_characters}
 use Rattle.l6_steps.specs.Condition.{is_true}
-use Rattle.l6_steps.specs.Deed.{Deed, leave, took}
+use Rattle.l6_steps.specs.ActionResult.{ActionResult, leave, took}
 use Rattle.l6_steps.specs.Getting.{duplicate, get, keep, level_at, level_for, lies_in, new_block, read_or_0, refuse, with_place}
 use Rattle.l6_steps.specs.Laws.{RunsStayWithinBounds}
 use Rattle.l6_steps.specs.Locus.{assign, content, locus, read, width}
-use Rattle.l6_steps.specs.Row.{Action, condition, operation, exit, combine, deed_of, done, fail, print, row}
+use Rattle.l6_steps.specs.Row.{Action, condition, operation, exit, combine, action_result_of, done, fail, print, row}
 use Rattle.l6_steps.specs.Run.{IsRun}
 use Rattle.l6_steps.specs.Stack.{Popped, has_room, pop, push}
-use Rattle.l6_steps.specs.State.{Memory, Setting, State, World, start}
+use Rattle.l6_steps.specs.State.{Memory, RunParameters, State, RunContext, start}
 use Rattle.l6_steps.specs.Step.{action_at, done_at, outcome, returns_after}
 use Rattle.l6_steps.proofs.Levels.{HasLevel, level_at_fills, level_is_small}
 use Rattle.l6_steps.proofs.Loci.{StandsIn, after, assign_within, definition_of, locus_stands, read_fits, stands_assigned, stands_insert, words_at}
@@ -65,9 +65,9 @@ pop_keeps P [] each = tt
 pop_keeps P (latest ∷ rest) each = (All-head P latest rest each, All-tail P latest rest each)
 
 module _ (units : ℕ) where
-  -- the memory that a deed leaves is within its bounds
-  Stays : Deed → Type 0
-  Stays deed = IsWithinBounds units deed.memory
+  -- the memory that an action's result leaves is within its bounds
+  Stays : ActionResult → Type 0
+  Stays action_result = IsWithinBounds units action_result.memory
 
   -- returns, input and output have no part in that
   beside : (memory : Memory) (returns : List Return) (taken : ℕ) (output : List ℕ) →
@@ -91,11 +91,11 @@ module _ (units : ℕ) where
   }
 
   module _ (memory : Memory) (within : IsWithinBounds units memory) where
-    Stands : Locus → Type 0
-    Stands at = StandsIn memory.blocks at
+    IsAlignedPlace : Locus → Type 0
+    IsAlignedPlace at = StandsIn memory.blocks at
 
     -- what is done with what a chain leads to
-    located : (chain : List ℕ) (second : Locus → Result Deed Trap) →
+    located : (chain : List ℕ) (second : Locus → Result ActionResult Trap) →
         ((at : Locus) → StandsIn memory.blocks at → IfOk (second at) Stays) →
         IfOk (locus memory chain >>= second) Stays
     located chain second each =
@@ -111,10 +111,11 @@ module _ (units : ℕ) where
         (λ value. both Stays (calculated calculation (width at) (content memory at) value) _
         (λ number. assign_within units memory within at number stands)))
 
-    print_stays : (setting : Setting) (text : List ℕ) → IfOk (print setting text memory) Stays
+    print_stays : (parameters : RunParameters) (text : List ℕ) →
+        IfOk (print parameters text memory) Stays
     unfolding Stays
-    print_stays setting text =
-        chosen Stays (nat_le (length memory.output + length text) setting.limits.output) _ _
+    print_stays parameters text =
+        chosen Stays (nat_le (length memory.output + length text) parameters.limits.output) _ _
         (beside memory memory.returns memory.taken _ within) tt
 
     define_by : (field : ℕ) (window : Window) (is : Bool) → is_window window ≡ is →
@@ -138,14 +139,14 @@ module _ (units : ℕ) where
     refuse_stays trap (Some statement) = within
 
     -- what is done with an open place
-    place_stays : (size : ℕ) (found label : Option ℕ) (use_of : ℕ → Result Deed Trap) →
+    place_stays : (size : ℕ) (found label : Option ℕ) (use_of : ℕ → Result ActionResult Trap) →
         IsAnswer units memory.blocks size found →
         ((place : ℕ) → IsOpen units memory.blocks size place → IfOk (use_of place) Stays) →
         IfOk (with_place found label memory use_of) Stays
     place_stays size None label use_of none each = refuse_stays StoreFull label
     place_stays size (Some place) label use_of clear each = each place clear
 
-    new_block_within : (level place : ℕ) (words : List ℕ) (at : Locus) → level ≤ largest_level →
+    pub new_block_within : (level place : ℕ) (words : List ℕ) (at : Locus) → level ≤ largest_level →
         IsOpen units memory.blocks (2 ^ level) place → length words ≡ 2 ^ level →
         All IsWord words → StandsIn memory.blocks at →
         IsWithinBounds units (new_block memory words at place)
@@ -161,7 +162,7 @@ module _ (units : ℕ) where
               are_words;
         }) at place (stands_insert memory.blocks place words at stands)
 
-    -- a block is taken out; what lay elsewhere still stands
+    -- a block is taken out; what lay elsewhere still is
     removed_within : (place : ℕ) →
         IsWithinBounds units (record memory { blocks = finite.remove memory.blocks place })
     removed_within place = record {
@@ -172,7 +173,7 @@ module _ (units : ℕ) where
       blocks = fits-remove units memory.blocks place within.blocks;
     }
 
-    stands_removed : (place : ℕ) (at : Locus) → lies_in place at ≡ false →
+    pub stands_removed : (place : ℕ) (at : Locus) → lies_in place at ≡ false →
         StandsIn memory.blocks at → StandsIn (finite.remove memory.blocks place) at
     stands_removed place (Bug bug) outside stands = tt
     stands_removed place (Field q window) outside stands =
@@ -190,11 +191,11 @@ module _ (units : ℕ) where
         assign_within units (record memory { blocks = finite.remove memory.blocks place })
         (removed_within place) at number (stands_removed place at is stands)
 
-    take_stays : (setting : Setting) (count : ℕ) (at : Locus) (label : Option ℕ) →
-        StandsIn memory.blocks at → IfOk (take_characters setting count at label memory) Stays
+    take_stays : (parameters : RunParameters) (count : ℕ) (at : Locus) (label : Option ℕ) →
+        StandsIn memory.blocks at → IfOk (take_characters parameters count at label memory) Stays
     unfolding Stays
-    take_stays setting count at label stands =
-        let left = left_of setting memory in
+    take_stays parameters count at label stands =
+        let left = left_of parameters memory in
         let later : Memory = record memory { taken = memory.taken + count } in
         chosen Stays (nat_le count (length left)) _ _
         (assign_within units later
@@ -216,9 +217,9 @@ module _ (units : ℕ) where
       (λ at stands. assign_within units memory within at number stands))
       (λ later within_later. within_later)
 
-  module _ (setting : Setting) (choice : Choice) (memory : Memory)
+  module _ (parameters : RunParameters) (choice : Choice) (memory : Memory)
       (within : IsWithinBounds units memory) (fits : FitsStore units memory.blocks choice) where
-    row_stays : (operation : Op ℕ) → IfOk (row setting choice operation memory) Stays
+    row_stays : (operation : Op ℕ) → IfOk (row parameters choice operation memory) Stays
     unfolding Stays
     row_stays (op.Set chain operand) = combine_stays memory within Set chain operand
     row_stays (op.Add chain operand) = combine_stays memory within Add chain operand
@@ -339,21 +340,21 @@ module _ (units : ℕ) where
         located memory within chain _
         (λ at stands. both Stays (read memory count) _
         (λ wanted. both Stays (count_of wanted) _
-        (λ characters. take_stays memory within setting characters at label stands)))
+        (λ characters. take_stays memory within parameters characters at label stands)))
     row_stays (op.PrintCharacters chain count) =
         both Stays (locus memory chain) _
         (λ at. both Stays (read memory count) _
         (λ wanted. both Stays (count_of wanted) _
         (λ characters.
-        print_stays memory within setting (last_characters characters (content memory at)))))
-    row_stays (op.PrintText text) = print_stays memory within setting (map char_of text)
+        print_stays memory within parameters (last_characters characters (content memory at)))))
+    row_stays (op.PrintText text) = print_stays memory within parameters (map char_of text)
     row_stays (op.PrintDecimal chain) =
         both Stays (locus memory chain) _
-        (λ at. print_stays memory within setting (decimal (content memory at)))
+        (λ at. print_stays memory within parameters (decimal (content memory at)))
     row_stays (op.PrintOctal chain) =
         both Stays (locus memory chain) _
-        (λ at. print_stays memory within setting (octal12 (content memory at)))
-    row_stays op.PrintLine = print_stays memory within setting (codes "\n")
+        (λ at. print_stays memory within parameters (octal12 (content memory at)))
+    row_stays op.PrintLine = print_stays memory within parameters (codes "\n")
 
     done_stays : (waiting : List Return) → IfOk (done waiting memory) Stays
     unfolding Stays
@@ -367,7 +368,7 @@ module _ (units : ℕ) where
         both Stays (ok_or latest.fail NoFailExit) _
         (λ label. beside memory earlier memory.taken memory.output within)
 
-    action_stays : (action : Action) → IfOk (deed_of setting choice action memory) Stays
+    action_stays : (action : Action) → IfOk (action_result_of parameters choice action memory) Stays
     unfolding Stays
     action_stays (condition cond tests) =
         both Stays (is_true cond tests memory) _ (λ answer. within)
@@ -377,29 +378,33 @@ module _ (units : ℕ) where
     action_stays (exit exits.Done) = done_stays memory.returns
     action_stays (exit exits.Fail) = fail_stays memory.returns
 
-  outcome_within : (old : State) (asked : Result Deed Trap) → IsWithinBounds units old.memory →
+  outcome_within : (old : State) (asked : Result ActionResult Trap) → IsWithinBounds units old.memory →
       IfOk asked Stays →
-      IsWithinBounds units (outcome old (asked >>= λ deed. Ok (done_at old.at deed))).memory
+      IsWithinBounds units (outcome old
+      (asked >>= λ action_result. Ok (done_at old.at action_result))).memory
   unfolding Stays
-  outcome_within old (Ok deed) within stays =
-      beside deed.memory (returns_after deed.jump old.at deed.memory.returns) deed.memory.taken
-      deed.memory.output stays
+  outcome_within old (Ok action_result) within stays =
+      beside action_result.memory
+      (returns_after action_result.jump old.at action_result.memory.returns)
+      action_result.memory.taken
+      action_result.memory.output stays
   outcome_within old (Err trap) within stays = within
 
-run_within : (world : World) (state : State) (older : List State) →
-    IsRun world (state ∷ older) → IsWithinBounds world.setting.units state.memory
-run_within world state [] run =
-    subst (λ (s : State). IsWithinBounds world.setting.units s.memory) (sym run)
-    (start_within world.setting.units)
-run_within world state (old ∷ older) run =
-    let units = world.setting.units in
+run_within : (context : RunContext) (state : State) (older : List State) →
+    IsRun context (state ∷ older) → IsWithinBounds context.parameters.units state.memory
+run_within context state [] run =
+    subst (λ (s : State). IsWithinBounds context.parameters.units s.memory) (sym run)
+    (start_within context.parameters.units)
+run_within context state (old ∷ older) run =
+    let units = context.parameters.units in
     let step = run.0 in
-    let within = run_within world old older run.1 in
+    let within = run_within context old older run.1 in
     subst (λ (s : State). IsWithinBounds units s.memory) (sym step.leads)
     (outcome_within units old
-    (deed_of world.setting step.choice (action_at world.program old.at) old.memory) within
-    (action_stays units world.setting step.choice old.memory within step.fits
-    (action_at world.program old.at)))
+    (action_result_of context.parameters step.choice (action_at context.program old.at) old.memory)
+    within
+    (action_stays units context.parameters step.choice old.memory within step.fits
+    (action_at context.program old.at)))
 
 pub runs-stay_within_bounds : RunsStayWithinBounds
-runs-stay_within_bounds world state reached = run_within world state reached.older reached.run
+runs-stay_within_bounds context state reached = run_within context state reached.older reached.run

@@ -8,7 +8,7 @@ use Rattle.l6_steps.specs.declared.locus.Locus.TheVariants.{Bug, Field}
 use Rattle.l6_steps.specs.declared.trap.Trap.TheVariants.{UndefinedField, NotABlock, WordOutsideBlock}
 use Rattle.l6_store.specs.Least.{least}
 use Rattle.l6_steps.specs.declared.jump.Jump.TheVariants.{Onward}
-use Rattle.l6_steps.specs.Deed.{leave, took}
+use Rattle.l6_steps.specs.ActionResult.{leave, took}
 use Rattle.l6_steps.specs.Getting.{get, level_for, new_block, with_place}
 use Rattle.l6_steps.proofs.Maps.{insert_twice}
 use Rattle.l6_steps.specs.Locus.{assign, content, field_at, follow, locus, put_into}
@@ -77,7 +77,7 @@ freed_field =
     if nat_lt 1 (length ws) then Ok (Field 1024 high) else Err WordOutsideBlock) gone
 
 pub use-after_free_traps : UseAfterFreeTraps
-use-after_free_traps setting choice =
+use-after_free_traps parameters choice =
     ap (λ at. (at >>= λ next. follow freed_still next []) >>= λ l.
     Ok 5 >>= λ value. Ok value >>= λ number. leave (assign freed_still l number)) freed_field
 
@@ -86,7 +86,7 @@ level_of_three : level_for 3 ≡ Ok 2
 unfolding least
 level_of_three = refl
 
--- the memory once the block stands and X points to it
+-- the memory once the block is and X points to it
 abbrev got : Memory
 got = new_block stacked (replicate (2 ^ 2) 0) (Bug name_x) 1028
 
@@ -110,7 +110,7 @@ kept =
     (insert_twice stacked.blocks 1028 (0 ∷ 0 ∷ 0 ∷ 0 ∷ []) (0 ∷ 1024 ∷ 0 ∷ 0 ∷ []))
 
 pub get-keeps_the_old : GetKeepsTheOld
-get-keeps_the_old setting choice picks =
+get-keeps_the_old parameters choice picks =
     let other = Some (name_x ∷ name_n ∷ []) in
     ap
     (λ level. level >>= λ k. with_place (choice k) None stacked (get k (Bug name_x) other stacked))

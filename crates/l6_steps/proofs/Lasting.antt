@@ -6,12 +6,12 @@ use Rattle.l6_store.specs.Rule.{Rule}
 use Rattle.l6_store.proofs.Least.{Answers, least-answers}
 use Rattle.l6_steps.specs.declared.halt.Halt.{Halt}
 use Rattle.l6_steps.specs.declared.trap.Trap.{Trap}
-use Rattle.l6_steps.specs.Deed.{Deed}
-use Rattle.l6_steps.specs.Moment.{Moment, IsNumbered, moment_after, moment_at, pick_at, state_at}
+use Rattle.l6_steps.specs.ActionResult.{ActionResult}
+use Rattle.l6_steps.specs.Configuration.{Configuration, IsNumbered, configuration_after, configuration_at, pick_at, state_at}
 use Rattle.l6_steps.specs.Numbering.{last_number}
-use Rattle.l6_steps.specs.State.{World, State, is_last}
-use Rattle.l6_steps.specs.Step.{deed_at, ending_after, outcome}
-use Rattle.l6_steps.proofs.Numbered.{later-stays, moment_after-goes_on, moment_after-stays}
+use Rattle.l6_steps.specs.State.{RunContext, State, is_last}
+use Rattle.l6_steps.specs.Step.{action_result_at, ending_after, outcome}
+use Rattle.l6_steps.proofs.Numbered.{later-stays, configuration_after-goes_on, configuration_after-stays}
 
 -- a state has not ended, and as many steps are counted as states came before it
 pub record GoesOnAt (state : State) (number : ℕ) : Type 0 where
@@ -19,21 +19,22 @@ pub record GoesOnAt (state : State) (number : ℕ) : Type 0 where
   pub counted : state.count ≡ number
 
 -- a state that has ended is last
-ended-last : (world : World) (state : State) (ending : Option Halt) →
-    state.ending ≡ ending → (is_last world state ≡ true) ⊎ (state.ending ≡ None)
-ended-last world state (Some halt) is =
-    inl (ap (λ e. is_some e || (is_none e && state.count == world.setting.limits.steps)) is)
-ended-last world state None is = inr is
+ended-last : (context : RunContext) (state : State) (ending : Option Halt) →
+    state.ending ≡ ending → (is_last context state ≡ true) ⊎ (state.ending ≡ None)
+ended-last context state (Some halt) is =
+    inl (ap (λ e. is_some e || (is_none e && state.count == context.parameters.limits.steps)) is)
+ended-last context state None is = inr is
 
--- the state to which a deed leads has a step more, and a trap leads to a last one
-after-deed : (world : World) (old : State) (number : ℕ) (asked : Result Deed Trap) →
+-- the state to which an action's result leads has a step more, and a trap leads to a last one
+after-action_result : (context : RunContext) (old : State) (number : ℕ)
+    (asked : Result ActionResult Trap) →
     GoesOnAt old number →
-    (is_last world (outcome old asked) ≡ true) ⊎ GoesOnAt (outcome old asked) (number + 1)
-after-deed world old number (Err trap) goes_on = inl refl
-after-deed world old number (Ok deed) goes_on =
-    elim (ended-last world (outcome old (Ok deed)) (ending_after deed.jump) refl)
-    as (λ _. (is_last world (outcome old (Ok deed)) ≡ true)
-    ⊎ GoesOnAt (outcome old (Ok deed)) (number + 1)) [
+    (is_last context (outcome old asked) ≡ true) ⊎ GoesOnAt (outcome old asked) (number + 1)
+after-action_result context old number (Err trap) goes_on = inl refl
+after-action_result context old number (Ok action_result) goes_on =
+    elim (ended-last context (outcome old (Ok action_result)) (ending_after action_result.jump) refl)
+    as (λ _. (is_last context (outcome old (Ok action_result)) ≡ true)
+    ⊎ GoesOnAt (outcome old (Ok action_result)) (number + 1)) [
       | inl last ↦ inl last
       | inr open_yet ↦ inr (record {
         open_yet = open_yet;
@@ -41,43 +42,44 @@ after-deed world old number (Ok deed) goes_on =
       })
     ]
 
--- so a moment is last, or goes on with as many steps as its number
-abbrev LastOr : World → State → ℕ → Type 0
-LastOr world state number = (is_last world state ≡ true) ⊎ GoesOnAt state number
+-- so a configuration is last, or goes on with as many steps as its number
+abbrev LastOr : RunContext → State → ℕ → Type 0
+LastOr context state number = (is_last context state ≡ true) ⊎ GoesOnAt state number
 
-after-open : (rule : Rule) (world : World) (old : Moment) (number : ℕ) (last : Bool) →
-    is_last world old.state ≡ last → GoesOnAt old.state number →
-    LastOr world (moment_after rule world old).state (number + 1)
-after-open rule world old number true is goes_on =
-    inl (subst (λ (m : Moment). is_last world m.state ≡ true)
-    (sym (moment_after-stays rule world old is)) is)
-after-open rule world old number false is goes_on =
-    subst (λ (m : Moment). LastOr world m.state (number + 1))
-    (sym (moment_after-goes_on rule world old is))
-    (after-deed world old.state number (deed_at world (pick_at rule world old) old.state) goes_on)
+after-open : (rule : Rule) (context : RunContext) (old : Configuration) (number : ℕ) (last : Bool) →
+    is_last context old.state ≡ last → GoesOnAt old.state number →
+    LastOr context (configuration_after rule context old).state (number + 1)
+after-open rule context old number true is goes_on =
+    inl (subst (λ (m : Configuration). is_last context m.state ≡ true)
+    (sym (configuration_after-stays rule context old is)) is)
+after-open rule context old number false is goes_on =
+    subst (λ (m : Configuration). LastOr context m.state (number + 1))
+    (sym (configuration_after-goes_on rule context old is))
+    (after-action_result context old.state number
+    (action_result_at context (pick_at rule context old) old.state) goes_on)
 
-pub last-or_goes_on : (rule : Rule) (world : World) (n : ℕ) →
-    LastOr world (state_at rule world n) n
-last-or_goes_on rule world zero = inr (record { open_yet = refl; counted = refl })
-last-or_goes_on rule world (suc n) =
-    let old = moment_at rule world n in
-    elim (last-or_goes_on rule world n)
-    as (λ _. LastOr world (state_at rule world (suc n)) (suc n)) [
+pub last-or_goes_on : (rule : Rule) (context : RunContext) (n : ℕ) →
+    LastOr context (state_at rule context n) n
+last-or_goes_on rule context zero = inr (record { open_yet = refl; counted = refl })
+last-or_goes_on rule context (suc n) =
+    let old = configuration_at rule context n in
+    elim (last-or_goes_on rule context n)
+    as (λ _. LastOr context (state_at rule context (suc n)) (suc n)) [
       | inl last ↦
-          inl (subst (λ (m : Moment). is_last world m.state ≡ true)
-          (sym (moment_after-stays rule world old last)) last)
+          inl (subst (λ (m : Configuration). is_last context m.state ≡ true)
+          (sym (configuration_after-stays rule context old last)) last)
       | inr goes_on ↦
-          subst (LastOr world (state_at rule world (suc n))) (omega arith)
-          (after-open rule world old n (is_last world old.state) refl goes_on)
+          subst (LastOr context (state_at rule context (suc n))) (omega arith)
+          (after-open rule context old n (is_last context old.state) refl goes_on)
     ]
 
 -- the state of the number of the limit is last
-at_limit-last : (rule : Rule) (world : World) →
-    is_last world (state_at rule world world.setting.limits.steps) ≡ true
-at_limit-last rule world =
-    let steps = world.setting.limits.steps in
-    let state = state_at rule world steps in
-    elim (last-or_goes_on rule world steps) as (λ _. is_last world state ≡ true) [
+at_limit-last : (rule : Rule) (context : RunContext) →
+    is_last context (state_at rule context context.parameters.limits.steps) ≡ true
+at_limit-last rule context =
+    let steps = context.parameters.limits.steps in
+    let state = state_at rule context steps in
+    elim (last-or_goes_on rule context steps) as (λ _. is_last context state ≡ true) [
       | inl last ↦ last
       | inr goes_on ↦
           ap (λ e. is_some e || (is_none e && state.count == steps)) goes_on.open_yet
@@ -86,66 +88,68 @@ at_limit-last rule world =
     ]
 
 -- what an answer to the search for the last state tells
-abbrev Found : Rule → World → ℕ → Type 0
-Found rule world number =
-    (number ≤ world.setting.limits.steps)
-    × (is_last world (state_at rule world number) ≡ true)
-    × ((k : ℕ) → k < number → is_last world (state_at rule world k) ≡ false)
+abbrev Found : Rule → RunContext → ℕ → Type 0
+Found rule context number =
+    (number ≤ context.parameters.limits.steps)
+    × (is_last context (state_at rule context number) ≡ true)
+    × ((k : ℕ) → k < number → is_last context (state_at rule context k) ≡ false)
 
-found : (rule : Rule) (world : World) (answer : Option ℕ) →
-    Answers (suc world.setting.limits.steps) (λ n. is_last world (state_at rule world n)) answer →
-    Found rule world (unwrap_or answer 0)
+found : (rule : Rule) (context : RunContext) (answer : Option ℕ) →
+    Answers (suc context.parameters.limits.steps)
+    (λ n. is_last context (state_at rule context n)) answer →
+    Found rule context (unwrap_or answer 0)
 unfolding Answers
-found rule world (Some number) answers = (omega (arith, answers.0), answers.1, answers.2)
-found rule world None none =
-    let last = at_limit-last rule world in
-    let other = none world.setting.limits.steps (omega arith) in
+found rule context (Some number) answers = (omega (arith, answers.0), answers.1, answers.2)
+found rule context None none =
+    let last = at_limit-last rule context in
+    let other = none context.parameters.limits.steps (omega arith) in
     absurd (cc (last, other))
 
-pub last-found : (rule : Rule) (world : World) → Found rule world (last_number rule world)
+pub last-found : (rule : Rule) (context : RunContext) → Found rule context (last_number rule context)
 unfolding last_number
-last-found rule world =
-    found rule world _
-    (least-answers (suc world.setting.limits.steps) (λ n. is_last world (state_at rule world n)))
+last-found rule context =
+    found rule context _
+    (least-answers (suc context.parameters.limits.steps)
+    (λ n. is_last context (state_at rule context n)))
 
-pub last-is : (rule : Rule) (world : World) →
-    is_last world (state_at rule world (last_number rule world)) ≡ true
-last-is rule world = (last-found rule world).1
+pub last-is : (rule : Rule) (context : RunContext) →
+    is_last context (state_at rule context (last_number rule context)) ≡ true
+last-is rule context = (last-found rule context).1
 
-pub last-within : (rule : Rule) (world : World) →
-    last_number rule world ≤ world.setting.limits.steps
-last-within rule world = (last-found rule world).0
+pub last-within : (rule : Rule) (context : RunContext) →
+    last_number rule context ≤ context.parameters.limits.steps
+last-within rule context = (last-found rule context).0
 
-pub last-least : (rule : Rule) (world : World) (n : ℕ) →
-    is_last world (state_at rule world n) ≡ true → last_number rule world ≤ n
-last-least rule world n last =
-    elim (cases_lt n (last_number rule world)) as (λ _. last_number rule world ≤ n) [
+pub last-least : (rule : Rule) (context : RunContext) (n : ℕ) →
+    is_last context (state_at rule context n) ≡ true → last_number rule context ≤ n
+last-least rule context n last =
+    elim (cases_lt n (last_number rule context)) as (λ _. last_number rule context ≤ n) [
       | inl below ↦
-          (let other = (last-found rule world).2 n below in absurd (cc (last, other)))
+          (let other = (last-found rule context).2 n below in absurd (cc (last, other)))
       | inr above ↦ above
     ]
 
 -- a state up to the last that is not last comes before it
-pub not_last-below : (rule : Rule) (world : World) (n : ℕ) → n ≤ last_number rule world →
-    is_last world (state_at rule world n) ≡ false → n < last_number rule world
-not_last-below rule world n within goes_on =
-    elim (cases_lt n (last_number rule world)) as (λ _. n < last_number rule world) [
+pub not_last-below : (rule : Rule) (context : RunContext) (n : ℕ) → n ≤ last_number rule context →
+    is_last context (state_at rule context n) ≡ false → n < last_number rule context
+not_last-below rule context n within goes_on =
+    elim (cases_lt n (last_number rule context)) as (λ _. n < last_number rule context) [
       | inl below ↦ below
       | inr above ↦
-          (let same : n ≡ last_number rule world = omega arith in
-          let last = ap (λ k. is_last world (state_at rule world k)) same
-          ∙ last-is rule world in
+          (let same : n ≡ last_number rule context = omega arith in
+          let last = ap (λ k. is_last context (state_at rule context k)) same
+          ∙ last-is rule context in
           absurd (cc (last, goes_on)))
     ]
 
--- a moment of the run that is last is that of the last number
-pub last-moment : (rule : Rule) (world : World) (moment : Moment) →
-    IsNumbered rule world moment → is_last world moment.state ≡ true →
-    moment ≡ moment_at rule world (last_number rule world)
-last-moment rule world moment numbered last =
-    let final = last_number rule world in
-    let there = ap (λ (m : Moment). is_last world m.state) (sym numbered.is) ∙ last in
-    let behind = last-least rule world numbered.number there in
-    let apart : numbered.number ≡ (numbered.number - final) + final = omega (arith, behind) in
-    numbered.is ∙ ap (moment_at rule world) apart
-    ∙ later-stays rule world (numbered.number - final) final (last-is rule world)
+-- a configuration of the run that is last is that of the last number
+pub last-configuration : (rule : Rule) (context : RunContext) (configuration : Configuration) →
+    IsNumbered rule context configuration → is_last context configuration.state ≡ true →
+    configuration ≡ configuration_at rule context (last_number rule context)
+last-configuration rule context configuration numbered last =
+    let final = last_number rule context in
+    let there = ap (λ (m : Configuration). is_last context m.state) (sym numbered.is) ∙ last in
+    let following = last-least rule context numbered.number there in
+    let apart : numbered.number ≡ (numbered.number - final) + final = omega (arith, following) in
+    numbered.is ∙ ap (configuration_at rule context) apart
+    ∙ later-stays rule context (numbered.number - final) final (last-is rule context)

@@ -66,14 +66,14 @@ level_by units memory place fits None is = tt
 level_by units memory place fits (Some words) is =
     let block = fits.each place words is in
     let same : block_at memory.blocks place ≡ words = ap (λ found. unwrap_or found []) is in
-    let level = level_of_size (length words) block.level block.stands.small block.size in
+    let level = level_of_size (length words) block.level block.is_aligned.small block.size in
     record {
       is = is ∙ ap (λ (ws : List ℕ). Some ws) (sym same);
-      small = omega (arith, level, block.stands.small);
+      small = omega (arith, level, block.is_aligned.small);
       size = ap (length {A = ℕ}) same ∙ block.size ∙ ap (λ (k : ℕ). 2 ^ k) (sym level);
     }
 
--- the level of a block that stands is the one that its words fill
+-- the level of a block is the one that its words fill
 pub level_at_fills : (units : ℕ) (memory : Memory) (place : ℕ) → Fits units memory.blocks →
     IfOk (level_at memory place) (HasLevel memory place)
 level_at_fills units memory place fits =

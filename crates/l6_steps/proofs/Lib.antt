@@ -12,4 +12,5 @@ pub mod Actions
 pub mod Levels
 pub mod Loci
 pub mod Bounds
+pub mod Tiled
 pub mod Outputs

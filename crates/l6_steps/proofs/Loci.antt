@@ -71,7 +71,7 @@ pub words_at : (units : ℕ) (blocks : Blocks) (place : ℕ) → Fits units bloc
     All IsWord (block_at blocks place)
 words_at units blocks place fits = words_by units blocks place fits (map.get blocks place) refl
 
--- what stands at a locus is a word
+-- what is at a locus is a word
 pub content_fits : (units : ℕ) (memory : Memory) (at : Locus) → IsWithinBounds units memory →
     IsWord (content memory at)
 content_fits units memory (Bug bug) within = word_of memory.bugs (index_of bug) within.bugs
@@ -102,7 +102,7 @@ live_insert blocks place words q live =
       | inr other ↦ let kept = get-insert_other blocks place words q other in cc
     ]
 
--- it still stands where a block is new or has new words
+-- it still is where a block is new or has new words
 pub stands_insert : (blocks : Blocks) (place : ℕ) (words : List ℕ) (at : Locus) →
     StandsIn blocks at → StandsIn (map.insert blocks place words) at
 stands_insert blocks place words (Bug bug) stands = tt

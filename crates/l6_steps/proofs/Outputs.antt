@@ -28,17 +28,17 @@ use Rattle.l6_steps.specs.declared.trap.Trap.TheVariants.{InputEnded, NoFailExit
 use Rattle.l6_steps.specs.Calculation.{calculated}
 use Rattle.l6_steps.specs.Characters.{count_of, last_characters, left_of, number_of, take_characters}
 use Rattle.l6_steps.specs.Condition.{is_true}
-use Rattle.l6_steps.specs.Deed.{Deed, took}
+use Rattle.l6_steps.specs.ActionResult.{ActionResult, took}
 use Rattle.l6_steps.specs.Getting.{get, keep, level_at, level_for, lies_in, new_block, read_or_0, refuse, with_place}
 use Rattle.l6_steps.specs.Laws.{OutputsGrow}
 use Rattle.l6_steps.specs.Locus.{assign, content, locus, read, width}
-use Rattle.l6_steps.specs.Moment.{Moment, moment_after, moment_at, pick_at, state_at}
+use Rattle.l6_steps.specs.Configuration.{Configuration, configuration_after, configuration_at, pick_at, state_at}
 use Rattle.l6_steps.specs.Output.{BeginAlike, IsBeginning}
-use Rattle.l6_steps.specs.Row.{Action, condition, operation, exit, combine, deed_of, done, fail, print, row}
+use Rattle.l6_steps.specs.Row.{Action, condition, operation, exit, combine, action_result_of, done, fail, print, row}
 use Rattle.l6_steps.specs.Stack.{has_room, pop, push}
-use Rattle.l6_steps.specs.State.{Memory, Setting, State, World, is_last}
+use Rattle.l6_steps.specs.State.{Memory, RunParameters, State, RunContext, is_last}
 use Rattle.l6_steps.specs.Step.{action_at, done_at, outcome}
-use Rattle.l6_steps.proofs.Numbered.{moment_after-goes_on, moment_after-stays}
+use Rattle.l6_steps.proofs.Numbered.{configuration_after-goes_on, configuration_after-stays}
 use Rattle.l6_steps.proofs.Rows.{both, chosen}
 
 -- ---- beginnings
@@ -62,14 +62,15 @@ assign_prints memory (Bug bug) number = refl
 assign_prints memory (Field place window) number = refl
 
 -- ---- operations
--- a deed leaves an output that begins with the one before
-pub record Prints (memory : Memory) (deed : Deed) : Type 0 where
-  pub begins : IsBeginning memory.output deed.memory.output
+-- an action's result leaves an output that begins with the one before
+pub record Prints (memory : Memory) (action_result : ActionResult) : Type 0 where
+  pub begins : IsBeginning memory.output action_result.memory.output
 
-prints_same : (memory : Memory) (deed : Deed) → deed.memory.output ≡ memory.output →
-    Prints memory deed
-prints_same memory deed same =
-    record { begins = beginning_same memory.output deed.memory.output same }
+prints_same : (memory : Memory) (action_result : ActionResult) →
+    action_result.memory.output ≡ memory.output →
+    Prints memory action_result
+prints_same memory action_result same =
+    record { begins = beginning_same memory.output action_result.memory.output same }
 
 combine_prints : (calculation : Calculation) (chain : List ℕ) (operand : Operand)
     (memory : Memory) → IfOk (combine calculation chain operand memory) (Prints memory)
@@ -79,10 +80,10 @@ combine_prints calculation chain operand memory =
     (λ value. both (Prints memory) (calculated calculation (width at) (content memory at) value) _
     (λ number. prints_same memory _ (assign_prints memory at number))))
 
-print_prints : (setting : Setting) (text : List ℕ) (memory : Memory) →
-    IfOk (print setting text memory) (Prints memory)
-print_prints setting text memory =
-    chosen (Prints memory) (nat_le (length memory.output + length text) setting.limits.output) _ _
+print_prints : (parameters : RunParameters) (text : List ℕ) (memory : Memory) →
+    IfOk (print parameters text memory) (Prints memory)
+print_prints parameters text memory =
+    chosen (Prints memory) (nat_le (length memory.output + length text) parameters.limits.output) _ _
     (record { begins = record { rest = text; is = refl } }) tt
 
 refuse_prints : (trap : Trap) (label : Option ℕ) (memory : Memory) →
@@ -90,7 +91,7 @@ refuse_prints : (trap : Trap) (label : Option ℕ) (memory : Memory) →
 refuse_prints trap None memory = tt
 refuse_prints trap (Some statement) memory = prints_same memory _ refl
 
-place_prints : (found label : Option ℕ) (memory : Memory) (use_of : ℕ → Result Deed Trap) →
+place_prints : (found label : Option ℕ) (memory : Memory) (use_of : ℕ → Result ActionResult Trap) →
     ((place : ℕ) → IfOk (use_of place) (Prints memory)) →
     IfOk (with_place found label memory use_of) (Prints memory)
 place_prints None label memory use_of each = refuse_prints StoreFull label memory
@@ -122,17 +123,18 @@ free_prints : (lies : Bool) (rest : Memory) (at : Locus) (number : ℕ) →
 free_prints true rest at number = refl
 free_prints false rest at number = assign_prints rest at number
 
-take_prints : (setting : Setting) (count : ℕ) (at : Locus) (label : Option ℕ) (memory : Memory) →
-    IfOk (take_characters setting count at label memory) (Prints memory)
-take_prints setting count at label memory =
-    let left = left_of setting memory in
+take_prints : (parameters : RunParameters) (count : ℕ) (at : Locus) (label : Option ℕ)
+    (memory : Memory) →
+    IfOk (take_characters parameters count at label memory) (Prints memory)
+take_prints parameters count at label memory =
+    let left = left_of parameters memory in
     let later : Memory = record memory { taken = memory.taken + count } in
     chosen (Prints memory) (nat_le count (length left)) _ _
     (prints_same memory _ (assign_prints later at (number_of (take count left))))
     (refuse_prints InputEnded label memory)
 
-module _ (setting : Setting) (choice : Choice) (memory : Memory) where
-  row_prints : (operation : Op ℕ) → IfOk (row setting choice operation memory) (Prints memory)
+module _ (parameters : RunParameters) (choice : Choice) (memory : Memory) where
+  row_prints : (operation : Op ℕ) → IfOk (row parameters choice operation memory) (Prints memory)
   row_prints (op.Set chain operand) = combine_prints Set chain operand memory
   row_prints (op.Add chain operand) = combine_prints Add chain operand memory
   row_prints (op.Subtract chain operand) = combine_prints Subtract chain operand memory
@@ -203,21 +205,21 @@ module _ (setting : Setting) (choice : Choice) (memory : Memory) where
       both (Prints memory) (locus memory chain) _
       (λ at. both (Prints memory) (read memory count) _
       (λ wanted. both (Prints memory) (count_of wanted) _
-      (λ characters. take_prints setting characters at label memory)))
+      (λ characters. take_prints parameters characters at label memory)))
   row_prints (op.PrintCharacters chain count) =
       both (Prints memory) (locus memory chain) _
       (λ at. both (Prints memory) (read memory count) _
       (λ wanted. both (Prints memory) (count_of wanted) _
       (λ characters.
-      print_prints setting (last_characters characters (content memory at)) memory)))
-  row_prints (op.PrintText text) = print_prints setting (map char_of text) memory
+      print_prints parameters (last_characters characters (content memory at)) memory)))
+  row_prints (op.PrintText text) = print_prints parameters (map char_of text) memory
   row_prints (op.PrintDecimal chain) =
       both (Prints memory) (locus memory chain) _
-      (λ at. print_prints setting (decimal (content memory at)) memory)
+      (λ at. print_prints parameters (decimal (content memory at)) memory)
   row_prints (op.PrintOctal chain) =
       both (Prints memory) (locus memory chain) _
-      (λ at. print_prints setting (octal12 (content memory at)) memory)
-  row_prints op.PrintLine = print_prints setting (codes "\n") memory
+      (λ at. print_prints parameters (octal12 (content memory at)) memory)
+  row_prints op.PrintLine = print_prints parameters (codes "\n") memory
 
   -- ---- actions
   done_prints : (waiting : List Return) → IfOk (done waiting memory) (Prints memory)
@@ -229,7 +231,8 @@ module _ (setting : Setting) (choice : Choice) (memory : Memory) where
   fail_prints (latest ∷ earlier) =
       both (Prints memory) (ok_or latest.fail NoFailExit) _ (λ label. prints_same memory _ refl)
 
-  action_prints : (action : Action) → IfOk (deed_of setting choice action memory) (Prints memory)
+  action_prints : (action : Action) →
+      IfOk (action_result_of parameters choice action memory) (Prints memory)
   action_prints (condition cond tests) =
       both (Prints memory) (is_true cond tests memory) _ (λ answer. prints_same memory _ refl)
   action_prints (operation op) = row_prints op
@@ -239,56 +242,57 @@ module _ (setting : Setting) (choice : Choice) (memory : Memory) where
   action_prints (exit exits.Fail) = fail_prints memory.returns
 
 -- ---- runs
-outcome_prints : (old : State) (asked : Result Deed Trap) → IfOk asked (Prints old.memory) →
+outcome_prints : (old : State) (asked : Result ActionResult Trap) → IfOk asked (Prints old.memory) →
     IsBeginning old.memory.output
-    (outcome old (asked >>= λ deed. Ok (done_at old.at deed))).memory.output
-outcome_prints old (Ok deed) prints = prints.begins
+    (outcome old (asked >>= λ action_result. Ok (done_at old.at action_result))).memory.output
+outcome_prints old (Ok action_result) prints = prints.begins
 outcome_prints old (Err trap) prints = beginning_same old.memory.output old.memory.output refl
 
-after_prints : (rule : Rule) (world : World) (old : Moment) (last : Bool) →
-    is_last world old.state ≡ last →
-    IsBeginning old.state.memory.output (moment_after rule world old).state.memory.output
-after_prints rule world old true is =
+after_prints : (rule : Rule) (context : RunContext) (old : Configuration) (last : Bool) →
+    is_last context old.state ≡ last →
+    IsBeginning old.state.memory.output (configuration_after rule context old).state.memory.output
+after_prints rule context old true is =
     beginning_same old.state.memory.output _
-    (ap (λ (m : Moment). m.state.memory.output) (moment_after-stays rule world old is))
-after_prints rule world old false is =
-    subst (λ (m : Moment). IsBeginning old.state.memory.output m.state.memory.output)
-    (sym (moment_after-goes_on rule world old is))
+    (ap (λ (m : Configuration). m.state.memory.output) (configuration_after-stays rule context old is))
+after_prints rule context old false is =
+    subst (λ (m : Configuration). IsBeginning old.state.memory.output m.state.memory.output)
+    (sym (configuration_after-goes_on rule context old is))
     (outcome_prints old.state
-    (deed_of world.setting (pick_at rule world old) (action_at world.program old.state.at)
+    (action_result_of context.parameters (pick_at rule context old)
+    (action_at context.program old.state.at)
     old.state.memory)
-    (action_prints world.setting (pick_at rule world old) old.state.memory
-    (action_at world.program old.state.at)))
+    (action_prints context.parameters (pick_at rule context old) old.state.memory
+    (action_at context.program old.state.at)))
 
-more_prints : (rule : Rule) (world : World) (more n : ℕ) →
-    IsBeginning (state_at rule world n).memory.output
-    (state_at rule world (more + n)).memory.output
-more_prints rule world zero n =
-    beginning_same (state_at rule world n).memory.output _
-    (ap (λ k. (state_at rule world k).memory.output) (zero-add n))
-more_prints rule world (suc more) n =
-    let old = moment_at rule world (more + n) in
-    subst (λ k. IsBeginning (state_at rule world n).memory.output
-    (state_at rule world k).memory.output)
+more_prints : (rule : Rule) (context : RunContext) (more n : ℕ) →
+    IsBeginning (state_at rule context n).memory.output
+    (state_at rule context (more + n)).memory.output
+more_prints rule context zero n =
+    beginning_same (state_at rule context n).memory.output _
+    (ap (λ k. (state_at rule context k).memory.output) (zero-add n))
+more_prints rule context (suc more) n =
+    let old = configuration_at rule context (more + n) in
+    subst (λ k. IsBeginning (state_at rule context n).memory.output
+    (state_at rule context k).memory.output)
     (sym (suc-add more n))
-    (beginning_of (state_at rule world n).memory.output old.state.memory.output _
-    (more_prints rule world more n)
-    (after_prints rule world old (is_last world old.state) refl))
+    (beginning_of (state_at rule context n).memory.output old.state.memory.output _
+    (more_prints rule context more n)
+    (after_prints rule context old (is_last context old.state) refl))
 
 pub outputs-grow : OutputsGrow
-outputs-grow rule world earlier later order =
+outputs-grow rule context earlier later order =
     let apart : (later - earlier) + earlier ≡ later = omega (arith, order) in
-    subst (λ k. IsBeginning (state_at rule world earlier).memory.output
-    (state_at rule world k).memory.output) apart
-    (more_prints rule world (later - earlier) earlier)
+    subst (λ k. IsBeginning (state_at rule context earlier).memory.output
+    (state_at rule context k).memory.output) apart
+    (more_prints rule context (later - earlier) earlier)
 
 -- so the outputs of any two states begin alike
-pub outputs-begin_alike : (rule : Rule) (world : World) (one other : ℕ) →
-    BeginAlike (state_at rule world one).memory.output (state_at rule world other).memory.output
-outputs-begin_alike rule world one other =
+pub outputs-begin_alike : (rule : Rule) (context : RunContext) (one other : ℕ) →
+    BeginAlike (state_at rule context one).memory.output (state_at rule context other).memory.output
+outputs-begin_alike rule context one other =
     elim (cases_lt one other)
-    as (λ _. BeginAlike (state_at rule world one).memory.output
-    (state_at rule world other).memory.output) [
-      | inl below ↦ inl (outputs-grow rule world one other (omega (arith, below)))
-      | inr above ↦ inr (outputs-grow rule world other one above)
+    as (λ _. BeginAlike (state_at rule context one).memory.output
+    (state_at rule context other).memory.output) [
+      | inl below ↦ inl (outputs-grow rule context one other (omega (arith, below)))
+      | inr above ↦ inr (outputs-grow rule context other one above)
     ]

@@ -17,36 +17,38 @@ use Rattle.l6_store.specs.Rule.{Rule}
 use Rattle.l6_steps.specs.declared.trap.Trap.{Trap}
 use Rattle.l6_steps.specs.Laws.{EndsUnderEachRule}
 use Rattle.l6_word.specs.Trying.{◌>>=◌}
-use Rattle.l6_steps.specs.Moment.{Moment, moment_at, pick_at, state_at}
-use Rattle.l6_steps.specs.Row.{condition, deed_of, row}
-use Rattle.l6_steps.specs.Deed.{Deed}
+use Rattle.l6_steps.specs.Configuration.{Configuration, configuration_at, pick_at, state_at}
+use Rattle.l6_steps.specs.Row.{condition, action_result_of, row}
+use Rattle.l6_steps.specs.ActionResult.{ActionResult}
 use Rattle.l6_steps.specs.Run.{IsRun}
-use Rattle.l6_steps.specs.State.{World, Setting, Memory, State, is_last}
-use Rattle.l6_steps.specs.Step.{action_behind, deed_at, done_at, next, outcome, statement_at}
+use Rattle.l6_steps.specs.State.{RunContext, RunParameters, Memory, State, is_last}
+use Rattle.l6_steps.specs.Step.{action_following, action_result_at, done_at, next, outcome, statement_at}
 use Rattle.l6_steps.specs.Taking.{takes_block, takes_no_block, takes_none}
-use Rattle.l6_steps.proofs.Numbered.{moment_after-goes_on}
+use Rattle.l6_steps.proofs.Numbered.{configuration_after-goes_on}
 
 -- what an operation does that takes no block
-row_same : (op : Op ℕ) (setting : Setting) (choice choice' : Choice) (memory : Memory) →
+row_same : (op : Op ℕ) (parameters : RunParameters) (choice choice' : Choice) (memory : Memory) →
     takes_block op ≡ false →
-    row setting choice op memory ≡ row setting choice' op memory
-row_same (Get chain size old label) setting choice choice' memory takes =
+    row parameters choice op memory ≡ row parameters choice' op memory
+row_same (Get chain size old label) parameters choice choice' memory takes =
     absurd (both_ways true takes refl)
-row_same (Duplicate chain block label) setting choice choice' memory takes =
+row_same (Duplicate chain block label) parameters choice choice' memory takes =
     absurd (both_ways true takes refl)
-row_same other setting choice choice' memory takes = refl
+row_same other parameters choice choice' memory takes = refl
 
 -- what a condition, an operation that takes no block, or an exit does
-chosen_same : (setting : Setting) (choice choice' : Choice) (memory : Memory) (test : Cond)
+chosen_same : (parameters : RunParameters) (choice choice' : Choice) (memory : Memory) (test : Cond)
     (tests : List Test) (last : Exit ℕ)
     (found : Option (Op ℕ)) (first : Bool) →
     ((op : Op ℕ) → found ≡ Some op → takes_block op ≡ false) →
-    deed_of setting choice (cond first (condition test tests) (action_behind last found)) memory
-    ≡ deed_of setting choice' (cond first (condition test tests) (action_behind last found)) memory
-chosen_same setting choice choice' memory test tests last found true none = refl
-chosen_same setting choice choice' memory test tests last None false none = refl
-chosen_same setting choice choice' memory test tests last (Some op) false none =
-    row_same op setting choice choice' memory (none op refl)
+    action_result_of parameters choice
+    (cond first (condition test tests) (action_following last found)) memory
+    ≡ action_result_of parameters choice'
+    (cond first (condition test tests) (action_following last found)) memory
+chosen_same parameters choice choice' memory test tests last found true none = refl
+chosen_same parameters choice choice' memory test tests last None false none = refl
+chosen_same parameters choice choice' memory test tests last (Some op) false none =
+    row_same op parameters choice choice' memory (none op refl)
 
 -- no operation of the statement at a number takes a block, also where there is none
 none_at : (program : List Parts) (number : ℕ) → takes_no_block program ≡ true →
@@ -70,37 +72,39 @@ takes_not operations number op none found =
     ∙ passes_at (λ operation. not (takes_block operation)) operations number op none within)
 
 -- what the action at a state's position does
-deed_same : (world : World) (choice choice' : Choice) (old : State) →
-    takes_no_block world.program ≡ true →
-    deed_at world choice old ≡ deed_at world choice' old
-deed_same world choice choice' old none =
-    let statement = statement_at world.program old.at in
-    ap (λ (deed : Result Deed Trap). deed >>= λ d. Ok (done_at old.at d))
-    (chosen_same world.setting choice choice' old.memory statement.condition statement.tests
+action_result_same : (context : RunContext) (choice choice' : Choice) (old : State) →
+    takes_no_block context.program ≡ true →
+    action_result_at context choice old ≡ action_result_at context choice' old
+action_result_same context choice choice' old none =
+    let statement = statement_at context.program old.at in
+    ap (λ (action_result : Result ActionResult Trap). action_result >>= λ d. Ok (done_at old.at d))
+    (chosen_same context.parameters choice choice' old.memory statement.condition statement.tests
     statement.exit
     (slice_get statement.operations (old.at.action - 1)) (old.at.action == 0)
     (λ op found. takes_not statement.operations (old.at.action - 1) op
-    (none_at world.program old.at.statement none) found))
+    (none_at context.program old.at.statement none) found))
 
 -- the states of a run are those of the run under a rule
-run-numbered : (rule : Rule) (world : World) (state : State) (older : List State) →
-    takes_no_block world.program ≡ true → IsRun world (state ∷ older) →
-    (n : ℕ) × (state ≡ state_at rule world n)
-run-numbered rule world state [] none run = (zero, run)
-run-numbered rule world state (old ∷ older) none run =
-    let before = run-numbered rule world old older none run.1 in
-    let moment = moment_at rule world before.0 in
-    let goes_on : is_last world moment.state ≡ false =
-    ap (is_last world) (sym before.1) ∙ run.0.goes_on in (
+run-numbered : (rule : Rule) (context : RunContext) (state : State) (older : List State) →
+    takes_no_block context.program ≡ true → IsRun context (state ∷ older) →
+    (n : ℕ) × (state ≡ state_at rule context n)
+run-numbered rule context state [] none run = (zero, run)
+run-numbered rule context state (old ∷ older) none run =
+    let before = run-numbered rule context old older none run.1 in
+    let configuration = configuration_at rule context before.0 in
+    let goes_on : is_last context configuration.state ≡ false =
+    ap (is_last context) (sym before.1) ∙ run.0.goes_on in (
       suc before.0,
       run.0.leads
-          ∙ ap (next world run.0.choice) before.1
-          ∙ ap (outcome moment.state)
-          (deed_same world run.0.choice (pick_at rule world moment) moment.state none)
-          ∙ sym (ap (λ (m : Moment). m.state) (moment_after-goes_on rule world moment goes_on)),
+          ∙ ap (next context run.0.choice) before.1
+          ∙ ap (outcome configuration.state)
+          (action_result_same context run.0.choice
+          (pick_at rule context configuration) configuration.state none)
+          ∙ sym (ap (λ (m : Configuration). m.state)
+          (configuration_after-goes_on rule context configuration goes_on)),
     )
 
 pub ends-under_each_rule : EndsUnderEachRule
-ends-under_each_rule rule world final none end =
-    let numbered = run-numbered rule world final end.reached.older none end.reached.run in
+ends-under_each_rule rule context final none end =
+    let numbered = run-numbered rule context final end.reached.older none end.reached.run in
     record { number = numbered.0; is = numbered.1; last = end.last }

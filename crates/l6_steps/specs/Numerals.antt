@@ -1,4 +1,4 @@
--- The numbers of the language that runs stand on.
+-- The numbers of the language that runs use.
 use Rattle.std.specs.Prelude.{ℕ}
 
 -- how many steps a run may be allowed

@@ -9,10 +9,10 @@ use Rattle.l6_prog.specs.declared.operation.Op.TheVariants.{Set, Subtract, Excha
 use Rattle.l6_steps.specs.declared.jump.Jump.TheVariants.{Onward}
 use Rattle.l6_steps.specs.declared.locus.Locus.TheVariants.{Field}
 use Rattle.l6_steps.specs.declared.trap.Trap.TheVariants.{NotABlock, NoFailExit}
-use Rattle.l6_steps.specs.Deed.{leave, took}
+use Rattle.l6_steps.specs.ActionResult.{leave, took}
 use Rattle.l6_steps.specs.Locus.{content, index_of, locus}
 use Rattle.l6_steps.specs.Row.{row}
-use Rattle.l6_steps.specs.State.{World, State, Memory, Setting, start}
+use Rattle.l6_steps.specs.State.{RunContext, State, Memory, RunParameters, start}
 use Rattle.l6_prog.specs.declared.condition.Cond.TheVariants.{Always, IfNotAll}
 use Rattle.l6_prog.specs.declared.condition.Comparison.{Comparison}
 use Rattle.l6_prog.specs.declared.condition.Comparison.TheVariants.{Equal, Greater}
@@ -30,11 +30,11 @@ name_a = first_letter
 abbrev pub name_n : ℕ
 name_n = first_letter + 13
 
--- a small world with this program
-abbrev pub small_world : List Parts → World
-small_world program = record {
+-- a small context with this program
+abbrev pub small_context : List Parts → RunContext
+small_context program = record {
   program = program;
-  setting = record { units = 1; limits = record { steps = 100; output = 100 }; input = [] };
+  parameters = record { units = 1; limits = record { steps = 100; output = 100 }; input = [] };
 }
 
 -- the state at a statement's action after so many steps, in which nothing is held but these returns
@@ -50,9 +50,9 @@ abbrev pub to_zero : Comparison → List ℕ → Test
 to_zero comparison chain = record { comparison = comparison; chain = chain; operand = Number 0 }
 
 -- the program that begins with IFNALL (A,E,0)(A,G,0)(AN,E,0)
-abbrev pub not_all_world : World
-not_all_world =
-    small_world (record {
+abbrev pub not_all_context : RunContext
+not_all_context =
+    small_context (record {
       condition = IfNotAll;
       tests =
           to_zero Equal (name_a ∷ [])
@@ -66,12 +66,12 @@ not_all_world =
 -- A is 0: the first test holds, the second fails, and so the condition is true; the third test,
 -- which would trap, is not taken
 abbrev pub NotAllStops : Type 0
-NotAllStops = (choice : Choice) → next not_all_world choice start ≡ at_action 0 1 1 []
+NotAllStops = (choice : Choice) → next not_all_context choice start ≡ at_action 0 1 1 []
 
 -- the program whose statement 0 calls statement 1, which fails; the call may have a fail label
-abbrev pub call_world : Option ℕ → World
-call_world fail =
-    small_world (record {
+abbrev pub call_context : Option ℕ → RunContext
+call_context fail =
+    small_context (record {
       condition = Always;
       tests = [];
       operations = Call 1 fail ∷ [];
@@ -88,16 +88,16 @@ waits fail = record { at = record { statement = 0; action = 2 }; fail = fail } �
 abbrev pub FailGoesToItsLabel : Type 0
 FailGoesToItsLabel =
     (choice : Choice) →
-    (next (call_world (Some 2)) choice (at_action 0 1 1 [])
+    (next (call_context (Some 2)) choice (at_action 0 1 1 [])
     ≡ at_action 1 0 2 (waits (Some 2)))
-    × (next (call_world (Some 2)) choice (at_action 1 1 3 (waits (Some 2)))
+    × (next (call_context (Some 2)) choice (at_action 1 1 3 (waits (Some 2)))
     ≡ at_action 2 0 4 [])
 
 -- without a fail label it traps, and the call waits on: a trap changes the ending alone
 abbrev pub FailWithoutLabelTraps : Type 0
 FailWithoutLabelTraps =
     (choice : Choice) →
-    next (call_world None) choice (at_action 1 1 3 (waits None))
+    next (call_context None) choice (at_action 1 1 3 (waits None))
     ≡ record (at_action 1 1 3 (waits None)) { ending = Some (halts.Trap NoFailExit) }
 
 -- the chains of the bugs A and B
@@ -114,15 +114,15 @@ with_bugs a b = record start.memory { bugs = a ∷ b ∷ replicate (letter_count
 -- 7 less 9 is 2 below 0, so A becomes 2 ^ 36 - 2
 abbrev pub DifferenceWraps : Type 0
 DifferenceWraps =
-    (setting : Setting) (choice : Choice) →
-    row setting choice (Subtract chain_a (Number 9)) (with_bugs 7 0)
+    (parameters : RunParameters) (choice : Choice) →
+    row parameters choice (Subtract chain_a (Number 9)) (with_bugs 7 0)
     ≡ leave (with_bugs (2 ^ 36 - 2) 0)
 
 -- A and B exchange what they hold
 abbrev pub BugsExchange : Type 0
 BugsExchange =
-    (setting : Setting) (choice : Choice) →
-    row setting choice (Exchange chain_a chain_b) (with_bugs 1 2) ≡ leave (with_bugs 2 1)
+    (parameters : RunParameters) (choice : Choice) →
+    row parameters choice (Exchange chain_a chain_b) (with_bugs 1 2) ≡ leave (with_bugs 2 1)
 
 -- the names V and X
 abbrev pub name_v : ℕ
@@ -169,8 +169,8 @@ stacked = record start.memory {
 -- a field of the new block, becomes 1024
 abbrev pub GetKeepsTheOld : Type 0
 GetKeepsTheOld =
-    (setting : Setting) (choice : Choice) → choice 2 ≡ Some 1028 →
-    row setting choice (Get (name_x ∷ []) (Number 3) (Some (name_x ∷ name_n ∷ [])) None) stacked
+    (parameters : RunParameters) (choice : Choice) → choice 2 ≡ Some 1028 →
+    row parameters choice (Get (name_x ∷ []) (Number 3) (Some (name_x ∷ name_n ∷ [])) None) stacked
     ≡ Ok (record {
       memory = record stacked {
         bugs = just_x 1028;
@@ -187,5 +187,5 @@ freed_still = record stacked { blocks = map.remove stacked.blocks 1024 }
 -- (XN,E,5) traps then
 abbrev pub UseAfterFreeTraps : Type 0
 UseAfterFreeTraps =
-    (setting : Setting) (choice : Choice) →
-    row setting choice (Set (name_x ∷ name_n ∷ []) (Number 5)) freed_still ≡ Err NotABlock
+    (parameters : RunParameters) (choice : Choice) →
+    row parameters choice (Set (name_x ∷ name_n ∷ []) (Number 5)) freed_still ≡ Err NotABlock

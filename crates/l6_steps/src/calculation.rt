@@ -38,8 +38,12 @@ pub enum Calculation {
 }
 
 impl Calculation {
-    /// The number to store, of which a place of any width keeps as many of the lowest bits as it
-    /// has. Traps where it would divide by 0.
+    /// The number to assign, of which a locus of any width keeps as many of the lowest bits as it
+    /// has.
+    ///
+    /// # Errors
+    ///
+    /// The trap `ZeroDivisor`, where it would divide by 0.
     pub fn apply(self, content: Word, value: Word) -> Result<u64, Trap>
         ensures { (width : ℕ) → width ≤ word_bits →
             lowest_bits width result

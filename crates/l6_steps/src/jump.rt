@@ -1,4 +1,4 @@
-//! Jumps.
+//! Jumps: where a run goes on after an action.
 
 ghost use Rattle.std.specs.Prelude.{◌≡◌, ◌+◌, ◌<◌, ◌≤◌};
 ghost use Rattle.l6_prog.specs.Numerals.{most_operations, most_statements};
@@ -16,7 +16,7 @@ pub enum Jump {
     Next,
     /// With the condition of the statement of this number.
     To(u16),
-    /// With the action at this position, behind a call that has returned.
+    /// With the action at this position, after a call that has returned.
     Back(Position),
     /// With the condition of the statement of this number, which is called; the call has this fail
     /// label, if it has one, and waits for its return.
@@ -34,7 +34,7 @@ pub fn position_after(jump: Jump, at: Position) -> Position
     ensures { result ≡ position_after jump at }
 {
     match jump {
-        Jump::Onward => at.behind(),
+        Jump::Onward => at.following(),
         Jump::Next => Position::start_of(at.statement + 1),
         Jump::To(statement) | Jump::Call(statement, _) => Position::start_of(statement),
         Jump::Back(there) => there,

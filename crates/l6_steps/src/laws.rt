@@ -2,14 +2,14 @@
 //! language.
 
 ghost use Rattle.std.specs.Prelude.{◌≡◌, ◌+◌, ◌%◌, min, max};
-ghost use Rattle.l6_steps.specs.Laws.{DifferencesAddUp, EndsInOneState, EndsUnderEachRule, GoesBitByBit, HasALastState, OnesBitByBit, OutputsGrow, RulesRunBySteps, RunsStayWithinBounds, TurnsEachBit, ZerosBitByBit};
+ghost use Rattle.l6_steps.specs.Laws.{BuddyRunsBySteps, DifferencesAddUp, EndsInOneState, EndsUnderEachRule, GoesBitByBit, HasALastState, OnesBitByBit, OutputsGrow, RulesRunBySteps, RunsStayWithinBounds, TurnsEachBit, ZerosBitByBit};
 ghost use Rattle.l6_steps.specs.Numerals.{most_input, most_output, most_steps};
 
 use crate::calculation::Calculation;
 use crate::limits::{MAX_INPUT, MAX_OUTPUT, MAX_STEPS};
 
-/// What `And`, `Or` and `ExclusiveOr` calculate has a one where both numbers, either or just one of
-/// them have a one, and `Complement` turns each bit of the width.
+/// What `And`, `Or` and `ExclusiveOr` calculate has a one where both numbers, either of them or
+/// just one of them has a one, and `Complement` turns each bit of the width.
 pub fn logic_goes_bit_by_bit()
     ensures both { GoesBitByBit Calculation.And min }
     ensures either { GoesBitByBit Calculation.Or max }
@@ -22,30 +22,31 @@ pub fn sums_undo_differences()
     ensures { DifferencesAddUp }
 {}
 
-/// All whole runs of a world under one rule of choice end in one state. A rule whose picks are open
-/// places makes a run by steps. Where no operation of a program takes a block, a whole run ends
-/// alike under each rule.
+/// All whole runs of a context under one rule of choice end in one state. A rule whose picks are
+/// open places makes a run by steps, and the buddy system's rule does so without a premise. If no
+/// operation of a program takes a block, a whole run ends alike under each rule.
 pub fn runs_are_determined()
     ensures one_end { EndsInOneState }
     ensures by_steps { RulesRunBySteps }
+    ensures by_buddies { BuddyRunsBySteps }
     ensures each_rule { EndsUnderEachRule }
 {}
 
-/// The run of a world under a rule of choice has a last state, of a number that is at most the limit of
-/// its steps.
+/// The run of a context under a rule of choice has a last state, of a number that is at most the
+/// limit of its steps.
 pub fn runs_have_a_last_state()
     ensures { HasALastState }
 {}
 
-/// Each state that a run comes to is within its bounds, whatever open places its blocks are given:
-/// what bugs hold, what blocks hold and what is saved are words, each block lies in the store and shares
-/// no word with another, and each definition is a window of a word.
+/// Each state that a run reaches is within its bounds, whatever open places its blocks are given:
+/// what bugs hold, what blocks hold and what is saved are words, each block lies in the store and
+/// shares no word with another, and each definition is a window of a word.
 pub fn runs_stay_within_bounds()
     ensures { RunsStayWithinBounds }
 {}
 
-/// The output of each state of a run is the beginning of the output of each later state: what is printed
-/// stays.
+/// The output of each state of a run is the beginning of the output of each later state: what is
+/// printed stays.
 pub fn outputs_grow()
     ensures { OutputsGrow }
 {}

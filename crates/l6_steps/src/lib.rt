@@ -1,4 +1,4 @@
-//! The written machine: what a step of a program does, told without registers.
+//! The written machine: what a step of a program does, defined without registers.
 //!
 //! The definitions in `specs/` are what one has to believe of the machine; the functions are those on
 //! plain values, and the laws of the definitions.

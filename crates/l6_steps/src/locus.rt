@@ -7,7 +7,7 @@ use l6_prog::Name;
 use l6_store::Place;
 use l6_word::{Window, Word};
 
-/// What a chain leads to: where a content stands.
+/// What a chain leads to: where a content is.
 #[derive(Clone, Copy, Debug, PartialEq, Eq)]
 pub enum Locus {
     /// The bug of this letter, all 36 bits of it.
@@ -20,7 +20,7 @@ impl Locus {
     ghost use Rattle.l6_steps.specs.Getting.{lies_in};
     ghost use Rattle.l6_steps.specs.Locus.{width};
 
-    /// How many bits stand there, 1 to 36.
+    /// How many bits are there, 1 to 36.
     pub fn width(self) -> u8
         ensures value { result ≡ width self }
         ensures range { result ≤ word_bits }

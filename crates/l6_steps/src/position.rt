@@ -3,7 +3,7 @@
 ghost use Rattle.std.specs.Prelude.{◌≡◌, ◌+◌, ◌≤◌};
 ghost use Rattle.l6_prog.specs.Numerals.{most_operations};
 
-/// Where a run stands.
+/// Where a run is.
 #[derive(Clone, Copy, Debug, PartialEq, Eq, Hash)]
 pub struct Position {
     /// The statement, from 0.
@@ -14,12 +14,12 @@ pub struct Position {
 }
 
 impl Position {
-    ghost use Rattle.l6_steps.specs.Step.{behind, start_of};
+    ghost use Rattle.l6_steps.specs.Step.{following, start_of};
 
-    /// The position behind this one: that of the next action.
-    pub fn behind(self) -> Self
+    /// The position after this one: that of the next action.
+    pub fn following(self) -> Self
         requires { self.action ≤ most_operations + 1 }
-        ensures { result ≡ behind self }
+        ensures { result ≡ following self }
     {
         Position {
             statement: self.statement,

@@ -1,4 +1,4 @@
-//! Traps.
+//! Traps: why a run cannot go on.
 
 ghost use Rattle.std.specs.Prelude.{◌≡◌};
 
@@ -9,9 +9,9 @@ pub enum Trap {
     UndefinedField,
     /// No block begins where a value points.
     NotABlock,
-    /// A field's word lies outside the block that a chain has come to.
+    /// A field's word is outside the block to which the chain leads.
     WordOutsideBlock,
-    /// A definition has a word past 1,023, a bit past 35, or a first bit behind its last.
+    /// A definition has a word past 1,023, a bit past 35, or a first bit after its last.
     BadDefinition,
     /// A division by 0.
     ZeroDivisor,

@@ -27,7 +27,7 @@ pub fn use_after_free_traps()
     ensures { UseAfterFreeTraps }
 {}
 
-/// A condition takes no test behind the one that decides it.
+/// A condition takes no test after the one that decides it.
 pub fn not_all_stops()
     ensures { NotAllStops }
 {}

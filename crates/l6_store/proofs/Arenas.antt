@@ -1,5 +1,6 @@
 -- What each change of an arena does to its layout.
-use Rattle.std.proofs.Common.{◌≡◌, ◌≢◌, ℕ, ◌^◌, ◌<◌, ◌≤◌, false, List, length, get_or, set, refl, ap, sym, ◌∙◌, subst, arith, inl, inr, ◌⊎◌}
+use Rattle.std.proofs.Common.{◌≡◌, ◌≢◌, ℕ, ◌+◌, ◌^◌, ◌<◌, ◌≤◌, false, List, length, get_or, set, refl, ap, sym, ◌∙◌, subst, arith, inl, inr, ◌⊎◌}
+use Rattle.std.specs.List.{slice_range}
 use Rattle.std.proofs.lemmas.Bool.{cases_lt, cases_eq, cases_Bool}
 use Rattle.std.proofs.lemmas.Nat.{pow_pos}
 use Rattle.std.proofs.lemmas.List.{get_or-set_same, get_or-set_other, get_or_past, length-set}
@@ -7,19 +8,19 @@ use Rattle.std.proofs.lemmas.List.Elements.{All-set, All-get_or}
 use Rattle.std.specs.List.{All}
 use Rattle.l6_word.specs.Numerals.{largest_level, word_bits}
 use Rattle.l6_store.specs.Numerals.{place_bits, most_units}
-use Rattle.l6_store.specs.Blocks.{Blocks, Fits, LiesIn, Stands, end_of}
+use Rattle.l6_store.specs.Blocks.{Blocks, Fits, LiesIn, IsAlignedPlace, end_of}
 use Rattle.l6_store.specs.Rule.{Order}
 use Rattle.l6_store.specs.Buddy.{has, listed, IsListed, in_front, taken_out}
 use Rattle.l6_store.specs.Links.{link_word}
 use Rattle.l6_store.specs.inner.Chains.{before_in, after_in, with_before, with_after, with_head, words_linked, words_unlinked, order_of}
-use Rattle.l6_store.specs.inner.Layout.{AreBeside, AreLists, IsLaid, IsSoundLayout, blocks_of, layout_of, mark_at, tag_of}
-use Rattle.l6_store.specs.declared.mark.Mark.{Mark}
-use Rattle.l6_store.specs.declared.mark.Mark.TheVariants.{Inner, Block, Listed}
+use Rattle.l6_store.specs.inner.ArenaLayout.{AreBeside, AreLists, IsArena, IsSoundLayout, blocks_of, layout_of, place_tag_at, tag_of}
+use Rattle.l6_store.specs.declared.place_tag.PlaceTag.{PlaceTag}
+use Rattle.l6_store.specs.declared.place_tag.PlaceTag.TheVariants.{Inner, Block, Listed}
 use Rattle.l6_store.specs.declared.tag.Tag.TheVariants.{Free}
-use Rattle.l6_store.proofs.Hands.{the_one, another, in_front-listed, taken_out-listed}
+use Rattle.l6_store.proofs.Detached.{the_one, another, in_front-listed, taken_out-listed}
 use Rattle.l6_store.proofs.Chains.{with_before-at, with_before-none, with_after-at, with_after-none, linked_along, length-words_linked, length-words_unlinked, linked_others, unlinked_others, around, around_within, first_or-within, AreWithin}
 use Rattle.l6_store.proofs.Linking.{lists_within, lists_tell, lists-linked, lists-unlinked}
-use Rattle.l6_store.proofs.Marked.{marked_lies, same_blocks}
+use Rattle.l6_store.proofs.Marked.{block_here, marked_lies, same_blocks}
 
 -- ---- words
 abbrev pub AreWords : List ℕ → Type 0
@@ -83,25 +84,27 @@ words-words_unlinked words place are =
 pub places_small : (units : ℕ) → units ≤ most_units → end_of units ≤ 2 ^ place_bits
 places_small units most = omega arith
 
-module _ (units : ℕ) (words heads : List ℕ) (marks : List Mark) (order : Order) (blocks : Blocks)
+module _ (units : ℕ) (words heads : List ℕ) (place_tags : List PlaceTag) (order : Order)
+    (blocks : Blocks)
     (some : 1 ≤ units) (most : units ≤ most_units) (filled : length words ≡ end_of units)
-    (count : length marks ≡ end_of units) (lists : AreLists words heads marks order)
-    (is : blocks_of marks words ≡ blocks)
-    (stands : (level place : ℕ) → mark_at marks place ≡ Block level → Stands units level place)
+    (count : length place_tags ≡ end_of units) (lists : AreLists words heads place_tags order)
+    (is : blocks_of place_tags words ≡ blocks)
+    (is_aligned : (level place : ℕ) → place_tag_at place_tags place ≡ Block level →
+    IsAlignedPlace units level place)
     (fits : Fits units blocks) (are_words : AreWords words) (beside : AreBeside blocks order) where
   pub order_told : order_of words heads ≡ order
-  order_told = lists_tell words heads marks order lists (count ∙ sym filled)
+  order_told = lists_tell words heads place_tags order lists (count ∙ sym filled)
       (omega (arith, filled, places_small units most))
 
-  pub laid : IsLaid units words marks heads
+  pub laid : IsArena units words place_tags heads
   laid = record {
     some = some;
     most = most;
     filled = filled;
     count = count;
-    are_lists = subst (λ (o : Order). AreLists words heads marks o) (sym order_told) lists;
+    are_lists = subst (λ (o : Order). AreLists words heads place_tags o) (sym order_told) lists;
     are_blocks = record {
-      stands = stands;
+      is_aligned = is_aligned;
       fits = subst (λ (b : Blocks). Fits units b) (sym is) fits;
       are_words = are_words;
     };
@@ -109,37 +112,45 @@ module _ (units : ℕ) (words heads : List ℕ) (marks : List Mark) (order : Ord
         (subst (λ (o : Order). AreBeside blocks o) (sym order_told) beside);
   }
 
-pub sound : (units : ℕ) (words heads : List ℕ) (marks : List Mark) → IsLaid units words marks heads
-    → IsSoundLayout (layout_of units words marks heads)
-sound units words heads marks laid = record {
+pub sound : (units : ℕ) (words heads : List ℕ) (place_tags : List PlaceTag) →
+    IsArena units words place_tags heads
+    → IsSoundLayout (layout_of units words place_tags heads)
+sound units words heads place_tags laid = record {
   some = laid.some;
   most = laid.most;
   fits = laid.are_blocks.fits;
   links = laid.are_lists.links;
+  filled = laid.filled;
+  are_at_their_places = λ place live.
+      let here = block_here units place_tags words laid.filled laid.are_blocks.is_aligned place live in
+      here.words_are ∙ ap (λ (n : ℕ). slice_range words place (place + n)) (sym here.size);
 }
 
--- a mark changes, and no other
-pub mark_same : (marks : List Mark) (place q : ℕ) (mark : Mark) → q ≢ place
-    → mark_at (set marks place mark) q ≡ mark_at marks q
-mark_same marks place q mark other = get_or-set_other marks place q mark Inner other
+-- a tag changes, and no other
+pub place_tag_same : (place_tags : List PlaceTag) (place q : ℕ) (place_tag : PlaceTag) → q ≢ place
+    → place_tag_at (set place_tags place place_tag) q ≡ place_tag_at place_tags q
+place_tag_same place_tags place q place_tag other =
+    get_or-set_other place_tags place q place_tag Inner other
 
--- a place that no block has is marked as no block
-no_block_tag : (marks : List Mark) (place : ℕ) (mark : Mark) → mark_at marks place ≡ mark
-    → ((level : ℕ) → mark_at marks place ≡ Block level → ⊥) → tag_of (mark_at marks place) ≡ Free
-no_block_tag marks place Inner is not = ap tag_of is
-no_block_tag marks place (Listed level) is not = ap tag_of is
-no_block_tag marks place (Block level) is not = absurd (not level is)
+-- a place that no block has is tagged as no block
+no_block_tag : (place_tags : List PlaceTag) (place : ℕ) (place_tag : PlaceTag) →
+    place_tag_at place_tags place ≡ place_tag
+    → ((level : ℕ) → place_tag_at place_tags place ≡ Block level → ⊥) →
+    tag_of (place_tag_at place_tags place) ≡ Free
+no_block_tag place_tags place Inner is not = ap tag_of is
+no_block_tag place_tags place (Listed level) is not = ap tag_of is
+no_block_tag place_tags place (Block level) is not = absurd (not level is)
 
-module _ (units : ℕ) (words heads : List ℕ) (marks : List Mark)
-    (were : IsLaid units words marks heads) where
+module _ (units : ℕ) (words heads : List ℕ) (place_tags : List PlaceTag)
+    (were : IsArena units words place_tags heads) where
   pub small : length words ≤ 2 ^ place_bits
   small = omega (arith, were.filled, places_small units were.most)
 
-  pub counts : length marks ≡ length words
+  pub counts : length place_tags ≡ length words
   counts = were.count ∙ sym were.filled
 
   pub within : (level : ℕ) → AreWithin (length words) (listed (order_of words heads) level)
-  within = lists_within words heads marks (order_of words heads) were.are_lists counts
+  within = lists_within words heads place_tags (order_of words heads) were.are_lists counts
 
   pub head_within : (level : ℕ) → get_or heads level 0 < length words
   head_within level =
@@ -152,7 +163,7 @@ module _ (units : ℕ) (words heads : List ℕ) (marks : List Mark)
             (omega (arith, were.filled)) (within level),
       )
 
-  unlisted : (level at : ℕ) → LiesIn (blocks_of marks words) at
+  unlisted : (level at : ℕ) → LiesIn (blocks_of place_tags words) at
       → has at (listed (order_of words heads) level) ≡ false
   unlisted level at lies =
       elim (cases_Bool (has at (listed (order_of words heads) level)))
@@ -165,64 +176,69 @@ module _ (units : ℕ) (words heads : List ℕ) (marks : List Mark)
   module _ (level place : ℕ) (level_small : level ≤ largest_level) (some : 1 ≤ place)
       (below : place < end_of units)
       (fresh : (k : ℕ) → IsListed (order_of words heads) k place → ⊥)
-      (beside : LiesIn (blocks_of marks words) place → ⊥) where
+      (beside : LiesIn (blocks_of place_tags words) place → ⊥) where
     linked_lists : AreLists (words_linked words place (get_or heads level 0)) (set heads level place)
-        (set marks place (Listed level)) (in_front (order_of words heads) level place)
-    linked_lists = lists-linked words heads marks (order_of words heads) were.are_lists counts small
+        (set place_tags place (Listed level)) (in_front (order_of words heads) level place)
+    linked_lists = lists-linked words heads place_tags
+        (order_of words heads) were.are_lists counts small
         level place (get_or heads level 0) level_small some (omega (arith, were.filled)) fresh refl
 
     linked_count : length (words_linked words place (get_or heads level 0)) ≡ length words
     linked_count = length-words_linked words place (get_or heads level 0)
 
-    marks_count : length (set marks place (Listed level)) ≡ end_of units
-    marks_count = length-set marks place (Listed level) ∙ were.count
+    place_tags_count : length (set place_tags place (Listed level)) ≡ end_of units
+    place_tags_count = length-set place_tags place (Listed level) ∙ were.count
 
-    not_block : (k : ℕ) → mark_at marks place ≡ Block k → ⊥
-    not_block k is = beside (marked_lies units marks words were.filled were.are_blocks.stands k place
+    not_block : (k : ℕ) → place_tag_at place_tags place ≡ Block k → ⊥
+    not_block k is = beside
+        (marked_lies units place_tags words were.filled were.are_blocks.is_aligned k place
         place is (omega arith) (omega (arith, pow_pos k)))
 
-    linked_tags : (q : ℕ) → tag_of (mark_at (set marks place (Listed level)) q)
-        ≡ tag_of (mark_at marks q)
+    linked_tags : (q : ℕ) → tag_of (place_tag_at (set place_tags place (Listed level)) q)
+        ≡ tag_of (place_tag_at place_tags q)
     linked_tags q =
         elim (cases_eq q place)
-        as (λ _. tag_of (mark_at (set marks place (Listed level)) q) ≡ tag_of (mark_at marks q)) [
+        as (λ _. tag_of (place_tag_at (set place_tags place (Listed level)) q)
+        ≡ tag_of (place_tag_at place_tags q)) [
           | inl same ↦
-              ap (λ (p : ℕ). tag_of (mark_at (set marks place (Listed level)) p)) same
-              ∙ ap tag_of (get_or-set_same marks place (Listed level) Inner
+              ap (λ (p : ℕ). tag_of (place_tag_at (set place_tags place (Listed level)) p)) same
+              ∙ ap tag_of (get_or-set_same place_tags place (Listed level) Inner
               (omega (arith, were.count)))
-              ∙ sym (ap (λ (p : ℕ). tag_of (mark_at marks p)) same
-              ∙ no_block_tag marks place (mark_at marks place) refl not_block)
-          | inr other ↦ ap tag_of (mark_same marks place q (Listed level) other)
+              ∙ sym (ap (λ (p : ℕ). tag_of (place_tag_at place_tags p)) same
+              ∙ no_block_tag place_tags place (place_tag_at place_tags place) refl not_block)
+          | inr other ↦ ap tag_of (place_tag_same place_tags place q (Listed level) other)
         ]
 
-    pub linked_blocks : blocks_of (set marks place (Listed level))
-        (words_linked words place (get_or heads level 0)) ≡ blocks_of marks words
-    linked_blocks = same_blocks units marks (set marks place (Listed level)) words
+    pub linked_blocks : blocks_of (set place_tags place (Listed level))
+        (words_linked words place (get_or heads level 0)) ≡ blocks_of place_tags words
+    linked_blocks = same_blocks units place_tags (set place_tags place (Listed level)) words
         (words_linked words place (get_or heads level 0)) were.filled linked_count
-        were.are_blocks.stands linked_tags
+        were.are_blocks.is_aligned linked_tags
         (λ at lies. linked_others words (listed (order_of words heads) level) place
         (get_or heads level 0) at (were.are_lists.links.begun level)
-        (λ same. beside (subst (λ (p : ℕ). LiesIn (blocks_of marks words) p) same lies))
+        (λ same. beside (subst (λ (p : ℕ). LiesIn (blocks_of place_tags words) p) same lies))
         (unlisted level at lies))
 
-    linked_stands : (k q : ℕ) → mark_at (set marks place (Listed level)) q ≡ Block k
-        → Stands units k q
+    linked_stands : (k q : ℕ) → place_tag_at (set place_tags place (Listed level)) q ≡ Block k
+        → IsAlignedPlace units k q
     linked_stands k q is =
-        elim (cases_eq q place) as (λ _. Stands units k q) [
+        elim (cases_eq q place) as (λ _. IsAlignedPlace units k q) [
           | inl same ↦
-              let new = get_or-set_same marks place (Listed level) Inner (omega (arith, were.count)) in
-              let there = ap (mark_at (set marks place (Listed level))) same in
+              let new = get_or-set_same place_tags place (Listed level) Inner
+              (omega (arith, were.count)) in
+              let there = ap (place_tag_at (set place_tags place (Listed level))) same in
               cc
-          | inr other ↦ were.are_blocks.stands k q (sym (mark_same marks place q (Listed level) other)
+          | inr other ↦ were.are_blocks.is_aligned k q
+              (sym (place_tag_same place_tags place q (Listed level) other)
               ∙ is)
         ]
 
-    linked_beside : AreBeside (blocks_of marks words) (in_front (order_of words heads) level place)
+    linked_beside : AreBeside (blocks_of place_tags words) (in_front (order_of words heads) level place)
     linked_beside k q is lies =
         elim (in_front-listed (order_of words heads) level place k q
         (omega (arith, were.are_lists.levels)) is) as (λ _. ⊥) [
           | the_one same here ↦
-              beside (subst (λ (p : ℕ). LiesIn (blocks_of marks words) p) here lies)
+              beside (subst (λ (p : ℕ). LiesIn (blocks_of place_tags words) p) here lies)
           | another was ↦ were.beside k q was lies
         ]
 
@@ -234,17 +250,17 @@ module _ (units : ℕ) (words heads : List ℕ) (marks : List Mark)
     pub linked_order : order_of (words_linked words place (get_or heads level 0))
         (set heads level place) ≡ in_front (order_of words heads) level place
     linked_order = order_told units (words_linked words place (get_or heads level 0))
-        (set heads level place) (set marks place (Listed level))
-        (in_front (order_of words heads) level place) (blocks_of marks words) were.some were.most
-        (linked_count ∙ were.filled) marks_count linked_lists linked_blocks linked_stands
+        (set heads level place) (set place_tags place (Listed level))
+        (in_front (order_of words heads) level place) (blocks_of place_tags words) were.some were.most
+        (linked_count ∙ were.filled) place_tags_count linked_lists linked_blocks linked_stands
         were.are_blocks.fits linked_words linked_beside
 
-    pub linked_laid : IsLaid units (words_linked words place (get_or heads level 0))
-        (set marks place (Listed level)) (set heads level place)
+    pub linked_laid : IsArena units (words_linked words place (get_or heads level 0))
+        (set place_tags place (Listed level)) (set heads level place)
     linked_laid = laid units (words_linked words place (get_or heads level 0))
-        (set heads level place) (set marks place (Listed level))
-        (in_front (order_of words heads) level place) (blocks_of marks words) were.some were.most
-        (linked_count ∙ were.filled) marks_count linked_lists linked_blocks linked_stands
+        (set heads level place) (set place_tags place (Listed level))
+        (in_front (order_of words heads) level place) (blocks_of place_tags words) were.some were.most
+        (linked_count ∙ were.filled) place_tags_count linked_lists linked_blocks linked_stands
         were.are_blocks.fits linked_words linked_beside
 
   -- ---- a piece is taken out of its list
@@ -255,47 +271,53 @@ module _ (units : ℕ) (words heads : List ℕ) (marks : List Mark)
 
     out_lists : AreLists (words_unlinked words place)
         (with_head heads level (before_in (get_or words place 0)) (after_in (get_or words place 0)))
-        (set marks place Inner) (taken_out (order_of words heads) level place)
-    out_lists = lists-unlinked words heads marks (order_of words heads) were.are_lists counts small
+        (set place_tags place Inner) (taken_out (order_of words heads) level place)
+    out_lists = lists-unlinked words heads place_tags (order_of words heads) were.are_lists counts small
         level place there level_small
 
     out_count : length (words_unlinked words place) ≡ length words
     out_count = length-words_unlinked words place
 
-    out_marks_count : length (set marks place Inner) ≡ end_of units
-    out_marks_count = length-set marks place Inner ∙ were.count
+    out_place_tags_count : length (set place_tags place Inner) ≡ end_of units
+    out_place_tags_count = length-set place_tags place Inner ∙ were.count
 
-    out_tags : (q : ℕ) → tag_of (mark_at (set marks place Inner) q) ≡ tag_of (mark_at marks q)
+    out_tags : (q : ℕ) → tag_of (place_tag_at (set place_tags place Inner) q)
+        ≡ tag_of (place_tag_at place_tags q)
     out_tags q =
         elim (cases_eq q place)
-        as (λ _. tag_of (mark_at (set marks place Inner) q) ≡ tag_of (mark_at marks q)) [
+        as (λ _. tag_of (place_tag_at (set place_tags place Inner) q)
+        ≡ tag_of (place_tag_at place_tags q)) [
           | inl same ↦
-              ap (λ (p : ℕ). tag_of (mark_at (set marks place Inner) p)) same
-              ∙ ap tag_of (get_or-set_same marks place Inner Inner
+              ap (λ (p : ℕ). tag_of (place_tag_at (set place_tags place Inner) p)) same
+              ∙ ap tag_of (get_or-set_same place_tags place Inner Inner
               (omega (arith, counts, place_within)))
-              ∙ sym (ap (λ (p : ℕ). tag_of (mark_at marks p)) same
+              ∙ sym (ap (λ (p : ℕ). tag_of (place_tag_at place_tags p)) same
               ∙ ap tag_of (were.are_lists.marked level place there))
-          | inr other ↦ ap tag_of (mark_same marks place q Inner other)
+          | inr other ↦ ap tag_of (place_tag_same place_tags place q Inner other)
         ]
 
-    pub out_blocks : blocks_of (set marks place Inner) (words_unlinked words place)
-        ≡ blocks_of marks words
-    out_blocks = same_blocks units marks (set marks place Inner) words (words_unlinked words place)
-        were.filled out_count were.are_blocks.stands out_tags
+    pub out_blocks : blocks_of (set place_tags place Inner) (words_unlinked words place)
+        ≡ blocks_of place_tags words
+    out_blocks = same_blocks units place_tags (set place_tags place Inner) words
+        (words_unlinked words place)
+        were.filled out_count were.are_blocks.is_aligned out_tags
         (λ at lies. unlinked_others words (listed (order_of words heads) level) place at there
         (within level) small (were.are_lists.links.linked level) (unlisted level at lies))
 
-    out_stands : (k q : ℕ) → mark_at (set marks place Inner) q ≡ Block k → Stands units k q
+    out_stands : (k q : ℕ) → place_tag_at (set place_tags place Inner) q ≡ Block k →
+        IsAlignedPlace units k q
     out_stands k q is =
-        elim (cases_eq q place) as (λ _. Stands units k q) [
+        elim (cases_eq q place) as (λ _. IsAlignedPlace units k q) [
           | inl same ↦
-              let new = get_or-set_same marks place Inner Inner (omega (arith, counts, place_within)) in
-              let here = ap (mark_at (set marks place Inner)) same in
+              let new = get_or-set_same place_tags place Inner Inner
+              (omega (arith, counts, place_within)) in
+              let here = ap (place_tag_at (set place_tags place Inner)) same in
               cc
-          | inr other ↦ were.are_blocks.stands k q (sym (mark_same marks place q Inner other) ∙ is)
+          | inr other ↦ were.are_blocks.is_aligned k q
+              (sym (place_tag_same place_tags place q Inner other) ∙ is)
         ]
 
-    out_beside : AreBeside (blocks_of marks words) (taken_out (order_of words heads) level place)
+    out_beside : AreBeside (blocks_of place_tags words) (taken_out (order_of words heads) level place)
     out_beside k q is lies =
         were.beside k q (taken_out-listed (order_of words heads) level place k q
         (omega (arith, were.are_lists.levels)) is) lies
@@ -305,16 +327,20 @@ module _ (units : ℕ) (words heads : List ℕ) (marks : List Mark)
         ≡ taken_out (order_of words heads) level place
     out_order = order_told units (words_unlinked words place)
         (with_head heads level (before_in (get_or words place 0)) (after_in (get_or words place 0)))
-        (set marks place Inner) (taken_out (order_of words heads) level place) (blocks_of marks words)
-        were.some were.most (out_count ∙ were.filled) out_marks_count out_lists out_blocks out_stands
+        (set place_tags place Inner) (taken_out (order_of words heads) level place)
+        (blocks_of place_tags words)
+        were.some were.most (out_count ∙ were.filled) out_place_tags_count out_lists out_blocks
+        out_stands
         were.are_blocks.fits (words-words_unlinked words place were.are_blocks.are_words) out_beside
 
-    pub out_laid : IsLaid units (words_unlinked words place) (set marks place Inner)
+    pub out_laid : IsArena units (words_unlinked words place) (set place_tags place Inner)
         (with_head heads level (before_in (get_or words place 0)) (after_in (get_or words place 0)))
     out_laid = laid units (words_unlinked words place)
         (with_head heads level (before_in (get_or words place 0)) (after_in (get_or words place 0)))
-        (set marks place Inner) (taken_out (order_of words heads) level place) (blocks_of marks words)
-        were.some were.most (out_count ∙ were.filled) out_marks_count out_lists out_blocks out_stands
+        (set place_tags place Inner) (taken_out (order_of words heads) level place)
+        (blocks_of place_tags words)
+        were.some were.most (out_count ∙ were.filled) out_place_tags_count out_lists out_blocks
+        out_stands
         were.are_blocks.fits (words-words_unlinked words place were.are_blocks.are_words) out_beside
 
     -- the places around it are among the words
@@ -325,17 +351,18 @@ module _ (units : ℕ) (words heads : List ℕ) (marks : List Mark)
         (around words place (listed (order_of words heads) level) there (within level) small
         (were.are_lists.links.linked level))
 
-  -- ---- words of blocks change, and marks of blocks
-  -- the lists stay where no word of a listed place and no mark of one changes
-  module _ (new : List ℕ) (after : List Mark) (blocks : Blocks)
-      (new_count : length new ≡ length words) (after_count : length after ≡ length marks)
+  -- ---- words of blocks change, and tags of blocks
+  -- the lists stay where no word of a listed place and no tag of one changes
+  module _ (new : List ℕ) (after : List PlaceTag) (blocks : Blocks)
+      (new_count : length new ≡ length words) (after_count : length after ≡ length place_tags)
       (same : (level at : ℕ) → IsListed (order_of words heads) level at
       → get_or new at 0 ≡ get_or words at 0)
-      (listed_same : (at : ℕ) → (mark_at after at ≡ mark_at marks at)
-      ⊎ (((level : ℕ) → mark_at after at ≡ Listed level → ⊥)
-      × ((level : ℕ) → mark_at marks at ≡ Listed level → ⊥)))
-      (none_same : mark_at after 0 ≡ Inner)
-      (stands : (level place : ℕ) → mark_at after place ≡ Block level → Stands units level place)
+      (listed_same : (at : ℕ) → (place_tag_at after at ≡ place_tag_at place_tags at)
+      ⊎ (((level : ℕ) → place_tag_at after at ≡ Listed level → ⊥)
+      × ((level : ℕ) → place_tag_at place_tags at ≡ Listed level → ⊥)))
+      (none_same : place_tag_at after 0 ≡ Inner)
+      (is_aligned : (level place : ℕ) → place_tag_at after place ≡ Block level →
+      IsAlignedPlace units level place)
       (is : blocks_of after new ≡ blocks) (fits : Fits units blocks) (are_words : AreWords new)
       (beside : AreBeside blocks (order_of words heads)) where
     kept_lists : AreLists new heads after (order_of words heads)
@@ -350,24 +377,24 @@ module _ (units : ℕ) (words heads : List ℕ) (marks : List Mark)
       distinct = were.are_lists.distinct;
       marked = λ level place there.
           let was = were.are_lists.marked level place there in
-          elim (listed_same place) as (λ _. mark_at after place ≡ Listed level) [
+          elim (listed_same place) as (λ _. place_tag_at after place ≡ Listed level) [
             | inl alike ↦ alike ∙ was
             | inr (_, not) ↦ absurd (not level was)
           ];
-      told = λ level place mark.
+      told = λ level place place_tag.
           elim (listed_same place) as (λ _. IsListed (order_of words heads) level place) [
-            | inl alike ↦ were.are_lists.told level place (sym alike ∙ mark)
-            | inr (not, _) ↦ absurd (not level mark)
+            | inl alike ↦ were.are_lists.told level place (sym alike ∙ place_tag)
+            | inr (not, _) ↦ absurd (not level place_tag)
           ];
       none = none_same;
     }
 
     pub kept_order : order_of new heads ≡ order_of words heads
     kept_order = order_told units new heads after (order_of words heads) blocks were.some were.most
-        (new_count ∙ were.filled) (after_count ∙ were.count) kept_lists is stands fits are_words
+        (new_count ∙ were.filled) (after_count ∙ were.count) kept_lists is is_aligned fits are_words
         beside
 
-    pub kept_laid : IsLaid units new after heads
+    pub kept_laid : IsArena units new after heads
     kept_laid = laid units new heads after (order_of words heads) blocks were.some were.most
-        (new_count ∙ were.filled) (after_count ∙ were.count) kept_lists is stands fits are_words
+        (new_count ∙ were.filled) (after_count ∙ were.count) kept_lists is is_aligned fits are_words
         beside

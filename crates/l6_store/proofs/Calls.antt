@@ -14,7 +14,7 @@ use Rattle.l6_store.specs.Blocks.{Blocks, LiesIn, IsLive, block_at, index_in, wo
 use Rattle.l6_store.specs.Scan.{scan_rule}
 use Rattle.l6_store.specs.Store.{Store, after_get, after_free, with_block, fresh}
 use Rattle.l6_store.specs.inner.Tags.{tag_at, level_of, tagged, gathered, store_of, AreTags, IsKept}
-use Rattle.l6_store.specs.inner.Marks.{IsFreeRun, IsMarked, IsFilled, IsCleared, IsCopied}
+use Rattle.l6_store.specs.inner.PlaceTags.{IsVacantRun, IsMarked, IsFilled, IsCleared, IsCopied}
 use Rattle.l6_store.specs.declared.tag.Tag.{Tag}
 use Rattle.l6_store.specs.declared.tag.Tag.TheVariants.{Free, First, Inside}
 use Rattle.l6_store.proofs.Ranges.{index-range, same_range, set_range}
@@ -226,7 +226,7 @@ words_by bits old new count fits each =
 
 pub got_kept : (units : ℕ) (old new : List Tag) (words cleared : List ℕ) → IsKept units old words
     → (place level : ℕ) → level ≤ largest_level
-    → IsFreeRun old (2 ^ level) place → IsMarked old new place level
+    → IsVacantRun old (2 ^ level) place → IsMarked old new place level
     → IsCleared words cleared place (2 ^ level) → IsKept units new cleared
 got_kept units old new words cleared kept place level small run marked clear = record {
   some = kept.some;
@@ -251,14 +251,14 @@ got_kept units old new words cleared kept place level small run marked clear = r
                   let index : at ≡ place + (at - place) = omega arith in
                   inl (ap (λ (i : ℕ). get_or cleared i 0) index
                   ∙ clear.zeros (at - place) (omega arith))
-              | inr past ↦ inr (at, omega (arith, clear.count), clear.behind at past)
+              | inr past ↦ inr (at, omega (arith, clear.count), clear.following at past)
             ]
       ]);
 }
 
 pub got_store : (units : ℕ) (old new : List Tag) (words cleared : List ℕ) → IsKept units old words
     → (place level : ℕ)
-    → IsFreeRun old (2 ^ level) place → IsMarked old new place level
+    → IsVacantRun old (2 ^ level) place → IsMarked old new place level
     → IsCleared words cleared place (2 ^ level)
     → store_of units new cleared ≡ after_get scan_rule (store_of units old words) level (Some place)
 unfolding with_blocks
@@ -350,7 +350,7 @@ copied_kept units tags words new kept from to size within copied = record {
                     ap (λ (i : ℕ). get_or new i 0) index
                         ∙ copied.copied (at - to) (omega arith),
                   )
-              | inr past ↦ inr (at, omega (arith, copied.count), copied.behind at past)
+              | inr past ↦ inr (at, omega (arith, copied.count), copied.following at past)
             ]
       ]);
 }
@@ -371,7 +371,7 @@ copied_store units tags words new kept from to level first second copied =
       | inr after ↦ elim (cases_lt at (to + 2 ^ level))
           as (λ _. get_or new at 0 ≡ get_or words at 0) [
             | inl less ↦ absurd (outside (after, less))
-            | inr past ↦ copied.behind at past
+            | inr past ↦ copied.following at past
           ]
     ] in
     let block : slice_range new to (to + 2 ^ level) ≡ block_at (gathered tags words (length tags))

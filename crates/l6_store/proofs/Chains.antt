@@ -6,9 +6,9 @@ use Rattle.l6_store.specs.Numerals.{place_bits}
 use Rattle.l6_store.specs.Buddy.{has, without, first_or}
 use Rattle.l6_store.specs.Links.{AreLinked, link_word}
 use Rattle.l6_store.specs.inner.Chains.{before_in, after_in, with_before, with_after, with_head, words_linked, words_unlinked}
-use Rattle.l6_store.specs.inner.Layout.{AreDistinct}
+use Rattle.l6_store.specs.inner.ArenaLayout.{AreDistinct}
 use Rattle.l6_store.proofs.Counts.{has-first, has-more}
-use Rattle.l6_store.proofs.Hands.{has_cases, has-without}
+use Rattle.l6_store.proofs.Detached.{has_cases, has-without}
 
 -- ---- the word of a link
 pub before_of : (before after : ℕ) → after < 2 ^ place_bits
@@ -141,7 +141,7 @@ without-other place gone (first ∷ rest) other is =
           ]
     ]
 
--- where a place stands in a list: what is before it and what is after it
+-- where a place is in a list: what is before it and what is after it
 pub record Split (place : ℕ) (places : List ℕ) : Type 0 where
   pub front : List ℕ
   pub back : List ℕ
@@ -397,7 +397,8 @@ linked_front words places place head are within small some below fresh begins li
           ∙ ap (link_word 0) begins,
       subst (λ (h : ℕ). AreLinked (with_before first h place) place places 0) (sym begins)
           (first_renamed first 0 place places are
-          (subst (λ (n : ℕ). AreWithin n places) (sym count) within) (omega (arith, count, small)) kept),
+          (subst (λ (n : ℕ). AreWithin n places) (sym count) within)
+          (omega (arith, count, small)) kept),
     )
 
 -- a place that is neither the one linked nor in the list keeps its word
@@ -437,11 +438,11 @@ around words place places is within small linked =
     let two = linked_parts words 0 parts.front (place ∷ parts.back) 0 whole in
     let inside : AreWithin (length words) (parts.front ++ place ∷ parts.back)
     = subst (AreWithin (length words)) parts.is within in
-    let behind = within-back (length words) parts.front (place ∷ parts.back) inside in
-    let some = behind place (has-first place parts.back) in
+    let following = within-back (length words) parts.front (place ∷ parts.back) inside in
+    let some = following place (has-first place parts.back) in
     let next : first_or parts.back 0 < length words
     = first_or-within (length words) parts.back (omega (arith, some.1))
-    (within-rest (length words) place parts.back behind) in
+    (within-rest (length words) place parts.back following) in
     record {
       parts = parts;
       before_is = ap before_in two.1.0
@@ -452,7 +453,7 @@ around words place places is within small linked =
       linked_back = two.1.1;
     }
 
--- the last of a list that is not 0 stands in it
+-- the last of a list that is not 0 is in it
 last_in : (places : List ℕ) → 1 ≤ last_or places 0 → has (last_or places 0) places ≡ true
 last_in [] some = absurd (omega arith)
 last_in (first ∷ rest) some = has-last_or rest first
@@ -501,11 +502,11 @@ taken_apart words front back place are within small one two =
     let first : ℕ = first_or back 0 in
     let middle : List ℕ = with_after words last first in
     let count : length middle ≡ length words = length-with_after words last first in
-    let behind = within-back (length words) front (place ∷ back) within in
-    let back_within = within-rest (length words) place back behind in
+    let following = within-back (length words) front (place ∷ back) within in
+    let back_within = within-rest (length words) place back following in
     let back_are : AreDistinct back = (distinct-back front (place ∷ back) are).1 in
     let place_small : place < 2 ^ place_bits
-    = omega (arith, (behind place (has-first place back)).1, small) in
+    = omega (arith, (following place (has-first place back)).1, small) in
     let front_middle : AreLinked middle 0 front first
     = last_renamed words 0 front place first (distinct-front front (place ∷ back) are)
     (within-front (length words) front (place ∷ back) within) place_small one in

@@ -2,9 +2,9 @@
 use Rattle.std.proofs.Common.{◌≡◌, ℕ, ◌+◌, ◌^◌, ◌<◌, ◌≤◌, List, ap, sym, ◌∙◌, subst, arith, inl, inr}
 use Rattle.std.proofs.lemmas.Bool.{cases_lt, cases_eq}
 use Rattle.std.proofs.lemmas.Nat.{pow_pos}
-use Rattle.l6_store.specs.Blocks.{Stands}
+use Rattle.l6_store.specs.Blocks.{IsAlignedPlace}
 use Rattle.l6_store.specs.inner.Tags.{tag_at, AreTags, IsInside}
-use Rattle.l6_store.specs.inner.Marks.{IsFreeRun, IsMarked, IsFilled}
+use Rattle.l6_store.specs.inner.PlaceTags.{IsVacantRun, IsMarked, IsFilled}
 use Rattle.l6_store.specs.declared.tag.Tag.{Tag}
 use Rattle.l6_store.specs.declared.tag.Tag.TheVariants.{Free, First, Inside}
 use Rattle.l6_store.proofs.Kept.{block_apart}
@@ -22,7 +22,7 @@ marked_change old new place level marked at =
       | inr from ↦ elim (cases_lt at (place + 2 ^ level))
           as (λ _. Change old new place (2 ^ level) at) [
             | inl less ↦ in_run from less
-            | inr past ↦ as_before (marked.behind at past)
+            | inr past ↦ as_before (marked.following at past)
           ]
     ]
 
@@ -33,7 +33,7 @@ unmarked_change old new place size unmarked at =
       | inl less ↦ as_before (unmarked.before at less)
       | inr from ↦ elim (cases_lt at (place + size)) as (λ _. Change old new place size at) [
         | inl less ↦ in_run from less
-        | inr past ↦ as_before (unmarked.behind at past)
+        | inr past ↦ as_before (unmarked.following at past)
       ]
     ]
 
@@ -49,16 +49,16 @@ marked_first old new place level marked q k from before is =
     ]
 
 module _ (units : ℕ) (old new : List Tag) (place level : ℕ) (were : AreTags units old)
-    (stands : Stands units level place)
-    (run : IsFreeRun old (2 ^ level) place) (marked : IsMarked old new place level) where
-  marked-stands : (q k : ℕ) → tag_at new q ≡ First k → Stands units k q
-  marked-stands q k is =
-      elim (marked_change old new place level marked q) as (λ _. Stands units k q) [
+    (is_aligned : IsAlignedPlace units level place)
+    (run : IsVacantRun old (2 ^ level) place) (marked : IsMarked old new place level) where
+  marked-is_aligned : (q k : ℕ) → tag_at new q ≡ First k → IsAlignedPlace units k q
+  marked-is_aligned q k is =
+      elim (marked_change old new place level marked q) as (λ _. IsAlignedPlace units k q) [
         | as_before same ↦ were.first q k (sym same ∙ is)
         | in_run from before ↦
             let first = marked_first old new place level marked q k from before is in
-            subst (λ (p : ℕ). Stands units k p) first.0
-            (subst (λ (l : ℕ). Stands units l place) first.1 stands)
+            subst (λ (p : ℕ). IsAlignedPlace units k p) first.0
+            (subst (λ (l : ℕ). IsAlignedPlace units l place) first.1 is_aligned)
       ]
 
   marked-rest_of : (q k at : ℕ) → tag_at new q ≡ First k → q < at → at < q + 2 ^ k
@@ -112,7 +112,7 @@ module _ (units : ℕ) (old new : List Tag) (place level : ℕ) (were : AreTags 
   marked-are_tags
       = record {
         count = marked.count ∙ were.count;
-        first = marked-stands;
+        first = marked-is_aligned;
         rest = marked-rest_of;
         inside = marked-inside_of;
       }
@@ -120,9 +120,9 @@ module _ (units : ℕ) (old new : List Tag) (place level : ℕ) (were : AreTags 
 module _ (units : ℕ) (old new : List Tag) (place level : ℕ) (were : AreTags units old)
     (was_first : tag_at old place ≡ First level)
     (unmarked : IsFilled old new place (2 ^ level) Free) where
-  unmarked-stands : (q k : ℕ) → tag_at new q ≡ First k → Stands units k q
-  unmarked-stands q k is =
-      elim (unmarked_change old new place (2 ^ level) unmarked q) as (λ _. Stands units k q) [
+  unmarked-is_aligned : (q k : ℕ) → tag_at new q ≡ First k → IsAlignedPlace units k q
+  unmarked-is_aligned q k is =
+      elim (unmarked_change old new place (2 ^ level) unmarked q) as (λ _. IsAlignedPlace units k q) [
         | as_before same ↦ were.first q k (sym same ∙ is)
         | in_run from before ↦ let free = unmarked.filled q from before in cc
       ]
@@ -200,7 +200,7 @@ module _ (units : ℕ) (old new : List Tag) (place level : ℕ) (were : AreTags 
   unmarked-are_tags
       = record {
         count = unmarked.count ∙ were.count;
-        first = unmarked-stands;
+        first = unmarked-is_aligned;
         rest = unmarked-rest_of;
         inside = unmarked-inside_of;
       }

@@ -6,7 +6,7 @@ use Rattle.std.specs.Ordering.{nat_cmp}
 use Rattle.std.specs.FinMap as map
 use Rattle.l6_store.specs.Blocks.{Blocks, end_of}
 use Rattle.l6_store.specs.inner.Tags.{tag_at, tagged, gathered, AreTags}
-use Rattle.l6_store.specs.inner.Marks.{IsFreeRun, IsMarked, IsFilled, IsCleared}
+use Rattle.l6_store.specs.inner.PlaceTags.{IsVacantRun, IsMarked, IsFilled, IsCleared}
 use Rattle.l6_store.specs.declared.tag.Tag.{Tag}
 use Rattle.l6_store.specs.declared.tag.Tag.TheVariants.{Free, First, Inside}
 use Rattle.l6_store.proofs.Ranges.{same_range, zero_range}
@@ -39,9 +39,9 @@ module _ (units : ℕ) (tags : List Tag) (were : AreTags units tags) (words new 
       → ((j : ℕ) → j < 2 ^ k → InRun place size (q + j) → ⊥)
       → slice_range new q (q + 2 ^ k) ≡ slice_range words q (q + 2 ^ k)
   beside q k first apart =
-      let stands = were.first q k first in
-      same_range new words q q (2 ^ k) (omega (arith, stands.within, new_count, count))
-      (omega (arith, stands.within, count))
+      let is_aligned = were.first q k first in
+      same_range new words q q (2 ^ k) (omega (arith, is_aligned.within, new_count, count))
+      (omega (arith, is_aligned.within, count))
       (λ j below. changed (q + j) (apart j below))
 
 -- the tag of a place of another block
@@ -96,7 +96,7 @@ changed_of old new place size clear at outside =
       | inl less ↦ clear.before at less
       | inr from ↦ elim (cases_lt at (place + size)) as (λ _. get_or new at 0 ≡ get_or old at 0) [
         | inl less ↦ absurd (outside (from, less))
-        | inr past ↦ clear.behind at past
+        | inr past ↦ clear.following at past
       ]
     ]
 
@@ -113,7 +113,7 @@ not_free units tags were q k j first below free =
 -- a block is got
 pub got_block : (units : ℕ) (old new : List Tag) (words cleared : List ℕ) → AreTags units old
     → length words ≡ end_of units
-    → (place level : ℕ) → IsFreeRun old (2 ^ level) place → IsMarked old new place level
+    → (place level : ℕ) → IsVacantRun old (2 ^ level) place → IsMarked old new place level
     → IsCleared words cleared place (2 ^ level)
     → gathered new cleared (length new) ≡ map.insert (gathered old words (length old)) place
     (replicate (2 ^ level) 0)

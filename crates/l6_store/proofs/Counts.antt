@@ -17,8 +17,8 @@ pub holds-before : (at size place : ℕ) → at < place → holds at size place 
 holds-before at size place before =
     ap (λ (b : Bool). if b && nat_lt at (place + size) then 1 else 0) (lt-leb place at before)
 
-pub holds-behind : (at size place : ℕ) → place + size ≤ at → holds at size place ≡ 0
-holds-behind at size place past =
+pub holds-following : (at size place : ℕ) → place + size ≤ at → holds at size place ≡ 0
+holds-following at size place past =
     ap (λ (b : Bool). if b && nat_lt at (place + size) then 1 else 0) (le-leb place at (omega arith))
     ∙ ap (λ (b : Bool). if b then 1 else 0) (le-ltb at (place + size) past)
 
@@ -33,7 +33,7 @@ which_holds at size place =
       | inl before ↦ outside (λ from _. omega arith) (holds-before at size place before)
       | inr from ↦ elim (cases_lt at (place + size)) as (λ _. Holds at size place) [
         | inl inside ↦ within from inside (holds-within at size place from inside)
-        | inr past ↦ outside (λ _ before. omega arith) (holds-behind at size place past)
+        | inr past ↦ outside (λ _ before. omega arith) (holds-following at size place past)
       ]
     ]
 
@@ -67,15 +67,15 @@ halves_hold at size place =
                       omega (
                         arith,
                         holds-within at (size + size) place from (omega arith),
-                        holds-behind at size place high,
+                        holds-following at size place high,
                         holds-within at size (place + size) high less,
                       )
                   | inr past ↦
                       omega (
                         arith,
-                        holds-behind at (size + size) place (omega arith),
-                        holds-behind at size place high,
-                        holds-behind at size (place + size) past,
+                        holds-following at (size + size) place (omega arith),
+                        holds-following at size place high,
+                        holds-following at size (place + size) past,
                       )
                 ]
           ]

@@ -84,8 +84,8 @@ large_piece units blocks order tiles (suc level) place small is =
     let two = large_piece units blocks order tiles level upper (omega arith)
     (open_half units blocks level place upper is (multiple_next level place aligned) (omega arith)
     (omega (arith, double level))) in
-    let first = tiles.stands one.size one.place one.is in
-    let second = tiles.stands two.size two.place two.is in
+    let first = tiles.is_aligned one.size one.place one.is in
+    let second = tiles.is_aligned two.size two.place two.is in
     elim (cases_lt level one.size) as (λ _. Large order (suc level) place) [
       | inl more ↦
           record {
@@ -178,11 +178,11 @@ answer_of : (units : ℕ) (blocks : Blocks) (order : Order) → Tiles units bloc
 unfolding Found
 answer_of units blocks order tiles level small (Some found) is =
     let place : ℕ = first_or (listed order found) 0 in
-    let stands = tiles.stands found place is.2 in
+    let is_aligned = tiles.is_aligned found place is.2 in
     record {
-      aligned = multiple_down level found place is.0 stands.aligned;
-      above = stands.above;
-      within = omega (arith, stands.within, size_le level found is.0);
+      aligned = multiple_down level found place is.0 is_aligned.aligned;
+      above = is_aligned.above;
+      within = omega (arith, is_aligned.within, size_le level found is.0);
       free = λ start words at block from before low.
           elim (cases_lt at (start + length words)) as (λ _. start + length words ≤ at) [
             | inl inside ↦
@@ -195,7 +195,7 @@ answer_of units blocks order tiles level small (Some found) is =
                     from = low;
                     below = inside;
                   }),
-                  piece_counts order found place at tiles.lists stands.small is.2 from
+                  piece_counts order found place at tiles.lists is_aligned.small is.2 from
                       (omega (arith, size_le level found is.0)),
                 ))
             | inr past ↦ past
@@ -203,7 +203,7 @@ answer_of units blocks order tiles level small (Some found) is =
     }
 answer_of units blocks order tiles level small None none = λ place is.
     let large = large_piece units blocks order tiles level place small is in
-    none large.size large.enough (tiles.stands large.size large.place large.is).small large.place
+    none large.size large.enough (tiles.is_aligned large.size large.place large.is).small large.place
     large.is
 
 pub chooses : (units : ℕ) (blocks : Blocks) (order : Order) → Tiles units blocks order

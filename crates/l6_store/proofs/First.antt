@@ -5,13 +5,13 @@ use Rattle.std.proofs.lemmas.List.{get_or-replicate, get_or_append_left, get_or_
 use Rattle.std.specs.FinMap as map
 use Rattle.std.specs.Ordering.{nat_cmp}
 use Rattle.l6_word.specs.Numerals.{largest_level, unit_size}
-use Rattle.l6_store.specs.Blocks.{LiesIn, Stands}
+use Rattle.l6_store.specs.Blocks.{LiesIn, IsAlignedPlace}
 use Rattle.l6_store.specs.Rule.{Order}
 use Rattle.l6_store.specs.Buddy.{has, listed, IsListed, first_order, units_from}
 use Rattle.l6_store.specs.Tiles.{held_in, held_below, held, Tiles}
 use Rattle.l6_store.proofs.Multiples.{times_size}
-use Rattle.l6_store.proofs.Counts.{holds-within, holds-before, holds-behind}
-use Rattle.l6_store.proofs.Hands.{has_cases}
+use Rattle.l6_store.proofs.Counts.{holds-within, holds-before, holds-following}
+use Rattle.l6_store.proofs.Detached.{has_cases}
 
 -- lists of which only that of the largest level may have a place
 abbrev pub only_top : List ℕ → Order
@@ -120,7 +120,7 @@ held_units (suc units) place at from before =
       | inr later ↦
           omega (
             arith,
-            holds-behind at unit_size place later,
+            holds-following at unit_size place later,
             held_units units (place + unit_size) at later (omega arith),
           )
     ]
@@ -153,12 +153,12 @@ no_block_lies at lies =
 pub new_tiled : (units : ℕ) → Tiles units map.empty (first_order units)
 new_tiled units = record {
   lists = length-only_top (units_from unit_size units);
-  stands = λ level place is.
+  is_aligned = λ level place is.
       let only = top_only (units_from unit_size units) level place is in
       let number = numbered units unit_size place only.1 in
       let product : place ≡ (number.number + 1) * 2 ^ largest_level
       = omega (arith, number.is) in
-      subst (λ (k : ℕ). Stands units k place) (sym only.0)
+      subst (λ (k : ℕ). IsAlignedPlace units k place) (sym only.0)
       (record {
         small = omega arith;
         aligned = ap (λ (p : ℕ). p % 2 ^ largest_level) product

@@ -19,7 +19,7 @@ fits-changed units blocks place old new fits is count are_words =
     (record {
       level = block.level;
       size = omega (arith, count, block.size);
-      stands = block.stands;
+      is_aligned = block.is_aligned;
       are_words = are_words;
     })
     (λ q words other found.
@@ -34,7 +34,7 @@ fits-changed units blocks place old new fits is count are_words =
           ))
     ])
 
--- a new block stands at an open place
+-- a new block is at an open place
 pub fits-got : (units : ℕ) (blocks : Blocks) (level place : ℕ) (new : List ℕ) → Fits units blocks
     → level ≤ largest_level → IsOpen units blocks (2 ^ level) place → length new ≡ 2 ^ level
     → All (λ word. word < 2 ^ word_bits) new → Fits units (map.insert blocks place new)
@@ -43,7 +43,7 @@ fits-got units blocks level place new fits small clear count are_words =
     (record {
       level = level;
       size = count;
-      stands = record {
+      is_aligned = record {
         small = small;
         aligned = clear.aligned;
         above = clear.above;

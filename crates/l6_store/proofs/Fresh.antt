@@ -6,15 +6,15 @@ use Rattle.std.specs.FinMap as map
 use Rattle.std.specs.Ordering.{nat_cmp}
 use Rattle.l6_word.specs.Numerals.{largest_level, unit_size}
 use Rattle.l6_store.specs.Numerals.{most_units}
-use Rattle.l6_store.specs.Blocks.{Fits, Stands, end_of}
+use Rattle.l6_store.specs.Blocks.{Fits, IsAlignedPlace, end_of}
 use Rattle.l6_store.specs.Rule.{Order}
 use Rattle.l6_store.specs.Buddy.{has, listed, IsListed, in_front, first_order, first_or, units_from}
 use Rattle.l6_store.specs.Links.{AreLinked}
 use Rattle.l6_store.specs.inner.Chains.{order_of}
-use Rattle.l6_store.specs.inner.Layout.{AreBeside, AreDistinct, AreLists, IsLaid, blocks_of, mark_at, order_from, tag_of}
+use Rattle.l6_store.specs.inner.ArenaLayout.{AreBeside, AreDistinct, AreLists, IsArena, blocks_of, place_tag_at, order_from, tag_of}
 use Rattle.l6_store.specs.inner.Tags.{tagged}
-use Rattle.l6_store.specs.declared.mark.Mark.{Mark}
-use Rattle.l6_store.specs.declared.mark.Mark.TheVariants.{Inner, Block}
+use Rattle.l6_store.specs.declared.place_tag.PlaceTag.{PlaceTag}
+use Rattle.l6_store.specs.declared.place_tag.PlaceTag.TheVariants.{Inner, Block}
 use Rattle.l6_store.proofs.First.{has_none, listed_largest, numbered, only_top, top_only}
 use Rattle.l6_store.proofs.Marked.{blocks_are}
 use Rattle.l6_store.proofs.Arenas.{AreWords, laid, order_told}
@@ -40,16 +40,16 @@ no_fits units = record {
       absurd (let none : Some words ≡ None = sym is ∙ map.get-empty nat_cmp one in (cc));
 }
 
-module _ (units : ℕ) (words heads : List ℕ) (marks : List Mark) (some : 1 ≤ units)
+module _ (units : ℕ) (words heads : List ℕ) (place_tags : List PlaceTag) (some : 1 ≤ units)
     (most : units ≤ most_units) (filled : length words ≡ end_of units)
-    (count : length marks ≡ end_of units) (inner : (at : ℕ) → mark_at marks at ≡ Inner)
+    (count : length place_tags ≡ end_of units) (inner : (at : ℕ) → place_tag_at place_tags at ≡ Inner)
     (levels : length heads ≡ suc largest_level) (zeros : (level : ℕ) → get_or heads level 0 ≡ 0)
     (are_words : AreWords words) where
-  pub cleared_blocks : blocks_of marks words ≡ map.empty
-  cleared_blocks = blocks_are marks words map.empty
-      (λ q. ap (λ (m : Mark). tagged words q (tag_of m)) (inner q) ∙ sym (map.get-empty nat_cmp q))
+  pub cleared_blocks : blocks_of place_tags words ≡ map.empty
+  cleared_blocks = blocks_are place_tags words map.empty
+      (λ q. ap (λ (m : PlaceTag). tagged words q (tag_of m)) (inner q) ∙ sym (map.get-empty nat_cmp q))
 
-  cleared_lists : AreLists words heads marks (replicate (suc largest_level) [])
+  cleared_lists : AreLists words heads place_tags (replicate (suc largest_level) [])
   cleared_lists = record {
     levels = length-replicate {A = List ℕ} (suc largest_level) [];
     links = record {
@@ -63,19 +63,21 @@ module _ (units : ℕ) (words heads : List ℕ) (marks : List Mark) (some : 1 �
     none = inner 0;
   }
 
-  cleared_stands : (level place : ℕ) → mark_at marks place ≡ Block level → Stands units level place
+  cleared_stands : (level place : ℕ) → place_tag_at place_tags place ≡ Block level →
+      IsAlignedPlace units level place
   cleared_stands level place is = absurd (let not = inner place in (cc))
 
   cleared_beside : AreBeside map.empty (replicate (suc largest_level) [])
   cleared_beside level place is lies = none_is_listed level place is
 
-  pub cleared_laid : IsLaid units words marks heads
-  cleared_laid = laid units words heads marks (replicate (suc largest_level) []) map.empty some most
+  pub cleared_laid : IsArena units words place_tags heads
+  cleared_laid = laid units words heads place_tags
+      (replicate (suc largest_level) []) map.empty some most
       filled count cleared_lists cleared_blocks cleared_stands (no_fits units) are_words
       cleared_beside
 
   pub cleared_order : order_of words heads ≡ replicate (suc largest_level) []
-  cleared_order = order_told units words heads marks (replicate (suc largest_level) []) map.empty
+  cleared_order = order_told units words heads place_tags (replicate (suc largest_level) []) map.empty
       some most filled count cleared_lists cleared_blocks cleared_stands (no_fits units) are_words
       cleared_beside
 
@@ -144,13 +146,13 @@ from_fresh units unit level is =
     let number = numbered (units - unit) (unit_size * unit + unit_size) (unit * unit_size) only.1 in
     omega (arith, number.is)
 
--- ---- marks and heads as they are made
-pub all_alike : (count at : ℕ) → mark_at (replicate count Inner) at ≡ Inner
+-- ---- tags and heads as they are made
+pub all_alike : (count at : ℕ) → place_tag_at (replicate count Inner) at ≡ Inner
 all_alike count at =
-    elim (cases_lt at count) as (λ _. mark_at (replicate count Inner) at ≡ Inner) [
+    elim (cases_lt at count) as (λ _. place_tag_at (replicate count Inner) at ≡ Inner) [
       | inl below ↦ get_or-replicate count at Inner Inner below
       | inr past ↦ get_or_past (replicate count Inner) at Inner
-          (omega (arith, length-replicate {A = Mark} count Inner))
+          (omega (arith, length-replicate {A = PlaceTag} count Inner))
     ]
 
 pub zero_heads : (level : ℕ) → get_or {A = ℕ} (replicate (suc largest_level) 0) level 0 ≡ 0

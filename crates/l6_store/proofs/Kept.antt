@@ -10,7 +10,7 @@ use Rattle.l6_store.specs.Scan.{scan_rule, is_open}
 use Rattle.l6_store.specs.Least.{least}
 use Rattle.l6_store.specs.Store.{IsSound, picked}
 use Rattle.l6_store.specs.inner.Tags.{tag_at, gathered, store_of, AreTags, IsKept}
-use Rattle.l6_store.specs.inner.Marks.{IsFreeRun, IsLowest}
+use Rattle.l6_store.specs.inner.PlaceTags.{IsVacantRun, IsLowest}
 use Rattle.l6_store.specs.declared.tag.Tag.{Tag}
 use Rattle.l6_store.specs.declared.tag.Tag.TheVariants.{Free, First, Inside}
 use Rattle.l6_store.proofs.Least.{Answers, least-answers, answers-alone}
@@ -33,8 +33,8 @@ pub length_of : (units : ℕ) (tags : List Tag) (words : List ℕ) → IsKept un
     → (place level : ℕ) → tag_at tags place ≡ First level
     → length (slice_range words place (place + 2 ^ level)) ≡ 2 ^ level
 length_of units tags words kept place level first =
-    let stands = kept.are_tags.first place level first in
-    length-range words place (2 ^ level) (omega (arith, kept.count, stands.within))
+    let is_aligned = kept.are_tags.first place level first in
+    length-range words place (2 ^ level) (omega (arith, kept.count, is_aligned.within))
 
 pub fits_of : (units : ℕ) (tags : List Tag) (words : List ℕ) → IsKept units tags words
     → Fits units (gathered tags words (length tags))
@@ -44,7 +44,7 @@ fits_of units tags words kept = record {
       record {
         level = from.level;
         size = ap length from.is ∙ length_of units tags words kept place from.level from.tag;
-        stands = kept.are_tags.first place from.level from.tag;
+        is_aligned = kept.are_tags.first place from.level from.tag;
         are_words
             = All-same (λ word. word < 2 ^ word_bits) block
             (slice_range words place (place + 2 ^ from.level)) from.is
@@ -72,7 +72,7 @@ sound_of units tags words kept = record {
 
 -- places that are tagged free are open
 pub open_of_run : (units : ℕ) (tags : List Tag) (words : List ℕ) → IsKept units tags words
-    → (size place : ℕ) → IsFreeRun tags size place
+    → (size place : ℕ) → IsVacantRun tags size place
     → IsOpen units (gathered tags words (length tags)) size place
 open_of_run units tags words kept size place run = record {
   aligned = run.aligned;
@@ -84,7 +84,7 @@ open_of_run units tags words kept size place run = record {
       ∙ length_of units tags words kept start by.level by.tag in
       let free = run.free at from before in
       elim (cases_lt at (start + 2 ^ by.level)) as (λ _. start + length block ≤ at) [
-        | inr behind ↦ omega (arith, counts)
+        | inr following ↦ omega (arith, counts)
         | inl below ↦ elim (cases_eq start at) as (λ _. start + length block ≤ at) [
           | inl same ↦ let first = sym (ap (tag_at tags) same) ∙ by.tag in cc
           | inr other ↦
@@ -117,7 +117,7 @@ free_by units tags words kept size place clear at from before Inside is =
 -- and the other way round
 pub run_of_open : (units : ℕ) (tags : List Tag) (words : List ℕ) → IsKept units tags words
     → (size place : ℕ)
-    → IsOpen units (gathered tags words (length tags)) size place → IsFreeRun tags size place
+    → IsOpen units (gathered tags words (length tags)) size place → IsVacantRun tags size place
 run_of_open units tags words kept size place clear = record {
   aligned = clear.aligned;
   above = clear.above;
@@ -127,7 +127,7 @@ run_of_open units tags words kept size place clear = record {
 }
 
 not_open_by : (units : ℕ) (tags : List Tag) (words : List ℕ) → IsKept units tags words
-    → (size place : ℕ) → (IsFreeRun tags size place → ⊥)
+    → (size place : ℕ) → (IsVacantRun tags size place → ⊥)
     → (test : Bool) → is_open units (gathered tags words (length tags)) size place ≡ test
     → test ≡ false
 not_open_by units tags words kept size place closed false is = refl
@@ -137,7 +137,7 @@ not_open_by units tags words kept size place closed true is =
     (is_open-holds units (gathered tags words (length tags)) size place is)))
 
 not_open : (units : ℕ) (tags : List Tag) (words : List ℕ) → IsKept units tags words
-    → (size place : ℕ) → (IsFreeRun tags size place → ⊥)
+    → (size place : ℕ) → (IsVacantRun tags size place → ⊥)
     → is_open units (gathered tags words (length tags)) size place ≡ false
 not_open units tags words kept size place closed =
     not_open_by units tags words kept size place closed

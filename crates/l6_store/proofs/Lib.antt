@@ -11,7 +11,7 @@ pub mod Live
 pub mod Sizes
 pub mod Multiples
 pub mod Counts
-pub mod Hands
+pub mod Detached
 pub mod Finding
 pub mod Steps
 pub mod First
@@ -26,5 +26,5 @@ pub mod Sized
 pub mod Loops
 pub mod Stores
 pub mod Fitting
-pub mod MarkSizes
+pub mod TagSizes
 pub mod UsedUnits

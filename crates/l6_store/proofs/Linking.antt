@@ -1,4 +1,4 @@
--- What becomes of the lists of free pieces, and of their marks, when a piece is linked or taken out.
+-- What becomes of the lists of free pieces, and of their tags, when a piece is linked or taken out.
 use Rattle.std.proofs.Common.{◌≡◌, ◌≢◌, ℕ, ◌^◌, ◌<◌, ◌≤◌, Bool, true, false, if◌then◌else◌, ◌==◌, List, ◌∷◌, length, get_or, set, ap, sym, ◌∙◌, subst, arith, inl, inr}
 use Rattle.std.proofs.lemmas.Bool.{cases_lt, cases_eq, cases_Bool}
 use Rattle.std.proofs.lemmas.List.{get_or-set_same, get_or-set_other, get_or_past, length-set}
@@ -8,50 +8,50 @@ use Rattle.l6_store.specs.Rule.{Order}
 use Rattle.l6_store.specs.Buddy.{has, without, listed, IsListed, in_front, taken_out, first_or}
 use Rattle.l6_store.specs.Links.{AreLinked}
 use Rattle.l6_store.specs.inner.Chains.{before_in, after_in, with_head, words_linked, words_unlinked, order_of}
-use Rattle.l6_store.specs.inner.Layout.{AreDistinct, AreLists, mark_at}
-use Rattle.l6_store.specs.declared.mark.Mark.{Mark}
-use Rattle.l6_store.specs.declared.mark.Mark.TheVariants.{Inner, Listed}
+use Rattle.l6_store.specs.inner.ArenaLayout.{AreDistinct, AreLists, place_tag_at}
+use Rattle.l6_store.specs.declared.place_tag.PlaceTag.{PlaceTag}
+use Rattle.l6_store.specs.declared.place_tag.PlaceTag.TheVariants.{Inner, Listed}
 use Rattle.l6_store.proofs.Counts.{has-first, has-more, listed-same, listed-other}
-use Rattle.l6_store.proofs.Hands.{the_one, another, in_front-listed, taken_out-listed}
+use Rattle.l6_store.proofs.Detached.{the_one, another, in_front-listed, taken_out-listed}
 use Rattle.l6_store.proofs.Chains.{AreWithin, linked_along, linked_front, linked_others, unlinked, unlinked_others, head_unlinked, distinct-without, without-gone, without-other}
 use Rattle.l6_store.proofs.Lists.{order_is}
 
--- ---- what the marks tell of lists
+-- ---- what the tags tell of lists
 -- a place that is listed at all is one of the store, and not 0
-pub lists_within : (words heads : List ℕ) (marks : List Mark) (order : Order)
-    → AreLists words heads marks order → length marks ≡ length words → (level : ℕ)
+pub lists_within : (words heads : List ℕ) (place_tags : List PlaceTag) (order : Order)
+    → AreLists words heads place_tags order → length place_tags ≡ length words → (level : ℕ)
     → AreWithin (length words) (listed order level)
-lists_within words heads marks order are count level place is =
-    let mark = are.marked level place is in (
+lists_within words heads place_tags order are count level place is =
+    let place_tag = are.marked level place is in (
       elim (cases_lt place 1) as (λ _. 1 ≤ place) [
         | inl none ↦
             let zero_is : place ≡ 0 = omega arith in
-            let first = ap (mark_at marks) zero_is in
+            let first = ap (place_tag_at place_tags) zero_is in
             let not = are.none in
             cc
         | inr some ↦ some
       ],
-      elim (cases_lt place (length marks)) as (λ _. place < length words) [
+      elim (cases_lt place (length place_tags)) as (λ _. place < length words) [
         | inl below ↦ omega arith
-        | inr past ↦ (let inner = get_or_past marks place Inner past in cc)
+        | inr past ↦ (let inner = get_or_past place_tags place Inner past in cc)
       ],
     )
 
 -- it is listed at one level
-pub one_level : (words heads : List ℕ) (marks : List Mark) (order : Order)
-    → AreLists words heads marks order → (level k place : ℕ) → IsListed order level place
+pub one_level : (words heads : List ℕ) (place_tags : List PlaceTag) (order : Order)
+    → AreLists words heads place_tags order → (level k place : ℕ) → IsListed order level place
     → IsListed order k place → level ≡ k
-one_level words heads marks order are level k place one other =
+one_level words heads place_tags order are level k place one other =
     let first = are.marked level place one in let second = are.marked k place other in
     let both : Listed level ≡ Listed k = sym first ∙ second in
     cc
 
-pub lists_tell : (words heads : List ℕ) (marks : List Mark) (order : Order)
-    → AreLists words heads marks order → length marks ≡ length words
+pub lists_tell : (words heads : List ℕ) (place_tags : List PlaceTag) (order : Order)
+    → AreLists words heads place_tags order → length place_tags ≡ length words
     → length words ≤ 2 ^ place_bits → order_of words heads ≡ order
-lists_tell words heads marks order are count small =
+lists_tell words heads place_tags order are count small =
     order_is words heads order are.links small are.distinct
-    (lists_within words heads marks order are count)
+    (lists_within words heads place_tags order are count)
 
 not_has : (place : ℕ) (places : List ℕ) → (has place places ≡ true → ⊥)
     → has place places ≡ false
@@ -81,8 +81,8 @@ in_front-first order level place room =
     ∙ has-first place (listed order level)
 
 -- ---- a piece is linked
-module _ (words heads : List ℕ) (marks : List Mark) (order : Order)
-    (are : AreLists words heads marks order) (count : length marks ≡ length words)
+module _ (words heads : List ℕ) (place_tags : List PlaceTag) (order : Order)
+    (are : AreLists words heads place_tags order) (count : length place_tags ≡ length words)
     (small : length words ≤ 2 ^ place_bits) (level place head : ℕ) (level_small : level ≤ largest_level)
     (some : 1 ≤ place) (below : place < length words)
     (fresh : (k : ℕ) → IsListed order k place → ⊥) (head_is : head ≡ get_or heads level 0) where
@@ -125,7 +125,7 @@ module _ (words heads : List ℕ) (marks : List Mark) (order : Order)
             (sym (ap (listed (in_front order level place)) same
             ∙ listed-same order level (place ∷ listed order level) room))
             (linked_front words (listed order level) place head (are.distinct level)
-            (lists_within words heads marks order are count level) small some below
+            (lists_within words heads place_tags order are count level) small some below
             (not_has place (listed order level) (fresh level)) begins (are.links.linked level))
         | inr other ↦
             subst (λ (ps : List ℕ). AreLinked (words_linked words place head) 0 ps 0)
@@ -134,7 +134,7 @@ module _ (words heads : List ℕ) (marks : List Mark) (order : Order)
             (λ at is. linked_others words (listed order level) place head at begins
             (λ same. fresh k (ap (λ (p : ℕ). has p (listed order k)) (sym same) ∙ is))
             (not_has at (listed order level)
-            (λ there. other (one_level words heads marks order are k level at is there))))
+            (λ there. other (one_level words heads place_tags order are k level at is there))))
             (are.links.linked k))
       ]
 
@@ -151,41 +151,42 @@ module _ (words heads : List ℕ) (marks : List Mark) (order : Order)
             (sym (listed-other order level k (place ∷ listed order level) other)) (are.distinct k)
       ]
 
-  marked_new : mark_at (set marks place (Listed level)) place ≡ Listed level
-  marked_new = get_or-set_same marks place (Listed level) Inner (omega (arith, count))
+  marked_new : place_tag_at (set place_tags place (Listed level)) place ≡ Listed level
+  marked_new = get_or-set_same place_tags place (Listed level) Inner (omega (arith, count))
 
   link_marked : (k p : ℕ) → IsListed (in_front order level place) k p
-      → mark_at (set marks place (Listed level)) p ≡ Listed k
+      → place_tag_at (set place_tags place (Listed level)) p ≡ Listed k
   link_marked k p is =
       elim (in_front-listed order level place k p room is)
-      as (λ _. mark_at (set marks place (Listed level)) p ≡ Listed k) [
+      as (λ _. place_tag_at (set place_tags place (Listed level)) p ≡ Listed k) [
         | the_one same here ↦
-            ap (mark_at (set marks place (Listed level))) here
+            ap (place_tag_at (set place_tags place (Listed level))) here
             ∙ marked_new ∙ ap (λ (j : ℕ). Listed j) (sym same)
         | another was ↦
-            get_or-set_other marks place p (Listed level) Inner
+            get_or-set_other place_tags place p (Listed level) Inner
             (λ same. fresh k (ap (λ (q : ℕ). has q (listed order k)) (sym same) ∙ was))
             ∙ are.marked k p was
       ]
 
-  link_told : (k p : ℕ) → mark_at (set marks place (Listed level)) p ≡ Listed k
+  link_told : (k p : ℕ) → place_tag_at (set place_tags place (Listed level)) p ≡ Listed k
       → IsListed (in_front order level place) k p
   link_told k p is =
       elim (cases_eq p place) as (λ _. IsListed (in_front order level place) k p) [
         | inl same ↦
             let here : Listed level ≡ Listed k
-            = sym marked_new ∙ ap (mark_at (set marks place (Listed level))) (sym same) ∙ is in
+            = sym marked_new ∙ ap (place_tag_at (set place_tags place (Listed level))) (sym same)
+            ∙ is in
             let levels : level ≡ k = cc in
             subst (λ (j : ℕ). IsListed (in_front order level place) j p) levels
             (ap (λ (q : ℕ). has q (listed (in_front order level place) level)) same
             ∙ in_front-first order level place room)
         | inr other ↦
             in_front-keeps order level place k p room
-            (are.told k p (sym (get_or-set_other marks place p (Listed level) Inner other) ∙ is))
+            (are.told k p (sym (get_or-set_other place_tags place p (Listed level) Inner other) ∙ is))
       ]
 
   pub lists-linked : AreLists (words_linked words place head) (set heads level place)
-      (set marks place (Listed level)) (in_front order level place)
+      (set place_tags place (Listed level)) (in_front order level place)
   lists-linked = record {
     levels = length-set order level (place ∷ listed order level) ∙ are.levels;
     links = record {
@@ -197,13 +198,13 @@ module _ (words heads : List ℕ) (marks : List Mark) (order : Order)
     distinct = link_distinct;
     marked = link_marked;
     told = link_told;
-    none = get_or-set_other marks place 0 (Listed level) Inner (λ same. absurd (omega arith))
+    none = get_or-set_other place_tags place 0 (Listed level) Inner (λ same. absurd (omega arith))
         ∙ are.none;
   }
 
 -- ---- a piece is taken out
-module _ (words heads : List ℕ) (marks : List Mark) (order : Order)
-    (are : AreLists words heads marks order) (count : length marks ≡ length words)
+module _ (words heads : List ℕ) (place_tags : List PlaceTag) (order : Order)
+    (are : AreLists words heads place_tags order) (count : length place_tags ≡ length words)
     (small : length words ≤ 2 ^ place_bits) (level place : ℕ) (there : IsListed order level place)
     (level_small : level ≤ largest_level) where
   out_room : level < length order
@@ -213,7 +214,7 @@ module _ (words heads : List ℕ) (marks : List Mark) (order : Order)
   out_heads_room = omega (arith, out_room, are.links.count)
 
   within_level : AreWithin (length words) (listed order level)
-  within_level = lists_within words heads marks order are count level
+  within_level = lists_within words heads place_tags order are count level
 
   word : ℕ
   word = get_or words place 0
@@ -287,7 +288,7 @@ module _ (words heads : List ℕ) (marks : List Mark) (order : Order)
             (λ at is. unlinked_others words (listed order level) place at there within_level small
             (are.links.linked level)
             (not_has at (listed order level)
-            (λ in_level. other (one_level words heads marks order are k level at is in_level))))
+            (λ in_level. other (one_level words heads place_tags order are k level at is in_level))))
             (are.links.linked k))
       ]
 
@@ -309,7 +310,7 @@ module _ (words heads : List ℕ) (marks : List Mark) (order : Order)
   pub out_gone : (k : ℕ) → IsListed (taken_out order level place) k place → ⊥
   out_gone k is =
       let was = taken_out-listed order level place k place out_room is in
-      let same : k ≡ level = one_level words heads marks order are k level place was there in
+      let same : k ≡ level = one_level words heads place_tags order are k level place was there in
       let gone = without-gone place (listed order level) (are.distinct level) in
       let lists : listed (taken_out order level place) k ≡ without place (listed order level)
       = ap (listed (taken_out order level place)) same
@@ -319,25 +320,25 @@ module _ (words heads : List ℕ) (marks : List Mark) (order : Order)
       cc
 
   out_marked : (k p : ℕ) → IsListed (taken_out order level place) k p
-      → mark_at (set marks place Inner) p ≡ Listed k
+      → place_tag_at (set place_tags place Inner) p ≡ Listed k
   out_marked k p is =
-      get_or-set_other marks place p Inner Inner
+      get_or-set_other place_tags place p Inner Inner
       (λ same. out_gone k
       (ap (λ (q : ℕ). has q (listed (taken_out order level place) k)) (sym same) ∙ is))
       ∙ are.marked k p (taken_out-listed order level place k p out_room is)
 
-  out_told : (k p : ℕ) → mark_at (set marks place Inner) p ≡ Listed k
+  out_told : (k p : ℕ) → place_tag_at (set place_tags place Inner) p ≡ Listed k
       → IsListed (taken_out order level place) k p
   out_told k p is =
       elim (cases_eq p place) as (λ _. IsListed (taken_out order level place) k p) [
         | inl same ↦
-            let inner : mark_at (set marks place Inner) place ≡ Inner
-            = get_or-set_same marks place Inner Inner
+            let inner : place_tag_at (set place_tags place Inner) place ≡ Inner
+            = get_or-set_same place_tags place Inner Inner
             (omega (arith, count, (within_level place there).1)) in
-            let here = ap (mark_at (set marks place Inner)) same in
+            let here = ap (place_tag_at (set place_tags place Inner)) same in
             cc
         | inr other ↦
-            let was = are.told k p (sym (get_or-set_other marks place p Inner Inner other) ∙ is) in
+            let was = are.told k p (sym (get_or-set_other place_tags place p Inner Inner other) ∙ is) in
             elim (cases_eq k level) as (λ _. IsListed (taken_out order level place) k p) [
               | inl levels ↦
                   ap (λ (j : ℕ). has p (listed (taken_out order level place) j)) levels
@@ -353,7 +354,7 @@ module _ (words heads : List ℕ) (marks : List Mark) (order : Order)
 
   pub lists-unlinked : AreLists (words_unlinked words place)
       (with_head heads level (before_in (get_or words place 0)) (after_in (get_or words place 0)))
-      (set marks place Inner) (taken_out order level place)
+      (set place_tags place Inner) (taken_out order level place)
   lists-unlinked = record {
     levels = length-set order level (without place (listed order level)) ∙ are.levels;
     links = record {
@@ -366,7 +367,7 @@ module _ (words heads : List ℕ) (marks : List Mark) (order : Order)
     distinct = out_distinct;
     marked = out_marked;
     told = out_told;
-    none = get_or-set_other marks place 0 Inner Inner
+    none = get_or-set_other place_tags place 0 Inner Inner
         (λ same. absurd (omega (arith, (within_level place there).0)))
         ∙ are.none;
   }

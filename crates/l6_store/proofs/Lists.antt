@@ -9,7 +9,7 @@ use Rattle.l6_store.specs.Rule.{Order}
 use Rattle.l6_store.specs.Buddy.{has, first_or, listed}
 use Rattle.l6_store.specs.Links.{AreLinked, Links}
 use Rattle.l6_store.specs.inner.Chains.{after_in, followed, list_of, order_of}
-use Rattle.l6_store.specs.inner.Layout.{AreDistinct}
+use Rattle.l6_store.specs.inner.ArenaLayout.{AreDistinct}
 use Rattle.l6_store.proofs.Counts.{has-first}
 use Rattle.l6_store.proofs.Chains.{AreWithin, within-rest, first_or-within, has_not, after_of}
 

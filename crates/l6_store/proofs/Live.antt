@@ -46,7 +46,7 @@ none_past_by : (units : ℕ) (blocks : Blocks) → Fits units blocks → (place 
 none_past_by units blocks fits place past None is = is
 none_past_by units blocks fits place past (Some words) is =
     let block = fits.each place words is in
-    absurd (omega (arith, block.stands.within, pow_pos block.level))
+    absurd (omega (arith, block.is_aligned.within, pow_pos block.level))
 
 -- so it has no words
 pub no_word_past : (units : ℕ) (blocks : Blocks) → Fits units blocks → (place index : ℕ)
@@ -62,7 +62,7 @@ few_by units blocks fits place None is = omega arith
 few_by units blocks fits place (Some words) is =
     let block = fits.each place words is in
     let small : 2 ^ block.level ≤ unit_size
-    = pow-le-pow_right (omega arith) block.stands.small in
+    = pow-le-pow_right (omega arith) block.is_aligned.small in
     omega (arith, block.size, small)
 
 pub few_words : (units : ℕ) (blocks : Blocks) → Fits units blocks → (place : ℕ)

@@ -4,17 +4,17 @@ use Rattle.std.proofs.lemmas.Bool.{cases_lt, le-leb, lt-leb}
 use Rattle.std.proofs.lemmas.Nat.{pow_pos}
 use Rattle.std.specs.Option.{is_some}
 use Rattle.l6_word.specs.Numerals.{largest_level, unit_size}
-use Rattle.l6_store.specs.Blocks.{Blocks, Stands, end_of}
+use Rattle.l6_store.specs.Blocks.{Blocks, IsAlignedPlace, end_of}
 use Rattle.l6_store.specs.Rule.{Order}
-use Rattle.l6_store.specs.Buddy.{Hand, has, listed, IsListed, buddy_of, first_of, halved, halved_often, joined, joined_often, level_found, whole_of}
+use Rattle.l6_store.specs.Buddy.{DetachedPiece, has, listed, IsListed, buddy_of, first_of, halved, halved_often, joined, joined_often, level_found, whole_of}
 use Rattle.l6_store.specs.Least.{least}
-use Rattle.l6_store.specs.inner.Hands.{Halves, IsInHand, Joins}
+use Rattle.l6_store.specs.inner.Detached.{HalvesPiece, IsDetached, JoinsPiece}
 use Rattle.l6_store.proofs.Least.{Answers, least-answers, answers-alone}
 use Rattle.l6_store.proofs.Multiples.{is_lower, is_upper, which_half, same_multiple, multiple_down, multiple_next, times_size, double, buddy_of-lower, buddy_of-upper, whole_of-lower, whole_of-upper}
-use Rattle.l6_store.proofs.Hands.{holds_halved, holds_joined}
+use Rattle.l6_store.proofs.Detached.{holds_halved, holds_joined}
 use Rattle.l6_store.proofs.Steps.{joined_often-more, joined_often-done}
 
--- ---- where a buddy stands
+-- ---- where a buddy is
 -- multiples of a size that differ are a size apart
 apart : (size p q : ℕ) → p % size ≡ 0 → q % size ≡ 0 → p < q → p + size ≤ q
 apart size p q first second less =
@@ -35,32 +35,33 @@ whole_start level small =
     multiple_down level largest_level unit_size small
     (ap (λ (p : ℕ). p % 2 ^ largest_level) product ∙ times_size 1 largest_level)
 
-pub buddy_stands : (units level place : ℕ) → level < largest_level → Stands units level place
-    → Stands units level (buddy_of level place)
-buddy_stands units level place less stands =
-    elim (which_half level place stands.aligned) as (λ _. Stands units level (buddy_of level place)) [
+pub buddy_stands : (units level place : ℕ) → level < largest_level → IsAlignedPlace units level place
+    → IsAlignedPlace units level (buddy_of level place)
+buddy_stands units level place less is_aligned =
+    elim (which_half level place is_aligned.aligned) as
+    (λ _. IsAlignedPlace units level (buddy_of level place)) [
       | is_lower lower ↦
           let far = apart (2 ^ suc level) place (end_of units) lower
           (whole_end units (suc level) (omega arith))
-          (omega (arith, stands.within, pow_pos level)) in
-          subst (λ (p : ℕ). Stands units level p) (sym (buddy_of-lower level place lower))
+          (omega (arith, is_aligned.within, pow_pos level)) in
+          subst (λ (p : ℕ). IsAlignedPlace units level p) (sym (buddy_of-lower level place lower))
           (record {
-            small = stands.small;
-            aligned = multiple_next level place stands.aligned;
-            above = omega (arith, stands.above);
+            small = is_aligned.small;
+            aligned = multiple_next level place is_aligned.aligned;
+            above = omega (arith, is_aligned.above);
             within = omega (arith, far, double level);
           })
       | is_upper lower multiple at ↦
-          subst (λ (p : ℕ). Stands units level p)
+          subst (λ (p : ℕ). IsAlignedPlace units level p)
           (sym (ap (buddy_of level) at ∙ buddy_of-upper level lower multiple))
           (record {
-            small = stands.small;
+            small = is_aligned.small;
             aligned = multiple_down level (suc level) lower (omega arith) multiple;
             above = elim (cases_lt lower unit_size) as (λ _. unit_size ≤ lower) [
               | inl below ↦
                   absurd (omega (
                     arith,
-                    stands.above,
+                    is_aligned.above,
                     at,
                     double level,
                     pow_pos level,
@@ -69,7 +70,7 @@ buddy_stands units level place less stands =
                   ))
               | inr above ↦ above
             ];
-            within = omega (arith, stands.within, at);
+            within = omega (arith, is_aligned.within, at);
           })
     ]
 
@@ -81,7 +82,8 @@ min_whole level place aligned =
     as (λ _. min place (buddy_of level place) ≡ whole_of level place) [
       | is_lower lower ↦
           ap (min place) (buddy_of-lower level place lower)
-          ∙ (let le : min place (place + 2 ^ level) ≡ place = omega arith in le) ∙ sym (whole_of-lower level place lower)
+          ∙ (let le : min place (place + 2 ^ level) ≡ place = omega arith in le)
+          ∙ sym (whole_of-lower level place lower)
       | is_upper lower multiple at ↦
           ap (λ (p : ℕ). min p (buddy_of level p)) at
           ∙ ap (min (lower + 2 ^ level)) (buddy_of-upper level lower multiple)
@@ -90,80 +92,81 @@ min_whole level place aligned =
     ]
 
 -- ---- halving
-pub halves_first : (units : ℕ) (blocks : Blocks) (level : ℕ) (first : Hand) → level ≤ first.level
-    → IsInHand units blocks first → Halves units blocks level first.level first first 0
-halves_first units blocks level first le in_hand =
-    record { enough = le; counted = omega arith; in_hand = in_hand; comes = refl }
+pub halves_first : (units : ℕ) (blocks : Blocks) (level : ℕ) (first : DetachedPiece) →
+    level ≤ first.level
+    → IsDetached units blocks first → HalvesPiece units blocks level first.level first first 0
+halves_first units blocks level first le is_detached =
+    record { enough = le; counted = omega arith; is_detached = is_detached; comes = refl }
 
-halved_more : (times : ℕ) (hand : Hand)
-    → halved_often (suc times) hand ≡ halved_often times (halved hand)
+halved_more : (times : ℕ) (detached : DetachedPiece)
+    → halved_often (suc times) detached ≡ halved_often times (halved detached)
 unfolding halved_often
-halved_more times hand = refl
+halved_more times detached = refl
 
-halved_none : (hand : Hand) → halved_often zero hand ≡ hand
+halved_none : (detached : DetachedPiece) → halved_often zero detached ≡ detached
 unfolding halved_often
-halved_none hand = refl
+halved_none detached = refl
 
-pub halves_more : (units : ℕ) (blocks : Blocks) (level from : ℕ) (first now : Hand) (moves : ℕ)
-    → level < now.level → Halves units blocks level from first now moves
-    → Halves units blocks level from first (halved now) (moves + 1)
+pub halves_more : (units : ℕ) (blocks : Blocks) (level from : ℕ) (first now : DetachedPiece) (moves : ℕ)
+    → level < now.level → HalvesPiece units blocks level from first now moves
+    → HalvesPiece units blocks level from first (halved now) (moves + 1)
 halves_more units blocks level from first now moves less halves =
     let times : now.level - level ≡ suc (now.level - 1 - level) = omega arith in
     record {
       enough = omega arith;
       counted = omega (arith, halves.counted);
-      in_hand = record {
-        most = halves.in_hand.most;
-        holds = holds_halved units blocks now (omega arith) halves.in_hand.holds;
+      is_detached = record {
+        most = halves.is_detached.most;
+        holds = holds_halved units blocks now (omega arith) halves.is_detached.holds;
       };
       comes = sym (halved_more (now.level - 1 - level) now)
           ∙ ap (λ (t : ℕ). halved_often t now) (sym times) ∙ halves.comes;
     }
 
-pub halves_done : (units : ℕ) (blocks : Blocks) (level from : ℕ) (first now : Hand) (moves : ℕ)
-    → now.level ≤ level → Halves units blocks level from first now moves
+pub halves_done : (units : ℕ) (blocks : Blocks) (level from : ℕ) (first now : DetachedPiece) (moves : ℕ)
+    → now.level ≤ level → HalvesPiece units blocks level from first now moves
     → now ≡ halved_often (from - level) first
 halves_done units blocks level from first now moves le halves =
     let none : now.level - level ≡ 0 = omega arith in
     sym (halved_none now) ∙ ap (λ (t : ℕ). halved_often t now) (sym none) ∙ halves.comes
 
 -- ---- joining
-joined_none : (hand : Hand) → joined_often zero hand ≡ hand
+joined_none : (detached : DetachedPiece) → joined_often zero detached ≡ detached
 unfolding joined_often
-joined_none hand = refl
+joined_none detached = refl
 
-pub joins_first : (units : ℕ) (blocks : Blocks) (first : Hand) → IsInHand units blocks first
-    → Joins units blocks first.level first first 0
-joins_first units blocks first in_hand =
-    record { counted = omega arith; in_hand = in_hand; comes = refl }
+pub joins_first : (units : ℕ) (blocks : Blocks) (first : DetachedPiece) → IsDetached units blocks first
+    → JoinsPiece units blocks first.level first first 0
+joins_first units blocks first is_detached =
+    record { counted = omega arith; is_detached = is_detached; comes = refl }
 
-pub joins_more : (units : ℕ) (blocks : Blocks) (level : ℕ) (first now : Hand) (moves : ℕ)
+pub joins_more : (units : ℕ) (blocks : Blocks) (level : ℕ) (first now : DetachedPiece) (moves : ℕ)
     → now.level < largest_level → IsListed now.order now.level (buddy_of now.level now.place)
-    → Joins units blocks level first now moves
-    → Joins units blocks level first (joined now) (moves + 1)
+    → JoinsPiece units blocks level first now moves
+    → JoinsPiece units blocks level first (joined now) (moves + 1)
 joins_more units blocks level first now moves less is joins =
     let times : largest_level - now.level ≡ suc (largest_level - suc now.level) = omega arith in
     record {
       counted = omega (arith, joins.counted);
-      in_hand = record {
-        most = joins.in_hand.most;
-        holds = holds_joined units blocks now less joins.in_hand.holds is;
+      is_detached = record {
+        most = joins.is_detached.most;
+        holds = holds_joined units blocks now less joins.is_detached.holds is;
       };
       comes = sym (joined_often-more (largest_level - suc now.level) now is)
           ∙ ap (λ (t : ℕ). joined_often t now) (sym times) ∙ joins.comes;
     }
 
 -- the loop ends at the largest level, or where the buddy is not listed
-pub joins_full : (units : ℕ) (blocks : Blocks) (level : ℕ) (first now : Hand) (moves : ℕ)
-    → largest_level ≤ now.level → Joins units blocks level first now moves
+pub joins_full : (units : ℕ) (blocks : Blocks) (level : ℕ) (first now : DetachedPiece) (moves : ℕ)
+    → largest_level ≤ now.level → JoinsPiece units blocks level first now moves
     → now ≡ joined_often (largest_level - level) first
 joins_full units blocks level first now moves full joins =
     let none : largest_level - now.level ≡ 0 = omega arith in
     sym (joined_none now) ∙ ap (λ (t : ℕ). joined_often t now) (sym none) ∙ joins.comes
 
-pub joins_alone : (units : ℕ) (blocks : Blocks) (level : ℕ) (first now : Hand) (moves : ℕ)
+pub joins_alone : (units : ℕ) (blocks : Blocks) (level : ℕ) (first now : DetachedPiece) (moves : ℕ)
     → has (buddy_of now.level now.place) (listed now.order now.level) ≡ false
-    → Joins units blocks level first now moves
+    → JoinsPiece units blocks level first now moves
     → now ≡ joined_often (largest_level - level) first
 joins_alone units blocks level first now moves alone joins =
     sym (joined_often-done (largest_level - now.level) now alone) ∙ joins.comes
@@ -210,14 +213,14 @@ found_none order level none =
     (least-answers (suc largest_level) test)
 
 -- the piece joined, as the code tells it
-pub joins_to : (units : ℕ) (blocks : Blocks) (level : ℕ) (first now : Hand) (moves : ℕ)
+pub joins_to : (units : ℕ) (blocks : Blocks) (level : ℕ) (first now : DetachedPiece) (moves : ℕ)
     (order : Order) (to place : ℕ) → order ≡ now.order → to ≡ now.level → place ≡ now.place
-    → Joins units blocks level first now moves
-    → Joins units blocks level first (record { order = order; level = to; place = place }) moves
+    → JoinsPiece units blocks level first now moves
+    → JoinsPiece units blocks level first (record { order = order; level = to; place = place }) moves
 joins_to units blocks level first now moves order to place orders levels places joins =
-    subst (λ (o : Order). Joins units blocks level first
+    subst (λ (o : Order). JoinsPiece units blocks level first
     (record { order = o; level = to; place = place }) moves) (sym orders)
-    (subst (λ (k : ℕ). Joins units blocks level first
+    (subst (λ (k : ℕ). JoinsPiece units blocks level first
     (record { order = now.order; level = k; place = place }) moves) (sym levels)
-    (subst (λ (p : ℕ). Joins units blocks level first
+    (subst (λ (p : ℕ). JoinsPiece units blocks level first
     (record { order = now.order; level = now.level; place = p }) moves) (sym places) joins))

@@ -1,4 +1,4 @@
--- The blocks that the marks of an arena tell, and what becomes of them.
+-- The blocks that the tags of an arena tell, and what becomes of them.
 use Rattle.std.proofs.Common.{◌≡◌, ◌≢◌, ℕ, ◌+◌, ◌^◌, ◌<◌, ◌≤◌, List, [], length, get_or, map as mapped, slice_range, Option, Some, None, refl, ap, sym, ◌∙◌, subst, arith, inl, inr, ◌⊎◌}
 use Rattle.std.proofs.lemmas.Bool.{cases_lt, cases_eq}
 use Rattle.std.proofs.lemmas.List.{get_or-map, get_or_past, length-map}
@@ -7,11 +7,11 @@ use Rattle.std.proofs.lemmas.Option.{slice_get-get_or, slice_get_past}
 use Rattle.std.specs.List.{slice_get}
 use Rattle.std.specs.FinMap as map
 use Rattle.l6_word.specs.Numerals.{largest_level}
-use Rattle.l6_store.specs.Blocks.{Blocks, Fits, IsBlock, IsLive, LiesIn, Stands, block_at, end_of}
+use Rattle.l6_store.specs.Blocks.{Blocks, Fits, IsBlock, IsLive, LiesIn, IsAlignedPlace, block_at, end_of}
 use Rattle.l6_store.specs.inner.Tags.{tag_at, tagged, level_of}
-use Rattle.l6_store.specs.inner.Layout.{mark_at, tag_of, blocks_of}
-use Rattle.l6_store.specs.declared.mark.Mark.{Mark}
-use Rattle.l6_store.specs.declared.mark.Mark.TheVariants.{Inner, Block, Listed}
+use Rattle.l6_store.specs.inner.ArenaLayout.{place_tag_at, tag_of, blocks_of}
+use Rattle.l6_store.specs.declared.place_tag.PlaceTag.{PlaceTag}
+use Rattle.l6_store.specs.declared.place_tag.PlaceTag.TheVariants.{Inner, Block, Listed}
 use Rattle.l6_store.specs.declared.tag.Tag.{Tag}
 use Rattle.l6_store.specs.declared.tag.Tag.TheVariants.{Free, First, Inside}
 use Rattle.l6_store.proofs.Ranges.{index-range, same_range, length-range}
@@ -19,155 +19,167 @@ use Rattle.l6_store.proofs.Gathered.{gathered_is, get-gathered, get-insert_same,
 use Rattle.l6_store.proofs.Contents.{told_alike}
 use Rattle.l6_store.proofs.Live.{live_words}
 
-tag_at-map : (marks : List Mark) (place : ℕ)
-    → tag_at (mapped tag_of marks) place ≡ tag_of (mark_at marks place)
-tag_at-map marks place =
-    elim (cases_lt place (length marks))
-    as (λ _. tag_at (mapped tag_of marks) place ≡ tag_of (mark_at marks place)) [
-      | inl below ↦ get_or-map tag_of marks place Inner Free below
+tag_at-map : (place_tags : List PlaceTag) (place : ℕ)
+    → tag_at (mapped tag_of place_tags) place ≡ tag_of (place_tag_at place_tags place)
+tag_at-map place_tags place =
+    elim (cases_lt place (length place_tags))
+    as (λ _. tag_at (mapped tag_of place_tags) place ≡ tag_of (place_tag_at place_tags place)) [
+      | inl below ↦ get_or-map tag_of place_tags place Inner Free below
       | inr past ↦
-          get_or_past (mapped tag_of marks) place Free (omega (arith, length-map marks tag_of))
-          ∙ ap tag_of (sym (get_or_past marks place Inner past))
+          get_or_past (mapped tag_of place_tags) place Free
+          (omega (arith, length-map place_tags tag_of))
+          ∙ ap tag_of (sym (get_or_past place_tags place Inner past))
     ]
 
 -- what begins at a place
-pub get-blocks_of : (marks : List Mark) (words : List ℕ) (place : ℕ)
-    → map.get (blocks_of marks words) place ≡ tagged words place (tag_of (mark_at marks place))
+pub get-blocks_of : (place_tags : List PlaceTag) (words : List ℕ) (place : ℕ)
+    → map.get (blocks_of place_tags words) place
+    ≡ tagged words place (tag_of (place_tag_at place_tags place))
 unfolding blocks_of
-get-blocks_of marks words place =
-    get-gathered (mapped tag_of marks) words place
-    ∙ ap (tagged words place) (tag_at-map marks place)
+get-blocks_of place_tags words place =
+    get-gathered (mapped tag_of place_tags) words place
+    ∙ ap (tagged words place) (tag_at-map place_tags place)
 
-pub blocks_are : (marks : List Mark) (words : List ℕ) (blocks : Blocks)
-    → ((q : ℕ) → tagged words q (tag_of (mark_at marks q)) ≡ map.get blocks q)
-    → blocks_of marks words ≡ blocks
+pub blocks_are : (place_tags : List PlaceTag) (words : List ℕ) (blocks : Blocks)
+    → ((q : ℕ) → tagged words q (tag_of (place_tag_at place_tags q)) ≡ map.get blocks q)
+    → blocks_of place_tags words ≡ blocks
 unfolding blocks_of
-blocks_are marks words blocks each =
-    gathered_is (mapped tag_of marks) words blocks
-    (λ q. ap (tagged words q) (tag_at-map marks q) ∙ each q)
+blocks_are place_tags words blocks each =
+    gathered_is (mapped tag_of place_tags) words blocks
+    (λ q. ap (tagged words q) (tag_at-map place_tags q) ∙ each q)
 
--- a block's mark tells its words
-pub block_marked : (marks : List Mark) (words : List ℕ) (level place : ℕ)
-    → mark_at marks place ≡ Block level
-    → map.get (blocks_of marks words) place ≡ Some (slice_range words place (place + 2 ^ level))
-block_marked marks words level place is =
-    get-blocks_of marks words place ∙ ap (λ (m : Mark). tagged words place (tag_of m)) is
+-- a block's tag tells its words
+pub block_marked : (place_tags : List PlaceTag) (words : List ℕ) (level place : ℕ)
+    → place_tag_at place_tags place ≡ Block level
+    → map.get (blocks_of place_tags words) place ≡ Some (slice_range words place (place + 2 ^ level))
+block_marked place_tags words level place is =
+    get-blocks_of place_tags words place ∙ ap (λ (m : PlaceTag). tagged words place (tag_of m)) is
 
-pub record Marked (marks : List Mark) (words : List ℕ) (place : ℕ) (block : List ℕ) : Type 0 where
+pub record Marked (place_tags : List PlaceTag) (words : List ℕ) (place : ℕ)
+    (block : List ℕ) : Type 0 where
   pub level : ℕ
-  pub mark : mark_at marks place ≡ Block level
+  pub place_tag : place_tag_at place_tags place ≡ Block level
   pub is : block ≡ slice_range words place (place + 2 ^ level)
 
-marked_by : (marks : List Mark) (words : List ℕ) (place : ℕ) (block : List ℕ) (mark : Mark)
-    → mark_at marks place ≡ mark → tagged words place (tag_of mark) ≡ Some block
-    → Marked marks words place block
-marked_by marks words place block (Block level) is told = record {
+marked_by : (place_tags : List PlaceTag) (words : List ℕ) (place : ℕ) (block : List ℕ)
+    (place_tag : PlaceTag)
+    → place_tag_at place_tags place ≡ place_tag → tagged words place (tag_of place_tag) ≡ Some block
+    → Marked place_tags words place block
+marked_by place_tags words place block (Block level) is told = record {
   level = level;
-  mark = is;
+  place_tag = is;
   is = (let same : Some (slice_range words place (place + 2 ^ level)) ≡ Some block = told in cc);
 }
-marked_by marks words place block Inner is told = cc
-marked_by marks words place block (Listed level) is told = cc
+marked_by place_tags words place block Inner is told = cc
+marked_by place_tags words place block (Listed level) is told = cc
 
-pub marked : (marks : List Mark) (words : List ℕ) (place : ℕ) (block : List ℕ)
-    → map.get (blocks_of marks words) place ≡ Some block → Marked marks words place block
-marked marks words place block is =
-    marked_by marks words place block (mark_at marks place) refl
-    (sym (get-blocks_of marks words place) ∙ is)
+pub marked : (place_tags : List PlaceTag) (words : List ℕ) (place : ℕ) (block : List ℕ)
+    → map.get (blocks_of place_tags words) place ≡ Some block → Marked place_tags words place block
+marked place_tags words place block is =
+    marked_by place_tags words place block (place_tag_at place_tags place) refl
+    (sym (get-blocks_of place_tags words place) ∙ is)
 
 -- a place of a block lies in it
-pub marked_lies : (units : ℕ) (marks : List Mark) (words : List ℕ) → length words ≡ end_of units
-    → ((level place : ℕ) → mark_at marks place ≡ Block level → Stands units level place)
-    → (level place at : ℕ) → mark_at marks place ≡ Block level → place ≤ at → at < place + 2 ^ level
-    → LiesIn (blocks_of marks words) at
-marked_lies units marks words filled stands level place at is from before = record {
+pub marked_lies : (units : ℕ) (place_tags : List PlaceTag) (words : List ℕ) →
+    length words ≡ end_of units
+    → ((level place : ℕ) → place_tag_at place_tags place ≡ Block level →
+    IsAlignedPlace units level place)
+    → (level place at : ℕ) → place_tag_at place_tags place ≡ Block level → place ≤ at →
+    at < place + 2 ^ level
+    → LiesIn (blocks_of place_tags words) at
+marked_lies units place_tags words filled is_aligned level place at is from before = record {
   start = place;
   words = slice_range words place (place + 2 ^ level);
-  is = block_marked marks words level place is;
+  is = block_marked place_tags words level place is;
   from = from;
   below = omega (
     arith,
     length-range words place (2 ^ level)
-        (omega (arith, filled, (stands level place is).within)),
+        (omega (arith, filled, (is_aligned level place is).within)),
   );
 }
 
-tag_first : (mark : Mark) (level : ℕ) → tag_of mark ≡ First level → mark ≡ Block level
+tag_first : (place_tag : PlaceTag) (level : ℕ) → tag_of place_tag ≡ First level →
+    place_tag ≡ Block level
 tag_first (Block k) level is =
-    ap (λ (l : ℕ). Block l) (let same : First k ≡ First level = is in let levels : k ≡ level = cc in levels)
+    ap (λ (l : ℕ). Block l)
+    (let same : First k ≡ First level = is in let levels : k ≡ level = cc in levels)
 tag_first Inner level is = cc
 tag_first (Listed k) level is = cc
 
 -- ---- changes
--- the blocks stay where their marks and their words do
-pub same_blocks : (units : ℕ) (marks after : List Mark) (words new : List ℕ)
+-- the blocks stay where their tags and their words do
+pub same_blocks : (units : ℕ) (place_tags after : List PlaceTag) (words new : List ℕ)
     → length words ≡ end_of units → length new ≡ length words
-    → ((level place : ℕ) → mark_at marks place ≡ Block level → Stands units level place)
-    → ((q : ℕ) → tag_of (mark_at after q) ≡ tag_of (mark_at marks q))
-    → ((at : ℕ) → LiesIn (blocks_of marks words) at → get_or new at 0 ≡ get_or words at 0)
-    → blocks_of after new ≡ blocks_of marks words
-same_blocks units marks after words new filled count stands tags same =
-    blocks_are after new (blocks_of marks words) (λ q.
+    → ((level place : ℕ) → place_tag_at place_tags place ≡ Block level →
+    IsAlignedPlace units level place)
+    → ((q : ℕ) → tag_of (place_tag_at after q) ≡ tag_of (place_tag_at place_tags q))
+    → ((at : ℕ) → LiesIn (blocks_of place_tags words) at → get_or new at 0 ≡ get_or words at 0)
+    → blocks_of after new ≡ blocks_of place_tags words
+same_blocks units place_tags after words new filled count is_aligned tags same =
+    blocks_are after new (blocks_of place_tags words) (λ q.
     ap (tagged new q) (tags q)
-    ∙ told_alike words new q (tag_of (mark_at marks q)) (λ level first.
-    let is = tag_first (mark_at marks q) level first in
-    let within = (stands level q is).within in
+    ∙ told_alike words new q (tag_of (place_tag_at place_tags q)) (λ level first.
+    let is = tag_first (place_tag_at place_tags q) level first in
+    let within = (is_aligned level q is).within in
     same_range new words q q (2 ^ level) (omega (arith, filled, count)) (omega (arith, filled))
     (λ j below. same (q + j)
-    (marked_lies units marks words filled stands level q (q + j) is (omega arith) (omega arith))))
-    ∙ sym (get-blocks_of marks words q))
+    (marked_lies units place_tags words filled is_aligned level q (q + j) is (omega arith)
+    (omega arith))))
+    ∙ sym (get-blocks_of place_tags words q))
 
 -- one block is new, or has new words
-pub one_block : (units : ℕ) (marks after : List Mark) (words new : List ℕ) (level place : ℕ)
+pub one_block : (units : ℕ) (place_tags after : List PlaceTag) (words new : List ℕ) (level place : ℕ)
     → length words ≡ end_of units → length new ≡ length words
-    → ((level place : ℕ) → mark_at marks place ≡ Block level → Stands units level place)
-    → mark_at after place ≡ Block level
-    → ((q : ℕ) → q ≢ place → tag_of (mark_at after q) ≡ tag_of (mark_at marks q))
-    → ((q k at : ℕ) → q ≢ place → mark_at marks q ≡ Block k → q ≤ at → at < q + 2 ^ k
+    → ((level place : ℕ) → place_tag_at place_tags place ≡ Block level →
+    IsAlignedPlace units level place)
+    → place_tag_at after place ≡ Block level
+    → ((q : ℕ) → q ≢ place → tag_of (place_tag_at after q) ≡ tag_of (place_tag_at place_tags q))
+    → ((q k at : ℕ) → q ≢ place → place_tag_at place_tags q ≡ Block k → q ≤ at → at < q + 2 ^ k
     → get_or new at 0 ≡ get_or words at 0)
     → blocks_of after new
-    ≡ map.insert (blocks_of marks words) place (slice_range new place (place + 2 ^ level))
-one_block units marks after words new level place filled count stands is tags same =
+    ≡ map.insert (blocks_of place_tags words) place (slice_range new place (place + 2 ^ level))
+one_block units place_tags after words new level place filled count is_aligned is tags same =
     let block : List ℕ = slice_range new place (place + 2 ^ level) in
-    blocks_are after new (map.insert (blocks_of marks words) place block) (λ q.
+    blocks_are after new (map.insert (blocks_of place_tags words) place block) (λ q.
     elim (cases_eq q place)
-    as (λ _. tagged new q (tag_of (mark_at after q))
-    ≡ map.get (map.insert (blocks_of marks words) place block) q) [
+    as (λ _. tagged new q (tag_of (place_tag_at after q))
+    ≡ map.get (map.insert (blocks_of place_tags words) place block) q) [
       | inl there ↦
-          ap (λ (p : ℕ). tagged new p (tag_of (mark_at after p))) there
-          ∙ ap (λ (m : Mark). tagged new place (tag_of m)) is
-          ∙ sym (ap (map.get (map.insert (blocks_of marks words) place block)) there
-          ∙ get-insert_same (blocks_of marks words) place block)
+          ap (λ (p : ℕ). tagged new p (tag_of (place_tag_at after p))) there
+          ∙ ap (λ (m : PlaceTag). tagged new place (tag_of m)) is
+          ∙ sym (ap (map.get (map.insert (blocks_of place_tags words) place block)) there
+          ∙ get-insert_same (blocks_of place_tags words) place block)
       | inr other ↦
           ap (tagged new q) (tags q other)
-          ∙ told_alike words new q (tag_of (mark_at marks q)) (λ k first.
-          let was = tag_first (mark_at marks q) k first in
-          let within = (stands k q was).within in
+          ∙ told_alike words new q (tag_of (place_tag_at place_tags q)) (λ k first.
+          let was = tag_first (place_tag_at place_tags q) k first in
+          let within = (is_aligned k q was).within in
           same_range new words q q (2 ^ k) (omega (arith, filled, count)) (omega (arith, filled))
           (λ j below. same q k (q + j) other was (omega arith) (omega arith)))
-          ∙ sym (get-insert_other (blocks_of marks words) place block q other
-          ∙ get-blocks_of marks words q)
+          ∙ sym (get-insert_other (blocks_of place_tags words) place block q other
+          ∙ get-blocks_of place_tags words q)
     ])
 
 -- one block is gone
-pub block_gone : (marks after : List Mark) (words : List ℕ) (place : ℕ)
-    → tag_of (mark_at after place) ≡ Free
-    → ((q : ℕ) → q ≢ place → tag_of (mark_at after q) ≡ tag_of (mark_at marks q))
-    → blocks_of after words ≡ map.remove (blocks_of marks words) place
-block_gone marks after words place is tags =
-    blocks_are after words (map.remove (blocks_of marks words) place) (λ q.
+pub block_gone : (place_tags after : List PlaceTag) (words : List ℕ) (place : ℕ)
+    → tag_of (place_tag_at after place) ≡ Free
+    → ((q : ℕ) → q ≢ place → tag_of (place_tag_at after q) ≡ tag_of (place_tag_at place_tags q))
+    → blocks_of after words ≡ map.remove (blocks_of place_tags words) place
+block_gone place_tags after words place is tags =
+    blocks_are after words (map.remove (blocks_of place_tags words) place) (λ q.
     elim (cases_eq q place)
-    as (λ _. tagged words q (tag_of (mark_at after q))
-    ≡ map.get (map.remove (blocks_of marks words) place) q) [
+    as (λ _. tagged words q (tag_of (place_tag_at after q))
+    ≡ map.get (map.remove (blocks_of place_tags words) place) q) [
       | inl there ↦
-          ap (λ (p : ℕ). tagged words p (tag_of (mark_at after p))) there
+          ap (λ (p : ℕ). tagged words p (tag_of (place_tag_at after p))) there
           ∙ ap (tagged words place) is
-          ∙ sym (ap (map.get (map.remove (blocks_of marks words) place)) there
-          ∙ get-remove_same (blocks_of marks words) place)
+          ∙ sym (ap (map.get (map.remove (blocks_of place_tags words) place)) there
+          ∙ get-remove_same (blocks_of place_tags words) place)
       | inr other ↦
           ap (tagged words q) (tags q other)
-          ∙ sym (get-remove_other (blocks_of marks words) place q other
-          ∙ get-blocks_of marks words q)
+          ∙ sym (get-remove_other (blocks_of place_tags words) place q other
+          ∙ get-blocks_of place_tags words q)
     ])
 
 -- ---- blocks that fit
@@ -256,92 +268,104 @@ live_level words place (First level) live = refl
 live_level words place Inside live = live
 live_level words place Free live = live
 
-pub marked_live : (marks : List Mark) (words : List ℕ) (place : ℕ)
-    → IsSome (level_of (tag_of (mark_at marks place))) → IsLive (blocks_of marks words) place
-marked_live marks words place told =
-    subst (λ (b : Option (List ℕ)). IsSome b) (sym (get-blocks_of marks words place))
-    (level_live words place (tag_of (mark_at marks place)) told)
+pub marked_live : (place_tags : List PlaceTag) (words : List ℕ) (place : ℕ)
+    → IsSome (level_of (tag_of (place_tag_at place_tags place))) →
+    IsLive (blocks_of place_tags words) place
+marked_live place_tags words place told =
+    subst (λ (b : Option (List ℕ)). IsSome b) (sym (get-blocks_of place_tags words place))
+    (level_live words place (tag_of (place_tag_at place_tags place)) told)
 
-pub live_marked : (marks : List Mark) (words : List ℕ) (place : ℕ)
-    → IsLive (blocks_of marks words) place → IsSome (level_of (tag_of (mark_at marks place)))
-live_marked marks words place live =
-    live_level words place (tag_of (mark_at marks place))
-    (subst (λ (b : Option (List ℕ)). IsSome b) (get-blocks_of marks words place) live)
+pub live_marked : (place_tags : List PlaceTag) (words : List ℕ) (place : ℕ)
+    → IsLive (blocks_of place_tags words) place →
+    IsSome (level_of (tag_of (place_tag_at place_tags place)))
+live_marked place_tags words place live =
+    live_level words place (tag_of (place_tag_at place_tags place))
+    (subst (λ (b : Option (List ℕ)). IsSome b) (get-blocks_of place_tags words place) live)
 
-size_by : (units : ℕ) (marks : List Mark) (words : List ℕ) → length words ≡ end_of units
-    → ((level place : ℕ) → mark_at marks place ≡ Block level → Stands units level place)
-    → (place : ℕ) (mark : Mark) → mark_at marks place ≡ mark
-    → option_map (λ (level : ℕ). 2 ^ level) (level_of (tag_of mark))
-    ≡ option_map (λ (block : List ℕ). length block) (tagged words place (tag_of mark))
-size_by units marks words filled stands place (Block level) is =
+size_by : (units : ℕ) (place_tags : List PlaceTag) (words : List ℕ) → length words ≡ end_of units
+    → ((level place : ℕ) → place_tag_at place_tags place ≡ Block level →
+    IsAlignedPlace units level place)
+    → (place : ℕ) (place_tag : PlaceTag) → place_tag_at place_tags place ≡ place_tag
+    → option_map (λ (level : ℕ). 2 ^ level) (level_of (tag_of place_tag))
+    ≡ option_map (λ (block : List ℕ). length block) (tagged words place (tag_of place_tag))
+size_by units place_tags words filled is_aligned place (Block level) is =
     ap (λ (n : ℕ). Some n) (sym (length-range words place (2 ^ level)
-    (omega (arith, filled, (stands level place is).within))))
-size_by units marks words filled stands place Inner is = refl
-size_by units marks words filled stands place (Listed level) is = refl
+    (omega (arith, filled, (is_aligned level place is).within))))
+size_by units place_tags words filled is_aligned place Inner is = refl
+size_by units place_tags words filled is_aligned place (Listed level) is = refl
 
-pub marked_size : (units : ℕ) (marks : List Mark) (words : List ℕ) → length words ≡ end_of units
-    → ((level place : ℕ) → mark_at marks place ≡ Block level → Stands units level place)
+pub marked_size : (units : ℕ) (place_tags : List PlaceTag) (words : List ℕ) →
+    length words ≡ end_of units
+    → ((level place : ℕ) → place_tag_at place_tags place ≡ Block level →
+    IsAlignedPlace units level place)
     → (place : ℕ)
-    → option_map (λ (level : ℕ). 2 ^ level) (level_of (tag_of (mark_at marks place)))
-    ≡ option_map (λ (block : List ℕ). length block) (map.get (blocks_of marks words) place)
-marked_size units marks words filled stands place =
-    size_by units marks words filled stands place (mark_at marks place) refl
-    ∙ ap (option_map (λ (block : List ℕ). length block)) (sym (get-blocks_of marks words place))
+    → option_map (λ (level : ℕ). 2 ^ level) (level_of (tag_of (place_tag_at place_tags place)))
+    ≡ option_map (λ (block : List ℕ). length block) (map.get (blocks_of place_tags words) place)
+marked_size units place_tags words filled is_aligned place =
+    size_by units place_tags words filled is_aligned place (place_tag_at place_tags place) refl
+    ∙ ap (option_map (λ (block : List ℕ). length block)) (sym (get-blocks_of place_tags words place))
 
-small_by : (units : ℕ) (marks : List Mark)
-    → ((level place : ℕ) → mark_at marks place ≡ Block level → Stands units level place)
-    → (place : ℕ) (mark : Mark) → mark_at marks place ≡ mark
-    → IfSome (level_of (tag_of mark)) (λ level. level ≤ largest_level)
-small_by units marks stands place (Block level) is = (stands level place is).small
-small_by units marks stands place Inner is = tt
-small_by units marks stands place (Listed level) is = tt
+small_by : (units : ℕ) (place_tags : List PlaceTag)
+    → ((level place : ℕ) → place_tag_at place_tags place ≡ Block level →
+    IsAlignedPlace units level place)
+    → (place : ℕ) (place_tag : PlaceTag) → place_tag_at place_tags place ≡ place_tag
+    → IfSome (level_of (tag_of place_tag)) (λ level. level ≤ largest_level)
+small_by units place_tags is_aligned place (Block level) is = (is_aligned level place is).small
+small_by units place_tags is_aligned place Inner is = tt
+small_by units place_tags is_aligned place (Listed level) is = tt
 
-pub marked_small : (units : ℕ) (marks : List Mark)
-    → ((level place : ℕ) → mark_at marks place ≡ Block level → Stands units level place)
+pub marked_small : (units : ℕ) (place_tags : List PlaceTag)
+    → ((level place : ℕ) → place_tag_at place_tags place ≡ Block level →
+    IsAlignedPlace units level place)
     → (place : ℕ)
-    → IfSome (level_of (tag_of (mark_at marks place))) (λ level. level ≤ largest_level)
-marked_small units marks stands place = small_by units marks stands place (mark_at marks place) refl
+    → IfSome (level_of (tag_of (place_tag_at place_tags place))) (λ level. level ≤ largest_level)
+marked_small units place_tags is_aligned place =
+    small_by units place_tags is_aligned place (place_tag_at place_tags place) refl
 
-told_mark_by : (mark : Mark) (level : ℕ) → Some level ≡ level_of (tag_of mark)
-    → mark ≡ Block level
-told_mark_by (Block k) level told =
+told_place_tag_by : (place_tag : PlaceTag) (level : ℕ) → Some level ≡ level_of (tag_of place_tag)
+    → place_tag ≡ Block level
+told_place_tag_by (Block k) level told =
     ap (λ (l : ℕ). Block l)
     (let both : Some level ≡ Some k = told in let same : k ≡ level = cc in same)
-told_mark_by Inner level told = cc
-told_mark_by (Listed k) level told = cc
+told_place_tag_by Inner level told = cc
+told_place_tag_by (Listed k) level told = cc
 
--- the mark of a level that is told
-pub told_mark : (marks : List Mark) (place level : ℕ)
-    → Some level ≡ level_of (tag_of (mark_at marks place)) → mark_at marks place ≡ Block level
-told_mark marks place level told = told_mark_by (mark_at marks place) level told
+-- the tag of a level that is told
+pub told_place_tag : (place_tags : List PlaceTag) (place level : ℕ)
+    → Some level ≡ level_of (tag_of (place_tag_at place_tags place)) →
+    place_tag_at place_tags place ≡ Block level
+told_place_tag place_tags place level told =
+    told_place_tag_by (place_tag_at place_tags place) level told
 
 -- where a block has these words, and how many they are
-pub block_at_marked : (marks : List Mark) (words : List ℕ) (level place : ℕ)
-    → mark_at marks place ≡ Block level
-    → block_at (blocks_of marks words) place ≡ slice_range words place (place + 2 ^ level)
-block_at_marked marks words level place is =
-    ap (λ (b : Option (List ℕ)). unwrap_or b []) (block_marked marks words level place is)
+pub block_at_marked : (place_tags : List PlaceTag) (words : List ℕ) (level place : ℕ)
+    → place_tag_at place_tags place ≡ Block level
+    → block_at (blocks_of place_tags words) place ≡ slice_range words place (place + 2 ^ level)
+block_at_marked place_tags words level place is =
+    ap (λ (b : Option (List ℕ)). unwrap_or b []) (block_marked place_tags words level place is)
 
 -- a block that begins at a place: its level, its words, and that they are among the words
-pub record BlockHere (units : ℕ) (marks : List Mark) (words : List ℕ) (place : ℕ) : Type 0 where
+pub record BlockHere (units : ℕ) (place_tags : List PlaceTag) (words : List ℕ)
+    (place : ℕ) : Type 0 where
   pub level : ℕ
-  pub mark : mark_at marks place ≡ Block level
-  pub words_are : block_at (blocks_of marks words) place
+  pub place_tag : place_tag_at place_tags place ≡ Block level
+  pub words_are : block_at (blocks_of place_tags words) place
       ≡ slice_range words place (place + 2 ^ level)
-  pub size : length (block_at (blocks_of marks words) place) ≡ 2 ^ level
+  pub size : length (block_at (blocks_of place_tags words) place) ≡ 2 ^ level
   pub within : place + 2 ^ level ≤ length words
 
-pub block_here : (units : ℕ) (marks : List Mark) (words : List ℕ) → length words ≡ end_of units
-    → ((level place : ℕ) → mark_at marks place ≡ Block level → Stands units level place)
-    → (place : ℕ) → IsLive (blocks_of marks words) place → BlockHere units marks words place
-block_here units marks words filled stands place live =
-    let is = live_words (blocks_of marks words) place live in
-    let from = marked marks words place (block_at (blocks_of marks words) place) is in
+pub block_here : (units : ℕ) (place_tags : List PlaceTag) (words : List ℕ) → length words ≡ end_of units
+    → ((level place : ℕ) → place_tag_at place_tags place ≡ Block level →
+    IsAlignedPlace units level place)
+    → (place : ℕ) → IsLive (blocks_of place_tags words) place → BlockHere units place_tags words place
+block_here units place_tags words filled is_aligned place live =
+    let is = live_words (blocks_of place_tags words) place live in
+    let from = marked place_tags words place (block_at (blocks_of place_tags words) place) is in
     let inside : place + 2 ^ from.level ≤ length words
-    = omega (arith, filled, (stands from.level place from.mark).within) in
+    = omega (arith, filled, (is_aligned from.level place from.place_tag).within) in
     record {
       level = from.level;
-      mark = from.mark;
+      place_tag = from.place_tag;
       words_are = from.is;
       size = ap (λ (ws : List ℕ). length ws) from.is
           ∙ length-range words place (2 ^ from.level) inside;
@@ -355,29 +379,29 @@ no_level words place (First level) none = cc
 no_level words place Inside none = refl
 no_level words place Free none = refl
 
-pub no_word : (marks : List Mark) (words : List ℕ) (place index : ℕ)
-    → None ≡ level_of (tag_of (mark_at marks place))
-    → None ≡ slice_get (block_at (blocks_of marks words) place) index
-no_word marks words place index none =
+pub no_word : (place_tags : List PlaceTag) (words : List ℕ) (place index : ℕ)
+    → None ≡ level_of (tag_of (place_tag_at place_tags place))
+    → None ≡ slice_get (block_at (blocks_of place_tags words) place) index
+no_word place_tags words place index none =
     sym (ap (λ (found : Option (List ℕ)). slice_get (unwrap_or found []) index)
-    (get-blocks_of marks words place
-    ∙ no_level words place (tag_of (mark_at marks place)) none))
+    (get-blocks_of place_tags words place
+    ∙ no_level words place (tag_of (place_tag_at place_tags place)) none))
 
 -- the word of an index in a block
-pub block_word : (marks : List Mark) (words : List ℕ) (level place index : ℕ)
-    → mark_at marks place ≡ Block level → place + 2 ^ level ≤ length words → index < 2 ^ level
+pub block_word : (place_tags : List PlaceTag) (words : List ℕ) (level place index : ℕ)
+    → place_tag_at place_tags place ≡ Block level → place + 2 ^ level ≤ length words → index < 2 ^ level
     → Some (get_or words (place + index) 0)
-    ≡ slice_get (block_at (blocks_of marks words) place) index
-block_word marks words level place index is within below =
+    ≡ slice_get (block_at (blocks_of place_tags words) place) index
+block_word place_tags words level place index is within below =
     let size = length-range words place (2 ^ level) within in
     ap (λ (w : ℕ). Some w) (sym (index-range words place (2 ^ level) index below))
     ∙ sym (slice_get-get_or (slice_range words place (place + 2 ^ level)) index 0 (omega arith))
-    ∙ ap (λ (ws : List ℕ). slice_get ws index) (sym (block_at_marked marks words level place is))
+    ∙ ap (λ (ws : List ℕ). slice_get ws index) (sym (block_at_marked place_tags words level place is))
 
-pub past_block : (marks : List Mark) (words : List ℕ) (level place index : ℕ)
-    → mark_at marks place ≡ Block level → place + 2 ^ level ≤ length words → 2 ^ level ≤ index
-    → None ≡ slice_get (block_at (blocks_of marks words) place) index
-past_block marks words level place index is within past =
+pub past_block : (place_tags : List PlaceTag) (words : List ℕ) (level place index : ℕ)
+    → place_tag_at place_tags place ≡ Block level → place + 2 ^ level ≤ length words → 2 ^ level ≤ index
+    → None ≡ slice_get (block_at (blocks_of place_tags words) place) index
+past_block place_tags words level place index is within past =
     let size = length-range words place (2 ^ level) within in
-    sym (ap (λ (ws : List ℕ). slice_get ws index) (block_at_marked marks words level place is)
+    sym (ap (λ (ws : List ℕ). slice_get ws index) (block_at_marked place_tags words level place is)
     ∙ slice_get_past (slice_range words place (place + 2 ^ level)) index (omega arith))

@@ -88,7 +88,8 @@ which_half level place multiple =
       | inr set ↦
           let one_is : bit ≡ 1 = omega arith in
           let product : bit * 2 ^ level ≡ 1 * 2 ^ level = ap (λ (b : ℕ). b * 2 ^ level) one_is in
-          is_upper (place / 2 ^ suc level * 2 ^ suc level) (times_size (place / 2 ^ suc level) (suc level))
+          is_upper (place / 2 ^ suc level * 2 ^ suc level)
+          (times_size (place / 2 ^ suc level) (suc level))
           (omega (arith, divided, rest, product, multiple))
     ]
 

@@ -6,7 +6,7 @@ use Rattle.std.proofs.lemmas.List.{length-take-le, length-drop, get_or-take, get
 use Rattle.l6_word.specs.Numerals.{largest_level, unit_size}
 use Rattle.l6_store.specs.inner.Tags.{tag_at}
 use Rattle.l6_store.proofs.Changes.{as_before, in_run, marked_change}
-use Rattle.l6_store.specs.inner.Marks.{IsFreeRun, IsLowest, IsFull, IsRaised, IsMarked, IsFilled}
+use Rattle.l6_store.specs.inner.PlaceTags.{IsVacantRun, IsLowest, IsFull, IsRaised, IsMarked, IsFilled}
 use Rattle.l6_store.specs.declared.tag.Tag.{Tag}
 use Rattle.l6_store.specs.declared.tag.Tag.TheVariants.{Free, First, Inside}
 
@@ -21,8 +21,8 @@ marked_of_filled old filled place level within is = record {
       (λ same. absurd (omega arith)) ∙ is.filled at (omega arith) before;
   before = λ at less. get_or-set_other filled place at (First level) Free
       (λ same. absurd (omega arith)) ∙ is.before at less;
-  behind = λ at past. get_or-set_other filled place at (First level) Free
-      (λ same. absurd (omega (arith, pow_pos level))) ∙ is.behind at past;
+  following = λ at past. get_or-set_other filled place at (First level) Free
+      (λ same. absurd (omega (arith, pow_pos level))) ∙ is.following at past;
 }
 
 -- the tags of a part
@@ -61,7 +61,7 @@ pub free_run : (tags : List Tag) (low level number size : ℕ) → unit_size ≤
     → number < length tags / size
     → ((k : ℕ) → k < length (slice_range tags (number * size) (number * size + size))
     → tag_at (slice_range tags (number * size) (number * size + size)) k ≡ Free)
-    → IsFreeRun tags (2 ^ level) (number * size)
+    → IsVacantRun tags (2 ^ level) (number * size)
 free_run tags low level number size high is small from below free =
     let some : 0 < size = omega (arith, pow_pos level, is) in
     let whole : unit_size / size * size ≡ unit_size = ap (λ (s : ℕ). unit_size / s * s) is
@@ -88,12 +88,12 @@ free_run tags low level number size high is small from below free =
           ∙ free (at - number * size) (omega (arith, inner, counts));
     }
 
--- and where they are not, no block of the level stands below the next
+-- and where they are not, no block of the level is below the next
 pub none_lower : (tags : List Tag) (level number size : ℕ) → size ≡ 2 ^ level
-    → ((lower : ℕ) → lower < number * 2 ^ level → IsFreeRun tags (2 ^ level) lower → ⊥)
+    → ((lower : ℕ) → lower < number * 2 ^ level → IsVacantRun tags (2 ^ level) lower → ⊥)
     → (((k : ℕ) → k < length (slice_range tags (number * size) (number * size + size))
     → tag_at (slice_range tags (number * size) (number * size + size)) k ≡ Free) → ⊥)
-    → (lower : ℕ) → lower < (number + 1) * 2 ^ level → IsFreeRun tags (2 ^ level) lower → ⊥
+    → (lower : ℕ) → lower < (number + 1) * 2 ^ level → IsVacantRun tags (2 ^ level) lower → ⊥
 none_lower tags level number size is none taken lower below run =
     elim (cases_lt lower (number * 2 ^ level)) as (λ _. ⊥) [
       | inl less ↦ none lower less run
@@ -117,9 +117,9 @@ none_lower tags level number size is none taken lower below run =
           ∙ run.free (number * size + k) (omega (arith, there)) (omega (arith, there, is, inner)))
     ]
 
--- below the place where the scan begins no block may stand
+-- below the place where the scan begins no block may be
 pub none_below : (tags : List Tag) (low level size : ℕ) → size ≡ 2 ^ level → IsFull tags low
-    → (lower : ℕ) → lower < low / size * 2 ^ level → IsFreeRun tags (2 ^ level) lower → ⊥
+    → (lower : ℕ) → lower < low / size * 2 ^ level → IsVacantRun tags (2 ^ level) lower → ⊥
 none_below tags low level size is full lower below run =
     let divided : low / size * size + low % size ≡ low = div-add-mod' low size in
     let sizes : low / size * size ≡ low / size * 2 ^ level = ap (λ (s : ℕ). low / size * s) is in
@@ -128,7 +128,7 @@ none_below tags low level size is full lower below run =
 
 -- one free place is a run of one
 one_free : (tags : List Tag) (at : ℕ) → unit_size ≤ at → at < length tags → tag_at tags at ≡ Free
-    → IsFreeRun tags (2 ^ 0) at
+    → IsVacantRun tags (2 ^ 0) at
 one_free tags at above below free = record {
   aligned = omega arith;
   above = above;
@@ -168,7 +168,7 @@ raised_full old new low place level result full lowest marked (inr (is, why)) = 
       elim why as (λ _. ⊥) [
         | inl single ↦
             lowest.1 at was.0
-            (subst (λ (l : ℕ). IsFreeRun old (2 ^ l) at) (sym single)
+            (subst (λ (l : ℕ). IsVacantRun old (2 ^ l) at) (sym single)
             (one_free old at from (omega (arith, was.0, lowest.0.within)) was.1))
         | inr there ↦ full.taken at from (omega (arith, was.0, there)) was.1
       ];

@@ -56,14 +56,14 @@ is_open-holds units blocks size place test =
 pub is_open-made : (units : ℕ) (blocks : Blocks) (size place : ℕ) → 0 < size
     → IsOpen units blocks size place → is_open units blocks size place ≡ true
 unfolding is_open
-is_open-made units blocks size place some stands =
+is_open-made units blocks size place some is_aligned =
     let clear : all_below (place + size) (λ s. leaves place s (map.get blocks s)) ≡ true
     = all_below-made (place + size) (λ s. leaves place s (map.get blocks s))
     (λ start before. leaves-made place start size (map.get blocks start) some before
-    (λ words at is. stands.free start words at is)) in
-    let first = eq-eqb (place % size) 0 stands.aligned in
-    let second = le-leb unit_size place stands.above in
-    let third = le-leb (place + size) (end_of units) stands.within in
+    (λ words at is. is_aligned.free start words at is)) in
+    let first = eq-eqb (place % size) 0 is_aligned.aligned in
+    let second = le-leb unit_size place is_aligned.above in
+    let third = le-leb (place + size) (end_of units) is_aligned.within in
     cc
 
 -- the pick answers
@@ -71,9 +71,9 @@ pub scan_answers : (units : ℕ) (blocks : Blocks) (size : ℕ) → 0 < size →
     → Answers (end_of units) (is_open units blocks size) answer → IsAnswer units blocks size answer
 unfolding Answers
 scan_answers units blocks size some (Some place) is = is_open-holds units blocks size place is.1
-scan_answers units blocks size some None none = λ place stands.
-    let closed = none place (let w = stands.within in omega arith) in
-    let test = is_open-made units blocks size place some stands in
+scan_answers units blocks size some None none = λ place is_aligned.
+    let closed = none place (let w = is_aligned.within in omega arith) in
+    let test = is_open-made units blocks size place some is_aligned in
     cc
 
 pub scan-chooses : ScanChooses
@@ -87,12 +87,12 @@ picked_lowest : (units : ℕ) (blocks : Blocks) (size : ℕ) → 0 < size → (a
     → answer ≡ Some place → lower < place
     → IsOpen units blocks size lower → ⊥
 unfolding Answers
-picked_lowest units blocks size some (Some found) is place lower same below stands =
+picked_lowest units blocks size some (Some found) is place lower same below is_aligned =
     let there : found ≡ place = cc in
     let closed = is.2 lower (omega arith) in
-    let test = is_open-made units blocks size lower some stands in
+    let test = is_open-made units blocks size lower some is_aligned in
     cc
-picked_lowest units blocks size some None none place lower same below stands = cc
+picked_lowest units blocks size some None none place lower same below is_aligned = cc
 
 pub scan-picks_the_lowest : ScanPicksTheLowest
 scan-picks_the_lowest units blocks order level place lower =

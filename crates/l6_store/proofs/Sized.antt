@@ -5,7 +5,7 @@ use Rattle.std.specs.FinMap as map
 use Rattle.l6_store.specs.Blocks.{Blocks, IsLive, block_at}
 use Rattle.l6_store.proofs.Live.{live_size}
 
--- what is told of a block's level is that of its size
+-- what is said of a block's level is that of its size
 pub told_size : (blocks : Blocks) (place level : ℕ) (told : Option ℕ) → IsLive blocks place
     → told ≡ Some level
     → option_map (λ (k : ℕ). 2 ^ k) told

@@ -12,7 +12,7 @@ use Rattle.l6_word.specs.Numerals.{largest_level, unit_size, word_bits}
 use Rattle.l6_store.specs.Numerals.{most_units}
 use Rattle.l6_store.specs.Blocks.{block_at, end_of}
 use Rattle.l6_store.specs.inner.Tags.{gathered, level_of, size_by, tag_at, IsKept}
-use Rattle.l6_store.specs.inner.Marks.{AreSizes, IsFilled, IsFreeRun, IsMarked}
+use Rattle.l6_store.specs.inner.PlaceTags.{AreSizes, IsFilled, IsVacantRun, IsMarked}
 use Rattle.l6_store.specs.declared.tag.Tag.{Tag}
 use Rattle.l6_store.specs.declared.tag.Tag.TheVariants.{Free, First, Inside}
 use Rattle.l6_store.proofs.Kept.{length_of}
@@ -21,7 +21,7 @@ use Rattle.l6_store.proofs.Calls.{block_told, block_within, size_told}
 
 -- ---- a new block
 module _ (old new : List Tag) (sizes : List ℕ) (place level : ℕ) (sized : AreSizes old sizes)
-    (run : IsFreeRun old (2 ^ level) place) (marked : IsMarked old new place level) where
+    (run : IsVacantRun old (2 ^ level) place) (marked : IsMarked old new place level) where
   -- each other place has the size that it had
   same_size : (at : ℕ) → (at ≡ place → ⊥) → size_by (tag_at old at) ≡ size_by (tag_at new at)
   same_size at other =
@@ -37,7 +37,7 @@ module _ (old new : List Tag) (sizes : List ℕ) (place level : ℕ) (sized : Ar
                   ] in
                   ap size_by (run.free at (omega (arith, after)) below)
                   ∙ ap size_by (sym (marked.rest at after below))
-              | inr past ↦ ap size_by (sym (marked.behind at (omega (arith, past))))
+              | inr past ↦ ap size_by (sym (marked.following at (omega (arith, past))))
             ]
       ]
 
@@ -79,7 +79,7 @@ module _ (units : ℕ) (old new : List Tag) (words sizes : List ℕ) (place leve
                   ] in
                   ap size_by (kept.are_tags.rest place level at first after below)
                   ∙ ap size_by (sym (filled.filled at (omega (arith, after)) below))
-              | inr past ↦ ap size_by (sym (filled.behind at (omega (arith, past))))
+              | inr past ↦ ap size_by (sym (filled.following at (omega (arith, past))))
             ]
       ]
 
@@ -153,10 +153,10 @@ module _ (units : ℕ) (tags : List Tag) (words sizes : List ℕ) (kept : IsKept
 
   pub word_near : (place < end_of most_units) × (index < unit_size)
   word_near =
-      let stands = kept.are_tags.first place first.0 first.1 in
+      let is_aligned = kept.are_tags.first place first.0 first.1 in
       let most : 2 ^ first.0 ≤ 2 ^ largest_level =
-      pow-le-pow_right (omega arith) stands.small in (
-        omega (arith, small, stands.within, kept.most),
+      pow-le-pow_right (omega arith) is_aligned.small in (
+        omega (arith, small, is_aligned.within, kept.most),
         omega (arith, small, most),
       )
 

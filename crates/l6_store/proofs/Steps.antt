@@ -9,88 +9,92 @@ use Rattle.l6_word.specs.Numerals.{largest_level, unit_size}
 use Rattle.l6_store.specs.Blocks.{Blocks, Fits, LiesIn, block_at}
 use Rattle.l6_store.specs.Open.{IsOpen}
 use Rattle.l6_store.specs.Rule.{Order}
-use Rattle.l6_store.specs.Buddy.{Hand, has, listed, IsListed, buddy_of, first_or, first_taken, halved, halved_often, joined, joined_often, level_at, level_found, piece_freed, piece_got, put_back}
+use Rattle.l6_store.specs.Buddy.{DetachedPiece, has, listed, IsListed, buddy_of, first_or, first_taken, halved, halved_often, joined, joined_often, level_at, level_found, piece_freed, piece_got, put_back}
 use Rattle.l6_store.specs.Least.{least}
 use Rattle.l6_store.specs.Tiles.{Tiles}
-use Rattle.l6_store.specs.inner.Hands.{Holding}
+use Rattle.l6_store.specs.inner.Detached.{Holding}
 use Rattle.l6_store.proofs.Least.{Answers, least-answers, answers-alone}
 use Rattle.l6_store.proofs.Multiples.{same_multiple, times_size}
 use Rattle.l6_store.proofs.Finding.{Found, level_is_found, large_piece}
-use Rattle.l6_store.proofs.Hands.{holds_taken, holds_halved, holds_joined, holds_released, hand_is_block, block_is_hand}
+use Rattle.l6_store.proofs.Detached.{holds_taken, holds_halved, holds_joined, holds_released, detached_is_block, block_is_detached}
 
 -- ---- halving often
-pub halved_often-level : (times : ℕ) (hand : Hand) → times ≤ hand.level
-    → (halved_often times hand).level + times ≡ hand.level
+pub halved_often-level : (times : ℕ) (detached : DetachedPiece) → times ≤ detached.level
+    → (halved_often times detached).level + times ≡ detached.level
 unfolding halved_often
-halved_often-level zero hand le = omega arith
-halved_often-level (suc times) hand le =
-    let less = halved_often-level times (halved hand) (omega arith) in omega (arith, less)
+halved_often-level zero detached le = omega arith
+halved_often-level (suc times) detached le =
+    let less = halved_often-level times (halved detached) (omega arith) in omega (arith, less)
 
-pub halved_often-place : (times : ℕ) (hand : Hand) → (halved_often times hand).place ≡ hand.place
+pub halved_often-place : (times : ℕ) (detached : DetachedPiece) →
+    (halved_often times detached).place ≡ detached.place
 unfolding halved_often
-halved_often-place zero hand = refl
-halved_often-place (suc times) hand = halved_often-place times (halved hand)
+halved_often-place zero detached = refl
+halved_often-place (suc times) detached = halved_often-place times (halved detached)
 
-pub halved_often-holds : (units : ℕ) (blocks : Blocks) (times : ℕ) (hand : Hand)
-    → times ≤ hand.level → Holding units blocks hand
-    → Holding units blocks (halved_often times hand)
+pub halved_often-holds : (units : ℕ) (blocks : Blocks) (times : ℕ) (detached : DetachedPiece)
+    → times ≤ detached.level → Holding units blocks detached
+    → Holding units blocks (halved_often times detached)
 unfolding halved_often
-halved_often-holds units blocks zero hand le holding = holding
-halved_often-holds units blocks (suc times) hand le holding =
-    halved_often-holds units blocks times (halved hand) (omega arith)
-    (holds_halved units blocks hand (omega arith) holding)
+halved_often-holds units blocks zero detached le holding = holding
+halved_often-holds units blocks (suc times) detached le holding =
+    halved_often-holds units blocks times (halved detached) (omega arith)
+    (holds_halved units blocks detached (omega arith) holding)
 
 -- ---- joining often
-joined_none : (hand : Hand) → joined_often zero hand ≡ hand
+joined_none : (detached : DetachedPiece) → joined_often zero detached ≡ detached
 unfolding joined_often
-joined_none hand = refl
+joined_none detached = refl
 
-joined_then : (times : ℕ) (hand : Hand) (b : Bool)
-    → has (buddy_of hand.level hand.place) (listed hand.order hand.level) ≡ b
-    → joined_often (suc times) hand ≡ (if b then joined_often times (joined hand) else hand)
+joined_then : (times : ℕ) (detached : DetachedPiece) (b : Bool)
+    → has (buddy_of detached.level detached.place) (listed detached.order detached.level) ≡ b
+    → joined_often (suc times) detached ≡ (if b then joined_often times (joined detached) else detached)
 unfolding joined_often
-joined_then times hand b is =
-    ap (λ (t : Bool). if t then joined_often times (joined hand) else hand) is
+joined_then times detached b is =
+    ap (λ (t : Bool). if t then joined_often times (joined detached) else detached) is
 
 -- one joining more
-pub joined_often-more : (times : ℕ) (hand : Hand)
-    → IsListed hand.order hand.level (buddy_of hand.level hand.place)
-    → joined_often (suc times) hand ≡ joined_often times (joined hand)
-joined_often-more times hand is = joined_then times hand true is
+pub joined_often-more : (times : ℕ) (detached : DetachedPiece)
+    → IsListed detached.order detached.level (buddy_of detached.level detached.place)
+    → joined_often (suc times) detached ≡ joined_often times (joined detached)
+joined_often-more times detached is = joined_then times detached true is
 
 -- and no more
-pub joined_often-done : (times : ℕ) (hand : Hand)
-    → has (buddy_of hand.level hand.place) (listed hand.order hand.level) ≡ false
-    → joined_often times hand ≡ hand
+pub joined_often-done : (times : ℕ) (detached : DetachedPiece)
+    → has (buddy_of detached.level detached.place) (listed detached.order detached.level) ≡ false
+    → joined_often times detached ≡ detached
 unfolding joined_often
-joined_often-done zero hand is = refl
-joined_often-done (suc times) hand is = joined_then times hand false is
+joined_often-done zero detached is = refl
+joined_often-done (suc times) detached is = joined_then times detached false is
 
--- what comes of it: a piece in hand whose buddy is not free, or of the last level
-pub record Joined (units : ℕ) (blocks : Blocks) (top : ℕ) (hand : Hand) : Type 0 where
-  pub holds : Holding units blocks hand
-  pub most : hand.level ≤ top
-  pub alone : hand.level < top → IsListed hand.order hand.level (buddy_of hand.level hand.place) → ⊥
+-- what comes of it: a detached piece whose buddy is not free, or of the last level
+pub record Joined (units : ℕ) (blocks : Blocks) (top : ℕ) (detached : DetachedPiece) : Type 0 where
+  pub holds : Holding units blocks detached
+  pub most : detached.level ≤ top
+  pub alone : detached.level < top →
+      IsListed detached.order detached.level (buddy_of detached.level detached.place) → ⊥
 
-pub joined_often-holds : (units : ℕ) (blocks : Blocks) (times : ℕ) (hand : Hand)
-    → hand.level + times ≤ largest_level → Holding units blocks hand
-    → Joined units blocks (hand.level + times) (joined_often times hand)
-joined_often-holds units blocks zero hand le holding =
-    subst (λ (h : Hand). Joined units blocks (hand.level + zero) h) (sym (joined_none hand))
+pub joined_often-holds : (units : ℕ) (blocks : Blocks) (times : ℕ) (detached : DetachedPiece)
+    → detached.level + times ≤ largest_level → Holding units blocks detached
+    → Joined units blocks (detached.level + times) (joined_often times detached)
+joined_often-holds units blocks zero detached le holding =
+    subst (λ (h : DetachedPiece). Joined units blocks (detached.level + zero) h)
+    (sym (joined_none detached))
     (record { holds = holding; most = omega arith; alone = λ less. absurd (omega arith) })
-joined_often-holds units blocks (suc times) hand le holding =
-    elim (cases_Bool (has (buddy_of hand.level hand.place) (listed hand.order hand.level)))
-    as (λ _. Joined units blocks (hand.level + suc times) (joined_often (suc times) hand)) [
+joined_often-holds units blocks (suc times) detached le holding =
+    elim (cases_Bool (has (buddy_of detached.level detached.place)
+    (listed detached.order detached.level)))
+    as (λ _. Joined units blocks (detached.level + suc times) (joined_often (suc times) detached)) [
       | inl is ↦
-          let top : suc hand.level + times ≡ hand.level + suc times = omega arith in
-          subst (λ (h : Hand). Joined units blocks (hand.level + suc times) h)
-          (sym (joined_often-more times hand is))
-          (subst (λ (t : ℕ). Joined units blocks t (joined_often times (joined hand))) top
-          (joined_often-holds units blocks times (joined hand) (omega arith)
-          (holds_joined units blocks hand (omega arith) holding is)))
+          let top : suc detached.level + times ≡ detached.level + suc times = omega arith in
+          subst (λ (h : DetachedPiece). Joined units blocks (detached.level + suc times) h)
+          (sym (joined_often-more times detached is))
+          (subst (λ (t : ℕ). Joined units blocks t (joined_often times (joined detached))) top
+          (joined_often-holds units blocks times (joined detached) (omega arith)
+          (holds_joined units blocks detached (omega arith) holding is)))
       | inr none ↦
-          subst (λ (h : Hand). Joined units blocks (hand.level + suc times) h)
-          (sym (joined_often-done (suc times) hand none))
+          subst (λ (h : DetachedPiece). Joined units blocks (detached.level + suc times) h)
+          (sym (joined_often-done (suc times) detached none))
           (record {
             holds = holding;
             most = omega arith;
@@ -98,20 +102,26 @@ joined_often-holds units blocks (suc times) hand le holding =
           })
     ]
 
-pub joined_often-level : (times : ℕ) (hand : Hand)
-    → (joined_often times hand).level ≤ hand.level + times
-joined_often-level zero hand = omega (arith, ap (λ (h : Hand). h.level) (joined_none hand))
-joined_often-level (suc times) hand =
-    elim (cases_Bool (has (buddy_of hand.level hand.place) (listed hand.order hand.level)))
-    as (λ _. (joined_often (suc times) hand).level ≤ hand.level + suc times) [
+pub joined_often-level : (times : ℕ) (detached : DetachedPiece)
+    → (joined_often times detached).level ≤ detached.level + times
+joined_often-level zero detached =
+    omega (arith, ap (λ (h : DetachedPiece). h.level) (joined_none detached))
+joined_often-level (suc times) detached =
+    elim (cases_Bool (has (buddy_of detached.level detached.place)
+    (listed detached.order detached.level)))
+    as (λ _. (joined_often (suc times) detached).level ≤ detached.level + suc times) [
       | inl is ↦
           omega (
             arith,
-            ap (λ (h : Hand). h.level) (joined_often-more times hand is),
-            joined_often-level times (joined hand),
+            ap (λ (h : DetachedPiece). h.level) (joined_often-more times detached is),
+            joined_often-level times (joined detached),
           )
       | inr none ↦
-          omega (arith, ap (λ (h : Hand). h.level) (joined_often-done (suc times) hand none))
+          omega (
+            arith,
+            ap (λ (h : DetachedPiece). h.level)
+                (joined_often-done (suc times) detached none),
+          )
     ]
 
 -- ---- the level of a block
@@ -133,7 +143,7 @@ level_at-is blocks place level words small is size =
     (least-answers (suc largest_level) test) answer)
 
 -- ---- gets and frees
--- the piece that a get has in hand at the end
+-- the piece that a get has detached at the end
 pub got_holds : (units : ℕ) (blocks : Blocks) (order : Order) (level found : ℕ)
     → Tiles units blocks order → level ≤ found
     → IsListed order found (first_or (listed order found) 0)
@@ -144,8 +154,8 @@ pub got_holds : (units : ℕ) (blocks : Blocks) (order : Order) (level found : �
       place = first_or (listed order found) 0;
     })
 got_holds units blocks order level found tiles le is =
-    let first : Hand = first_taken order found in
-    let last : Hand = piece_got order level found in
+    let first : DetachedPiece = first_taken order found in
+    let last : DetachedPiece = piece_got order level found in
     let holding = halved_often-holds units blocks (found - level) first (omega arith)
     (holds_taken units blocks order found (first_or (listed order found) 0) tiles is) in
     let counts = halved_often-level (found - level) first (omega arith) in
@@ -162,7 +172,7 @@ pub got_tiles : (units : ℕ) (blocks : Blocks) (order : Order) (level found : �
     (map.insert blocks (first_or (listed order found) 0) (replicate (2 ^ level) 0))
     (piece_got order level found).order
 got_tiles units blocks order level found fits tiles le is =
-    hand_is_block units blocks (piece_got order level found).order level
+    detached_is_block units blocks (piece_got order level found).order level
     (first_or (listed order found) 0) (replicate (2 ^ level) 0) fits (length-replicate (2 ^ level) 0)
     (got_holds units blocks order level found tiles le is)
 
@@ -173,14 +183,14 @@ pub freed_tiles : (units : ℕ) (blocks : Blocks) (order : Order) (place : ℕ) 
 freed_tiles units blocks order place words fits tiles is =
     let block = fits.each place words is in
     let level : level_at blocks place ≡ block.level
-    = level_at-is blocks place block.level words block.stands.small is block.size in
-    let first : Hand = record { order = order; level = block.level; place = place } in
-    let hand = block_is_hand units blocks order block.level place words fits tiles is block.size
-    block.stands in
+    = level_at-is blocks place block.level words block.is_aligned.small is block.size in
+    let first : DetachedPiece = record { order = order; level = block.level; place = place } in
+    let detached = block_is_detached units blocks order block.level place words fits tiles is block.size
+    block.is_aligned in
     let sum : block.level + (largest_level - block.level) ≡ largest_level
-    = omega (arith, block.stands.small) in
+    = omega (arith, block.is_aligned.small) in
     let done = joined_often-holds units (map.remove blocks place) (largest_level - block.level) first
-    (omega (arith, sum)) hand in
+    (omega (arith, sum)) detached in
     subst (λ (k : ℕ). Tiles units (map.remove blocks place) (put_back (piece_freed order k place)))
     (sym level)
     (holds_released units (map.remove blocks place) (piece_freed order block.level place) done.holds
@@ -214,12 +224,12 @@ units_whole units blocks order tiles empty number below =
           ];
     } in
     let large = large_piece units blocks order tiles largest_level place (omega arith) is in
-    let stands = tiles.stands large.size large.place large.is in
-    let size : large.size ≡ largest_level = omega (arith, large.enough, stands.small) in
+    let is_aligned = tiles.is_aligned large.size large.place large.is in
+    let size : large.size ≡ largest_level = omega (arith, large.enough, is_aligned.small) in
     let sizes : 2 ^ large.size ≡ 2 ^ largest_level = ap (λ (k : ℕ). 2 ^ k) size in
     let there : large.place ≡ place
     = same_multiple (2 ^ largest_level) large.place place
-    (ap (λ (s : ℕ). large.place % s) (sym sizes) ∙ stands.aligned) aligned large.from
+    (ap (λ (s : ℕ). large.place % s) (sym sizes) ∙ is_aligned.aligned) aligned large.from
     (omega (arith, large.before, sizes)) in
     subst (λ (k : ℕ). IsListed order k place) size
     (subst (λ (p : ℕ). IsListed order large.size p) there large.is)

@@ -3,22 +3,22 @@ use Rattle.std.proofs.Common.{◌≡◌, ℕ, ◌+◌, ◌-◌, ◌^◌, ◌≤�
 use Rattle.std.proofs.lemmas.Bool.{cases_eq}
 use Rattle.std.specs.FinMap as map
 use Rattle.l6_word.specs.Numerals.{largest_level}
-use Rattle.l6_store.specs.Blocks.{Blocks, Fits, IsLive, LiesIn, Stands, block_at}
+use Rattle.l6_store.specs.Blocks.{Blocks, Fits, IsLive, LiesIn, IsAlignedPlace, block_at}
 use Rattle.l6_store.specs.Rule.{Order}
 use Rattle.std.specs.Option.{option_map}
 use Rattle.l6_store.specs.Store.{Store, IsSound, after_free, after_get, picked}
 use Rattle.l6_store.specs.Buddy.{IsListed, buddy_rule, first_or, halved_often, level_at, level_found, listed, order_after, piece_freed, piece_got, put_back, taken_out}
 use Rattle.l6_store.specs.Tiles.{Tiles}
-use Rattle.l6_store.specs.inner.Hands.{Holding, IsInHand}
-use Rattle.l6_store.specs.inner.Layout.{IsSoundLayout, Layout}
+use Rattle.l6_store.specs.inner.Detached.{Holding, IsDetached}
+use Rattle.l6_store.specs.inner.ArenaLayout.{IsSoundLayout, ArenaLayout}
 use Rattle.l6_store.proofs.Live.{live_words}
 use Rattle.l6_store.proofs.Gathered.{get-insert_same, get-insert_other}
-use Rattle.l6_store.proofs.Hands.{block_is_hand, holds_taken, insert-lies}
+use Rattle.l6_store.proofs.Detached.{block_is_detached, holds_taken, insert-lies}
 use Rattle.l6_store.proofs.Finding.{Found, chooses, level_is_found}
 use Rattle.l6_store.proofs.Steps.{got_holds, got_tiles, freed_tiles, level_at-is, moves_few_freed, moves_few_got}
 
 -- a filled arena is a sound store
-pub sound_store : (layout : Layout) (moves : ℕ) → IsSoundLayout layout
+pub sound_store : (layout : ArenaLayout) (moves : ℕ) → IsSoundLayout layout
     → Tiles layout.units layout.blocks layout.order
     → IsSound buddy_rule (record {
       units = layout.units;
@@ -41,11 +41,11 @@ tiles_along units one blocks two order three units_are blocks_are order_is tiles
     (subst (λ (b : Blocks). Tiles one b order) (sym blocks_are)
     (subst (λ (o : Order). Tiles one two o) (sym order_is) tiles))
 
-hand_along : (units one : ℕ) (blocks two : Blocks) (level : ℕ) (order three : Order)
+detached_along : (units one : ℕ) (blocks two : Blocks) (level : ℕ) (order three : Order)
     (place four : ℕ) → units ≡ one → blocks ≡ two → order ≡ three → place ≡ four
     → Holding one two (record { order = three; level = level; place = four })
     → Holding units blocks (record { order = order; level = level; place = place })
-hand_along units one blocks two level order three place four us bs os ps holding =
+detached_along units one blocks two level order three place four us bs os ps holding =
     subst (λ (u : ℕ). Holding u blocks (record { order = order; level = level; place = place }))
     (sym us)
     (subst (λ (b : Blocks). Holding one b (record { order = order; level = level; place = place }))
@@ -95,7 +95,7 @@ pub written_tiles : (units : ℕ) (blocks : Blocks) (order : Order) (place : ℕ
     → Tiles units (map.insert blocks place new) order
 written_tiles units blocks order place old new is count tiles = record {
   lists = tiles.lists;
-  stands = tiles.stands;
+  is_aligned = tiles.is_aligned;
   whole = tiles.whole;
   apart = λ at lies. tiles.apart at (was_lying blocks place old new is count at lies);
   once = λ at from before none. tiles.once at from before
@@ -110,26 +110,26 @@ unfolding Found
 found_facts order level found is =
     subst (λ (o : Option ℕ). Found order level o) (sym is) (level_is_found order level)
 
-module _ (was : Layout) (sound : IsSoundLayout was) (tiles : Tiles was.units was.blocks was.order)
-    (level found place : ℕ) (is : Some found ≡ level_found was.order level) (popped : Layout)
+module _ (was : ArenaLayout) (sound : IsSoundLayout was) (tiles : Tiles was.units was.blocks was.order)
+    (level found place : ℕ) (is : Some found ≡ level_found was.order level) (popped : ArenaLayout)
     (popped_units : popped.units ≡ was.units) (popped_blocks : popped.blocks ≡ was.blocks)
     (popped_order : popped.order ≡ taken_out was.order found place)
     (first : place ≡ first_or (listed was.order found) 0) where
   taken : popped.order ≡ taken_out was.order found (first_or (listed was.order found) 0)
   taken = popped_order ∙ ap (taken_out was.order found) first
 
-  pub in_hand : IsInHand popped.units popped.blocks
+  pub is_detached : IsDetached popped.units popped.blocks
       (record { order = popped.order; level = found; place = place })
-  in_hand = record {
+  is_detached = record {
     most = omega (arith, sound.most, popped_units);
-    holds = hand_along popped.units was.units popped.blocks was.blocks found popped.order
+    holds = detached_along popped.units was.units popped.blocks was.blocks found popped.order
         (taken_out was.order found (first_or (listed was.order found) 0)) place
         (first_or (listed was.order found) 0) popped_units popped_blocks taken first
         (holds_taken was.units was.blocks was.order found (first_or (listed was.order found) 0) tiles
         (found_facts was.order level found is).2);
   }
 
-  module _ (now : Layout) (units : now.units ≡ popped.units) (blocks : now.blocks ≡ popped.blocks)
+  module _ (now : ArenaLayout) (units : now.units ≡ popped.units) (blocks : now.blocks ≡ popped.blocks)
       (order : now.order ≡ (halved_often (found - level)
       (record { order = popped.order; level = found; place = place })).order) where
     got_order : now.order ≡ (piece_got was.order level found).order
@@ -144,15 +144,15 @@ module _ (was : Layout) (sound : IsSoundLayout was) (tiles : Tiles was.units was
           place = p;
         })).order) first
 
-    pub got_hand : Holding now.units now.blocks
+    pub got_detached : Holding now.units now.blocks
         (record { order = now.order; level = level; place = place })
-    got_hand = hand_along now.units was.units now.blocks was.blocks level now.order
+    got_detached = detached_along now.units was.units now.blocks was.blocks level now.order
         (piece_got was.order level found).order place (first_or (listed was.order found) 0)
         (units ∙ popped_units) (blocks ∙ popped_blocks) got_order first
         (got_holds was.units was.blocks was.order level found tiles
         (found_facts was.order level found is).0 (found_facts was.order level found is).2)
 
-    module _ (new : Layout) (new_units : new.units ≡ now.units)
+    module _ (new : ArenaLayout) (new_units : new.units ≡ now.units)
         (new_blocks : new.blocks ≡ map.insert now.blocks place (replicate (2 ^ level) 0))
         (new_order : new.order ≡ now.order) where
       pub got_filled : Tiles new.units new.blocks new.order
@@ -168,9 +168,9 @@ module _ (was : Layout) (sound : IsSoundLayout was) (tiles : Tiles was.units was
           (found_facts was.order level found is).0 (found_facts was.order level found is).2)
 
 -- ---- a free
-module _ (was : Layout) (sound : IsSoundLayout was) (tiles : Tiles was.units was.blocks was.order)
+module _ (was : ArenaLayout) (sound : IsSoundLayout was) (tiles : Tiles was.units was.blocks was.order)
     (place level : ℕ) (live : IsLive was.blocks place) (small : level ≤ largest_level)
-    (size : 2 ^ level ≡ length (block_at was.blocks place)) (closed : Layout)
+    (size : 2 ^ level ≡ length (block_at was.blocks place)) (closed : ArenaLayout)
     (closed_units : closed.units ≡ was.units)
     (closed_blocks : closed.blocks ≡ map.remove was.blocks place)
     (closed_order : closed.order ≡ was.order) where
@@ -178,26 +178,26 @@ module _ (was : Layout) (sound : IsSoundLayout was) (tiles : Tiles was.units was
   level_told = level_at-is was.blocks place level (block_at was.blocks place) small
       (live_words was.blocks place live) (sym size)
 
-  freed_stands : Stands was.units level place
+  freed_stands : IsAlignedPlace was.units level place
   freed_stands =
       let block = sound.fits.each place (block_at was.blocks place) (live_words was.blocks place live)
       in
       let its : level_at was.blocks place ≡ block.level
-      = level_at-is was.blocks place block.level (block_at was.blocks place) block.stands.small
+      = level_at-is was.blocks place block.level (block_at was.blocks place) block.is_aligned.small
       (live_words was.blocks place live) block.size in
-      subst (λ (k : ℕ). Stands was.units k place) (sym its ∙ level_told) block.stands
+      subst (λ (k : ℕ). IsAlignedPlace was.units k place) (sym its ∙ level_told) block.is_aligned
 
-  pub closed_hand : IsInHand closed.units closed.blocks
+  pub closed_detached : IsDetached closed.units closed.blocks
       (record { order = closed.order; level = level; place = place })
-  closed_hand = record {
+  closed_detached = record {
     most = omega (arith, sound.most, closed_units);
-    holds = hand_along closed.units was.units closed.blocks (map.remove was.blocks place) level
+    holds = detached_along closed.units was.units closed.blocks (map.remove was.blocks place) level
         closed.order was.order place place closed_units closed_blocks closed_order refl
-        (block_is_hand was.units was.blocks was.order level place (block_at was.blocks place)
+        (block_is_detached was.units was.blocks was.order level place (block_at was.blocks place)
         sound.fits tiles (live_words was.blocks place live) (sym size) freed_stands);
   }
 
-  module _ (new : Layout) (units : new.units ≡ closed.units) (blocks : new.blocks ≡ closed.blocks)
+  module _ (new : ArenaLayout) (units : new.units ≡ closed.units) (blocks : new.blocks ≡ closed.blocks)
       (order : new.order ≡ put_back (piece_freed closed.order level place)) where
     pub freed_order : new.order
         ≡ put_back (piece_freed was.order (level_at was.blocks place) place)

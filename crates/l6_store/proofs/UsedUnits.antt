@@ -4,15 +4,15 @@ use Rattle.std.specs.Prelude.{◌==◌, ◌||◌, not, slice_get, unwrap_or}
 use Rattle.std.proofs.lemmas.Bool.{cases_eq, cases_lt, ne_eqb}
 use Rattle.std.proofs.lemmas.List.{get_or-set_other, get_or-set_same, same_lists}
 use Rattle.std.proofs.lemmas.Option.{slice_get-get_or, slice_get_past, unwrap_or-slice_get}
-use Rattle.l6_store.specs.declared.mark.Mark.{Mark}
-use Rattle.l6_store.specs.declared.mark.Mark.TheVariants.{Inner}
-use Rattle.l6_store.specs.inner.Layout.{AreMarkSizes, mark_at, tag_of}
+use Rattle.l6_store.specs.declared.place_tag.PlaceTag.{PlaceTag}
+use Rattle.l6_store.specs.declared.place_tag.PlaceTag.TheVariants.{Inner}
+use Rattle.l6_store.specs.inner.ArenaLayout.{AreTagSizes, place_tag_at, tag_of}
 use Rattle.l6_store.specs.inner.Tags.{size_by}
-use Rattle.l6_store.specs.inner.Units.{AreAlike, AreUnused}
+use Rattle.l6_store.specs.inner.Units.{AreAlike, AreUnitsUnused}
 use Rattle.l6_store.proofs.Fresh.{all_alike}
 
 -- ---- lists that are taken over
--- so far the entries are the others, and behind they are as they were
+-- so far the entries are the others, and after they are as they were
 pub record AreTaken {A : Type 0} (was others now : List A) (first : ℕ) : Type 0 where
   pub long : length now ≡ length others
   pub taken : (at : ℕ) → at < first → slice_get now at ≡ slice_get others at
@@ -27,49 +27,50 @@ taken_all was others now first taken all =
     ∙ ap (λ o. unwrap_or o d) (taken.taken at (omega (arith, below, taken.long, all)))
     ∙ unwrap_or-slice_get others at d)
 
--- behind the last entry both have none
+-- after the last entry both have none
 pub same_past : {A : Type 0} (was others : List A) (at : ℕ) → length was ≡ length others →
     length others ≤ at → slice_get was at ≡ slice_get others at
 same_past was others at long past =
     slice_get_past was at (omega (arith, long, past)) ∙ sym (slice_get_past others at past)
 
--- ---- units of marks
+-- ---- units of tags
 -- of a new store
-pub fresh_unused : (places : ℕ) (used : List Bool) → AreUnused (replicate places Inner) used
+pub fresh_unused : (places : ℕ) (used : List Bool) → AreUnitsUnused (replicate places Inner) used
 fresh_unused places used = record {
   inner = λ place _ _. all_alike places place;
-  none = λ place _. ap (λ (m : Mark). size_by (tag_of m)) (all_alike places place);
+  none = λ place _. ap (λ (m : PlaceTag). size_by (tag_of m)) (all_alike places place);
 }
 
--- and once a place is marked: its unit is used from then on, unless nothing but a first place is marked
+-- and once a place is tagged: its unit is used from then on, unless nothing but a first place is tagged
 -- with no block
-pub set_unused : (marks : List Mark) (used now : List Bool) (place : ℕ) (mark : Mark) →
-    AreUnused marks used → place < length marks →
+pub set_unused : (place_tags : List PlaceTag) (used now : List Bool) (place : ℕ)
+    (place_tag : PlaceTag) →
+    AreUnitsUnused place_tags used → place < length place_tags →
     ((unit : ℕ) → get_or now unit false ≡ false → get_or used unit false ≡ false) →
     (get_or now (place / 1024) false ≡ false →
-    (place % 1024 ≡ 0) × (size_by (tag_of mark) ≡ 0)) →
-    AreUnused (set marks place mark) now
-set_unused marks used now place mark unused within before here = record {
-  inner = λ at behind is.
-      elim (cases_eq at place) as (λ _. mark_at (set marks place mark) at ≡ Inner) [
+    (place % 1024 ≡ 0) × (size_by (tag_of place_tag) ≡ 0)) →
+    AreUnitsUnused (set place_tags place place_tag) now
+set_unused place_tags used now place place_tag unused within before here = record {
+  inner = λ at following is.
+      elim (cases_eq at place) as (λ _. place_tag_at (set place_tags place place_tag) at ≡ Inner) [
         | inl same ↦
             let first = here (ap (λ (p : ℕ). get_or now (p / 1024) false) (sym same) ∙ is) in
-            absurd (omega (arith, behind, same, first.0))
+            absurd (omega (arith, following, same, first.0))
         | inr other ↦
-            get_or-set_other marks place at mark Inner (λ same. absurd (other same))
-            ∙ unused.inner at behind (before (at / 1024) is)
+            get_or-set_other place_tags place at place_tag Inner (λ same. absurd (other same))
+            ∙ unused.inner at following (before (at / 1024) is)
       ];
   none = λ at is.
       elim (cases_eq at place)
-      as (λ _. size_by (tag_of (mark_at (set marks place mark) at)) ≡ 0) [
+      as (λ _. size_by (tag_of (place_tag_at (set place_tags place place_tag) at)) ≡ 0) [
         | inl same ↦
-            ap (λ (m : Mark). size_by (tag_of m))
-            (ap (mark_at (set marks place mark)) same
-            ∙ get_or-set_same marks place mark Inner within)
+            ap (λ (m : PlaceTag). size_by (tag_of m))
+            (ap (place_tag_at (set place_tags place place_tag)) same
+            ∙ get_or-set_same place_tags place place_tag Inner within)
             ∙ (here (ap (λ (p : ℕ). get_or now (p / 1024) false) (sym same) ∙ is)).1
         | inr other ↦
-            ap (λ (m : Mark). size_by (tag_of m))
-            (get_or-set_other marks place at mark Inner (λ same. absurd (other same)))
+            ap (λ (m : PlaceTag). size_by (tag_of m))
+            (get_or-set_other place_tags place at place_tag Inner (λ same. absurd (other same)))
             ∙ unused.none at (before (at / 1024) is)
       ];
 }
@@ -112,29 +113,30 @@ flag_here used unit flag within is =
     or_right (get_or used unit false) flag
     (sym (get_or-set_same used unit (get_or used unit false || flag) false within) ∙ is)
 
--- so the marks of two stores are alike behind the first place of each unit that neither has used, ..
-pub alike_marks : (one other : List Mark) (used other_used : List Bool) →
-    length one ≡ length other → AreUnused one used → AreUnused other other_used →
+-- so the tags of two stores are alike after the first place of each unit that neither has used, ..
+pub alike_place_tags : (one other : List PlaceTag) (used other_used : List Bool) →
+    length one ≡ length other → AreUnitsUnused one used → AreUnitsUnused other other_used →
     AreAlike one other used other_used true
-alike_marks one other used other_used long unused also = record {
-  same = λ place behind is is_other.
+alike_place_tags one other used other_used long unused also = record {
+  same = λ place following is is_other.
       elim (cases_lt place (length one)) as (λ _. slice_get one place ≡ slice_get other place) [
         | inl below ↦
             slice_get-get_or one place Inner below
-            ∙ ap (λ (m : Mark). Some m)
-            (unused.inner place (behind refl) is ∙ sym (also.inner place (behind refl) is_other))
+            ∙ ap (λ (m : PlaceTag). Some m)
+            (unused.inner place (following refl) is ∙ sym (also.inner place (following refl) is_other))
             ∙ sym (slice_get-get_or other place Inner (omega (arith, below, long)))
         | inr past ↦ same_past one other place long (omega (arith, past, long))
       ];
 }
 
 -- .. and their sizes are alike in all of it
-pub alike_sizes : (marks other_marks : List Mark) (sizes other_sizes : List ℕ)
-    (used other_used : List Bool) → length marks ≡ length other_marks →
-    AreMarkSizes marks sizes → AreMarkSizes other_marks other_sizes →
-    AreUnused marks used → AreUnused other_marks other_used →
+pub alike_sizes : (place_tags other_place_tags : List PlaceTag) (sizes other_sizes : List ℕ)
+    (used other_used : List Bool) → length place_tags ≡ length other_place_tags →
+    AreTagSizes place_tags sizes → AreTagSizes other_place_tags other_sizes →
+    AreUnitsUnused place_tags used → AreUnitsUnused other_place_tags other_used →
     AreAlike sizes other_sizes used other_used false
-alike_sizes marks other_marks sizes other_sizes used other_used long sized also_sized unused also =
+alike_sizes place_tags other_place_tags sizes other_sizes used other_used long sized also_sized
+    unused also =
     let sizes_long : length sizes ≡ length other_sizes =
     sized.count ∙ long ∙ sym also_sized.count in
     record {

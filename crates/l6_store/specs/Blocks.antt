@@ -1,4 +1,4 @@
--- Blocks: lists of words that stand in a store, each from a place of its own on.
+-- Blocks: lists of words that are in a store, each from a place of its own on.
 use Rattle.std.specs.Prelude.{◌≡◌, ℕ, ◌+◌, ◌-◌, ◌*◌, ◌%◌, ◌^◌, ◌<◌, ◌≤◌, List, [], length, slice_index, Some, unwrap_or, IsSome}
 use Rattle.std.specs.List.{All}
 use Rattle.std.specs.Ordering.{nat_cmp}
@@ -13,14 +13,14 @@ Blocks = map.FinMap {K = ℕ} nat_cmp (List ℕ)
 abbrev pub blocks_code : Coded Blocks
 blocks_code = map.code coded_ℕ (coded_list coded_ℕ)
 
--- the place behind a store of so many units. The first unit begins at the place unit_size: place 0
+-- the place after a store of so many units. The first unit begins at the place unit_size: place 0
 -- is no block.
 abbrev pub end_of : ℕ → ℕ
 end_of units = unit_size * units + unit_size
 
--- a block of a level may stand at a place: it has 2^level words, begins at a multiple of that, and
+-- a block of a level may be at a place: it has 2^level words, begins at a multiple of that, and
 -- lies in the store
-pub record Stands (units level place : ℕ) : Type 0 where
+pub record IsAlignedPlace (units level place : ℕ) : Type 0 where
   pub small : level ≤ largest_level
   pub aligned : place % 2 ^ level ≡ 0
   pub above : unit_size ≤ place
@@ -30,7 +30,7 @@ pub record Stands (units level place : ℕ) : Type 0 where
 pub record IsBlock (units place : ℕ) (words : List ℕ) : Type 0 where
   pub level : ℕ
   pub size : length words ≡ 2 ^ level
-  pub stands : Stands units level place
+  pub is_aligned : IsAlignedPlace units level place
   pub are_words : All (λ word. word < 2 ^ word_bits) words
 
 -- the blocks of a store: each is one, and no two share a word
@@ -57,7 +57,7 @@ pub record LiesIn (blocks : Blocks) (place : ℕ) : Type 0 where
   pub from : start ≤ place
   pub below : place < start + length words
 
--- where the place stands among the words of its block, and its word
+-- where the place is among the words of its block, and its word
 abbrev pub index_in : {blocks : Blocks} (place : ℕ) → LiesIn blocks place → ℕ
 index_in place found = place - found.start
 

@@ -8,7 +8,7 @@ use Rattle.l6_store.specs.Blocks.{Blocks, block_at}
 use Rattle.l6_store.specs.Rule.{Order, Rule}
 use Rattle.l6_store.specs.Least.{least}
 
--- whether a place stands in a list
+-- whether a place is in a list
 unfoldable pub has : ℕ → List ℕ → Bool
 has place [] = false
 has place (first ∷ rest) = place == first || has place rest
@@ -49,63 +49,63 @@ buddy_of level place = if place % 2 ^ suc level == 0 then place + 2 ^ level else
 abbrev pub whole_of : ℕ → ℕ → ℕ
 whole_of level place = if place % 2 ^ suc level == 0 then place else place - 2 ^ level
 
--- a piece that was taken in hand, and the lists without it
-pub record Hand : Type 0 where
+-- a piece that was taken out of its list, and the lists without it
+pub record DetachedPiece : Type 0 where
   pub order : Order
   pub level : ℕ
   pub place : ℕ
 
--- the upper half goes in front of its list, the lower one is kept in hand
-abbrev pub halved : Hand → Hand
-halved hand = record {
-  order = in_front hand.order (hand.level - 1) (hand.place + 2 ^ (hand.level - 1));
-  level = hand.level - 1;
-  place = hand.place;
+-- the upper half goes in front of its list, the lower one is kept detached
+abbrev pub halved : DetachedPiece → DetachedPiece
+halved detached = record {
+  order = in_front detached.order (detached.level - 1) (detached.place + 2 ^ (detached.level - 1));
+  level = detached.level - 1;
+  place = detached.place;
 }
 
 -- the buddy comes out of its list, and the two are one piece
-abbrev pub joined : Hand → Hand
-joined hand = record {
-  order = taken_out hand.order hand.level (buddy_of hand.level hand.place);
-  level = suc hand.level;
-  place = whole_of hand.level hand.place;
+abbrev pub joined : DetachedPiece → DetachedPiece
+joined detached = record {
+  order = taken_out detached.order detached.level (buddy_of detached.level detached.place);
+  level = suc detached.level;
+  place = whole_of detached.level detached.place;
 }
 
 -- halved so many times
-unfoldable pub halved_often : ℕ → Hand → Hand
-halved_often zero hand = hand
-halved_often (suc times) hand = halved_often times (halved hand)
+unfoldable pub halved_often : ℕ → DetachedPiece → DetachedPiece
+halved_often zero detached = detached
+halved_often (suc times) detached = halved_often times (halved detached)
 
 -- joined at most so many times, as long as the buddy is listed
-unfoldable pub joined_often : ℕ → Hand → Hand
-joined_often zero hand = hand
-joined_often (suc times) hand =
-    if has (buddy_of hand.level hand.place) (listed hand.order hand.level)
-    then joined_often times (joined hand) else hand
+unfoldable pub joined_often : ℕ → DetachedPiece → DetachedPiece
+joined_often zero detached = detached
+joined_often (suc times) detached =
+    if has (buddy_of detached.level detached.place) (listed detached.order detached.level)
+    then joined_often times (joined detached) else detached
 
--- the least level with a free piece that is at least the one wanted
+-- the least level with a free piece that is at least the level asked for
 unfoldable pub level_found : Order → ℕ → Option ℕ
 level_found order level =
     least (suc largest_level) (λ k. nat_le level k && is_some (first_of (listed order k)))
 
--- the first piece of a level, taken in hand
-abbrev pub first_taken : Order → ℕ → Hand
+-- the first piece of a level, taken out of its list
+abbrev pub first_taken : Order → ℕ → DetachedPiece
 first_taken order level =
     let place = first_or (listed order level) 0 in
     record { order = taken_out order level place; level = level; place = place }
 
--- a piece of the level wanted, from the first one of the level found
-abbrev pub piece_got : Order → ℕ → ℕ → Hand
+-- a piece of the level asked for, from the first one of the level found
+abbrev pub piece_got : Order → ℕ → ℕ → DetachedPiece
 piece_got order level found = halved_often (found - level) (first_taken order found)
 
 -- the piece that is left of a block of a level when it is freed
-abbrev pub piece_freed : Order → ℕ → ℕ → Hand
+abbrev pub piece_freed : Order → ℕ → ℕ → DetachedPiece
 piece_freed order level place =
     joined_often (largest_level - level) (record { order = order; level = level; place = place })
 
--- a piece in hand goes in front of its list
-abbrev pub put_back : Hand → Order
-put_back hand = in_front hand.order hand.level hand.place
+-- a detached piece goes in front of its list
+abbrev pub put_back : DetachedPiece → Order
+put_back detached = in_front detached.order detached.level detached.place
 
 -- the level of the block that begins at a place
 unfoldable pub level_at : Blocks → ℕ → ℕ

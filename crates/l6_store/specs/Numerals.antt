@@ -1,4 +1,4 @@
--- The numbers of the language that stores stand on.
+-- The numbers of the language that stores use.
 use Rattle.std.specs.Prelude.{ℕ}
 
 -- the most units that a store has

@@ -1,4 +1,4 @@
--- Where a new block may stand.
+-- Where a new block may be.
 use Rattle.std.specs.Prelude.{◌≡◌, ℕ, ◌+◌, ◌%◌, ◌^◌, ◌<◌, ◌≤◌, List, length, Option, Some, None}
 use Rattle.std.specs.FinMap as map
 use Rattle.l6_word.specs.Numerals.{largest_level, unit_size}
@@ -13,7 +13,7 @@ pub record IsOpen (units : ℕ) (blocks : Blocks) (size place : ℕ) : Type 0 wh
   pub free : (start : ℕ) (words : List ℕ) (at : ℕ) → map.get blocks start ≡ Some words
       → place ≤ at → at < place + size → start ≤ at → start + length words ≤ at
 
--- an answer to one who wants so many words: an open place, or none where there is none
+-- an answer to a request for so many words: an open place, or none if none is open
 abbrev pub IsAnswer : ℕ → Blocks → ℕ → Option ℕ → Type 0
 IsAnswer units blocks size (Some place) = IsOpen units blocks size place
 IsAnswer units blocks size None = (place : ℕ) → IsOpen units blocks size place → ⊥

@@ -7,7 +7,7 @@ use Rattle.l6_store.specs.Open.{Choice, FitsStore}
 abbrev pub Order : Type 0
 Order = List (List ℕ)
 
--- each part is told the units, the blocks and the order before the call
+-- each part is given the units, the blocks and the order before the call
 pub record Rule : Type 0 where
   -- the order of a new store of so many units
   pub first : ℕ → Order

@@ -2,7 +2,7 @@
 -- what could be joined is joined.
 use Rattle.std.specs.Prelude.{◌≡◌, ℕ, zero, suc, ◌+◌, ◌%◌, ◌^◌, ◌<◌, ◌≤◌, ◌&&◌, nat_le, nat_lt, List, [], ◌∷◌, length, if◌then◌else◌}
 use Rattle.l6_word.specs.Numerals.{largest_level, unit_size}
-use Rattle.l6_store.specs.Blocks.{Blocks, LiesIn, Stands, end_of}
+use Rattle.l6_store.specs.Blocks.{Blocks, LiesIn, IsAlignedPlace, end_of}
 use Rattle.l6_store.specs.Rule.{Order}
 use Rattle.l6_store.specs.Buddy.{listed, IsListed}
 
@@ -28,8 +28,8 @@ held order at = held_below (suc largest_level) order at
 pub record Tiles (units : ℕ) (blocks : Blocks) (order : Order) : Type 0 where
   -- there is a list for each level
   pub lists : length order ≡ suc largest_level
-  -- a free piece stands where a block of its level may stand
-  pub stands : (level place : ℕ) → IsListed order level place → Stands units level place
+  -- a free piece is where a block of its level may be
+  pub is_aligned : (level place : ℕ) → IsListed order level place → IsAlignedPlace units level place
   -- a word of a block lies in no free piece
   pub apart : (at : ℕ) → LiesIn blocks at → held order at ≡ 0
   -- each other word of the store lies in just one

@@ -1,6 +1,6 @@
 pub mod Tags
-pub mod Marks
+pub mod PlaceTags
 pub mod Chains
-pub mod Layout
-pub mod Hands
+pub mod ArenaLayout
+pub mod Detached
 pub mod Units

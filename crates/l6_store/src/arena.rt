@@ -1,16 +1,16 @@
-//! The arena: a region of words with the blocks and the lists of free pieces that stand in it.
+//! The arena: a region of words with the blocks and the lists of free pieces that are in it.
 
 ghost use Rattle.std.specs.Prelude.{[], ℕ, ◌≡◌, ◌≢◌, ◌↔◌, ◌+◌, ◌<◌, ◌≤◌, ◌^◌, length, replicate, slice_get, slice_set, option_map, IsSome, IfSome, IfOk};
 ghost use Rattle.std.specs.List.{All};
 ghost use Rattle.std.specs.FinMap as map;
 ghost use Rattle.l6_word.specs.Numerals.{largest_level, unit_size, word_bits};
 ghost use Rattle.l6_store.specs.Numerals.{most_units};
-ghost use Rattle.l6_store.specs.Blocks.{IsLive, LiesIn, Stands, block_at, end_of, index_in, word_at};
+ghost use Rattle.l6_store.specs.Blocks.{IsLive, LiesIn, IsAlignedPlace, block_at, end_of, index_in, word_at};
 ghost use Rattle.l6_store.specs.Buddy.{IsListed, first_of, first_or, has, in_front, first_order, level_at, listed, taken_out};
-ghost use Rattle.l6_store.specs.inner.Layout.{IsSoundLayout};
+ghost use Rattle.l6_store.specs.inner.ArenaLayout.{IsSoundLayout};
 
 use crate::link::{link, pop, unlink};
-use crate::mark::{Mark, Marks};
+use crate::place_tag::{PlaceTag, PlaceTags};
 use crate::places::{Level, Place};
 use crate::tag::size_of;
 use l6_raw::Region;
@@ -21,30 +21,30 @@ use std::marker::Model;
 /// How many levels there are.
 const LEVELS: usize = LARGEST_LEVEL as usize + 1;
 
-/// A region of words, what stands at each of its places, and the head of each list.
+/// A region of words, what is at each of its places, and the head of each list.
 #[derive(Drop)]
 pub(crate) struct Arena {
     units: u32,
     // the word at each place
     words: Region,
-    // what stands at each place
-    marks: Marks,
+    // what is at each place
+    place_tags: PlaceTags,
     // the first place of each level's list, 0 where it is empty
     heads: [Place; LEVELS],
 }
 
 impl Model for Arena {
-    ghost use Rattle.l6_store.specs.inner.Layout.{Layout, layout_code};
+    ghost use Rattle.l6_store.specs.inner.ArenaLayout.{ArenaLayout, layout_code};
 
-    ghost Value = { Layout };
+    ghost Value = { ArenaLayout };
 
     ghost coded = { layout_code };
 
-    ghost use Rattle.l6_store.specs.inner.Layout.{layout_of, IsLaid};
+    ghost use Rattle.l6_store.specs.inner.ArenaLayout.{layout_of, IsArena};
 
-    ghost view = { λ a. layout_of a.units a.words a.marks a.heads };
+    ghost view = { λ a. layout_of a.units a.words a.place_tags a.heads };
 
-    ghost invariant = { λ a. IsLaid a.units a.words a.marks a.heads };
+    ghost invariant = { λ a. IsArena a.units a.words a.place_tags a.heads };
 }
 
 impl Arena {
@@ -61,7 +61,7 @@ impl Arena {
         let mut arena = Arena {
             units,
             words: Region::new(alloc, places)?,
-            marks: Marks::new(alloc, places)?,
+            place_tags: PlaceTags::new(alloc, places)?,
             heads: [0; LEVELS],
         };
         arena.list_units();
@@ -91,7 +91,7 @@ impl Arena {
         ensures order { self.new.order ≡ first_order self.old.units }
         ensures sound { IsSoundLayout self.new }
     {
-        self.marks.clear();
+        self.place_tags.clear();
         self.heads = [0; LEVELS];
         self.list_units();
     }
@@ -112,12 +112,12 @@ impl Arena {
         if place == 0 { None } else { Some(place) }
     }
 
-    /// Whether a place stands in a level's list.
+    /// Whether a place is in a level's list.
     pub(crate) fn is_listed(&self, level: Level, place: Place) -> bool
         requires { place < end_of self.now.units }
         ensures { result ≡ has place (listed self.now.order level) }
     {
-        self.marks.at(place) == Mark::Listed(level)
+        self.place_tags.at(place) == PlaceTag::Listed(level)
     }
 
     /// Puts a free piece in front of its level's list.
@@ -133,7 +133,7 @@ impl Arena {
         ensures sound { IsSoundLayout self.new }
     {
         link(&mut self.words, &mut self.heads, level, place);
-        self.marks.set(place, Mark::Listed(level));
+        self.place_tags.set(place, PlaceTag::Listed(level));
     }
 
     /// Takes a free piece out of its level's list.
@@ -146,7 +146,7 @@ impl Arena {
         ensures sound { IsSoundLayout self.new }
     {
         unlink(&mut self.words, &mut self.heads, level, place);
-        self.marks.set(place, Mark::Inner);
+        self.place_tags.set(place, PlaceTag::Inner);
     }
 
     /// Takes the first free piece out of a level's list.
@@ -160,7 +160,7 @@ impl Arena {
         ensures sound { IsSoundLayout self.new }
     {
         let place = pop(&mut self.words, &mut self.heads, level);
-        self.marks.set(place, Mark::Inner);
+        self.place_tags.set(place, PlaceTag::Inner);
         place
     }
 
@@ -171,7 +171,7 @@ impl Arena {
             ≡ option_map length (map.get self.now.blocks place) }
         ensures level { IfSome result (λ level. level ≤ largest_level) }
     {
-        self.marks.level(place)
+        self.place_tags.level(place)
     }
 
     /// The word of this index in the block that begins at a place, or `None` where none begins or the
@@ -181,7 +181,7 @@ impl Arena {
         ensures near { IfSome result
             (λ _. (start < end_of most_units) × (index < unit_size)) }
     {
-        if index < self.marks.size(start) {
+        if index < self.place_tags.size(start) {
             let word = self.words.read(start + usize::from(index));
             Some(Word::from_value(word))
         } else {
@@ -191,7 +191,7 @@ impl Arena {
 
     /// Makes a piece a block of zeros.
     pub(crate) fn open(&mut self, level: Level, place: Place)
-        requires stands { Stands self.old.units level place }
+        requires is_aligned { IsAlignedPlace self.old.units level place }
         requires beside { (at : ℕ) → place ≤ at → at < place + 2 ^ level
             → LiesIn self.old.blocks at → ⊥ }
         requires unlisted { (k at : ℕ) → place ≤ at → at < place + 2 ^ level
@@ -203,10 +203,10 @@ impl Arena {
         ensures sound { IsSoundLayout self.new }
     {
         self.words.fill(place as usize, size_of(level));
-        self.marks.set(place, Mark::Block(level));
+        self.place_tags.set(place, PlaceTag::Block(level));
     }
 
-    /// Takes out a block, of which a piece of the level told is left.
+    /// Takes out a block, which leaves a piece of this level.
     pub(crate) fn close(&mut self, place: Place) -> Level
         requires { IsLive self.old.blocks place }
         ensures small { result ≤ largest_level }
@@ -217,7 +217,7 @@ impl Arena {
         ensures sound { IsSoundLayout self.new }
     {
         let level = self.level_at(place as usize).unwrap();
-        self.marks.set(place, Mark::Inner);
+        self.place_tags.set(place, PlaceTag::Inner);
         level
     }
 
@@ -275,18 +275,18 @@ impl Arena {
         ensures { self.new ≡ other.now }
     {
         self.words.take_from(&other.words);
-        self.marks.take_from(&other.marks);
+        self.place_tags.take_from(&other.place_tags);
         self.heads.copy_from_slice(&other.heads);
     }
 
-    /// The same arena once more.
+    /// A copy of the arena, in memory of its own.
     pub(crate) fn duplicate(&self, alloc: Global) -> Result<Self, AllocError>
         ensures { IfOk result (λ copy. copy ≡ self.now) }
     {
         Ok(Arena {
             units: self.units,
             words: self.words.duplicate(alloc)?,
-            marks: self.marks.duplicate(alloc)?,
+            place_tags: self.place_tags.duplicate(alloc)?,
             heads: self.heads,
         })
     }

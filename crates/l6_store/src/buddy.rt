@@ -1,10 +1,11 @@
-//! The buddy system: a store whose free pieces are listed by their level. `docs/allocator.md` tells it
-//! to writers of allocators.
+//! The buddy system: a store whose free pieces are listed by their level. `docs/allocator.md`
+//! explains it to those who write allocators.
 
-ghost use Rattle.std.specs.Prelude.{◌≡◌, ◌↔◌, ◌⊎◌, ◌<◌, ◌≤◌, IfOk, OnOk, IsErrOf};
+ghost use Rattle.std.specs.Prelude.{◌≡◌, ◌↔◌, ◌⊎◌, ◌<◌, ◌≤◌, length, IfOk, OnOk, IsErrOf};
 ghost use Rattle.l6_store.specs.Numerals.{most_units};
+ghost use Rattle.l6_store.specs.Blocks.{end_of};
 ghost use Rattle.l6_store.specs.Buddy.{buddy_rule};
-ghost use Rattle.l6_store.specs.Links.{Links};
+ghost use Rattle.l6_store.specs.Links.{AreAtTheirPlaces, Links};
 ghost use Rattle.l6_store.specs.Store.{fresh, IsSound};
 ghost use Rattle.l6_store.specs.Tiles.{Tiles};
 
@@ -18,10 +19,11 @@ use std::alloc::{AllocError, Global};
 use std::marker::Model;
 
 /// A store by the buddy system (K. C. Knowlton, A fast storage allocator, CACM 8(10), 1965). A get
-/// takes the first free piece of the least level that serves, and halves it down to the level wanted;
-/// a free joins the block with its buddy as long as that one is free. So a get and a free take as many
-/// steps as there are levels, at most. The free lists stand in the free words: a store takes 8 bytes
-/// for each word, 2 bytes for each place, and the heads of the lists, all of it when it is made.
+/// takes the first free piece of the least level that is large enough, and halves it down to the
+/// level asked for; a free joins the block with its buddy as long as that one is free. So a get and
+/// a free take as many steps as there are levels, at most. The free lists are in the free words: a
+/// store takes 8 bytes for each word, 4 bytes for each place, and the heads of the lists, all of it
+/// when it is made.
 #[derive(Drop)]
 pub struct Buddy {
     arena: Arena,
@@ -39,7 +41,7 @@ impl Model for Buddy {
     ghost use Rattle.std.specs.Prelude.{◌≤◌};
     ghost use Rattle.l6_word.specs.Numerals.{largest_level};
     ghost use Rattle.l6_store.specs.Tiles.{Tiles};
-    ghost use Rattle.l6_store.specs.inner.Layout.{IsSoundLayout};
+    ghost use Rattle.l6_store.specs.inner.ArenaLayout.{IsSoundLayout};
 
     ghost view = { λ b. record {
       store = record {
@@ -58,8 +60,12 @@ impl Model for Buddy {
 }
 
 impl Buddy {
-    /// A store without blocks. `BadUnits` exactly for no unit or more than 255, before any
-    /// growth.
+    /// A store without blocks.
+    ///
+    /// # Errors
+    ///
+    /// `BadUnits` exactly for no unit or more than 255, before anything is allocated; or out of
+    /// memory.
     pub fn new(alloc: Global, units: u32) -> Result<Self, StoreFault>
         ensures fresh { IfOk result (λ buddy. buddy.store ≡ fresh buddy_rule units) }
         ensures bad_units { IsErrOf result StoreFault.BadUnits
@@ -77,9 +83,12 @@ impl Buddy {
     }
 
     /// Of each buddy store, whatever calls made it what it is: its words and its heads hold its free
-    /// lists, by the links in the first words of the free pieces.
+    /// lists, by the links in the first words of the free pieces. There is a word for each place, and the
+    /// words of a block are those at its places.
     pub fn links_hold(&self)
-        ensures { Links self.now.words self.now.heads self.now.store.order }
+        ensures links { Links self.now.words self.now.heads self.now.store.order }
+        ensures count { length self.now.words ≡ end_of self.now.store.units }
+        ensures blocks { AreAtTheirPlaces self.now.words self.now.store.blocks }
     {
         let _arena = &self.arena;
     }

@@ -6,7 +6,7 @@ use thiserror::Error;
 /// Why no store was made.
 #[derive(Clone, Copy, Debug, Error, PartialEq, Eq)]
 pub enum StoreFault {
-    /// A growth was refused.
+    /// Memory ran out.
     #[error("out of memory")]
     NoMemory,
     /// No unit, or more than 255.

@@ -1,4 +1,4 @@
-//! The links of the free lists, which stand in the words of a store.
+//! The links of the free lists, which are in the words of a store.
 
 ghost use Rattle.std.specs.Prelude.{◌≡◌, ◌<◌, ◌≤◌, ◌^◌, length, slice_index, slice_set};
 ghost use Rattle.l6_store.specs.Numerals.{place_bits};

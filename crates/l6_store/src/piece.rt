@@ -5,14 +5,14 @@ ghost use Rattle.l6_word.specs.Numerals.{largest_level, unit_size};
 ghost use Rattle.l6_store.specs.Numerals.{most_units};
 ghost use Rattle.l6_store.specs.Blocks.{end_of};
 ghost use Rattle.l6_store.specs.Buddy.{buddy_of, halved_often, level_found, piece_freed, put_back};
-ghost use Rattle.l6_store.specs.inner.Hands.{IsInHand};
-ghost use Rattle.l6_store.specs.inner.Layout.{IsSoundLayout};
+ghost use Rattle.l6_store.specs.inner.Detached.{IsDetached};
+ghost use Rattle.l6_store.specs.inner.ArenaLayout.{IsSoundLayout};
 
 use crate::arena::Arena;
 use crate::places::{Level, Place};
 use l6_word::LARGEST_LEVEL;
 
-/// The least level with a free piece that is at least the one wanted.
+/// The least level with a free piece that is at least the level asked for.
 pub(crate) fn least_level(arena: &Arena, level: Level) -> Option<Level>
     ensures { result ≡ level_found arena.now.order level }
 {
@@ -24,12 +24,12 @@ pub(crate) fn least_level(arena: &Arena, level: Level) -> Option<Level>
     None
 }
 
-/// Halves a piece in hand until it has the level wanted, and says how often. Each upper half goes in
-/// front of its list, and the lower one is kept.
+/// Halves a detached piece until it has the level asked for, and answers how often. Each upper half
+/// goes in front of its list, and the lower one is kept.
 pub(crate) fn halve(arena: &mut Arena, from: Level, level: Level, place: Place) -> u32
     requires sound { IsSoundLayout arena.old }
     requires enough { level ≤ from }
-    requires held { IsInHand arena.old.units arena.old.blocks
+    requires held { IsDetached arena.old.units arena.old.blocks
         (record { order = arena.old.order; level = from; place = place }) }
     ensures order { arena.new.order
         ≡ (halved_often (from - level)
@@ -64,11 +64,11 @@ fn buddy_of(level: Level, place: Place) -> Place
     }
 }
 
-/// Joins a piece in hand with its buddy as long as that one is free, puts what it makes in front of
-/// its list, and says how often it was joined.
+/// Joins a detached piece with its buddy as long as that one is free, puts the result in front of
+/// its list, and answers how often it was joined.
 pub(crate) fn join(arena: &mut Arena, level: Level, mut place: Place) -> u32
     requires sound { IsSoundLayout arena.old }
-    requires held { IsInHand arena.old.units arena.old.blocks
+    requires held { IsDetached arena.old.units arena.old.blocks
         (record { order = arena.old.order; level = level; place = place }) }
     ensures order { arena.new.order ≡ put_back (piece_freed arena.old.order level place) }
     ensures moves { result + level ≡ (piece_freed arena.old.order level place).level }

@@ -1,6 +1,6 @@
 //! What every store of blocks does.
 
-ghost use Rattle.std.specs.Prelude.{◌≡◌, ◌≢◌, ◌<◌, ◌≤◌, ◌^◌, length, slice_get, slice_set, option_map, ◌↔◌, IsSome, IfSome, IfOk};
+ghost use Rattle.std.specs.Prelude.{◌≡◌, ◌≢◌, ◌<◌, ◌≤◌, ◌^◌, length, replicate, slice_get, slice_set, option_map, ◌↔◌, IsSome, IfSome, IfOk, Some};
 ghost use Rattle.std.specs.List.{All};
 ghost use Rattle.std.specs.FinMap as map;
 ghost use Rattle.l6_word.specs.Numerals.{largest_level, unit_size, word_bits};
@@ -23,8 +23,8 @@ pub type Level = u8;
 /// A store of blocks. A block of `2^k` words begins at a multiple of `2^k`, and no two blocks share
 /// a word.
 ///
-/// Which of the open places a get gives is told by the store's rule of choice, which may keep an
-/// order of places beside the blocks.
+/// The store's rule of choice decides which of the open places a get gives. It may keep an order of
+/// places beside the blocks.
 pub trait Places: Sized {
     // The rule of choice.
     ghost rule: { Rule };
@@ -51,7 +51,7 @@ pub trait Places: Sized {
         ensures near { IfSome result
             (λ _. (start < end_of most_units) × (index < unit_size)) }
     {
-        // no block stands past the last unit
+        // there is no block past the last unit
         let end = u64::from(self.units() + 1) * u64::from(UNIT_SIZE);
         if end <= start.get() {
             return None;
@@ -74,6 +74,8 @@ pub trait Places: Sized {
         ensures pick { result ≡ picked rule (store self.old) level }
         ensures fits { IsAnswer (store self.old).units (store self.old).blocks (2 ^ level) result }
         ensures after { store self.new ≡ after_get rule (store self.old) level result }
+        ensures block { IfSome result (λ place. map.get (store self.new).blocks place
+            ≡ Some (replicate (2 ^ level) 0)) }
         ensures sound { IsSound rule (store self.new) };
 
     /// Takes out the block that begins at this place. The caller owes that one does.
@@ -119,7 +121,7 @@ pub trait Places: Sized {
         ensures value { result ≡ (store self.now).moves }
         ensures few { result ≤ largest_level };
 
-    /// The same store once more, with the same order and moves.
+    /// A copy of the store, in memory of its own, with the same order and moves.
     fn duplicate(&self, alloc: Global) -> Result<Self, AllocError>
         ensures same { IfOk result (λ copy. store copy ≡ store self.now) }
         ensures sound { IfOk result (λ copy. IsSound rule (store copy)) };

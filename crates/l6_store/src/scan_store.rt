@@ -4,11 +4,11 @@ ghost use Rattle.std.specs.Prelude.{◌≡◌, ◌↔◌, ◌⊎◌, ◌<◌, �
 ghost use Rattle.l6_store.specs.Numerals.{most_units};
 ghost use Rattle.l6_store.specs.Scan.{scan_rule};
 ghost use Rattle.l6_store.specs.Store.{fresh, IsSound};
-ghost use Rattle.l6_store.specs.inner.Marks.{IsCleared};
+ghost use Rattle.l6_store.specs.inner.PlaceTags.{IsCleared};
 
 use crate::fault::StoreFault;
 use crate::places::{Level, Place, Places};
-use crate::tag::{Tag, fill, level_at, lowest_open, mark, raised, size_of};
+use crate::tag::{Tag, fill, level_at, lowest_open, place_tag, raised, size_of};
 use l6_word::{UNIT_SIZE, Word};
 use std::alloc::{AllocError, Global};
 use std::marker::Model;
@@ -21,12 +21,12 @@ pub const MAX_UNITS: u32 = 255;
 #[derive(Debug, Drop)]
 pub struct ScanStore {
     units: u32,
-    // what stands at each place
+    // what is at each place
     tags: Vec<Tag>,
     // the word at each place, below 2^36
     words: Vec<u64>,
     // how many words the block has that begins at each place, 0 where none does: so one comparison
-    // tells whether a block begins there and has a word of some index
+    // decides whether a block begins there and has a word of some index
     sizes: Vec<u16>,
     // no place below this one is free
     low: usize,
@@ -40,7 +40,7 @@ impl Model for ScanStore {
     ghost coded = { store_code };
 
     ghost use Rattle.l6_store.specs.inner.Tags.{store_of};
-    ghost use Rattle.l6_store.specs.inner.Marks.{IsHeld};
+    ghost use Rattle.l6_store.specs.inner.PlaceTags.{IsHeld};
 
     ghost view = { λ s. store_of s.units s.tags.items s.words.items };
 
@@ -48,8 +48,12 @@ impl Model for ScanStore {
 }
 
 impl ScanStore {
-    /// A store without blocks. `BadUnits` exactly for no unit or more than 255, before any
-    /// growth.
+    /// A store without blocks.
+    ///
+    /// # Errors
+    ///
+    /// `BadUnits` exactly for no unit or more than 255, before anything is allocated; or out of
+    /// memory.
     pub fn new(alloc: Global, units: u32) -> Result<Self, StoreFault>
         ensures fresh { IfOk result (λ store. store ≡ fresh scan_rule units) }
         ensures bad_units { IsErrOf result StoreFault.BadUnits
@@ -99,7 +103,7 @@ impl Places for ScanStore {
 
     fn get(&mut self, level: Level) -> Option<Place> {
         let place = lowest_open(&self.tags, self.low, level)?;
-        mark(&mut self.tags, place as usize, level);
+        place_tag(&mut self.tags, place as usize, level);
         clear(&mut self.words, place as usize, size_of(level));
         self.sizes[place as usize] = 1 << level;
         self.low = raised(self.low, place as usize, level);

@@ -1,15 +1,15 @@
-//! The tags of a plain store: what stands at each of its places.
+//! The tags of a plain store: what is at each of its places.
 
 ghost use Rattle.std.specs.Prelude.{◌≡◌, ℕ, ◌+◌, ◌<◌, ◌≤◌, ◌^◌, ◌↔◌, length, IsTrue};
 ghost use Rattle.l6_word.specs.Numerals.{largest_level};
 ghost use Rattle.l6_store.specs.Numerals.{most_units};
 ghost use Rattle.l6_store.specs.Blocks.{end_of};
 ghost use Rattle.l6_store.specs.inner.Tags.{tag_at, level_of};
-ghost use Rattle.l6_store.specs.inner.Marks.{IsLowest, IsFull, IsRaised, IsMarked, IsFilled};
+ghost use Rattle.l6_store.specs.inner.PlaceTags.{IsLowest, IsFull, IsRaised, IsMarked, IsFilled};
 
 use crate::places::{Level, Place};
 
-/// What stands at a place.
+/// What is at a place.
 #[derive(Clone, Copy, Debug, PartialEq, Eq)]
 pub(crate) enum Tag {
     /// No block.
@@ -50,7 +50,7 @@ fn are_free(tags: &[Tag]) -> bool
     true
 }
 
-/// The lowest place where a block of a level may stand, where no place below `low` is free.
+/// The lowest place where a block of a level may be, where no place below `low` is free.
 pub(crate) fn lowest_open(tags: &[Tag], low: usize, level: Level) -> Option<Place>
     requires small { level ≤ largest_level }
     requires count { length tags.now ≤ end_of most_units }
@@ -81,7 +81,7 @@ pub(crate) fn raised(low: usize, place: usize, level: Level) -> usize
 }
 
 /// Tags the places of a new block.
-pub(crate) fn mark(tags: &mut [Tag], place: usize, level: Level)
+pub(crate) fn place_tag(tags: &mut [Tag], place: usize, level: Level)
     requires small { level ≤ largest_level }
     requires within { place + 2 ^ level ≤ length tags.old }
     ensures { IsMarked tags.old tags.new place level }

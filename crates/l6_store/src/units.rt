@@ -14,8 +14,8 @@ pub(crate) const UNIT_PLACES: usize = UNIT_SIZE as usize;
 /// How many units the places of the largest store make, with those below the first unit.
 pub(crate) const UNITS: usize = MAX_UNITS as usize + 1;
 
-/// Overwrites all entries with as many others. Of a unit that is used in neither only the first entry is
-/// copied, or none: the others are the same already.
+/// Overwrites all entries with as many others. Of a unit that is used in neither only the first
+/// entry is copied, or none: the others are the same already.
 pub(crate) fn take_units<T: Copy>(
     entries: &mut [T],
     others: &[T],

@@ -22,8 +22,8 @@ fn the_largest_plain_store_is_copied(rt: HostRuntime) -> Result<(), Fail> {
     Ok(())
 }
 
-/// The levels of a block in the store and of one more in its copy: those that the store has of both, and
-/// those that the copy has.
+/// The levels of a block in the store and of one more in its copy: those that the store has of
+/// both, and those that the copy has.
 fn own_ways<S: Places>(alloc: Global, mut store: S) -> Result<[Option<Level>; 4], Fail>
 where
     S: Drop,

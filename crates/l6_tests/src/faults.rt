@@ -13,8 +13,8 @@ fn faults_of_programs_are_told(rt: HostRuntime) -> Result<(), Fail> {
         (ProgFault::Target, "a target is no statement"),
         (ProgFault::Shape, "not in the form of a program"),
     ] {
-        let told = fault.to_string(rt.alloc())?;
-        assert_eq!(rt; told.as_str(), text);
+        let reported = fault.to_string(rt.alloc())?;
+        assert_eq!(rt; reported.as_str(), text);
     }
     Ok(())
 }
@@ -26,8 +26,8 @@ fn faults_of_cards_are_told(rt: HostRuntime) -> Result<(), Fail> {
         (CardFault::Limit(4095), "card 4095: past a limit"),
         (CardFault::NoMemory, "out of memory"),
     ] {
-        let told = fault.to_string(rt.alloc())?;
-        assert_eq!(rt; told.as_str(), text);
+        let reported = fault.to_string(rt.alloc())?;
+        assert_eq!(rt; reported.as_str(), text);
     }
     Ok(())
 }
@@ -39,8 +39,8 @@ fn faults_of_images_are_told(rt: HostRuntime) -> Result<(), Fail> {
         (LoadFault::NotAnImage, "not an image"),
         (LoadFault::NoMemory, "out of memory"),
     ] {
-        let told = fault.to_string(rt.alloc())?;
-        assert_eq!(rt; told.as_str(), text);
+        let reported = fault.to_string(rt.alloc())?;
+        assert_eq!(rt; reported.as_str(), text);
     }
     Ok(())
 }
@@ -51,8 +51,8 @@ fn faults_of_stores_are_told(rt: HostRuntime) -> Result<(), Fail> {
         (StoreFault::BadUnits, "units out of range"),
         (StoreFault::NoMemory, "out of memory"),
     ] {
-        let told = fault.to_string(rt.alloc())?;
-        assert_eq!(rt; told.as_str(), text);
+        let reported = fault.to_string(rt.alloc())?;
+        assert_eq!(rt; reported.as_str(), text);
     }
     Ok(())
 }

@@ -1,5 +1,5 @@
-//! How many states a history runs through, and which it keeps, where there is memory for all. The states
-//! themselves are shown by sessions of the built program, in `tests/`.
+//! How many states a history runs through, and which it keeps, where there is memory for all. The
+//! states themselves are shown by sessions of the built program, in `tests/`.
 
 use l6_asm::assemble;
 use l6_debug::History;
@@ -12,7 +12,7 @@ use std::test::Fail;
 /// A statement that is followed by itself, a condition and an exit each time.
 const LOOP: &[u8] = b"L L\n";
 
-/// Limits that the run of the tests does not come to.
+/// Limits that the runs of the tests do not reach.
 const LIMITS: Limits = Limits {
     steps: 100_000,
     output: 0,
@@ -27,7 +27,7 @@ fn history(alloc: Global) -> Result<History<Buddy>, Fail> {
 }
 
 #[test]
-fn states_are_come_to_from_the_nearest_checkpoint(rt: HostRuntime) -> Result<(), Fail> {
+fn states_are_reached_from_the_nearest_checkpoint(rt: HostRuntime) -> Result<(), Fail> {
     let mut history = history(rt.alloc())?;
     assert_eq!(rt; history.to(rt.alloc(), 10_000), 10_000);
     assert_eq!(rt; history.to(rt.alloc(), 9_999), 1_807);
@@ -46,5 +46,17 @@ fn the_oldest_checkpoint_gives_way(rt: HostRuntime) -> Result<(), Fail> {
     assert_eq!(rt; history.kept(4_096), false);
     assert_eq!(rt; history.kept(8_192), true);
     assert_eq!(rt; history.to(rt.alloc(), 8_191), 8_191);
+    Ok(())
+}
+
+/// A state that is kept already is not kept twice: so the ring still has all of these.
+#[test]
+fn a_state_is_kept_once(rt: HostRuntime) -> Result<(), Fail> {
+    let mut history = history(rt.alloc())?;
+    for number in [65_536, 1, 4_096, 1, 4_096] {
+        history.to(rt.alloc(), number);
+        assert_eq!(rt; history.number(), number);
+    }
+    assert_eq!(rt; history.kept(8_192), true);
     Ok(())
 }

@@ -1,5 +1,5 @@
 //! Tests of the libraries' calls: tables of values that were worked out by hand or come from a plain
-//! model. They stand in a crate of their own, since a crate that has tests is proved twice.
+//! model. They are in a crate of their own, since a crate that has tests is proved twice.
 #![tactic(auto)]
 
 #[cfg(test)]
@@ -11,6 +11,8 @@ mod copies;
 #[cfg(test)]
 mod decks;
 #[cfg(test)]
+mod devices;
+#[cfg(test)]
 mod drawings;
 #[cfg(test)]
 mod faults;
@@ -21,6 +23,10 @@ mod images;
 #[cfg(test)]
 mod listings;
 #[cfg(test)]
+mod machines;
+#[cfg(test)]
 mod regions;
 #[cfg(test)]
 mod scan_stores;
+#[cfg(test)]
+mod using_a_store;

@@ -7,7 +7,7 @@ use Rattle.std.proofs.lemmas.Bool.{and_parts, not-true}
 use Rattle.l6_word.specs.Split.{lacks, IsCutAt}
 use Rattle.l6_word.specs.Lines.{lines_of}
 
--- the mark is not the first byte, nor behind it
+-- the mark is not the first byte, nor after it
 pub lacks-cons : (mark first : ℕ) (rest : List ℕ) →
     lacks mark (first ∷ rest) ≡ true → (eqb first mark ≡ false) × (lacks mark rest ≡ true)
 lacks-cons mark first rest lacking =
@@ -15,26 +15,26 @@ lacks-cons mark first rest lacking =
     (not-true (eqb first mark) parts.0, parts.1)
 
 -- the mark is not in the front of bytes without it
-pub lacks-append : (mark : ℕ) (front behind : List ℕ) →
-    lacks mark (front ++ behind) ≡ true → lacks mark front ≡ true
-lacks-append mark [] behind lacking = refl
-lacks-append mark (first ∷ rest) behind lacking =
-    let parts = lacks-cons mark first (rest ++ behind) lacking in
-    rw parts.0 (lacks-append mark rest behind parts.1)
+pub lacks-append : (mark : ℕ) (front following : List ℕ) →
+    lacks mark (front ++ following) ≡ true → lacks mark front ≡ true
+lacks-append mark [] following lacking = refl
+lacks-append mark (first ∷ rest) following lacking =
+    let parts = lacks-cons mark first (rest ++ following) lacking in
+    rw parts.0 (lacks-append mark rest following parts.1)
 
-pub lines_of-front : (front behind : List ℕ) →
+pub lines_of-front : (front following : List ℕ) →
     lacks (byte "\n") front ≡ true →
-    lines_of (front ++ byte "\n" ∷ behind) ≡ front ∷ lines_of behind
-lines_of-front [] behind lacking = refl
-lines_of-front (first ∷ rest) behind lacking =
+    lines_of (front ++ byte "\n" ∷ following) ≡ front ∷ lines_of following
+lines_of-front [] following lacking = refl
+lines_of-front (first ∷ rest) following lacking =
     let parts = lacks-cons (byte "\n") first rest lacking in
-    rw parts.0 (ap (onto_first first) (lines_of-front rest behind parts.1))
+    rw parts.0 (ap (onto_first first) (lines_of-front rest following parts.1))
 
 -- the first line ends at the first line feed
-pub lines_of-cut : {text front behind : List ℕ} →
-    IsCutAt (byte "\n") text front behind → lines_of text ≡ front ∷ lines_of behind
-lines_of-cut {text} {front} {behind} cut =
-    ap lines_of cut.whole ∙ lines_of-front front behind cut.first
+pub lines_of-cut : {text front following : List ℕ} →
+    IsCutAt (byte "\n") text front following → lines_of text ≡ front ∷ lines_of following
+lines_of-cut {text} {front} {following} cut =
+    ap lines_of cut.whole ∙ lines_of-front front following cut.first
 
 lines_of-last : (first : ℕ) (rest : List ℕ) →
     lacks (byte "\n") (first ∷ rest) ≡ true → lines_of (first ∷ rest) ≡ (first ∷ rest) ∷ []

@@ -13,9 +13,9 @@ use Rattle.l6_word.specs.Numerals.{input_width}
 use Rattle.l6_word.proofs.Cuts.{lines_of-front}
 
 pub line_by_line : LineByLine
-line_by_line line behind lacking =
-    ap (flat_map (λ l. filled input_width (without_return l))) (lines_of-front line behind lacking)
-    ∙ flat_map-cons (λ l. filled input_width (without_return l)) line (lines_of behind)
+line_by_line line following lacking =
+    ap (flat_map (λ l. filled input_width (without_return l))) (lines_of-front line following lacking)
+    ∙ flat_map-cons (λ l. filled input_width (without_return l)) line (lines_of following)
 
 -- a line of just so many bytes fills a line
 filled-whole : (width : ℕ) (line : List ℕ) → length line ≡ width →
@@ -27,7 +27,7 @@ filled-whole width line is =
     ∙ take-append_seam (map input_code line) blanks
 
 pub whole_lines : WholeLinesAsTheyStand
-whole_lines line behind lacking kept is =
-    line_by_line line behind lacking
-    ∙ ap (λ l. filled input_width l ++ characters_of behind) kept
-    ∙ ap (λ l. l ++ characters_of behind) (filled-whole input_width line is)
+whole_lines line following lacking kept is =
+    line_by_line line following lacking
+    ∙ ap (λ l. filled input_width l ++ characters_of following) kept
+    ∙ ap (λ l. l ++ characters_of following) (filled-whole input_width line is)

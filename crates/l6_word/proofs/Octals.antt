@@ -32,7 +32,7 @@ octal_digits-front (suc count) number =
     ∙ ap (λ (n : ℕ). (byte "0" + n % 8) ∷ octal_digits (suc count) number)
     (quotient-pow count number)
 
--- the last of some zeros, and what stands behind it
+-- the last of some zeros, and what follows it
 get_or-zeros : (place : ℕ) (digits : List ℕ) →
     get_or (replicate (suc place) (byte "0") ++ digits) place 0 ≡ byte "0"
 get_or-zeros zero digits = refl
@@ -109,7 +109,7 @@ unfolding octal12
 octal12-whole place word text none is =
     is ∙ ap (λ (n : ℕ). replicate n (byte "0") ++ octal_digits (word_octals - n) word) none
 
--- one digit more, behind
+-- one digit more, after
 pub octal_digits-more : (count value digit : ℕ) → digit < 8 →
     octal_digits (suc count) (value * 8 + digit)
     ≡ octal_digits count value ++ (byte "0" + digit) ∷ []

@@ -6,8 +6,8 @@ use Rattle.l6_word.specs.Code.{input_code}
 use Rattle.l6_word.specs.Lines.{lines_of, without_return}
 use Rattle.l6_word.specs.Numerals.{input_width}
 
--- so many characters of a line, by their codes: those behind are cut off, and where there are fewer,
--- blanks stand behind them
+-- so many characters of a line, by their codes: those after are cut off, and where there are fewer,
+-- blanks follow them
 abbrev pub filled : ℕ → List ℕ → List ℕ
 filled width line = take width (map input_code line ++ replicate width (input_code (byte " ")))
 

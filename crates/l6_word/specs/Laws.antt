@@ -11,19 +11,19 @@ use Rattle.l6_word.specs.Split.{lacks}
 abbrev pub NoneOfNone : Type 0
 NoneOfNone = characters_of [] ≡ []
 
--- the characters of a line come before those of what is behind it
+-- the characters of a line come before those of what is after it
 abbrev pub LineByLine : Type 0
 LineByLine =
-    (line behind : List ℕ) → lacks (byte "\n") line ≡ true →
-    characters_of (line ++ byte "\n" ∷ behind)
-    ≡ filled input_width (without_return line) ++ characters_of behind
+    (line following : List ℕ) → lacks (byte "\n") line ≡ true →
+    characters_of (line ++ byte "\n" ∷ following)
+    ≡ filled input_width (without_return line) ++ characters_of following
 
--- a line of just as many characters as a line has is taken as it stands
+-- a line of just as many characters as a line has is taken as it is
 abbrev pub WholeLinesAsTheyStand : Type 0
 WholeLinesAsTheyStand =
-    (line behind : List ℕ) → lacks (byte "\n") line ≡ true → without_return line ≡ line →
+    (line following : List ℕ) → lacks (byte "\n") line ≡ true → without_return line ≡ line →
     length line ≡ input_width →
-    characters_of (line ++ byte "\n" ∷ behind) ≡ map input_code line ++ characters_of behind
+    characters_of (line ++ byte "\n" ∷ following) ≡ map input_code line ++ characters_of following
 
 -- the character that has a code is read as that code
 abbrev pub CodesAreReadAgain : Type 0

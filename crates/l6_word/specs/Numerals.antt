@@ -1,4 +1,4 @@
--- The numbers of the language that words and windows stand on.
+-- The numbers of the language that words and windows use.
 use Rattle.std.specs.Prelude.{ℕ, ◌^◌}
 
 -- how many bits a word has

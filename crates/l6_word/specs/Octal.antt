@@ -24,7 +24,7 @@ is_octal_digit given = is_in_range (byte "0") (byte "7") given
 abbrev pub is_octal12 : List ℕ → Bool
 is_octal12 text = length text == word_octals && list_all is_octal_digit text
 
--- a word's digits are such a text, and tell the word
+-- a word's digits are such a text, and determine the word
 abbrev pub DigitsTellWords : Type 0
 DigitsTellWords =
     (word : ℕ) → word < 2 ^ word_bits →

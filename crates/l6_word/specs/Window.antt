@@ -19,7 +19,7 @@ is_window window =
 abbrev pub width : Window → ℕ
 width window = window.last - window.first + 1
 
--- how many bits of the word stand to the right of the window
+-- how many bits of the word are to the right of the window
 abbrev pub right_of : Window → ℕ
 right_of window = word_bits - 1 - window.last
 

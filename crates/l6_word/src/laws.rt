@@ -15,7 +15,7 @@ pub fn words_have_their_bits()
     ensures octals { OCTALS ≡ word_octals }
 {}
 
-/// The octal digits of a word tell it: they are read again as that word.
+/// The octal digits of a word determine it: read again, they give that word.
 pub fn digits_tell_words()
     ensures { DigitsTellWords }
 {}
@@ -26,8 +26,8 @@ pub fn units_have_their_size()
     ensures size { UNIT_SIZE ≡ unit_size }
 {}
 
-/// The characters of an input are those of its lines, one behind another: an empty one has none, and a
-/// line of 80 characters is taken as it stands.
+/// The characters of an input are those of its lines, one after another: an empty one has none, and a
+/// line of 80 characters is taken as it is.
 pub fn inputs_are_their_lines()
     ensures none { NoneOfNone }
     ensures lines { LineByLine }

@@ -5,7 +5,7 @@ ghost use Rattle.l6_word.specs.Lines as spec;
 
 use crate::split::split_at_mark;
 
-/// The first line of a text, without its line feed, and the text behind it; `None` where there is
+/// The first line of a text, without its line feed, and the text after it; `None` where there is
 /// no line.
 pub fn first_line(text: &[u8]) -> Option<(&[u8], &[u8])>
     ensures lines { let lines = spec.lines_of text.now in

@@ -34,8 +34,8 @@ impl Model for Window {
 }
 
 impl Window {
-    /// The window on these bits of a word, or `None` where the largest block has no such word (from
-    /// 1,024 on), a word has no such bit (from 36 on), or the first bit comes after the last.
+    /// The window on these bits of a word, or `None` if the largest block has no such word (from
+    /// 1,024 on), a word has no such bit (from 36 on), or the first bit is after the last.
     pub fn new(word: u16, first: u8, last: u8) -> Option<Self>
         ensures valid { IsSome result
             ↔ IsTrue (is_window (record { word = word; first = first; last = last })) }
@@ -101,7 +101,7 @@ impl Window {
         Word::from_value(word.get() & !(mask << shift) | (value.get() & mask) << shift)
     }
 
-    /// How many bits stand to the right of the window.
+    /// How many bits are to the right of the window.
     fn shift(self) -> u32
         ensures value { result ≡ right_of self }
         ensures range { result + width self ≤ word_bits }

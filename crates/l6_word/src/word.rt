@@ -66,6 +66,17 @@ impl Word {
     }
 }
 
+/// The word of a number of 32 bits, such as a place of a store: each is one.
+impl From<u32> for Word {
+    ghost use Rattle.std.specs.Prelude.{◌≡◌};
+
+    ghost from_gives = { λ number word. word ≡ number };
+
+    fn from(number: u32) -> Self {
+        Word::from_value(u64::from(number))
+    }
+}
+
 /// The word 0.
 impl Default for Word {
     ghost is_default = { λ word. word ≡ 0 };

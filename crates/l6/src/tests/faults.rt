@@ -29,22 +29,22 @@ fn faults_are_told(rt: HostRuntime) -> Result<(), Fail> {
         (RunFault::Write(80), "write failed after 80 bytes"),
         (RunFault::NoMemory, "out of memory"),
     ] {
-        let told = fault.to_string(rt.alloc())?;
-        assert_eq!(rt; told.as_str(), text);
+        let reported = fault.to_string(rt.alloc())?;
+        assert_eq!(rt; reported.as_str(), text);
     }
     for (fault, text) in [
         (ProgFault::Limit, "past a limit"),
         (ProgFault::Shape, "not in the form of a program"),
     ] {
-        let told = fault.to_string(rt.alloc())?;
-        assert_eq!(rt; told.as_str(), text);
+        let reported = fault.to_string(rt.alloc())?;
+        assert_eq!(rt; reported.as_str(), text);
     }
     for (fault, text) in [
         (MachineFault::NoMemory, "out of memory"),
         (MachineFault::BadLimits, "limits out of range"),
     ] {
-        let told = fault.to_string(rt.alloc())?;
-        assert_eq!(rt; told.as_str(), text);
+        let reported = fault.to_string(rt.alloc())?;
+        assert_eq!(rt; reported.as_str(), text);
     }
     Ok(())
 }

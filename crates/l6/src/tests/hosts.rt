@@ -48,7 +48,7 @@ fn a_host_answers_as_its_device(rt: HostRuntime) -> Result<(), Fail> {
     Ok(())
 }
 
-/// A device that has trouble 22 times: 20 interruptions, a failure, and an interruption behind it. Its
+/// A device that has trouble 22 times: 20 interruptions, a failure, and an interruption after it. Its
 /// later calls move a byte, where one is asked for.
 #[derive(Drop)]
 struct Troubled {

@@ -48,7 +48,7 @@ fn a_writer_fails_after_each_byte(rt: HostRuntime) {
 }
 
 #[test]
-fn a_run_repeats_a_thousand_times_in_all(rt: HostRuntime) {
+fn a_run_retried_a_thousand_times_in_all(rt: HostRuntime) {
     let done = Ok(Ending::Done);
     let unwritten = Err(RunFault::Write(0));
     let rows: [(u64, u64, Result<Ending, RunFault>, usize); 6] = [

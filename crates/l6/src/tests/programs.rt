@@ -48,7 +48,7 @@ fn long_statement(alloc: Global) -> Result<Statement, Fail> {
     Ok(statement(alloc, operations, Exit::Next))
 }
 
-/// What the program of these statements, and the plain `DONE` behind them, prints.
+/// What the program of these statements, and the plain `DONE` after them, prints.
 fn printed(alloc: Global, mut statements: Vec<Statement>) -> Result<Vec<u8>, Fail> {
     statements.push(Statement::plain_done(alloc))?;
     let program = Program::new(statements)?.duplicate(alloc)?;
@@ -89,7 +89,7 @@ fn programs_are_run(rt: HostRuntime) -> Result<(), Fail> {
     Ok(())
 }
 
-/// So many statements, and the plain `DONE` behind them.
+/// So many statements, and the plain `DONE` after them.
 fn many(alloc: Global, count: usize) -> Result<Result<Program, ProgFault>, AllocError> {
     let mut statements = Vec::new(alloc);
     for _ in 0..count {
@@ -165,7 +165,7 @@ fn programs_read_their_input(rt: HostRuntime) -> Result<(), Fail> {
             b"a\t{z\r\n",
             b"A ?Z \n== DONE AFTER 6 STEPS\n",
         ),
-        // what stands past the width of a line is nothing, and no line is an empty one
+        // what is past the width of a line is nothing, and no line is an empty one
         (
             b" (A,IN,1,X)(A,PR,1)\nX (A,IN,1,Y)\nY (PL)\n",
             b"",

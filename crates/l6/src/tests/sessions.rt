@@ -1,5 +1,5 @@
-//! Sessions of the debugger on devices with troubles. Other sessions, also with as many commands as there
-//! may be, are cases of the built program.
+//! Sessions of the debugger on devices with troubles. Other sessions, also with as many commands as
+//! there may be, are cases of the built program.
 
 use l6_debug::debug;
 use l6_run::{Options, Part, RunFault, Script};

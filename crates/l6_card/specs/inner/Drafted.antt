@@ -1,12 +1,12 @@
--- Drafts, as a reader keeps them.
+-- Builders, as a reader keeps them.
 use Rattle.std.specs.Prelude.{◌≡◌, IfSome, Result, Ok, Err, MatchResult}
 use Rattle.l6_card.specs.declared.fault.CardFault.{CardFault}
-use Rattle.l6_card.specs.declared.draft.Draft.{Draft as Kept}
-use Rattle.l6_card.specs.declared.draft.Phase.{Phase as KeptPhase}
-use Rattle.l6_card.specs.declared.draft.Phase.TheVariants as kept_phase
+use Rattle.l6_card.specs.declared.builder.StatementBuilder.{StatementBuilder as Kept}
+use Rattle.l6_card.specs.declared.builder.Phase.{Phase as KeptPhase}
+use Rattle.l6_card.specs.declared.builder.Phase.TheVariants as kept_phase
 use Rattle.l6_card.specs.declared.cards.Parts.{Parts}
-use Rattle.l6_card.specs.Statement.{WrittenParts}
-use Rattle.l6_card.specs.inner.Draft.{Draft, Phase, New, Worded, Tested, Open, Closed}
+use Rattle.l6_card.specs.Statement.{DeckStatementParts}
+use Rattle.l6_card.specs.inner.StatementBuilder.{StatementBuilder, Phase, New, Worded, Tested, Open, Closed}
 use Rattle.l6_card.specs.DeckFault.{DeckFault, deck_fault}
 
 -- the phase that a reader keeps
@@ -17,8 +17,8 @@ phased kept_phase.Tested = Tested
 phased kept_phase.Open = Open
 phased kept_phase.Closed = Closed
 
--- the draft that a reader keeps
-abbrev pub drafted : Kept → Draft
+-- the builder that a reader keeps
+abbrev pub drafted : Kept → StatementBuilder
 drafted kept =
     record {
       phase = phased kept.phase;
@@ -29,7 +29,7 @@ drafted kept =
     }
 
 -- the statement of these parts
-abbrev pub drafted_parts : Parts → WrittenParts
+abbrev pub drafted_parts : Parts → DeckStatementParts
 drafted_parts parts =
     record {
       label = parts.label;
@@ -39,10 +39,11 @@ drafted_parts parts =
       exit = parts.exit;
     }
 
--- a step of a reader that has this draft afterwards made it, or stopped at the objection that was
--- met; want of memory may stop it anywhere
-abbrev pub Takes : {X : Type 0} → Result X CardFault → Draft → Result Draft DeckFault → Type 0
-Takes result draft made =
+-- a step of a reader that has this builder afterwards made it, or stopped at the objection that was
+-- met; out of memory may stop it anywhere
+abbrev pub Takes : {X : Type 0} → Result X CardFault → StatementBuilder →
+    Result StatementBuilder DeckFault → Type 0
+Takes result builder made =
     MatchResult result
-    (λ _. made ≡ Ok draft)
+    (λ _. made ≡ Ok builder)
     (λ fault. IfSome (deck_fault fault) (λ objection. made ≡ Err objection))

@@ -34,7 +34,7 @@ pub record WordFirst (offset : ℕ) (body columns rest : List ℕ) : Type 0 wher
   pub ends : next + length rest ≡ offset + length body
 
 -- the body begins so, at each offset: it has no item, or a group or a word with the items of the
--- rest behind it, or another item
+-- rest after it, or another item
 abbrev pub BeginsWith : First → List ℕ → Type 0
 BeginsWith End body = (offset : ℕ) → items_of offset body ≡ []
 BeginsWith (Group columns rest) body =

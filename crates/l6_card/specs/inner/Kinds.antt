@@ -18,12 +18,12 @@ card_seen number (Continued body) = continued (body_seen body)
 card_seen number Unknown = unknown number
 
 -- the body ends at this offset or before
-abbrev pub EndsBy : ℕ → Kept → Type 0
-EndsBy end body = body.offset + length body.columns.now ≤ end
+abbrev pub EndsByOffset : ℕ → Kept → Type 0
+EndsByOffset end body = body.offset + length body.columns.now ≤ end
 
 -- the body of the card, if it has one, ends at this offset or before
 abbrev pub KindEndsBy : ℕ → Kind → Type 0
-KindEndsBy end (Plain body) = EndsBy end body
-KindEndsBy end (Labelled label body) = EndsBy end body
-KindEndsBy end (Continued body) = EndsBy end body
+KindEndsBy end (Plain body) = EndsByOffset end body
+KindEndsBy end (Labelled label body) = EndsByOffset end body
+KindEndsBy end (Continued body) = EndsByOffset end body
 KindEndsBy end _ = Unit {0}

@@ -3,16 +3,16 @@ use Rattle.std.specs.Prelude.{◌≡◌, IfSome, Result, Ok, Err, MatchResult}
 use Rattle.l6_card.specs.declared.fault.CardFault.{CardFault}
 use Rattle.l6_card.specs.declared.reader.Reader.{Reader}
 use Rattle.l6_card.specs.DeckFault.{DeckFault, deck_fault}
-use Rattle.l6_card.specs.inner.Course.{Stage}
+use Rattle.l6_card.specs.inner.Pass.{Stage}
 use Rattle.l6_card.specs.inner.Drafted.{drafted}
 
--- a step of a reader that is at this stage afterwards took the course, or stopped at the objection
--- that the course met; want of memory may stop it anywhere
+-- a step of a reader that is at this stage afterwards took the pass, or stopped at the objection
+-- that the pass met; out of memory may stop it anywhere
 abbrev pub Follows : {X : Type 0} → Result X CardFault → Stage → Result Stage DeckFault → Type 0
-Follows result known course =
+Follows result known pass =
     MatchResult result
-    (λ _. course ≡ Ok known)
-    (λ fault. IfSome (deck_fault fault) (λ objection. course ≡ Err objection))
+    (λ _. pass ≡ Ok known)
+    (λ fault. IfSome (deck_fault fault) (λ objection. pass ≡ Err objection))
 
 -- the stage of the reader
 abbrev pub stage_of : Reader → Stage
@@ -21,7 +21,7 @@ stage_of reader =
       statements = reader.statements.items;
       is_open = reader.is_open;
       label = reader.label;
-      draft = drafted reader.draft;
+      builder = drafted reader.builder;
       card = reader.card;
       continuations = reader.continuations;
     }

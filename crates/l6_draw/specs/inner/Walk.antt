@@ -1,33 +1,34 @@
--- The walk over what is reached: which places are marked, and at which of them it has still to look.
+-- The walk over what is reached: which places are visited, and which of them it has not looked at
+-- yet.
 use Rattle.std.specs.Prelude.{ℕ, Bool, true, false, not, ◌&&◌, List, [], ◌∷◌, ◌++◌, if◌then◌else◌, length, nat_lt, slice_index_or, slice_set}
 use Rattle.std.specs.FinMap as places
 use Rattle.l6_store.specs.Blocks.{Blocks}
 
 pub record Walk : Type 0 where
-  pub marks : List Bool
+  pub visited : List Bool
   pub waiting : List ℕ
 
--- whether a place is marked
-abbrev pub is_marked : List Bool → ℕ → Bool
-is_marked marks place = slice_index_or marks place false
+-- whether a place is visited
+abbrev pub is_visited : List Bool → ℕ → Bool
+is_visited visited place = slice_index_or visited place false
 
--- whether a number that is met is to be marked: a block begins there, and it has no mark yet
+-- whether a number is to be marked as visited: a block begins there, and it is not visited yet
 abbrev pub is_new : Blocks → List Bool → ℕ → Bool
-is_new blocks marks number =
-    nat_lt number (length marks) && not (is_marked marks number)
+is_new blocks visited number =
+    nat_lt number (length visited) && not (is_visited visited number)
     && places.contains_key blocks number
 
--- once a number is met
+-- after a number is marked
 unfoldable pub met : Blocks → ℕ → Walk → Walk
 met blocks number walk =
-    if is_new blocks walk.marks number
+    if is_new blocks walk.visited number
     then record {
-      marks = slice_set walk.marks number true;
+      visited = slice_set walk.visited number true;
       waiting = walk.waiting ++ number ∷ [];
     }
     else walk
 
--- once numbers are met, one after another
+-- after numbers are marked, one after another
 abbrev pub all_met : Blocks → List ℕ → Walk → Walk
 all_met blocks [] walk = walk
 all_met blocks (number ∷ numbers) walk = all_met blocks numbers (met blocks number walk)

@@ -1,4 +1,4 @@
--- The table of rows, read backwards. What a row has besides is not looked at.
+-- The table of rows, read backwards. Anything else that a row has is ignored.
 use Rattle.std.specs.Prelude.{ℕ, ◌^◌, ◌==◌, nat_lt, List, Option, Some, None, if◌then◌else◌}
 use Rattle.std.specs.Option.{option_map}
 use Rattle.l6_word.specs.Numerals.{word_bits}

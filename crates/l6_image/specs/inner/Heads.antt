@@ -1,7 +1,7 @@
 -- The first words of rows, with kinds in place of operands.
 use Rattle.std.specs.Prelude.{ℕ, [], ◌∷◌, unwrap_or}
-use Rattle.l6_image.specs.declared.head.Kind.{Kind}
-use Rattle.l6_image.specs.declared.head.Kind.TheVariants.{Absent, Chain, Number, Text}
+use Rattle.l6_image.specs.declared.head.OperandKind.{OperandKind}
+use Rattle.l6_image.specs.declared.head.OperandKind.TheVariants.{Absent, Chain, Number, Text}
 use Rattle.l6_image.specs.declared.head.Head.{Head}
 use Rattle.l6_image.specs.Numerals.{no_name}
 use Rattle.l6_image.specs.Bits.{bits, packed}
@@ -9,7 +9,7 @@ use Rattle.l6_image.specs.Version.{label_number}
 use Rattle.l6_image.specs.declared.version.Version.{Version}
 
 -- the number of a kind
-abbrev pub kind_code : Kind → ℕ
+abbrev pub kind_code : OperandKind → ℕ
 kind_code Absent = 0
 kind_code Chain = 1
 kind_code Number = 2

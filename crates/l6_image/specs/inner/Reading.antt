@@ -21,7 +21,7 @@ first_of (word ∷ words) = Some (word, words)
 abbrev pub codes_in : ℕ → List ℕ → List ℕ
 codes_in count words = take count (take most_characters (flat_map items_in words))
 
--- so many codes, and the words behind theirs
+-- so many codes, and the words after theirs
 abbrev pub codes_at : ℕ → List ℕ → Option (Slot × List ℕ)
 codes_at count words =
     if nat_lt most_characters count then None

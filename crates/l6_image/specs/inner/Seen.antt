@@ -20,7 +20,7 @@ abbrev pub Finds : {X Y : Type 0} → (X → Y) → Option X → Option Y → Ty
 Finds view (Some x) found = found ≡ Some (view x)
 Finds view None found = found ≡ None
 
--- so it is where memory may be wanting
+-- so it is where memory may have run out
 abbrev pub Fails : {Y : Type 0} → ReadFault → Option Y → Type 0
 Fails NotAnImage found = found ≡ None
 Fails NoMemory found = Unit {0}

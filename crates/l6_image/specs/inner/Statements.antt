@@ -75,7 +75,7 @@ statement_at version words = do
     operations.1,
   )
 
--- the statements of an image's words behind its mark
+-- the statements of an image's words after its magic word
 unfoldable pub statements_of : Version → List ℕ → Option (List Parts)
 statements_of version words = do
   count ← first_of words

@@ -16,7 +16,7 @@ pub record Fed : Type 0 where
 abbrev pub blank : ℕ
 blank = input_code (byte " ")
 
--- what stands behind the codes of a line: no character has this code
+-- what follows the codes of a line: no character has this code
 abbrev pub line_end : ℕ
 line_end = code_count
 
@@ -43,7 +43,7 @@ pub record KeepsLines (text codes rest : List ℕ) (count : ℕ) : Type 0 where
   pub counted : count ≡ length lines * input_width
   pub few : length lines + length rest ≤ length text
 
--- an input is kept, of which so many characters are taken and the next one stands at a place and a
+-- an input is kept, of which so many characters are taken and the next one is at a place and a
 -- column
 pub record IsFed (codes : List ℕ) (count taken place column : ℕ) : Type 0 where
   pub counted : count ≡ length (characters_in codes)

@@ -2,7 +2,7 @@
 use Rattle.l6_run.specs.declared.fault.RunFault.{RunFault}
 use Rattle.l6_run.specs.declared.fault.RunFault.TheVariants.{TooLong, NoMemory}
 
--- want of memory says nothing of what was given, and nothing has gone out yet; any other fault
+-- out of memory says nothing of what was given, and nothing has gone out yet; any other fault
 -- refuses what was given
 abbrev pub HasNoText : (RunFault → Type 0) → RunFault → Type 0
 HasNoText Refuses NoMemory = Unit {0}

@@ -4,7 +4,7 @@ use Rattle.std.specs.List.{All}
 use Rattle.std.specs.FinMap as map
 use Rattle.l6_word.specs.Numerals.{word_bits}
 use Rattle.l6_store.specs.Numerals.{most_units}
-use Rattle.l6_store.specs.Blocks.{Blocks, Stands, end_of}
+use Rattle.l6_store.specs.Blocks.{Blocks, IsAlignedPlace, end_of}
 use Rattle.l6_store.specs.Store.{Store}
 use Rattle.l6_store.specs.declared.tag.Tag.{Tag}
 use Rattle.l6_store.specs.declared.tag.Tag.TheVariants.{Free, First, Inside}
@@ -46,7 +46,7 @@ abbrev pub store_of : ℕ → List Tag → List ℕ → Store
 store_of units tags words =
     record { units = units; blocks = gathered tags words (length tags); order = []; moves = 0 }
 
--- a place lies behind the first place of a block
+-- a place lies after the first place of a block
 pub record IsInside (tags : List Tag) (at : ℕ) : Type 0 where
   pub place : ℕ
   pub level : ℕ
@@ -58,7 +58,7 @@ pub record IsInside (tags : List Tag) (at : ℕ) : Type 0 where
 -- and no others are
 pub record AreTags (units : ℕ) (tags : List Tag) : Type 0 where
   pub count : length tags ≡ end_of units
-  pub first : (place level : ℕ) → tag_at tags place ≡ First level → Stands units level place
+  pub first : (place level : ℕ) → tag_at tags place ≡ First level → IsAlignedPlace units level place
   pub rest : (place level at : ℕ) → tag_at tags place ≡ First level → place < at →
       at < place + 2 ^ level → tag_at tags at ≡ Inside
   pub inside : (at : ℕ) → tag_at tags at ≡ Inside → IsInside tags at

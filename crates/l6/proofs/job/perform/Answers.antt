@@ -1,25 +1,25 @@
 use Rattle.std.proofs.Common.{refl}
 use Rattle.std.proofs.lemmas.Result.{err_from_is_err_and}
 use Rattle.l6_run.specs.declared.fault.Part.TheVariants.{Job}
-use Rattle.l6_run.proofs.Faring.{fared-alone, fared-unasked, untold-writer}
-use Rattle.l6.proofs.Serving.{fared-read}
+use Rattle.l6_run.proofs.Faring.{retries-alone, retries-unasked, untold-writer}
+use Rattle.l6.proofs.Serving.{retries-read}
 use Rattle.l6.proofs.job.perform.Goals as goal
 
 -- the job was not read whole: the writer was not asked
-pub returns-in_err-job-clause-reader_fared : goal.returns-in_err-job-clause-reader_fared
-returns-in_err-job-clause-reader_fared g c =
+pub returns-in_err-job-clause-reader_retries : goal.returns-in_err-job-clause-reader_retries
+returns-in_err-job-clause-reader_retries g c =
     let p = err_from_is_err_and c.from_residual.result c.from_residual.ensures.1 in
-    rw (p.1, p.2) (fared-alone _ _ _ c.new.ensures c.in_err-job.ensures.fared)
+    rw (p.1, p.2) (retries-alone _ _ _ c.new.ensures c.in_err-job.ensures.retries)
 
-pub returns-in_err-job-clause-writer_fared : goal.returns-in_err-job-clause-writer_fared
-returns-in_err-job-clause-writer_fared g c =
+pub returns-in_err-job-clause-writer_retries : goal.returns-in_err-job-clause-writer_retries
+returns-in_err-job-clause-writer_retries g c =
     let p = err_from_is_err_and c.from_residual.result c.from_residual.ensures.1 in
     rw (p.1, p.2)
-    (fared-unasked _ ((refl, untold-writer Job _ _ _ c.in_err-job.ensures.bytes), tt))
+    (retries-unasked _ ((refl, untold-writer Job _ _ _ c.in_err-job.ensures.bytes), tt))
 
 -- it was read whole
-pub returns-clause-reader_fared : goal.returns-clause-reader_fared
-returns-clause-reader_fared g c =
-    fared-read c.args.verb c.args.options c.as_slice.result.now
+pub returns-clause-reader_retries : goal.returns-clause-reader_retries
+returns-clause-reader_retries g c =
+    retries-read c.args.verb c.args.options c.as_slice.result.now
     (g.W.Sink.taken c.args.writer.now) (g.W.Sink.taken c.serve.new.writer) c.serve.result
-    _ _ _ _ c.new.ensures c.in_ok-job.ensures.fared c.serve.ensures.done
+    _ _ _ _ c.new.ensures c.in_ok-job.ensures.retries c.serve.ensures.done

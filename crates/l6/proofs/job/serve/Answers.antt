@@ -1,6 +1,6 @@
 use Rattle.std.proofs.Common.{ap, ◌∙◌}
 use Rattle.std.proofs.lemmas.Result.{err_from_is_err_and}
-use Rattle.l6.specs.Parts.{commands_of, deck_of}
+use Rattle.l6.specs.JobParts.{commands_of, deck_of}
 use Rattle.l6.proofs.Serving.{debug_refused, image_refused, load_refused, renewal_refused, run_refused}
 use Rattle.l6.proofs.job.serve.Goals as goal
 
@@ -38,40 +38,40 @@ returns-in_err-debug_deck-in-Debug-clause-done g c =
     (c.session_of-session.ensures.commands ∙ ap commands_of c.parts_of-parts.ensures.head)
     c.in_err-debug_deck-in-Debug.ensures.done)
 
-pub returns-in_err-write_deck_image-in-Asm-clause-fared :
-    goal.returns-in_err-write_deck_image-in-Asm-clause-fared
-returns-in_err-write_deck_image-in-Asm-clause-fared g c =
+pub returns-in_err-write_deck_image-in-Asm-clause-retries :
+    goal.returns-in_err-write_deck_image-in-Asm-clause-retries
+returns-in_err-write_deck_image-in-Asm-clause-retries g c =
     let p = err_from_is_err_and c.from_residual.result
     c.from_residual.ensures.1 in
-    rw (p.1, p.2) (c.in_err-write_deck_image-in-Asm.ensures.fared)
+    rw (p.1, p.2) (c.in_err-write_deck_image-in-Asm.ensures.retries)
 
-pub returns-in_err-write_deck_listing-in-List-clause-fared :
-    goal.returns-in_err-write_deck_listing-in-List-clause-fared
-returns-in_err-write_deck_listing-in-List-clause-fared g c =
+pub returns-in_err-write_deck_listing-in-List-clause-retries :
+    goal.returns-in_err-write_deck_listing-in-List-clause-retries
+returns-in_err-write_deck_listing-in-List-clause-retries g c =
     let p = err_from_is_err_and c.from_residual-in_err-write_deck_listing-in-List.result
     c.from_residual-in_err-write_deck_listing-in-List.ensures.1 in
-    rw (p.1, p.2) (c.in_err-write_deck_listing-in-List.ensures.fared)
+    rw (p.1, p.2) (c.in_err-write_deck_listing-in-List.ensures.retries)
 
-pub returns-in_err-ending-in-Run-clause-fared :
-    goal.returns-in_err-ending-in-Run-clause-fared
-returns-in_err-ending-in-Run-clause-fared g c =
+pub returns-in_err-ending-in-Run-clause-retries :
+    goal.returns-in_err-ending-in-Run-clause-retries
+returns-in_err-ending-in-Run-clause-retries g c =
     let p = err_from_is_err_and c.from_residual-in_err-ending-in-Run.result
     c.from_residual-in_err-ending-in-Run.ensures.1 in
-    rw (p.1, p.2) (c.in_err-ending-in-Run.ensures.fared)
+    rw (p.1, p.2) (c.in_err-ending-in-Run.ensures.retries)
 
-pub returns-in_err-ending-in-Load-clause-fared :
-    goal.returns-in_err-ending-in-Load-clause-fared
-returns-in_err-ending-in-Load-clause-fared g c =
+pub returns-in_err-ending-in-Load-clause-retries :
+    goal.returns-in_err-ending-in-Load-clause-retries
+returns-in_err-ending-in-Load-clause-retries g c =
     let p = err_from_is_err_and c.from_residual-in_err-ending-in-Load.result
     c.from_residual-in_err-ending-in-Load.ensures.1 in
-    rw (p.1, p.2) (c.in_err-ending-in-Load.ensures.fared)
+    rw (p.1, p.2) (c.in_err-ending-in-Load.ensures.retries)
 
-pub returns-in_err-debug_deck-in-Debug-clause-fared :
-    goal.returns-in_err-debug_deck-in-Debug-clause-fared
-returns-in_err-debug_deck-in-Debug-clause-fared g c =
+pub returns-in_err-debug_deck-in-Debug-clause-retries :
+    goal.returns-in_err-debug_deck-in-Debug-clause-retries
+returns-in_err-debug_deck-in-Debug-clause-retries g c =
     let p = err_from_is_err_and c.from_residual-in_err-debug_deck-in-Debug.result
     c.from_residual-in_err-debug_deck-in-Debug.ensures.1 in
-    rw (p.1, p.2) (c.in_err-debug_deck-in-Debug.ensures.fared)
+    rw (p.1, p.2) (c.in_err-debug_deck-in-Debug.ensures.retries)
 
 pub returns-in_err-rewrite_image_text-in-Renew-clause-done :
     goal.returns-in_err-rewrite_image_text-in-Renew-clause-done
@@ -81,9 +81,9 @@ returns-in_err-rewrite_image_text-in-Renew-clause-done g c =
     rw (p.1, p.2) (renewal_refused _ _ c.args.job.now _ _ _ _ c.in-Renew.is
     c.parts_of-parts.ensures.head c.in_err-rewrite_image_text-in-Renew.ensures.done)
 
-pub returns-in_err-rewrite_image_text-in-Renew-clause-fared :
-    goal.returns-in_err-rewrite_image_text-in-Renew-clause-fared
-returns-in_err-rewrite_image_text-in-Renew-clause-fared g c =
+pub returns-in_err-rewrite_image_text-in-Renew-clause-retries :
+    goal.returns-in_err-rewrite_image_text-in-Renew-clause-retries
+returns-in_err-rewrite_image_text-in-Renew-clause-retries g c =
     let p = err_from_is_err_and c.from_residual-in_err-rewrite_image_text-in-Renew.result
     c.from_residual-in_err-rewrite_image_text-in-Renew.ensures.1 in
-    rw (p.1, p.2) (c.in_err-rewrite_image_text-in-Renew.ensures.fared)
+    rw (p.1, p.2) (c.in_err-rewrite_image_text-in-Renew.ensures.retries)

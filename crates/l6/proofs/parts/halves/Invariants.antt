@@ -1,8 +1,8 @@
 use Rattle.std.proofs.Common.{length}
-use Rattle.l6.proofs.Marks.{Keeps}
+use Rattle.l6.proofs.Separators.{Keeps}
 use Rattle.l6.proofs.parts.halves.Given as goal
 
--- the lines before the rest are no marks
+-- the lines before the rest are no separators
 abbrev pub invariant-loop-rest : goal.invariant-loop-rest
 invariant-loop-rest l = Keeps l.fn.word l.fn.text l.rest
 

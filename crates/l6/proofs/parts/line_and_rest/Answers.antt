@@ -1,4 +1,4 @@
-use Rattle.l6.proofs.Marks.{line_cut, line_whole}
+use Rattle.l6.proofs.Separators.{line_cut, line_whole}
 use Rattle.l6.proofs.parts.line_and_rest.Goals as goal
 
 pub returns-in-Some-clause-line : goal.returns-in-Some-clause-line

@@ -16,16 +16,16 @@ returns-in_err-mark-clause-group c =
 pub returns-then-mark-eq41-clause-group : goal.returns-then-mark-eq41-clause-group
 returns-then-mark-eq41-clause-group c =
     let cut = c.split_at_parenthesis in
-    let closes : cut.result.1.now ≡ byte ")" ∷ c.in_ok-mark.behind.now = search rules in
-    closed-cut c.args.inside.now cut.result.0.now c.in_ok-mark.behind.now
+    let closes : cut.result.1.now ≡ byte ")" ∷ c.in_ok-mark.following.now = search rules in
+    closed-cut c.args.inside.now cut.result.0.now c.in_ok-mark.following.now
     (subst (IsCutAtParenthesis c.args.inside.now cut.result.0.now) closes cut.ensures)
 
 pub returns-else-mark-eq41-clause-group : goal.returns-else-mark-eq41-clause-group
 returns-else-mark-eq41-clause-group c =
     let cut = c.split_at_parenthesis in
-    let goes_on : cut.result.1.now ≡ c.in_ok-mark.mark.now ∷ c.in_ok-mark.behind.now =
+    let goes_on : cut.result.1.now ≡ c.in_ok-mark.mark.now ∷ c.in_ok-mark.following.now =
     search rules in
-    let open' : begins_with_closing (c.in_ok-mark.mark.now ∷ c.in_ok-mark.behind.now) ≡ false =
+    let open' : begins_with_closing (c.in_ok-mark.mark.now ∷ c.in_ok-mark.following.now) ≡ false =
     ne_eqb c.in_ok-mark.mark.now (byte ")") c.if-mark-eq41.false in
     unclosed-cut c.args.inside.now cut.result.0.now cut.result.1.now cut.ensures
     (ap begins_with_closing goes_on ∙ open')

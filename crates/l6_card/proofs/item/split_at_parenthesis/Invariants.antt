@@ -3,7 +3,7 @@ use Rattle.std.specs.Str.{byte}
 use Rattle.l6_word.specs.Split.{lacks}
 use Rattle.l6_card.proofs.item.split_at_parenthesis.Given as goal
 
--- no parenthesis stands so far
+-- no parenthesis is so far
 abbrev pub invariant-loop-place : goal.invariant-loop-place
 invariant-loop-place l = record {
   no_opening : lacks (byte "(") (take l.place l.body) ≡ true;

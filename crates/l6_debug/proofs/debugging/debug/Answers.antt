@@ -1,11 +1,11 @@
 use Rattle.std.proofs.Common.{◌≡◌, false, List, ℕ, inl, inr, refl, subst}
 use Rattle.std.proofs.lemmas.Result.{err_from_is_err_and}
-use Rattle.l6_debug.specs.Serving.{Serves}
-use Rattle.l6_run.specs.Patience.{tells_read, told_by}
+use Rattle.l6_debug.specs.Serving.{ServesSession}
+use Rattle.l6_run.specs.Patience.{reports_read, reported_by}
 use Rattle.l6_run.specs.declared.fault.Part.{Part}
 use Rattle.l6_run.specs.declared.fault.Part.TheVariants.{Deck, Input, Commands}
-use Rattle.l6_run.proofs.Faring.{fared-alone, fared-first, fared-more, untold-other, untold-writer}
-use Rattle.l6_debug.proofs.Sessions.{untold-session}
+use Rattle.l6_run.proofs.Faring.{retries-alone, retries-first, retries-more, untold-other, untold-writer}
+use Rattle.l6_debug.proofs.Sessions.{untold-debugger_state}
 use Rattle.l6_debug.proofs.debugging.debug.Goals as goal
 
 -- the deck was read whole, and the input was not
@@ -54,23 +54,26 @@ returns-clause-done g c =
         inl (
           c.in_ok-asked.asked.items,
           c.in_ok-asked.ensures.bytes,
-          subst (λ (l : List ℕ). Serves options c.in_ok-cards.cards.items c.in_ok-lines.lines.items l
+          subst (λ (l : List ℕ). ServesSession options c.in_ok-cards.cards.items
+              c.in_ok-lines.lines.items l
               old new result) c.as_slice-3.ensures.value
-              (subst (λ (l : List ℕ). Serves options c.in_ok-cards.cards.items l asked old new result)
+              (subst (λ (l : List ℕ). ServesSession options c.in_ok-cards.cards.items l asked old
+              new result)
               c.as_slice-2.ensures.value
-              (subst (λ (l : List ℕ). Serves options l lines asked old new result) c.as_slice.ensures.value
+              (subst (λ (l : List ℕ). ServesSession options l lines asked old new result)
+              c.as_slice.ensures.value
               c.debug_deck.ensures.done)),
         ),
       ),
     )
 
 -- the deck was not read whole: the others were not asked
-pub returns-in_err-cards-clause-fared : goal.returns-in_err-cards-clause-fared
-returns-in_err-cards-clause-fared g c =
+pub returns-in_err-cards-clause-retries : goal.returns-in_err-cards-clause-retries
+returns-in_err-cards-clause-retries g c =
     let p = err_from_is_err_and c.from_residual.result c.from_residual.ensures.1 in
     let ends = c.in_err-cards.ensures.bytes in
     rw (p.1, p.2)
-    (fared-alone _ _ _ c.new-patience.ensures (fared-first _ _ _ _ c.in_err-cards.ensures.fared (
+    (retries-alone _ _ _ c.new-patience.ensures (retries-first _ _ _ _ c.in_err-cards.ensures.retries (
       (refl, untold-other Deck Input _ _ _ refl ends),
       (
         (refl, untold-other Deck Commands _ _ _ refl ends),
@@ -79,43 +82,43 @@ returns-in_err-cards-clause-fared g c =
     )))
 
 -- the input was not read whole: commands and writer were not asked
-pub returns-in_err-lines-clause-fared : goal.returns-in_err-lines-clause-fared
-returns-in_err-lines-clause-fared g c =
+pub returns-in_err-lines-clause-retries : goal.returns-in_err-lines-clause-retries
+returns-in_err-lines-clause-retries g c =
     let p = err_from_is_err_and c.from_residual-in_err-lines.result
     c.from_residual-in_err-lines.ensures.1 in
     let ends = c.in_err-lines.ensures.bytes in
     rw (p.1, p.2)
-    (fared-alone _ _ _ c.new-patience.ensures
-    (fared-more _ _ _ _ _ _ _ (untold-other Input Deck _ _ _ refl ends) c.in_ok-cards.ensures.fared
-    (fared-first _ _ _ _ c.in_err-lines.ensures.fared (
+    (retries-alone _ _ _ c.new-patience.ensures
+    (retries-more _ _ _ _ _ _ _ (untold-other Input Deck _ _ _ refl ends) c.in_ok-cards.ensures.retries
+    (retries-first _ _ _ _ c.in_err-lines.ensures.retries (
       (refl, untold-other Input Commands _ _ _ refl ends),
       ((refl, untold-writer Input _ _ _ ends), tt),
     ))))
 
 -- the commands were not read whole: the writer was not asked
-pub returns-in_err-asked-clause-fared : goal.returns-in_err-asked-clause-fared
-returns-in_err-asked-clause-fared g c =
+pub returns-in_err-asked-clause-retries : goal.returns-in_err-asked-clause-retries
+returns-in_err-asked-clause-retries g c =
     let p = err_from_is_err_and c.from_residual-in_err-asked.result
     c.from_residual-in_err-asked.ensures.1 in
     let ends = c.in_err-asked.ensures.bytes in
     rw (p.1, p.2)
-    (fared-alone _ _ _ c.new-patience.ensures
-    (fared-more _ _ _ _ _ _ _ (untold-other Commands Deck _ _ _ refl ends)
-    c.in_ok-cards.ensures.fared
-    (fared-more _ _ _ _ _ _ _ (untold-other Commands Input _ _ _ refl ends)
-    c.in_ok-lines.ensures.fared
-    (fared-first _ _ _ _ c.in_err-asked.ensures.fared
+    (retries-alone _ _ _ c.new-patience.ensures
+    (retries-more _ _ _ _ _ _ _ (untold-other Commands Deck _ _ _ refl ends)
+    c.in_ok-cards.ensures.retries
+    (retries-more _ _ _ _ _ _ _ (untold-other Commands Input _ _ _ refl ends)
+    c.in_ok-lines.ensures.retries
+    (retries-first _ _ _ _ c.in_err-asked.ensures.retries
     ((refl, untold-writer Commands _ _ _ ends), tt)))))
 
 -- all three were read whole
-pub returns-clause-fared : goal.returns-clause-fared
-returns-clause-fared g c =
-    let untold : (part : Part) → told_by (tells_read part) c.debug_deck.result ≡ false =
-    λ part. untold-session c.args.options c.as_slice.result.now c.as_slice-2.result.now
+pub returns-clause-retries : goal.returns-clause-retries
+returns-clause-retries g c =
+    let untold : (part : Part) → reported_by (reports_read part) c.debug_deck.result ≡ false =
+    λ part. untold-debugger_state c.args.options c.as_slice.result.now c.as_slice-2.result.now
     c.as_slice-3.result.now part (g.W.Sink.taken c.args.writer.now)
     (g.W.Sink.taken c.debug_deck.new.writer) c.debug_deck.result c.debug_deck.ensures.done in
-    fared-alone _ _ _ c.new-patience.ensures
-    (fared-more _ _ _ _ _ _ _ (untold Deck) c.in_ok-cards.ensures.fared
-    (fared-more _ _ _ _ _ _ _ (untold Input) c.in_ok-lines.ensures.fared
-    (fared-more _ _ _ _ _ _ _ (untold Commands) c.in_ok-asked.ensures.fared
-    c.debug_deck.ensures.fared)))
+    retries-alone _ _ _ c.new-patience.ensures
+    (retries-more _ _ _ _ _ _ _ (untold Deck) c.in_ok-cards.ensures.retries
+    (retries-more _ _ _ _ _ _ _ (untold Input) c.in_ok-lines.ensures.retries
+    (retries-more _ _ _ _ _ _ _ (untold Commands) c.in_ok-asked.ensures.retries
+    c.debug_deck.ensures.retries)))

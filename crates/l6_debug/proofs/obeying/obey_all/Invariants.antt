@@ -1,20 +1,20 @@
 use Rattle.std.proofs.Common.{◌≡◌, false, [], ◌∷◌, length}
 use Rattle.l6_word.specs.Lines.{lines_of}
-use Rattle.l6_run.specs.Patience.{Repeats, lent}
+use Rattle.l6_run.specs.Patience.{Retries, device_use}
 use Rattle.l6_debug.specs.Transcript.{answers_from}
-use Rattle.l6_debug.specs.inner.Sitting.{HaveGoneOut}
+use Rattle.l6_debug.specs.inner.DebuggerRun.{HaveGoneOut}
 use Rattle.l6_debug.proofs.obeying.obey_all.Given as goal
 
 -- the answers to the lines so far went out, and the writer was interrupted as often as was repeated
 abbrev pub invariant-loop-line : goal.invariant-loop-line
 invariant-loop-line g l = record {
-  world : l.debugger.world ≡ l.fn.debugger.world;
+  context : l.debugger.context ≡ l.fn.debugger.context;
   gone : HaveGoneOut
-      (answers_from g.S.Places.rule l.fn.debugger.world l.fn.debugger.session
+      (answers_from g.S.Places.rule l.fn.debugger.context l.fn.debugger.debugger_state
       (lines_of l.fn.commands))
-      (answers_from g.S.Places.rule l.fn.debugger.world l.debugger.session (lines_of l.rest))
+      (answers_from g.S.Places.rule l.fn.debugger.context l.debugger.debugger_state (lines_of l.rest))
       (g.W.Sink.taken l.fn.writer) (g.W.Sink.taken l.writer) l.sent;
-  repeated : Repeats (lent (g.W.Sink.health l.fn.writer) (g.W.Sink.health l.writer) false ∷ [])
+  repeated : Retries (device_use (g.W.Sink.health l.fn.writer) (g.W.Sink.health l.writer) false ∷ [])
       l.fn.patience l.patience;
 }
 

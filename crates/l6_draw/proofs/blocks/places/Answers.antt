@@ -12,12 +12,14 @@ pub loop-place-preserved-in-None : goal.loop-place-preserved-in-None
 loop-place-preserved-in-None g c =
     let store = g.S.Places.store c.args.store.now in
     scan-passes store.blocks c.loop-place.place c.from_value.result c.loop-place.places.items
-    (search rules) (λ live. let told = (c.in-None.ensures.live).1 live in search rules) c.loop-place.invariant
+    (search rules) (λ live. let told = (c.in-None.ensures.live).1 live in search rules)
+    c.loop-place.invariant
 
 pub loop-place-preserved : goal.loop-place-preserved
 loop-place-preserved g c =
     let store = g.S.Places.store c.args.store.now in
-    scan-finds store.units store.blocks c.units.ensures.sound.fits c.loop-place.place c.from_value.result
+    scan-finds store.units store.blocks c.units.ensures.sound.fits c.loop-place.place
+    c.from_value.result
     c.in-Some.level c.loop-place.places.items c.push.new.self.items
     (search rules) ((c.in-Some.ensures.live).0 refl) c.in-Some.ensures.size c.in-Some.ensures.level
     c.in_ok-push-in-Some.ensures.items c.loop-place.invariant

@@ -6,5 +6,6 @@ use Rattle.l6_draw.proofs.drawings.push_blocks.Given as goal
 -- the text so far, with the lines of the blocks left, is that with the lines of all blocks
 abbrev pub invariant-loop-place : goal.invariant-loop-place
 invariant-loop-place g l =
-    l.text.items ++ flat_map (block_lines l.machine.moment.state.memory) (drop l.place-index l.places)
-    ≡ l.fn.text.items ++ flat_map (block_lines l.machine.moment.state.memory) l.places
+    l.text.items ++ flat_map (block_lines l.machine.configuration.state.memory)
+    (drop l.place-index l.places)
+    ≡ l.fn.text.items ++ flat_map (block_lines l.machine.configuration.state.memory) l.places

@@ -8,7 +8,7 @@ use Rattle.l6_draw.proofs.drawings.push_bugs.Goals as goal
 
 pub loop-letter-preserved : goal.loop-letter-preserved
 loop-letter-preserved g c =
-    let memory = c.args.machine.now.moment.state.memory in
+    let memory = c.args.machine.now.configuration.state.memory in
     letter_line-more (bug_line memory) c.loop-letter.letter c.loop-letter.text.items
     c.push_arrow.new.text.items (c.args.text.now.items ++ flat_map (bug_line memory) letters)
     c.loop-letter-test.true
@@ -19,7 +19,7 @@ loop-letter-preserved g c =
 
 pub returns : goal.returns
 returns g c =
-    let memory = c.args.machine.now.moment.state.memory in
+    let memory = c.args.machine.now.configuration.state.memory in
     letter_line-none (bug_line memory) c.loop-letter.letter c.loop-letter.text.items
     (c.args.text.now.items ++ flat_map (bug_line memory) letters)
     (let end : c.loop-letter.letter ≡ name_count = omega arith in end) c.loop-letter.invariant

@@ -6,7 +6,7 @@ use Rattle.l6_draw.proofs.drawings.push_fields.Given as goal
 -- the text so far, with the lines of the fields left, is that with the lines of all fields
 abbrev pub invariant-loop-name : goal.invariant-loop-name
 invariant-loop-name g l =
-    l.text.items ++ flat_map (field_line l.machine.moment.state.memory l.words)
+    l.text.items ++ flat_map (field_line l.machine.configuration.state.memory l.words)
     (enumerate_from l.name (drop l.name l.field-items))
-    ≡ l.fn.text.items ++ flat_map (field_line l.machine.moment.state.memory l.words)
+    ≡ l.fn.text.items ++ flat_map (field_line l.machine.configuration.state.memory l.words)
     (enumerate_from 0 l.field-items)

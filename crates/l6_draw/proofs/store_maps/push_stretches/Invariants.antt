@@ -7,7 +7,7 @@ use Rattle.l6_draw.proofs.store_maps.push_stretches.Given as goal
 -- the text so far, with the lines from there on, is that with all lines
 abbrev pub invariant-loop-place : goal.invariant-loop-place
 invariant-loop-place g l =
-    l.text.items ++ flat_map (line_of l.machine.moment.state.memory)
-    (stretches_from l.machine.moment.state.memory l.from l.end (drop l.place-index l.places))
-    ≡ l.fn.text.items ++ flat_map (line_of l.machine.moment.state.memory)
-    (stretches_from l.machine.moment.state.memory unit_size l.end l.places)
+    l.text.items ++ flat_map (line_of l.machine.configuration.state.memory)
+    (stretches_from l.machine.configuration.state.memory l.from l.end (drop l.place-index l.places))
+    ≡ l.fn.text.items ++ flat_map (line_of l.machine.configuration.state.memory)
+    (stretches_from l.machine.configuration.state.memory unit_size l.end l.places)

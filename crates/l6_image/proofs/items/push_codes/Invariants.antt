@@ -2,7 +2,7 @@ use Rattle.std.proofs.Common.{◌≡◌, ◌++◌, length}
 use Rattle.l6_image.specs.Row.{sixes}
 use Rattle.l6_image.proofs.items.push_codes.Given as goal
 
--- behind what is written belong the words of the codes that are left
+-- after what is written belong the words of the codes that are left
 abbrev pub invariant-loop-rest : goal.invariant-loop-rest
 invariant-loop-rest l = l.words.items ++ sixes l.rest ≡ l.fn.words.items ++ sixes l.fn.codes
 

@@ -4,7 +4,7 @@ use Rattle.l6_image.specs.Row.{is_name}
 use Rattle.l6_image.specs.inner.Fields.{items_in, names_in}
 use Rattle.l6_image.proofs.operands.chain_in.Given as goal
 
--- the names so far, and those behind them
+-- the names so far, and those after them
 abbrev pub invariant-loop-item : goal.invariant-loop-item
 invariant-loop-item l = record {
   items : l.item-items ≡ items_in l.fn.word;

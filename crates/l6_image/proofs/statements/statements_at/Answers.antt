@@ -9,7 +9,8 @@ returns-in_err-statement c =
     let now = c.loop in
     let p = err_from_is_err_and c.from_residual.result c.from_residual.ensures.1 in
     rw (p.1, p.2)
-    (fails (statement_at c.args.version) now.statements.items c.args.count now.counter now.rest.now c.args.words.now
+    (fails (statement_at c.args.version) now.statements.items c.args.count now.counter now.rest.now
+    c.args.words.now
     c.in_err-statement.field-0.0 c.loop-test.true c.in_err-statement.ensures now.invariant)
 
 pub loop-preserved : goal.loop-preserved
@@ -18,8 +19,9 @@ loop-preserved c =
     let pushed : c.push.new.self.items ≡ now.statements.items ++ c.in_ok-statement.statement ∷ [] =
     search rules in
     let more = c.args.count - (now.counter + 1) in
-    ap (λ xs. with_front xs (many (statement_at c.args.version) more c.in_ok-statement.behind.now)) pushed
+    ap (λ xs. with_front xs
+    (many (statement_at c.args.version) more c.in_ok-statement.following.now)) pushed
     ∙ goes_on (statement_at c.args.version) now.statements.items c.args.count now.counter now.rest.now
-    c.in_ok-statement.statement c.in_ok-statement.behind.now
+    c.in_ok-statement.statement c.in_ok-statement.following.now
     c.args.words.now c.loop-test.true c.in_ok-statement.ensures
     now.invariant

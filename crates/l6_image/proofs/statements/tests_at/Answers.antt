@@ -9,7 +9,8 @@ returns-in_err-test c =
     let now = c.loop in
     let p = err_from_is_err_and c.from_residual.result c.from_residual.ensures.1 in
     rw (p.1, p.2)
-    (fails (test_at c.args.version) now.tests.items c.args.count now.counter now.rest.now c.args.words.now
+    (fails (test_at c.args.version) now.tests.items c.args.count now.counter now.rest.now
+    c.args.words.now
     c.in_err-test.field-0.0 c.loop-test.true c.in_err-test.ensures now.invariant)
 
 pub loop-preserved : goal.loop-preserved
@@ -18,8 +19,8 @@ loop-preserved c =
     let pushed : c.push.new.self.items ≡ now.tests.items ++ c.in_ok-test.test ∷ [] =
     search rules in
     let more = c.args.count - (now.counter + 1) in
-    ap (λ xs. with_front xs (many (test_at c.args.version) more c.in_ok-test.behind.now)) pushed
+    ap (λ xs. with_front xs (many (test_at c.args.version) more c.in_ok-test.following.now)) pushed
     ∙ goes_on (test_at c.args.version) now.tests.items c.args.count now.counter now.rest.now
-    c.in_ok-test.test c.in_ok-test.behind.now
+    c.in_ok-test.test c.in_ok-test.following.now
     c.args.words.now c.loop-test.true c.in_ok-test.ensures
     now.invariant

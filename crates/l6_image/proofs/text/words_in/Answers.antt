@@ -16,19 +16,19 @@ pub loop-rest-preserved : goal.loop-rest-preserved
 loop-rest-preserved c =
     let now = c.loop-rest in
     let word = c.in-Some.word in
-    let behind = c.in-Some.behind.now in
+    let following = c.in-Some.following.now in
     let found = c.in-Some.ensures in
     let pushed : c.push.new.self.items ≡ now.words.items ++ word ∷ [] = search rules in
     let count : length c.push.new.self.items ≡ length now.words.items + 1 =
     ap length pushed ∙ length-append now.words.items (word ∷ []) in
     record {
-      words = text-more c.args.text.now now.rest.now behind now.words.items c.push.new.self.items
+      words = text-more c.args.text.now now.rest.now following now.words.items c.push.new.self.items
           word now.invariant.words found.found pushed;
       known = words-more now.words.items c.push.new.self.items word now.invariant.known found.known
           pushed;
       lines = now.invariant.lines
           ∙ ap (λ text. first_other (length now.words.items + 1) (whole_lines text)) found.found
-          ∙ first_other-more (length now.words.items + 1) word behind found.known
-          ∙ ap (λ n. first_other (n + 1) (whole_lines behind)) (sym count);
+          ∙ first_other-more (length now.words.items + 1) word following found.known
+          ∙ ap (λ n. first_other (n + 1) (whole_lines following)) (sym count);
       count = omega (arith, count, found.shorter, now.invariant.count);
     }

@@ -10,7 +10,7 @@ overflow_add-result c = omega (arith, c.requires.near, c.requires.some, width_is
 pub overflow_add-result-in_default-2 : goal.overflow_add-result-in_default-2
 overflow_add-result-in_default-2 c = omega (arith, c.requires.near, c.requires.some, width_is)
 
--- at an end stands a blank
+-- at an end is a blank
 pub returns-in-64-clause-value : goal.returns-in-64-clause-value
 returns-in-64-clause-value c =
     blank_at input_width c.args.column c.args.place c.args.codes.now c.requires.some c.in-64.is

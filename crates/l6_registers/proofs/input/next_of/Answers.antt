@@ -3,7 +3,7 @@ use Rattle.l6_word.specs.Numerals.{input_width}
 use Rattle.l6_registers.proofs.Inputs.{inside_by, inside_next, over_at, width_is}
 use Rattle.l6_registers.proofs.input.next_of.Goals as goal
 
--- behind a line that has its width there is another
+-- after a line that has its width there is another
 pub next_in_line-requires-clause-some : goal.next_in_line-requires-clause-some
 next_in_line-requires-clause-some c =
     inside_next input_width c.args.column c.args.place c.args.codes.now c.requires.some

@@ -6,7 +6,7 @@ use Rattle.l6_registers.specs.inner.Input.{line_end}
 use Rattle.l6_registers.proofs.Inputs.{width_is}
 use Rattle.l6_registers.proofs.input.push_line.Goals as goal
 
--- all of the line is kept that counts, and the end behind it
+-- all of the line is kept that counts, and the end after it
 pub returns : goal.returns
 returns c =
     let line = c.args.line.now in

@@ -3,7 +3,7 @@ use Rattle.l6_steps.specs.Locus.{follow}
 use Rattle.l6_registers.specs.inner.Registers.{IsIn}
 use Rattle.l6_registers.proofs.readable.follow.Given as goal
 
--- something stands at the locus so far, from where the names that are left lead on
+-- something is at the locus so far, from where the names that are left lead on
 abbrev pub invariant-loop-name : goal.invariant-loop-name
 invariant-loop-name g l = record {
   stands : IsIn (g.M.Readable.memory l.memory) l.locus;

@@ -1,5 +1,11 @@
-use Rattle.l6_run.proofs.Printouts.{prints-as_deck}
+use Rattle.l6_run.proofs.Printouts.{prints-as_deck, written-prints_as_deck}
 use Rattle.l6_run.proofs.laws.images_print_as_decks.Goals as goal
 
 pub returns : goal.returns
-returns c = prints-as_deck c.spelling_is_settled.ensures.one_way c.texts_tell_programs.ensures
+returns c =
+    let one_way = c.spelling_is_settled.ensures.one_way in
+    let one_program = c.texts_tell_programs.ensures in
+    record {
+      each = prints-as_deck one_way one_program;
+      written = written-prints_as_deck one_way one_program;
+    }

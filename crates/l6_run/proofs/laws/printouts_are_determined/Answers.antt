@@ -1,5 +1,10 @@
-use Rattle.l6_run.proofs.Printouts.{prints-one}
+use Rattle.l6_run.proofs.Printouts.{prints-loaded_one, prints-one}
 use Rattle.l6_run.proofs.laws.printouts_are_determined.Goals as goal
 
 pub returns : goal.returns
-returns c = prints-one c.spelling_is_settled.ensures.one_way c.runs_are_determined.ensures.one_end
+returns c =
+    let one_end = c.runs_are_determined.ensures.one_end in
+    record {
+      decks = prints-one c.spelling_is_settled.ensures.one_way one_end;
+      images = prints-loaded_one c.texts_tell_programs.ensures one_end;
+    }

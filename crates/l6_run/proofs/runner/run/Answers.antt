@@ -1,10 +1,10 @@
 use Rattle.std.proofs.Common.{◌≡◌, false, inl, inr, refl}
 use Rattle.std.proofs.lemmas.Result.{err_from_is_err_and}
 use Rattle.l6_run.specs.Prints.{Prints, RefusesDeck}
-use Rattle.l6_run.specs.Patience.{tells_read, told_by}
+use Rattle.l6_run.specs.Patience.{reports_read, reported_by}
 use Rattle.l6_run.specs.declared.fault.Part.{Part}
 use Rattle.l6_run.specs.declared.fault.Part.TheVariants.{Deck, Input}
-use Rattle.l6_run.proofs.Faring.{fared-alone, fared-first, fared-more, untold-other, untold-reader, untold-writer}
+use Rattle.l6_run.proofs.Faring.{retries-alone, retries-first, retries-more, untold-other, untold-reader, untold-writer}
 use Rattle.l6_run.proofs.runner.run.Goals as goal
 
 -- the deck was read whole, and the input was not
@@ -20,38 +20,38 @@ returns-in_err-lines-clause-done g c =
     ))
 
 -- the deck was not read whole: the others were not asked
-pub returns-in_err-cards-clause-fared : goal.returns-in_err-cards-clause-fared
-returns-in_err-cards-clause-fared g c =
+pub returns-in_err-cards-clause-retries : goal.returns-in_err-cards-clause-retries
+returns-in_err-cards-clause-retries g c =
     let p = err_from_is_err_and c.from_residual.result c.from_residual.ensures.1 in
     let ends = c.in_err-cards.ensures.bytes in
     rw (p.1, p.2)
-    (fared-alone _ _ _ c.new-patience.ensures (fared-first _ _ _ _ c.in_err-cards.ensures.fared (
+    (retries-alone _ _ _ c.new-patience.ensures (retries-first _ _ _ _ c.in_err-cards.ensures.retries (
       (refl, untold-other Deck Input _ _ _ refl ends),
       ((refl, untold-writer Deck _ _ _ ends), tt),
     )))
 
 -- the input was not read whole: the writer was not asked
-pub returns-in_err-lines-clause-fared : goal.returns-in_err-lines-clause-fared
-returns-in_err-lines-clause-fared g c =
+pub returns-in_err-lines-clause-retries : goal.returns-in_err-lines-clause-retries
+returns-in_err-lines-clause-retries g c =
     let p = err_from_is_err_and c.from_residual-in_err-lines.result
     c.from_residual-in_err-lines.ensures.1 in
     let ends = c.in_err-lines.ensures.bytes in
     rw (p.1, p.2)
-    (fared-alone _ _ _ c.new-patience.ensures
-    (fared-more _ _ _ _ _ _ _ (untold-other Input Deck _ _ _ refl ends) c.in_ok-cards.ensures.fared
-    (fared-first _ _ _ _ c.in_err-lines.ensures.fared
+    (retries-alone _ _ _ c.new-patience.ensures
+    (retries-more _ _ _ _ _ _ _ (untold-other Input Deck _ _ _ refl ends) c.in_ok-cards.ensures.retries
+    (retries-first _ _ _ _ c.in_err-lines.ensures.retries
     ((refl, untold-writer Input _ _ _ ends), tt))))
 
 -- both were read whole
-pub returns-clause-fared : goal.returns-clause-fared
-returns-clause-fared g c =
+pub returns-clause-retries : goal.returns-clause-retries
+returns-clause-retries g c =
     let deck = c.as_slice.result.now in
     let input = c.as_slice-2.result.now in
-    let untold : (part : Part) → told_by (tells_read part) c.run_deck.result ≡ false =
+    let untold : (part : Part) → reported_by (reports_read part) c.run_deck.result ≡ false =
     λ part. untold-reader (Prints c.args.options deck input) (RefusesDeck deck input) part
     (g.W.Sink.taken c.args.writer.now) (g.W.Sink.taken c.run_deck.new.writer) c.run_deck.result
     (λ _ refused. refused) c.run_deck.ensures.done in
-    fared-alone _ _ _ c.new-patience.ensures
-    (fared-more _ _ _ _ _ _ _ (untold Deck) c.in_ok-cards.ensures.fared
-    (fared-more _ _ _ _ _ _ _ (untold Input) c.in_ok-lines.ensures.fared
-    c.run_deck.ensures.fared))
+    retries-alone _ _ _ c.new-patience.ensures
+    (retries-more _ _ _ _ _ _ _ (untold Deck) c.in_ok-cards.ensures.retries
+    (retries-more _ _ _ _ _ _ _ (untold Input) c.in_ok-lines.ensures.retries
+    c.run_deck.ensures.retries))

@@ -1,10 +1,10 @@
 use Rattle.std.proofs.Common.{◌≡◌, false, inl, inr, refl}
 use Rattle.std.proofs.lemmas.Result.{err_from_is_err_and}
 use Rattle.l6_run.specs.Prints.{PrintsLoaded, RefusesImage}
-use Rattle.l6_run.specs.Patience.{tells_read, told_by}
+use Rattle.l6_run.specs.Patience.{reports_read, reported_by}
 use Rattle.l6_run.specs.declared.fault.Part.{Part}
 use Rattle.l6_run.specs.declared.fault.Part.TheVariants.{Image, Input}
-use Rattle.l6_run.proofs.Faring.{fared-alone, fared-first, fared-more, untold-other, untold-reader, untold-writer}
+use Rattle.l6_run.proofs.Faring.{retries-alone, retries-first, retries-more, untold-other, untold-reader, untold-writer}
 use Rattle.l6_run.proofs.runner.run_image.Goals as goal
 
 -- the text was read whole, and the input was not
@@ -20,38 +20,39 @@ returns-in_err-given-clause-done g c =
     ))
 
 -- the text was not read whole: the others were not asked
-pub returns-in_err-text-clause-fared : goal.returns-in_err-text-clause-fared
-returns-in_err-text-clause-fared g c =
+pub returns-in_err-text-clause-retries : goal.returns-in_err-text-clause-retries
+returns-in_err-text-clause-retries g c =
     let p = err_from_is_err_and c.from_residual.result c.from_residual.ensures.1 in
     let ends = c.in_err-text.ensures.bytes in
     rw (p.1, p.2)
-    (fared-alone _ _ _ c.new-patience.ensures (fared-first _ _ _ _ c.in_err-text.ensures.fared (
+    (retries-alone _ _ _ c.new-patience.ensures (retries-first _ _ _ _ c.in_err-text.ensures.retries (
       (refl, untold-other Image Input _ _ _ refl ends),
       ((refl, untold-writer Image _ _ _ ends), tt),
     )))
 
 -- the input was not read whole: the writer was not asked
-pub returns-in_err-given-clause-fared : goal.returns-in_err-given-clause-fared
-returns-in_err-given-clause-fared g c =
+pub returns-in_err-given-clause-retries : goal.returns-in_err-given-clause-retries
+returns-in_err-given-clause-retries g c =
     let p = err_from_is_err_and c.from_residual-in_err-given.result
     c.from_residual-in_err-given.ensures.1 in
     let ends = c.in_err-given.ensures.bytes in
     rw (p.1, p.2)
-    (fared-alone _ _ _ c.new-patience.ensures
-    (fared-more _ _ _ _ _ _ _ (untold-other Input Image _ _ _ refl ends) c.in_ok-text.ensures.fared
-    (fared-first _ _ _ _ c.in_err-given.ensures.fared
+    (retries-alone _ _ _ c.new-patience.ensures
+    (retries-more _ _ _ _ _ _ _ (untold-other Input Image _ _ _ refl ends) c.in_ok-text.ensures.retries
+    (retries-first _ _ _ _ c.in_err-given.ensures.retries
     ((refl, untold-writer Input _ _ _ ends), tt))))
 
 -- both were read whole
-pub returns-clause-fared : goal.returns-clause-fared
-returns-clause-fared g c =
+pub returns-clause-retries : goal.returns-clause-retries
+returns-clause-retries g c =
     let image = c.as_slice.result.now in
     let input = c.as_slice-2.result.now in
-    let untold : (part : Part) → told_by (tells_read part) c.run_image_text.result ≡ false =
+    let untold : (part : Part) → reported_by (reports_read part) c.run_image_text.result ≡ false =
     λ part. untold-reader (PrintsLoaded c.args.options image input) (RefusesImage image input) part
-    (g.W.Sink.taken c.args.writer.now) (g.W.Sink.taken c.run_image_text.new.writer) c.run_image_text.result
+    (g.W.Sink.taken c.args.writer.now)
+    (g.W.Sink.taken c.run_image_text.new.writer) c.run_image_text.result
     (λ _ refused. refused) c.run_image_text.ensures.done in
-    fared-alone _ _ _ c.new-patience.ensures
-    (fared-more _ _ _ _ _ _ _ (untold Image) c.in_ok-text.ensures.fared
-    (fared-more _ _ _ _ _ _ _ (untold Input) c.in_ok-given.ensures.fared
-    c.run_image_text.ensures.fared))
+    retries-alone _ _ _ c.new-patience.ensures
+    (retries-more _ _ _ _ _ _ _ (untold Image) c.in_ok-text.ensures.retries
+    (retries-more _ _ _ _ _ _ _ (untold Input) c.in_ok-given.ensures.retries
+    c.run_image_text.ensures.retries))

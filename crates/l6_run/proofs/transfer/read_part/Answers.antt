@@ -2,7 +2,7 @@
 use Rattle.std.proofs.Common.{arith, refl, inl, rules}
 use Rattle.std.proofs.KnownBytes.{Consumes-nil}
 use Rattle.std.proofs.lemmas.Result.{err_from_is_err_and}
-use Rattle.l6_run.proofs.Faring.{fared-then, repeats-none, repeats-untold}
+use Rattle.l6_run.proofs.Faring.{retries-then, retried-none, retried-untold}
 use Rattle.l6_run.proofs.Transfers.{Consumes-more, EndsReading-read_fault, GivesAtMost-after, GivesPart-at_end}
 use Rattle.l6_run.proofs.transfer.read_part.Goals as goal
 
@@ -10,7 +10,7 @@ pub loop-reader-init : goal.loop-reader-init
 loop-reader-init g c = record {
   given = rw c.new-bytes.ensures.items (Consumes-nil _);
   within = omega (arith, c.new-bytes.ensures.len);
-  repeated = repeats-none _ _;
+  repeated = retried-none _ _;
   room = refl;
 }
 
@@ -20,8 +20,8 @@ loop-reader-preserved g c =
     record {
       given = Consumes-more _ _ _ _ _ _ so_far.given c.in_ok-count.ensures.ok;
       within = c.in_ok-count.ensures.within;
-      repeated = repeats-untold _ _ _ _
-          (fared-then _ _ _ _ _ _ _ so_far.repeated c.in_ok-count.ensures.fared);
+      repeated = retried-untold _ _ _ _
+          (retries-then _ _ _ _ _ _ _ so_far.repeated c.in_ok-count.ensures.retries);
       room = so_far.room;
     }
 
@@ -38,13 +38,13 @@ returns-in_err-count-clause-at_most g c =
     GivesAtMost-after _ _ _ _ _ _ (omega (arith, c.loop-reader.bytes.ok.0, so_far.within))
     so_far.given c.in_err-count.ensures.at_most
 
-pub returns-in_err-count-clause-fared : goal.returns-in_err-count-clause-fared
-returns-in_err-count-clause-fared g c =
+pub returns-in_err-count-clause-retries : goal.returns-in_err-count-clause-retries
+returns-in_err-count-clause-retries g c =
     let p =
     err_from_is_err_and c.from_residual-in_err-count.result
     c.from_residual-in_err-count.ensures.1 in
     rw (p.1, p.2)
-    (fared-then _ _ _ _ _ _ _ c.loop-reader.invariant.repeated c.in_err-count.ensures.fared)
+    (retries-then _ _ _ _ _ _ _ c.loop-reader.invariant.repeated c.in_err-count.ensures.retries)
 
 pub returns-then-count-eq0-clause-bytes : goal.returns-then-count-eq0-clause-bytes
 returns-then-count-eq0-clause-bytes g c =
@@ -57,9 +57,9 @@ returns-then-count-eq0-clause-at_most g c =
     GivesAtMost-after _ _ _ _ _ _ (omega (arith, c.loop-reader.bytes.ok.0, so_far.within))
     so_far.given c.in_ok-count.ensures.at_most
 
-pub returns-then-count-eq0-clause-fared : goal.returns-then-count-eq0-clause-fared
-returns-then-count-eq0-clause-fared g c =
-    fared-then _ _ _ _ _ _ _ c.loop-reader.invariant.repeated c.in_ok-count.ensures.fared
+pub returns-then-count-eq0-clause-retries : goal.returns-then-count-eq0-clause-retries
+returns-then-count-eq0-clause-retries g c =
+    retries-then _ _ _ _ _ _ _ c.loop-reader.invariant.repeated c.in_ok-count.ensures.retries
 
 pub returns-clause-bytes : goal.returns-clause-bytes
 returns-clause-bytes g c =
@@ -81,5 +81,5 @@ returns-clause-at_most g c =
       within = omega (arith, c.loop-reader.bytes.ok.0, so_far.within);
     }
 
-pub returns-clause-fared : goal.returns-clause-fared
-returns-clause-fared g c = inl c.loop-reader.invariant.repeated
+pub returns-clause-retries : goal.returns-clause-retries
+returns-clause-retries g c = inl c.loop-reader.invariant.repeated

@@ -1,6 +1,6 @@
--- What this write takes stands after what was taken before, and it was no trouble.
+-- What this write takes is after what was taken before, and it was no trouble.
 use Rattle.std.proofs.Common.{◌≡◌, ℕ, ◌-◌, List, length, take, drop, arith, length-drop, length-take}
-use Rattle.l6_run.proofs.Faring.{fared-then, repeats-untold}
+use Rattle.l6_run.proofs.Faring.{retries-then, retried-untold}
 use Rattle.l6_run.proofs.Transfers.{Appends-rest}
 use Rattle.l6_run.proofs.transfer.write_text.Goals as goal
 
@@ -19,12 +19,12 @@ loop-count-preserved g c =
     record {
       within = omega (arith, write.bound, length-rest_of c.args.text.now c.loop-count.count);
       front = Appends-rest _ _ _ _ _ _ so_far.front write.bytes;
-      repeated = repeats-untold _ _ _ _
-          (fared-then _ _ _ _ _ _ _ so_far.repeated write.fared);
+      repeated = retried-untold _ _ _ _
+          (retries-then _ _ _ _ _ _ _ so_far.repeated write.retries);
       unasked = λ none. absurd (omega (arith, none));
     }
 
-pub returns-in-Err-clause-fared : goal.returns-in-Err-clause-fared
-returns-in-Err-clause-fared g c =
+pub returns-in-Err-clause-retries : goal.returns-in-Err-clause-retries
+returns-in-Err-clause-retries g c =
     rw (c.write_fault.ensures)
-    (fared-then _ _ _ _ _ _ _ c.loop-count.invariant.repeated c.in-Err.ensures.fared)
+    (retries-then _ _ _ _ _ _ _ c.loop-count.invariant.repeated c.in-Err.ensures.retries)

@@ -2,9 +2,9 @@ use Rattle.std.proofs.Common.{◌≡◌, ℕ, ◌+◌, ◌-◌, ◌*◌, ◌%◌
 use Rattle.std.proofs.lemmas.Nat.{one_shl, pow_below}
 use Rattle.l6_store.specs.Blocks.{Blocks, LiesIn}
 use Rattle.l6_store.specs.Rule.{Order}
-use Rattle.l6_store.specs.Buddy.{Hand, IsListed, in_front}
-use Rattle.l6_store.specs.inner.Hands.{Halves}
-use Rattle.l6_store.proofs.Hands.{hand_beside, hand_unlisted}
+use Rattle.l6_store.specs.Buddy.{DetachedPiece, IsListed, in_front}
+use Rattle.l6_store.specs.inner.Detached.{HalvesPiece}
+use Rattle.l6_store.proofs.Detached.{detached_beside, detached_unlisted}
 use Rattle.l6_store.proofs.Loops.{halves_first, halves_more, halves_done}
 use Rattle.l6_store.proofs.piece.halve.Goals as goal
 
@@ -23,22 +23,22 @@ upper : (c : goal.After-link-arg-1)
 upper c =
     ap (λ (size : ℕ). c.args.place + size)
     (one_shl (c.loop-now.now - 1) 32
-    (omega (arith, c.loop-now.invariant.1.in_hand.holds.stands.small)))
+    (omega (arith, c.loop-now.invariant.1.is_detached.holds.is_aligned.small)))
 
 pub link-requires-clause-fresh : goal.link-requires-clause-fresh
 link-requires-clause-fresh c = λ k is.
-    hand_unlisted c.args.arena.now.units c.args.arena.now.blocks
+    detached_unlisted c.args.arena.now.units c.args.arena.now.blocks
     (record { order = c.loop-now.arena.order; level = c.loop-now.now; place = c.args.place })
-    c.loop-now.invariant.1.in_hand.holds k (c.args.place + 2 ^ (c.loop-now.now - 1))
+    c.loop-now.invariant.1.is_detached.holds k (c.args.place + 2 ^ (c.loop-now.now - 1))
     (omega arith)
     (omega (arith, pow_below (c.loop-now.now - 1) c.loop-now.now (omega arith)))
     (subst (λ (p : ℕ). IsListed c.loop-now.arena.order k p) (upper c) is)
 
 pub link-requires-clause-beside : goal.link-requires-clause-beside
 link-requires-clause-beside c = λ lies.
-    hand_beside c.args.arena.now.units c.args.arena.now.blocks
+    detached_beside c.args.arena.now.units c.args.arena.now.blocks
     (record { order = c.loop-now.arena.order; level = c.loop-now.now; place = c.args.place })
-    c.loop-now.invariant.1.in_hand.holds (c.args.place + 2 ^ (c.loop-now.now - 1))
+    c.loop-now.invariant.1.is_detached.holds (c.args.place + 2 ^ (c.loop-now.now - 1))
     (omega arith)
     (omega (arith, pow_below (c.loop-now.now - 1) c.loop-now.now (omega arith)))
     (subst (λ (p : ℕ). LiesIn c.args.arena.now.blocks p) (upper c)
@@ -51,7 +51,7 @@ loop-now-preserved c =
     let size : c.args.place + 1 * 2 ^ (c.loop-now.now - 1) % 2 ^ 32
     ≡ c.args.place + 2 ^ (c.loop-now.now - 1)
     = ap (λ (size : ℕ). c.args.place + size)
-    (one_shl (c.loop-now.now - 1) 32 (omega (arith, was.1.in_hand.holds.stands.small))) in
+    (one_shl (c.loop-now.now - 1) 32 (omega (arith, was.1.is_detached.holds.is_aligned.small))) in
     let order : c.link.new.self.order
     ≡ in_front c.loop-now.arena.order (c.loop-now.now - 1)
     (c.args.place + 2 ^ (c.loop-now.now - 1))
@@ -62,8 +62,13 @@ loop-now-preserved c =
         blocks = c.link.ensures.blocks ∙ was.0.blocks;
         sound = c.link.ensures.sound;
       },
-      subst (λ (o : Order). Halves c.args.arena.now.units c.args.arena.now.blocks c.args.level
-          c.args.from (record { order = c.args.arena.now.order; level = c.args.from; place = c.args.place })
+      subst (λ (o : Order). HalvesPiece c.args.arena.now.units c.args.arena.now.blocks c.args.level
+          c.args.from (record {
+            order = c.args.arena.now.order;
+            level = c.args.from;
+            place =
+                c.args.place;
+          })
           (record { order = o; level = c.loop-now.now - 1; place = c.args.place })
           (c.loop-now.moves + 1)) (sym order)
           (halves_more c.args.arena.now.units c.args.arena.now.blocks c.args.level c.args.from
@@ -74,7 +79,7 @@ loop-now-preserved c =
 
 pub returns-clause-order : goal.returns-clause-order
 returns-clause-order c =
-    ap (λ (h : Hand). h.order)
+    ap (λ (h : DetachedPiece). h.order)
     (halves_done c.args.arena.now.units c.args.arena.now.blocks c.args.level c.args.from
     (record { order = c.args.arena.now.order; level = c.args.from; place = c.args.place })
     (record { order = c.loop-now.arena.order; level = c.loop-now.now; place = c.args.place })

@@ -1,12 +1,12 @@
-use Rattle.l6_store.specs.inner.Layout.{IsBeside}
-use Rattle.l6_store.specs.inner.Hands.{Halves}
+use Rattle.l6_store.specs.inner.ArenaLayout.{IsBeside}
+use Rattle.l6_store.specs.inner.Detached.{HalvesPiece}
 use Rattle.l6_store.proofs.piece.halve.Given as goal
 
 -- so often halved until now
 abbrev pub invariant-loop-now : goal.invariant-loop-now
 invariant-loop-now l =
     IsBeside l.fn.arena l.arena
-    × Halves l.fn.arena.units l.fn.arena.blocks l.level l.from
+    × HalvesPiece l.fn.arena.units l.fn.arena.blocks l.level l.from
     (record { order = l.fn.arena.order; level = l.from; place = l.place })
     (record { order = l.arena.order; level = l.now; place = l.place }) l.moves
 

@@ -2,8 +2,8 @@ use Rattle.std.proofs.Common.{◌≡◌, ℕ, ◌+◌, ◌-◌, min, refl, sym, 
 use Rattle.std.proofs.lemmas.Nat.{pow_pos}
 use Rattle.l6_word.specs.Numerals.{largest_level}
 use Rattle.l6_store.specs.Blocks.{Blocks, LiesIn}
-use Rattle.l6_store.specs.Buddy.{Hand, has, listed, IsListed, buddy_of, joined, joined_often, put_back, taken_out}
-use Rattle.l6_store.proofs.Hands.{hand_beside, hand_unlisted}
+use Rattle.l6_store.specs.Buddy.{DetachedPiece, has, listed, IsListed, buddy_of, joined, joined_often, put_back, taken_out}
+use Rattle.l6_store.proofs.Detached.{detached_beside, detached_unlisted}
 use Rattle.l6_store.proofs.Loops.{buddy_stands, joins_first, joins_more, joins_full, joins_alone, joins_to, min_whole}
 use Rattle.l6_store.proofs.piece.join.Goals as goal
 use Rattle.l6_store.proofs.piece.join.Goals.{else-loop-now-test, then-loop-now-test+then-not-is_listed}
@@ -18,11 +18,11 @@ loop-now-init c = (
 
 pub is_listed-requires : goal.is_listed-requires
 is_listed-requires c =
-    let stands = buddy_stands c.args.arena.now.units c.loop-now.now c.loop-now.place
-    c.loop-now-test.true c.loop-now.invariant.1.in_hand.holds.stands in
+    let is_aligned = buddy_stands c.args.arena.now.units c.loop-now.now c.loop-now.place
+    c.loop-now-test.true c.loop-now.invariant.1.is_detached.holds.is_aligned in
     omega (
       arith,
-      stands.within,
+      is_aligned.within,
       c.buddy_of-buddy.ensures,
       c.loop-now.invariant.0.units,
       pow_pos c.loop-now.now,
@@ -31,9 +31,9 @@ is_listed-requires c =
 pub loop-now-preserved : goal.loop-now-preserved
 loop-now-preserved c =
     let was = c.loop-now.invariant in
-    let now : Hand
+    let now : DetachedPiece
     = record { order = c.loop-now.arena.order; level = c.loop-now.now; place = c.loop-now.place } in
-    let first : Hand
+    let first : DetachedPiece
     = record { order = c.args.arena.now.order; level = c.args.level; place = c.args.place } in
     let is : IsListed c.loop-now.arena.order c.loop-now.now
     (buddy_of c.loop-now.now c.loop-now.place)
@@ -46,7 +46,7 @@ loop-now-preserved c =
     ∙ ap (taken_out c.loop-now.arena.order c.loop-now.now) c.buddy_of-buddy.ensures in
     let place = c.min-place.ensures
     ∙ ap (min c.loop-now.place) c.buddy_of-buddy.ensures
-    ∙ min_whole c.loop-now.now c.loop-now.place was.1.in_hand.holds.stands.aligned in (
+    ∙ min_whole c.loop-now.now c.loop-now.place was.1.is_detached.holds.is_aligned.aligned in (
       record {
         units = c.unlink.ensures.units ∙ was.0.units;
         blocks = c.unlink.ensures.blocks ∙ was.0.blocks;
@@ -61,29 +61,29 @@ loop-now-preserved c =
 
 pub link-requires-clause-fresh : goal.link-requires-clause-fresh
 link-requires-clause-fresh c = λ k is.
-    hand_unlisted c.args.arena.now.units c.args.arena.now.blocks
+    detached_unlisted c.args.arena.now.units c.args.arena.now.blocks
     (record { order = c.loop-now.arena.order; level = c.loop-now.now; place = c.loop-now.place })
-    c.loop-now.invariant.1.in_hand.holds k c.loop-now.place (omega arith)
+    c.loop-now.invariant.1.is_detached.holds k c.loop-now.place (omega arith)
     (omega (arith, pow_pos c.loop-now.now)) is
 
 pub link-requires-clause-beside : goal.link-requires-clause-beside
 link-requires-clause-beside c = λ lies.
-    hand_beside c.args.arena.now.units c.args.arena.now.blocks
+    detached_beside c.args.arena.now.units c.args.arena.now.blocks
     (record { order = c.loop-now.arena.order; level = c.loop-now.now; place = c.loop-now.place })
-    c.loop-now.invariant.1.in_hand.holds c.loop-now.place (omega arith)
+    c.loop-now.invariant.1.is_detached.holds c.loop-now.place (omega arith)
     (omega (arith, pow_pos c.loop-now.now))
     (subst (λ (b : Blocks). LiesIn b c.loop-now.place) c.loop-now.invariant.0.blocks lies)
 
--- the piece in hand is joined as often as it may be
+-- the detached piece is joined as often as it may be
 done : (c : goal.After-link)
-    → ◌≡◌ {A = Hand}
+    → ◌≡◌ {A = DetachedPiece}
     (record { order = c.loop-now.arena.order; level = c.loop-now.now; place = c.loop-now.place })
     (joined_often (largest_level - c.args.level)
     (record { order = c.args.arena.now.order; level = c.args.level; place = c.args.place }))
 done c =
-    let now : Hand
+    let now : DetachedPiece
     = record { order = c.loop-now.arena.order; level = c.loop-now.now; place = c.loop-now.place } in
-    let first : Hand
+    let first : DetachedPiece
     = record { order = c.args.arena.now.order; level = c.args.level; place = c.args.place } in
     elim c.loop-now-test.branch
     as (λ _. now ≡ joined_often (largest_level - c.args.level) first) [
@@ -103,4 +103,4 @@ pub returns-clause-order : goal.returns-clause-order
 returns-clause-order c = c.link.ensures.order ∙ ap put_back (done c)
 
 pub returns-clause-moves : goal.returns-clause-moves
-returns-clause-moves c = c.loop-now.invariant.1.counted ∙ ap (λ (h : Hand). h.level) (done c)
+returns-clause-moves c = c.loop-now.invariant.1.counted ∙ ap (λ (h : DetachedPiece). h.level) (done c)

@@ -1,14 +1,14 @@
 use Rattle.std.proofs.Common.{◌-◌}
 use Rattle.l6_word.specs.Numerals.{largest_level}
-use Rattle.l6_store.specs.inner.Layout.{IsBeside}
-use Rattle.l6_store.specs.inner.Hands.{Joins}
+use Rattle.l6_store.specs.inner.ArenaLayout.{IsBeside}
+use Rattle.l6_store.specs.inner.Detached.{JoinsPiece}
 use Rattle.l6_store.proofs.piece.join.Given as goal
 
 -- so often joined until now
 abbrev pub invariant-loop-now : goal.invariant-loop-now
 invariant-loop-now l =
     IsBeside l.fn.arena l.arena
-    × Joins l.fn.arena.units l.fn.arena.blocks l.level
+    × JoinsPiece l.fn.arena.units l.fn.arena.blocks l.level
     (record { order = l.fn.arena.order; level = l.level; place = l.fn.place })
     (record { order = l.arena.order; level = l.now; place = l.place }) l.moves
 

@@ -4,7 +4,7 @@ use Rattle.l6_debug.proofs.history.History.forward.Given as goal
 -- the state is on the way, and the states on it are counted
 abbrev pub invariant-loop-alloc : goal.invariant-loop-alloc
 invariant-loop-alloc g l = record {
-  world : l.self.world ≡ l.fn.self.world;
+  context : l.self.context ≡ l.fn.self.context;
   on : l.self.number ≤ l.number;
   counted : l.fn.self.number + l.ran ≡ l.self.number;
 }

@@ -4,7 +4,7 @@ use Rattle.l6_debug.proofs.Rings.{greatest-within}
 use Rattle.l6_debug.proofs.history.History.to.Goals as goal
 use Rattle.l6_debug.proofs.history.History.to.Goals.{then-number, else-number}
 
--- the state from which one goes on is not behind the goal
+-- the state from which one goes on is not after the goal
 pub forward-requires : goal.forward-requires
 forward-requires g c = elim c.if-number.branch [
   | then-number w ↦

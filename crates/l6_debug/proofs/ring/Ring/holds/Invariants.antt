@@ -6,4 +6,4 @@ use Rattle.l6_debug.proofs.ring.Ring.holds.Given as goal
 -- it is none of those so far
 abbrev pub invariant-loop-index : goal.invariant-loop-index
 invariant-loop-index g l =
-    list_any (λ kept. kept == l.number) (take l.index (numbers_of l.self.visits)) ≡ false
+    list_any (λ kept. kept == l.number) (take l.index (numbers_of l.self.numbered_machines)) ≡ false

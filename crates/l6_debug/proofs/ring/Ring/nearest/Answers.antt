@@ -6,7 +6,7 @@ use Rattle.l6_debug.proofs.ring.Ring.nearest.Goals.{then-greatest-kept+then-kept
 
 pub loop-index-preserved : goal.loop-index-preserved
 loop-index-preserved g c =
-    let numbers = numbers_of c.args.self.now.visits in
+    let numbers = numbers_of c.args.self.now.numbered_machines in
     let most = c.loop-index.invariant.most in
     elim c.if-greatest-kept.branch [
       | then-greatest-kept+then-kept-number w ↦ record {

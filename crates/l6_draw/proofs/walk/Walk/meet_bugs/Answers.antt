@@ -6,7 +6,7 @@ use Rattle.l6_draw.proofs.walk.Walk.meet_bugs.Goals as goal
 
 pub loop-letter-preserved : goal.loop-letter-preserved
 loop-letter-preserved g c =
-    let memory = c.args.machine.now.moment.state.memory in
+    let memory = c.args.machine.now.configuration.state.memory in
     let letter = c.loop-letter.letter in
     let walk = c.loop-letter.self in
     let one = bugs-more memory letter walk c.loop-letter-test.true in
@@ -19,5 +19,6 @@ loop-letter-preserved g c =
 pub returns : goal.returns
 returns g c =
     let end : c.loop-letter.letter ≡ name_count = omega arith in
-    sym (bugs-none c.args.machine.now.moment.state.memory c.loop-letter.letter c.loop-letter.self end)
+    sym (bugs-none c.args.machine.now.configuration.state.memory c.loop-letter.letter
+    c.loop-letter.self end)
     ∙ c.loop-letter.invariant

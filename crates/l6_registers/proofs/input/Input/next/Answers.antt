@@ -8,7 +8,7 @@ use Rattle.l6_registers.proofs.input.Input.next.Goals as goal
 lent : (c : goal.After-self-3-1) → c.as_slice.result.now ≡ c.self.inside.codes.value.items
 lent c = rw c.as_slice.ensures.value (rw c.as_ref.ensures refl)
 
--- the character that stands where the input says
+-- the character that is where the input says
 found : (c : goal.After-self-3-1) →
     spread input_width c.self.inside.column (drop c.self.inside.place c.self.inside.codes.value.items)
     ≡ c.next_of-code.result.0
@@ -40,10 +40,10 @@ returns-clause-value c =
     let inside = c.self.inside in
     let chars = characters_in inside.codes.value.items in
     let first = sym c.self.invariant.left ∙ found c in
-    let behind =
+    let following =
     tail_of chars _ inside.taken c.next_of-code.result.0 first in
     subst
     (λ (fed : Fed). drop fed.taken fed.characters
     ≡ c.next_of-code.result.0 ∷ drop (inside.taken + 1) fed.characters)
     c.self.view_is
-    (first ∙ ap (λ cs. c.next_of-code.result.0 ∷ cs) (sym behind))
+    (first ∙ ap (λ cs. c.next_of-code.result.0 ∷ cs) (sym following))

@@ -66,12 +66,14 @@ loop-preserved c =
 pub returns-clause-value : goal.returns-clause-value
 returns-clause-value c =
     let left = drop c.args.self.now.taken c.args.self.now.characters in
-    let all : c.loop.counter ≡ c.args.count = omega (arith, c.loop-test.false, c.loop.auto.counter-end) in
+    let all : c.loop.counter ≡ c.args.count =
+    omega (arith, c.loop-test.false, c.loop.auto.counter-end) in
     c.loop.invariant.number ∙ ap (λ n. number_of (take n left)) all
 
 pub returns-clause-taken : goal.returns-clause-taken
 returns-clause-taken c =
-    let all : c.loop.counter ≡ c.args.count = omega (arith, c.loop-test.false, c.loop.auto.counter-end) in
+    let all : c.loop.counter ≡ c.args.count =
+    omega (arith, c.loop-test.false, c.loop.auto.counter-end) in
     let is_taken = c.loop.invariant.taken ∙ ap (λ n. c.args.self.now.taken + n) all in
     ap (λ cs. record { characters = cs; taken = c.loop.self.taken }) c.loop.invariant.characters
     ∙ ap (λ n. record { characters = c.args.self.now.characters; taken = n }) is_taken

@@ -27,11 +27,12 @@ invariant_of-self-in-Field g c =
     put_with old new c.in-Field.place c.in-Field.window c.place_of-at.result c.word_at.result
     c.put-word.result c.args.number c.place_of-at.ensures.value below was
     (c.put-word.ensures.cut c.args.number c.wrapping-value.ensures) c.write.ensures.after in
-    kept_with g.S.Places.rule inside.bugs inside.definitions inside.saved inside.output.items inside.input
+    kept_with g.S.Places.rule inside.bugs inside.definitions inside.saved inside.output.items
+    inside.input
     inside.units inside.limits old new _ c.self.invariant (ap (λ (s : Store). s.units) put)
     c.write.ensures.sound
 
--- the number stands in the window of the block's word
+-- the number is in the window of the block's word
 pub returns-in-Field : goal.returns-in-Field
 returns-in-Field g c =
     let inside = c.self.inside in

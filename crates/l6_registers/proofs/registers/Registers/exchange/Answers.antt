@@ -1,7 +1,7 @@
 use Rattle.l6_registers.proofs.Got.{assigned_stands}
 use Rattle.l6_registers.proofs.registers.Registers.exchange.Goals as goal
 
--- what stood at the second locus still does
+-- what was at the second locus still is
 pub assign-requires-2 : goal.assign-requires-2
 assign-requires-2 g c =
     assigned_stands c.args.self.now c.assign.new.self c.in_ok-here.here c.in_ok-there.there

@@ -1,5 +1,5 @@
 use Rattle.std.proofs.Common.{◌≡◌, ℕ, List, [], ◌∷◌, length, get_or, Some, None, refl, sym, ap, ◌∙◌, arith}
-use Rattle.l6_store.specs.inner.Layout.{Layout}
+use Rattle.l6_store.specs.inner.ArenaLayout.{ArenaLayout}
 use Rattle.l6_store.specs.Buddy.{first_of, first_or, listed}
 use Rattle.l6_store.proofs.Counts.{has-first}
 use Rattle.l6_store.proofs.Arenas.{within}
@@ -20,10 +20,10 @@ some_first (first ∷ rest) some = refl
 pub returns-then-place-eq0 : goal.returns-then-place-eq0
 returns-then-place-eq0 c =
     let begins = c.self.invariant.are_lists.links.begun c.args.level in
-    sym (ap (λ (l : Layout). first_of (listed l.order c.args.level)) (sym c.self.view_is)
+    sym (ap (λ (l : ArenaLayout). first_of (listed l.order c.args.level)) (sym c.self.view_is)
     ∙ none_first (length c.self.inside.words) _
     (within c.self.inside.units c.self.inside.words c.self.inside.heads
-    c.self.inside.marks c.self.invariant c.args.level)
+    c.self.inside.place_tags c.self.invariant c.args.level)
     (omega (
       arith,
       begins,
@@ -37,4 +37,4 @@ returns-else-place-eq0 c =
     let head = ap (λ (level : ℕ). get_or c.self.inside.heads level 0) c.from.ensures in
     ap (λ (p : ℕ). Some p) (head ∙ begins)
     ∙ some_first _ (λ none. absurd (omega (arith, begins, head)))
-    ∙ ap (λ (l : Layout). first_of (listed l.order c.args.level)) c.self.view_is
+    ∙ ap (λ (l : ArenaLayout). first_of (listed l.order c.args.level)) c.self.view_is

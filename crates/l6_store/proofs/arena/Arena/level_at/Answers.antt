@@ -1,5 +1,5 @@
 use Rattle.std.proofs.Common.{◌≡◌, ℕ, ◌^◌, ◌≤◌, List, length, Option, sym, ap, ◌∙◌, subst}
-use Rattle.l6_store.specs.inner.Layout.{Layout, mark_at, tag_of}
+use Rattle.l6_store.specs.inner.ArenaLayout.{ArenaLayout, place_tag_at, tag_of}
 use Rattle.std.specs.Option.{IsSome, IfSome, option_map}
 use Rattle.std.specs.FinMap as map
 use Rattle.l6_store.specs.Blocks.{IsLive}
@@ -9,30 +9,30 @@ use Rattle.l6_store.proofs.Marked.{live_marked, marked_live, marked_size, marked
 use Rattle.l6_store.proofs.arena.Arena.level_at.Goals as goal
 
 told : (c : goal.After-level)
-    → c.level.result ≡ level_of (tag_of (mark_at c.self.inside.marks c.args.place))
+    → c.level.result ≡ level_of (tag_of (place_tag_at c.self.inside.place_tags c.args.place))
 told c =
     c.level.ensures
 
 pub returns-clause-live : goal.returns-clause-live
 returns-clause-live c = (
-  λ some. subst (λ (l : Layout). IsLive l.blocks c.args.place) c.self.view_is
-      (marked_live c.self.inside.marks c.self.inside.words c.args.place
+  λ some. subst (λ (l : ArenaLayout). IsLive l.blocks c.args.place) c.self.view_is
+      (marked_live c.self.inside.place_tags c.self.inside.words c.args.place
       (subst (λ (o : Option ℕ). IsSome o) (told c) some)),
   λ live. subst (λ (o : Option ℕ). IsSome o) (sym (told c))
-      (live_marked c.self.inside.marks c.self.inside.words c.args.place
-      (subst (λ (l : Layout). IsLive l.blocks c.args.place) (sym c.self.view_is) live)),
+      (live_marked c.self.inside.place_tags c.self.inside.words c.args.place
+      (subst (λ (l : ArenaLayout). IsLive l.blocks c.args.place) (sym c.self.view_is) live)),
 )
 
 pub returns-clause-size : goal.returns-clause-size
 returns-clause-size c =
     ap (option_map (λ (level : ℕ). 2 ^ level)) (told c)
-    ∙ marked_size c.self.inside.units c.self.inside.marks c.self.inside.words
-    c.self.invariant.filled c.self.invariant.are_blocks.stands c.args.place
-    ∙ ap (λ (l : Layout). option_map (λ (block : List ℕ). length block)
+    ∙ marked_size c.self.inside.units c.self.inside.place_tags c.self.inside.words
+    c.self.invariant.filled c.self.invariant.are_blocks.is_aligned c.args.place
+    ∙ ap (λ (l : ArenaLayout). option_map (λ (block : List ℕ). length block)
     (map.get l.blocks c.args.place)) c.self.view_is
 
 pub returns-clause-level : goal.returns-clause-level
 returns-clause-level c =
     subst (λ (o : Option ℕ). IfSome o (λ level. level ≤ largest_level)) (sym (told c))
-    (marked_small c.self.inside.units c.self.inside.marks c.self.invariant.are_blocks.stands
+    (marked_small c.self.inside.units c.self.inside.place_tags c.self.invariant.are_blocks.is_aligned
     c.args.place)

@@ -1,10 +1,10 @@
 use Rattle.std.proofs.Common.{◌≡◌, ℕ, ◌-◌, ◌*◌, refl, sym, ap, ◌∙◌, subst, arith}
-use Rattle.l6_store.specs.inner.Layout.{IsSoundLayout, Layout}
+use Rattle.l6_store.specs.inner.ArenaLayout.{IsSoundLayout, ArenaLayout}
 use Rattle.l6_word.specs.Numerals.{largest_level, unit_size}
 use Rattle.l6_store.specs.Blocks.{Blocks, LiesIn}
 use Rattle.l6_store.specs.Rule.{Order}
 use Rattle.l6_store.specs.Buddy.{IsListed, first_order, in_front}
-use Rattle.l6_store.specs.inner.Layout.{order_from}
+use Rattle.l6_store.specs.inner.ArenaLayout.{order_from}
 use Rattle.l6_store.proofs.Arenas.{sound}
 use Rattle.l6_store.proofs.First.{no_block_lies}
 use Rattle.l6_store.proofs.Fresh.{from_none, from_all, from_more, from_fresh}
@@ -13,7 +13,7 @@ use Rattle.l6_store.proofs.arena.Arena.list_units.Goals as goal
 pub loop-unit-init : goal.loop-unit-init
 loop-unit-init c =
     let units : c.self.inside.units ≡ c.args.self.now.units
-    = ap (λ (l : Layout). l.units) c.self.view_is in
+    = ap (λ (l : ArenaLayout). l.units) c.self.view_is in
     record {
       most = omega (arith, units);
       units = refl;
@@ -22,7 +22,7 @@ loop-unit-init c =
           ∙ ap (order_from c.args.self.now.units) (sym units);
       sound = subst IsSoundLayout c.self.view_is
           (sound c.self.inside.units c.self.inside.words c.self.inside.heads
-          c.self.inside.marks c.self.invariant);
+          c.self.inside.place_tags c.self.invariant);
     }
 
 place : (c : goal.After-from) → c.loop-unit.unit * c.from.result ≡ c.loop-unit.unit * unit_size
@@ -63,7 +63,8 @@ loop-unit-preserved c =
       blocks = c.link.ensures.blocks ∙ was.blocks;
       order = c.link.ensures.order
           ∙ ap (λ (o : Order). in_front o largest_level (c.loop-unit.unit * c.from.result)) was.order
-          ∙ ap (in_front (order_from c.loop-unit.self.units c.loop-unit.unit) largest_level) (place_then c)
+          ∙ ap (in_front (order_from c.loop-unit.self.units c.loop-unit.unit) largest_level)
+          (place_then c)
           ∙ from_more c.loop-unit.self.units c.loop-unit.unit c.loop-unit-test.true was.most
           ∙ ap (λ (n : ℕ). order_from n (c.loop-unit.unit - 1)) (sym c.link.ensures.units);
       sound = c.link.ensures.sound;

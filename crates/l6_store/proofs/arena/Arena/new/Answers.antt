@@ -1,7 +1,7 @@
 use Rattle.std.proofs.Common.{◌≡◌, ℕ, suc, ◌+◌, ◌*◌, List, length, replicate, refl, sym, ap, ◌∙◌, subst, arith}
-use Rattle.l6_store.specs.inner.Layout.{mark_at}
-use Rattle.l6_store.specs.declared.mark.Mark.{Mark}
-use Rattle.l6_store.specs.declared.mark.Mark.TheVariants.{Inner}
+use Rattle.l6_store.specs.inner.ArenaLayout.{place_tag_at}
+use Rattle.l6_store.specs.declared.place_tag.PlaceTag.{PlaceTag}
+use Rattle.l6_store.specs.declared.place_tag.PlaceTag.TheVariants.{Inner}
 use Rattle.std.proofs.lemmas.List.{length-replicate}
 use Rattle.l6_word.specs.Numerals.{largest_level, unit_size}
 use Rattle.l6_store.specs.Blocks.{end_of}
@@ -21,17 +21,17 @@ filled c =
     ap (λ (words : List ℕ). length words) c.in_ok-new.ensures
     ∙ length-replicate {A = ℕ} ((c.args.units + 1) * c.from.result) 0 ∙ places c
 
-marks_are : (c : goal.In_ok-new-2)
+place_tags_are : (c : goal.In_ok-new-2)
     → c.in_ok-new-2.field-0 ≡ replicate ((c.args.units + 1) * c.from.result) Inner
-marks_are c = c.in_ok-new-2.ensures
+place_tags_are c = c.in_ok-new-2.ensures
 
 count : (c : goal.In_ok-new-2) → length c.in_ok-new-2.field-0 ≡ end_of c.args.units
 count c =
-    ap (λ (marks : List Mark). length marks) (marks_are c)
-    ∙ length-replicate {A = Mark} ((c.args.units + 1) * c.from.result) Inner ∙ places c
+    ap (λ (place_tags : List PlaceTag). length place_tags) (place_tags_are c)
+    ∙ length-replicate {A = PlaceTag} ((c.args.units + 1) * c.from.result) Inner ∙ places c
 
-inner : (c : goal.In_ok-new-2) → (at : ℕ) → mark_at c.in_ok-new-2.field-0 at ≡ Inner
-inner c at = ap (λ (marks : List Mark). mark_at marks at) (marks_are c)
+inner : (c : goal.In_ok-new-2) → (at : ℕ) → place_tag_at c.in_ok-new-2.field-0 at ≡ Inner
+inner c at = ap (λ (place_tags : List PlaceTag). place_tag_at place_tags at) (place_tags_are c)
     ∙ all_alike ((c.args.units + 1) * c.from.result) at
 
 are_words : (c : goal.In_ok-new-2) → AreWords c.in_ok-new.field-0
@@ -55,17 +55,18 @@ filled_then c =
     ap (λ (words : List ℕ). length words) c.in_ok-new.ensures
     ∙ length-replicate {A = ℕ} ((c.args.units + 1) * c.from.result) 0 ∙ places_then c
 
-marks_are_then : (c : goal.After-arena-2-1)
+place_tags_are_then : (c : goal.After-arena-2-1)
     → c.in_ok-new-2.field-0 ≡ replicate ((c.args.units + 1) * c.from.result) Inner
-marks_are_then c = c.in_ok-new-2.ensures
+place_tags_are_then c = c.in_ok-new-2.ensures
 
 count_then : (c : goal.After-arena-2-1) → length c.in_ok-new-2.field-0 ≡ end_of c.args.units
 count_then c =
-    ap (λ (marks : List Mark). length marks) (marks_are_then c)
-    ∙ length-replicate {A = Mark} ((c.args.units + 1) * c.from.result) Inner ∙ places_then c
+    ap (λ (place_tags : List PlaceTag). length place_tags) (place_tags_are_then c)
+    ∙ length-replicate {A = PlaceTag} ((c.args.units + 1) * c.from.result) Inner ∙ places_then c
 
-inner_then : (c : goal.After-arena-2-1) → (at : ℕ) → mark_at c.in_ok-new-2.field-0 at ≡ Inner
-inner_then c at = ap (λ (marks : List Mark). mark_at marks at) (marks_are_then c)
+inner_then : (c : goal.After-arena-2-1) → (at : ℕ) → place_tag_at c.in_ok-new-2.field-0 at ≡ Inner
+inner_then c at = ap (λ (place_tags : List PlaceTag). place_tag_at place_tags at)
+    (place_tags_are_then c)
     ∙ all_alike ((c.args.units + 1) * c.from.result) at
 
 are_words_then : (c : goal.After-arena-2-1) → AreWords c.in_ok-new.field-0
@@ -75,11 +76,13 @@ are_words_then c = subst AreWords (sym c.in_ok-new.ensures)
 pub list_units-requires-clause-blocks : goal.list_units-requires-clause-blocks
 list_units-requires-clause-blocks c =
     cleared_blocks c.args.units c.in_ok-new.field-0 (replicate (suc largest_level) 0)
-    c.in_ok-new-2.field-0 c.requires.some c.requires.most (filled_then c) (count_then c) (inner_then c) refl
+    c.in_ok-new-2.field-0 c.requires.some c.requires.most (filled_then c) (count_then c)
+    (inner_then c) refl
     zero_heads (are_words_then c)
 
 pub list_units-requires-clause-order : goal.list_units-requires-clause-order
 list_units-requires-clause-order c =
     cleared_order c.args.units c.in_ok-new.field-0 (replicate (suc largest_level) 0)
-    c.in_ok-new-2.field-0 c.requires.some c.requires.most (filled_then c) (count_then c) (inner_then c) refl
+    c.in_ok-new-2.field-0 c.requires.some c.requires.most (filled_then c) (count_then c)
+    (inner_then c) refl
     zero_heads (are_words_then c)

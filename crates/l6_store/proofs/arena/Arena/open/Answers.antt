@@ -1,11 +1,11 @@
 use Rattle.std.proofs.Common.{◌≡◌, ℕ, ◌+◌, ◌^◌, ◌<◌, ◌≤◌, List, set, replicate, sym, ap, ◌∙◌, subst}
-use Rattle.l6_store.specs.inner.Layout.{IsLaid, Layout, blocks_of}
+use Rattle.l6_store.specs.inner.ArenaLayout.{IsArena, ArenaLayout, blocks_of}
 use Rattle.l6_store.specs.inner.Chains.{order_of}
-use Rattle.l6_store.specs.declared.mark.Mark.{Mark}
-use Rattle.l6_store.specs.declared.mark.Mark.TheVariants.{Block}
+use Rattle.l6_store.specs.declared.place_tag.PlaceTag.{PlaceTag}
+use Rattle.l6_store.specs.declared.place_tag.PlaceTag.TheVariants.{Block}
 use Rattle.l6_raw.specs.Words.{overwritten}
 use Rattle.std.specs.FinMap as map
-use Rattle.l6_store.specs.Blocks.{LiesIn, Stands}
+use Rattle.l6_store.specs.Blocks.{LiesIn, IsAlignedPlace}
 use Rattle.l6_store.specs.Buddy.{IsListed}
 use Rattle.l6_store.proofs.Arenas.{sound}
 use Rattle.l6_store.proofs.Changed.{opened_laid, opened_blocks, opened_order}
@@ -18,53 +18,53 @@ cleared c =
     ∙ ap (λ (size : ℕ). overwritten c.self.inside.words c.args.place (replicate size 0))
     c.size_of.ensures
 
-stands : (c : goal.After-set) → Stands c.self.inside.units c.args.level c.args.place
-stands c =
-    subst (λ (l : Layout). Stands l.units c.args.level c.args.place) (sym c.self.view_is)
-    c.requires.stands
+is_aligned : (c : goal.After-set) → IsAlignedPlace c.self.inside.units c.args.level c.args.place
+is_aligned c =
+    subst (λ (l : ArenaLayout). IsAlignedPlace l.units c.args.level c.args.place) (sym c.self.view_is)
+    c.requires.is_aligned
 
 beside : (c : goal.After-set) → (at : ℕ) → c.args.place ≤ at
     → at < c.args.place + 2 ^ c.args.level
-    → LiesIn (blocks_of c.self.inside.marks c.self.inside.words) at → ⊥
+    → LiesIn (blocks_of c.self.inside.place_tags c.self.inside.words) at → ⊥
 beside c at from before lies =
     c.requires.beside at from before
-    (subst (λ (l : Layout). LiesIn l.blocks at) c.self.view_is lies)
+    (subst (λ (l : ArenaLayout). LiesIn l.blocks at) c.self.view_is lies)
 
 unlisted : (c : goal.After-set) → (k at : ℕ) → c.args.place ≤ at
     → at < c.args.place + 2 ^ c.args.level
     → IsListed (order_of c.self.inside.words c.self.inside.heads) k at → ⊥
 unlisted c k at from before is =
     c.requires.unlisted k at from before
-    (subst (λ (l : Layout). IsListed l.order k at) c.self.view_is is)
+    (subst (λ (l : ArenaLayout). IsListed l.order k at) c.self.view_is is)
 
 pub invariant_of-self : goal.invariant_of-self
 invariant_of-self c =
-    subst (λ (ms : List Mark). IsLaid c.self.inside.units c.fill.new.self ms c.self.inside.heads)
+    subst (λ (ms : List PlaceTag). IsArena c.self.inside.units c.fill.new.self ms c.self.inside.heads)
     (sym c.set.ensures)
-    (subst (λ (words : List ℕ). IsLaid c.self.inside.units words
-    (set c.self.inside.marks c.args.place (Block c.args.level)) c.self.inside.heads)
+    (subst (λ (words : List ℕ). IsArena c.self.inside.units words
+    (set c.self.inside.place_tags c.args.place (Block c.args.level)) c.self.inside.heads)
     (sym (cleared c))
     (opened_laid c.self.inside.units c.self.inside.words c.self.inside.heads
-    c.self.inside.marks c.self.invariant c.args.level c.args.place (stands c) (beside c)
+    c.self.inside.place_tags c.self.invariant c.args.level c.args.place (is_aligned c) (beside c)
     (unlisted c)))
 
 pub returns-clause-blocks : goal.returns-clause-blocks
 returns-clause-blocks c =
-    ap (λ (ms : List Mark). blocks_of ms c.fill.new.self) c.set.ensures
-    ∙ ap (blocks_of (set c.self.inside.marks c.args.place (Block c.args.level))) (cleared c)
+    ap (λ (ms : List PlaceTag). blocks_of ms c.fill.new.self) c.set.ensures
+    ∙ ap (blocks_of (set c.self.inside.place_tags c.args.place (Block c.args.level))) (cleared c)
     ∙ opened_blocks c.self.inside.units c.self.inside.words c.self.inside.heads
-    c.self.inside.marks c.self.invariant c.args.level c.args.place (stands c) (beside c)
+    c.self.inside.place_tags c.self.invariant c.args.level c.args.place (is_aligned c) (beside c)
     (unlisted c)
-    ∙ ap (λ (l : Layout). map.insert l.blocks c.args.place (replicate (2 ^ c.args.level) 0))
+    ∙ ap (λ (l : ArenaLayout). map.insert l.blocks c.args.place (replicate (2 ^ c.args.level) 0))
     c.self.view_is
 
 pub returns-clause-order : goal.returns-clause-order
 returns-clause-order c =
     ap (λ (words : List ℕ). order_of words c.self.inside.heads) (cleared c)
     ∙ opened_order c.self.inside.units c.self.inside.words c.self.inside.heads
-    c.self.inside.marks c.self.invariant c.args.level c.args.place (stands c) (beside c)
+    c.self.inside.place_tags c.self.invariant c.args.level c.args.place (is_aligned c) (beside c)
     (unlisted c)
-    ∙ ap (λ (l : Layout). l.order) c.self.view_is
+    ∙ ap (λ (l : ArenaLayout). l.order) c.self.view_is
 
 pub returns-clause-sound : goal.returns-clause-sound
 returns-clause-sound c =

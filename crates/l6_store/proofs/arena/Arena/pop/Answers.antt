@@ -1,8 +1,8 @@
 use Rattle.std.proofs.Common.{◌≡◌, ℕ, List, get_or, set, sym, ap, ◌∙◌, subst, arith}
-use Rattle.l6_store.specs.inner.Layout.{IsLaid, Layout, blocks_of}
+use Rattle.l6_store.specs.inner.ArenaLayout.{IsArena, ArenaLayout, blocks_of}
 use Rattle.l6_store.specs.inner.Chains.{order_of, words_unlinked}
-use Rattle.l6_store.specs.declared.mark.Mark.{Mark}
-use Rattle.l6_store.specs.declared.mark.Mark.TheVariants.{Inner}
+use Rattle.l6_store.specs.declared.place_tag.PlaceTag.{PlaceTag}
+use Rattle.l6_store.specs.declared.place_tag.PlaceTag.TheVariants.{Inner}
 use Rattle.l6_store.specs.Buddy.{IsListed, first_or, listed, taken_out}
 use Rattle.l6_store.proofs.Arenas.{head_within, out_laid, out_blocks, out_order, sound}
 use Rattle.l6_store.proofs.arena.Arena.pop.Goals as goal
@@ -15,13 +15,13 @@ set-requires-clause-place c =
       c.self.invariant.count,
       c.self.invariant.filled,
       head_within c.self.inside.units c.self.inside.words c.self.inside.heads
-          c.self.inside.marks c.self.invariant c.args.level,
+          c.self.inside.place_tags c.self.invariant c.args.level,
     )
 
 pub returns-clause-first : goal.returns-clause-first
 returns-clause-first c =
     c.pop-place.ensures.place ∙ c.self.invariant.are_lists.links.begun c.args.level
-    ∙ ap (λ (l : Layout). first_or (listed l.order c.args.level) 0) c.self.view_is
+    ∙ ap (λ (l : ArenaLayout). first_or (listed l.order c.args.level) 0) c.self.view_is
 
 first_is : (c : goal.After-set)
     → get_or c.self.inside.heads c.args.level 0
@@ -33,37 +33,43 @@ there_is : (c : goal.After-set)
 there_is c =
     subst (λ (p : ℕ). IsListed (order_of c.self.inside.words c.self.inside.heads) c.args.level p)
     (sym (c.pop-place.ensures.place ∙ first_is c))
-    (subst (λ (l : Layout). IsListed l.order c.args.level (first_or (listed l.order c.args.level) 0))
+    (subst (λ (l : ArenaLayout). IsListed l.order c.args.level
+    (first_or (listed l.order c.args.level) 0))
     (sym c.self.view_is) c.requires.there)
 
 pub invariant_of-self : goal.invariant_of-self
 invariant_of-self c =
-    subst (λ (ms : List Mark). IsLaid c.self.inside.units c.pop-place.new.words ms c.pop-place.new.heads)
+    subst (λ (ms : List PlaceTag). IsArena c.self.inside.units c.pop-place.new.words ms
+    c.pop-place.new.heads)
     (sym c.set.ensures)
-    (let marks : List Mark = set c.self.inside.marks c.pop-place.result Inner in
-    subst (λ (words : List ℕ). IsLaid c.self.inside.units words marks c.pop-place.new.heads)
+    (let place_tags : List PlaceTag = set c.self.inside.place_tags c.pop-place.result Inner in
+    subst (λ (words : List ℕ). IsArena c.self.inside.units words place_tags c.pop-place.new.heads)
     (sym c.pop-place.ensures.words)
-    (subst (λ (heads : List ℕ). IsLaid c.self.inside.units (words_unlinked c.self.inside.words c.pop-place.result)
-    marks heads)
+    (subst (λ (heads : List ℕ). IsArena c.self.inside.units
+    (words_unlinked c.self.inside.words c.pop-place.result)
+    place_tags heads)
     (sym c.pop-place.ensures.heads)
     (out_laid c.self.inside.units c.self.inside.words c.self.inside.heads
-    c.self.inside.marks c.self.invariant c.args.level c.pop-place.result c.requires.level (there_is c))))
+    c.self.inside.place_tags c.self.invariant c.args.level c.pop-place.result c.requires.level
+    (there_is c))))
 
 pub returns-clause-blocks : goal.returns-clause-blocks
 returns-clause-blocks c =
-    ap (λ (ms : List Mark). blocks_of ms c.pop-place.new.words) c.set.ensures
-    ∙ ap (blocks_of (set c.self.inside.marks c.pop-place.result Inner)) c.pop-place.ensures.words
+    ap (λ (ms : List PlaceTag). blocks_of ms c.pop-place.new.words) c.set.ensures
+    ∙ ap (blocks_of (set c.self.inside.place_tags c.pop-place.result Inner)) c.pop-place.ensures.words
     ∙ out_blocks c.self.inside.units c.self.inside.words c.self.inside.heads
-    c.self.inside.marks c.self.invariant c.args.level c.pop-place.result c.requires.level (there_is c)
-    ∙ ap (λ (l : Layout). l.blocks) c.self.view_is
+    c.self.inside.place_tags c.self.invariant c.args.level c.pop-place.result c.requires.level
+    (there_is c)
+    ∙ ap (λ (l : ArenaLayout). l.blocks) c.self.view_is
 
 pub returns-clause-order : goal.returns-clause-order
 returns-clause-order c =
     ap (λ (words : List ℕ). order_of words c.pop-place.new.heads) c.pop-place.ensures.words
     ∙ ap (order_of (words_unlinked c.self.inside.words c.pop-place.result)) c.pop-place.ensures.heads
     ∙ out_order c.self.inside.units c.self.inside.words c.self.inside.heads
-    c.self.inside.marks c.self.invariant c.args.level c.pop-place.result c.requires.level (there_is c)
-    ∙ ap (λ (l : Layout). taken_out l.order c.args.level c.pop-place.result) c.self.view_is
+    c.self.inside.place_tags c.self.invariant c.args.level c.pop-place.result c.requires.level
+    (there_is c)
+    ∙ ap (λ (l : ArenaLayout). taken_out l.order c.args.level c.pop-place.result) c.self.view_is
 
 pub returns-clause-sound : goal.returns-clause-sound
 returns-clause-sound c =

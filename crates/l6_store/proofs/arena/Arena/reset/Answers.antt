@@ -1,25 +1,26 @@
 use Rattle.std.proofs.Common.{◌≡◌, ℕ, suc, List, length, replicate, refl, ap, ◌∙◌}
-use Rattle.l6_store.specs.inner.Layout.{mark_at}
-use Rattle.l6_store.specs.declared.mark.Mark.{Mark}
-use Rattle.l6_store.specs.declared.mark.Mark.TheVariants.{Inner}
+use Rattle.l6_store.specs.inner.ArenaLayout.{place_tag_at}
+use Rattle.l6_store.specs.declared.place_tag.PlaceTag.{PlaceTag}
+use Rattle.l6_store.specs.declared.place_tag.PlaceTag.TheVariants.{Inner}
 use Rattle.std.proofs.lemmas.List.{length-replicate}
 use Rattle.l6_word.specs.Numerals.{largest_level}
 use Rattle.l6_store.specs.Blocks.{end_of}
 use Rattle.l6_store.proofs.Fresh.{cleared_laid, cleared_blocks, cleared_order, all_alike, zero_heads}
 use Rattle.l6_store.proofs.arena.Arena.reset.Goals as goal
 
-marks_are : (c : goal.After-self-1) → c.clear.new.self ≡ replicate (length c.self.inside.marks) Inner
-marks_are c = c.clear.ensures
+place_tags_are : (c : goal.After-self-1) →
+    c.clear.new.self ≡ replicate (length c.self.inside.place_tags) Inner
+place_tags_are c = c.clear.ensures
 
 count : (c : goal.After-self-1) → length c.clear.new.self ≡ end_of c.self.inside.units
 count c =
-    ap (λ (marks : List Mark). length marks) (marks_are c)
-    ∙ length-replicate {A = Mark} (length c.self.inside.marks) Inner
+    ap (λ (place_tags : List PlaceTag). length place_tags) (place_tags_are c)
+    ∙ length-replicate {A = PlaceTag} (length c.self.inside.place_tags) Inner
     ∙ c.self.invariant.count
 
-inner : (c : goal.After-self-1) → (at : ℕ) → mark_at c.clear.new.self at ≡ Inner
-inner c at = ap (λ (marks : List Mark). mark_at marks at) (marks_are c)
-    ∙ all_alike (length c.self.inside.marks) at
+inner : (c : goal.After-self-1) → (at : ℕ) → place_tag_at c.clear.new.self at ≡ Inner
+inner c at = ap (λ (place_tags : List PlaceTag). place_tag_at place_tags at) (place_tags_are c)
+    ∙ all_alike (length c.self.inside.place_tags) at
 
 pub invariant_of-self : goal.invariant_of-self
 invariant_of-self c =
@@ -28,18 +29,20 @@ invariant_of-self c =
     c.clear.new.self c.self.invariant.some c.self.invariant.most c.self.invariant.filled
     (count c) (inner c) refl zero_heads c.self.invariant.are_blocks.are_words
 
-marks_are_then : (c : goal.After-list_units-arg-1) → c.clear.new.self ≡ replicate (length c.self.inside.marks) Inner
-marks_are_then c = c.clear.ensures
+place_tags_are_then : (c : goal.After-list_units-arg-1) →
+    c.clear.new.self ≡ replicate (length c.self.inside.place_tags) Inner
+place_tags_are_then c = c.clear.ensures
 
 count_then : (c : goal.After-list_units-arg-1) → length c.clear.new.self ≡ end_of c.self.inside.units
 count_then c =
-    ap (λ (marks : List Mark). length marks) (marks_are_then c)
-    ∙ length-replicate {A = Mark} (length c.self.inside.marks) Inner
+    ap (λ (place_tags : List PlaceTag). length place_tags) (place_tags_are_then c)
+    ∙ length-replicate {A = PlaceTag} (length c.self.inside.place_tags) Inner
     ∙ c.self.invariant.count
 
-inner_then : (c : goal.After-list_units-arg-1) → (at : ℕ) → mark_at c.clear.new.self at ≡ Inner
-inner_then c at = ap (λ (marks : List Mark). mark_at marks at) (marks_are_then c)
-    ∙ all_alike (length c.self.inside.marks) at
+inner_then : (c : goal.After-list_units-arg-1) → (at : ℕ) → place_tag_at c.clear.new.self at ≡ Inner
+inner_then c at = ap (λ (place_tags : List PlaceTag). place_tag_at place_tags at)
+    (place_tags_are_then c)
+    ∙ all_alike (length c.self.inside.place_tags) at
 
 pub list_units-requires-clause-blocks : goal.list_units-requires-clause-blocks
 list_units-requires-clause-blocks c =

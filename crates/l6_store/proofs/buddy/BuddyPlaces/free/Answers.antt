@@ -5,7 +5,7 @@ use Rattle.l6_store.specs.Blocks.{IsLive}
 use Rattle.l6_store.specs.Buddy.{buddy_rule, level_at, piece_freed, put_back}
 use Rattle.l6_store.specs.Store.{after_free}
 use Rattle.l6_store.specs.Tiles.{Tiles}
-use Rattle.l6_store.proofs.Stores.{closed_hand, freed_filled, freed_moves, freed_order, sound_store, store_is}
+use Rattle.l6_store.proofs.Stores.{closed_detached, freed_filled, freed_moves, freed_order, sound_store, store_is}
 use Rattle.l6_store.proofs.Steps.{moves_few_freed}
 use Rattle.l6_store.proofs.buddy.BuddyPlaces.free.Goals as goal
 
@@ -15,7 +15,8 @@ live c =
 
 pub join-self-inside-requires-clause-held : goal.join-self-inside-requires-clause-held
 join-self-inside-requires-clause-held c =
-    closed_hand c.self.inside.arena c.self.invariant.0 c.self.invariant.1 c.args.place c.close-level.result
+    closed_detached c.self.inside.arena c.self.invariant.0 c.self.invariant.1 c.args.place
+    c.close-level.result
     (live c) c.close-level.ensures.small c.close-level.ensures.level c.close-level.new.self
     c.close-level.ensures.units c.close-level.ensures.blocks c.close-level.ensures.order
 
@@ -26,7 +27,8 @@ live_then c =
 tiled : (c : goal.After-self-1) → Tiles c.join-self-inside.new.arena.units
     c.join-self-inside.new.arena.blocks c.join-self-inside.new.arena.order
 tiled c =
-    freed_filled c.self.inside.arena c.self.invariant.0 c.self.invariant.1 c.args.place c.close-level.result
+    freed_filled c.self.inside.arena c.self.invariant.0 c.self.invariant.1 c.args.place
+    c.close-level.result
     (live_then c) c.close-level.ensures.small c.close-level.ensures.level c.close-level.new.self
     c.close-level.ensures.units c.close-level.ensures.blocks c.close-level.ensures.order
     c.join-self-inside.new.arena c.join-self-inside.ensures.units
@@ -48,12 +50,14 @@ returns-clause-after c =
     - level_at was.blocks c.args.place)
     (c.join-self-inside.ensures.units ∙ c.close-level.ensures.units)
     (c.join-self-inside.ensures.blocks ∙ c.close-level.ensures.blocks)
-    (freed_order c.self.inside.arena c.self.invariant.0 c.self.invariant.1 c.args.place c.close-level.result
+    (freed_order c.self.inside.arena c.self.invariant.0 c.self.invariant.1 c.args.place
+    c.close-level.result
     (live_then c) c.close-level.ensures.small c.close-level.ensures.level c.close-level.new.self
     c.close-level.ensures.units c.close-level.ensures.blocks c.close-level.ensures.order
     c.join-self-inside.new.arena c.join-self-inside.ensures.units
     c.join-self-inside.ensures.blocks c.join-self-inside.ensures.order)
-    (freed_moves c.self.inside.arena c.self.invariant.0 c.self.invariant.1 c.args.place c.close-level.result
+    (freed_moves c.self.inside.arena c.self.invariant.0 c.self.invariant.1 c.args.place
+    c.close-level.result
     (live_then c) c.close-level.ensures.small c.close-level.ensures.level c.close-level.new.self
     c.close-level.ensures.units c.close-level.ensures.blocks c.close-level.ensures.order
     c.join-self-inside.new.arena c.join-self-inside.ensures.units

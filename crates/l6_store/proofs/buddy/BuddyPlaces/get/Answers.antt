@@ -1,13 +1,16 @@
-use Rattle.std.proofs.Common.{◌≡◌, ℕ, ◌^◌, Option, Some, None, sym, subst, arith}
+use Rattle.std.proofs.Common.{◌≡◌, ℕ, ◌^◌, Option, Some, None, ap, ◌∙◌, sym, subst, arith, replicate}
+use Rattle.std.specs.FinMap as finite
+use Rattle.l6_store.specs.Blocks.{Blocks}
 use Rattle.l6_store.specs.BuddyStore.{BuddyStore}
 use Rattle.l6_store.specs.Open.{IsAnswer}
 use Rattle.l6_store.specs.Buddy.{first_or, level_found, listed}
 use Rattle.std.specs.Option.{option_map}
+use Rattle.l6_store.proofs.Gathered.{get-insert_same}
 use Rattle.l6_store.proofs.Finding.{chooses}
 use Rattle.l6_store.specs.Tiles.{Tiles}
-use Rattle.l6_store.specs.inner.Hands.{Holding}
-use Rattle.l6_store.proofs.Hands.{hand_beside, hand_unlisted}
-use Rattle.l6_store.proofs.Stores.{found_facts, got_filled, got_hand, in_hand, sound_store}
+use Rattle.l6_store.specs.inner.Detached.{Holding}
+use Rattle.l6_store.proofs.Detached.{detached_beside, detached_unlisted}
+use Rattle.l6_store.proofs.Stores.{found_facts, got_filled, got_detached, is_detached, sound_store}
 use Rattle.l6_store.proofs.buddy.BuddyPlaces.get.Goals as goal
 
 -- the place picked answers, by the level that was found
@@ -50,49 +53,52 @@ halve-self-inside-requires-clause-enough c =
 
 pub halve-self-inside-requires-clause-held : goal.halve-self-inside-requires-clause-held
 halve-self-inside-requires-clause-held c =
-    in_hand c.self.inside.arena c.self.invariant.0 c.self.invariant.1 c.args.level c.in_ok-found.found
+    is_detached c.self.inside.arena c.self.invariant.0 c.self.invariant.1 c.args.level
+    c.in_ok-found.found
     c.pop-place.result c.in_ok-found.ensures c.pop-place.new.self c.pop-place.ensures.units
     c.pop-place.ensures.blocks c.pop-place.ensures.order c.pop-place.ensures.first
 
-hand : (c : goal.After-open-arg-1)
+detached : (c : goal.After-open-arg-1)
     → Holding c.halve-self-inside.new.arena.units c.halve-self-inside.new.arena.blocks
     (record {
       order = c.halve-self-inside.new.arena.order;
       level = c.args.level;
       place = c.pop-place.result;
     })
-hand c =
-    got_hand c.self.inside.arena c.self.invariant.0 c.self.invariant.1 c.args.level c.in_ok-found.found
+detached c =
+    got_detached c.self.inside.arena c.self.invariant.0 c.self.invariant.1 c.args.level
+    c.in_ok-found.found
     c.pop-place.result c.in_ok-found.ensures c.pop-place.new.self c.pop-place.ensures.units
     c.pop-place.ensures.blocks c.pop-place.ensures.order c.pop-place.ensures.first
     c.halve-self-inside.new.arena c.halve-self-inside.ensures.units
     c.halve-self-inside.ensures.blocks c.halve-self-inside.ensures.order
 
-pub open-requires-clause-stands : goal.open-requires-clause-stands
-open-requires-clause-stands c = (hand c).stands
+pub open-requires-clause-is_aligned : goal.open-requires-clause-is_aligned
+open-requires-clause-is_aligned c = (detached c).is_aligned
 
 pub open-requires-clause-beside : goal.open-requires-clause-beside
 open-requires-clause-beside c =
-    hand_beside c.halve-self-inside.new.arena.units c.halve-self-inside.new.arena.blocks
+    detached_beside c.halve-self-inside.new.arena.units c.halve-self-inside.new.arena.blocks
     (record {
       order = c.halve-self-inside.new.arena.order;
       level = c.args.level;
       place = c.pop-place.result;
-    }) (hand c)
+    }) (detached c)
 
 pub open-requires-clause-unlisted : goal.open-requires-clause-unlisted
 open-requires-clause-unlisted c =
-    hand_unlisted c.halve-self-inside.new.arena.units c.halve-self-inside.new.arena.blocks
+    detached_unlisted c.halve-self-inside.new.arena.units c.halve-self-inside.new.arena.blocks
     (record {
       order = c.halve-self-inside.new.arena.order;
       level = c.args.level;
       place = c.pop-place.result;
-    }) (hand c)
+    }) (detached c)
 
 tiled : (c : goal.After-open)
     → Tiles c.open.new.self.units c.open.new.self.blocks c.open.new.self.order
 tiled c =
-    got_filled c.self.inside.arena c.self.invariant.0 c.self.invariant.1 c.args.level c.in_ok-found.found
+    got_filled c.self.inside.arena c.self.invariant.0 c.self.invariant.1 c.args.level
+    c.in_ok-found.found
     c.pop-place.result c.in_ok-found.ensures c.pop-place.new.self c.pop-place.ensures.units
     c.pop-place.ensures.blocks c.pop-place.ensures.order c.pop-place.ensures.first
     c.halve-self-inside.new.arena c.halve-self-inside.ensures.units
@@ -124,6 +130,11 @@ returns-clause-fits c =
     subst (λ (p : ℕ). IsAnswer c.args.self.now.store.units c.args.self.now.store.blocks
     (2 ^ c.args.level) (Some p)) (sym c.pop-place.ensures.first)
     (answer_then c (Some c.in_ok-found.found) c.in_ok-found.ensures)
+
+pub returns-clause-block : goal.returns-clause-block
+returns-clause-block c =
+    ap (λ (b : Blocks). finite.get b c.pop-place.result) c.open.ensures.blocks
+    ∙ get-insert_same _ c.pop-place.result (replicate (2 ^ c.args.level) 0)
 
 pub returns-clause-sound : goal.returns-clause-sound
 returns-clause-sound c =

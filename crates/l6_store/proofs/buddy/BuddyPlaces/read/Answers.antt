@@ -1,11 +1,11 @@
 use Rattle.std.proofs.Common.{◌≡◌, ℕ, subst}
 use Rattle.l6_store.specs.BuddyStore.{BuddyStore}
 use Rattle.l6_store.specs.Blocks.{LiesIn, word_at}
-use Rattle.l6_store.specs.inner.Layout.{Layout}
+use Rattle.l6_store.specs.inner.ArenaLayout.{ArenaLayout}
 use Rattle.l6_store.proofs.buddy.BuddyPlaces.read.Goals as goal
 
 -- a word read of the arena's blocks is one of the store's
-read_along : (layout : Layout) (moves : ℕ) (now : BuddyStore)
+read_along : (layout : ArenaLayout) (moves : ℕ) (now : BuddyStore)
     → ◌≡◌ {A = BuddyStore} (record {
       store = record {
         units = layout.units;

@@ -1,13 +1,13 @@
 use Rattle.std.proofs.Common.{sym, subst}
 use Rattle.l6_store.specs.Store.{IsSound}
 use Rattle.l6_store.specs.Buddy.{buddy_rule}
-use Rattle.l6_store.specs.inner.Layout.{Layout}
+use Rattle.l6_store.specs.inner.ArenaLayout.{ArenaLayout}
 use Rattle.l6_store.proofs.Stores.{sound_store}
 use Rattle.l6_store.proofs.buddy.BuddyPlaces.take_from.Goals as goal
 
 pub returns-clause-sound : goal.returns-clause-sound
 returns-clause-sound c =
-    subst (λ (l : Layout). IsSound buddy_rule (record {
+    subst (λ (l : ArenaLayout). IsSound buddy_rule (record {
       units = l.units;
       blocks = l.blocks;
       order = l.order;

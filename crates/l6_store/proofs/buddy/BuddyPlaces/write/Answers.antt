@@ -5,7 +5,7 @@ use Rattle.l6_store.specs.Blocks.{LiesIn, index_in}
 use Rattle.l6_store.specs.Store.{Store, with_block}
 use Rattle.l6_store.specs.Tiles.{Tiles}
 use Rattle.std.proofs.lemmas.List.{length-set}
-use Rattle.l6_store.specs.inner.Layout.{Layout}
+use Rattle.l6_store.specs.inner.ArenaLayout.{ArenaLayout}
 use Rattle.l6_store.proofs.Stores.{sound_store, store_is, tiles_along, written_tiles}
 use Rattle.l6_store.proofs.buddy.BuddyPlaces.write.Goals as goal
 
@@ -27,7 +27,7 @@ tiled c =
     (length-set there.words (index_in c.args.place there) c.args.word) c.self.invariant.1)
 
 -- what becomes of the store, whatever it is called
-after_by : (layout : Layout) (moves : ℕ) (now : BuddyStore)
+after_by : (layout : ArenaLayout) (moves : ℕ) (now : BuddyStore)
     → ◌≡◌ {A = BuddyStore} (record {
       store = record {
         units = layout.units;
@@ -38,7 +38,7 @@ after_by : (layout : Layout) (moves : ℕ) (now : BuddyStore)
       words = layout.words;
       heads = layout.heads;
     }) now
-    → (new : Layout) (place word : ℕ) → new.units ≡ layout.units
+    → (new : ArenaLayout) (place word : ℕ) → new.units ≡ layout.units
     → ((found : LiesIn layout.blocks place) → new.blocks
     ≡ map.insert layout.blocks found.start (set found.words (index_in place found) word))
     → new.order ≡ layout.order → (found : LiesIn now.store.blocks place)

@@ -2,7 +2,7 @@ use Rattle.std.proofs.Common.{◌≡◌, ℕ, ◌+◌, ◌-◌, ◌^◌, ◌≤�
 use Rattle.l6_store.specs.Blocks.{block_at}
 use Rattle.l6_store.specs.Store.{Store, with_block}
 use Rattle.l6_store.specs.inner.Tags.{tag_at, IsKept}
-use Rattle.l6_store.specs.inner.Marks.{IsCopied}
+use Rattle.l6_store.specs.inner.PlaceTags.{IsCopied}
 use Rattle.l6_store.specs.declared.tag.Tag.TheVariants.{First}
 use Rattle.l6_store.proofs.Kept.{sound_of}
 use Rattle.l6_store.proofs.Calls.{live_at, first_at, block_within, same_level, copied_kept, copied_store}
@@ -68,7 +68,7 @@ copied c = record {
       (omega (arith, below, c.size_of.ensures))
       ∙ ap (λ (i : ℕ). get_or c.self.inside.words.items i 0) index;
   before = λ at less. c.copy_within.ensures.by_index.1 at 0 less;
-  behind
+  following
       = λ at past. c.copy_within.ensures.by_index.2 at 0 (omega (arith, past, c.size_of.ensures));
 }
 

@@ -4,7 +4,7 @@ use Rattle.std.specs.Vec.{with_items}
 use Rattle.l6_store.specs.Scan.{scan_rule}
 use Rattle.l6_store.specs.Store.{Store, after_free}
 use Rattle.l6_store.specs.inner.Tags.{tag_at, store_of, IsKept}
-use Rattle.l6_store.specs.inner.Marks.{AreSizes, IsFull, IsFilled}
+use Rattle.l6_store.specs.inner.PlaceTags.{AreSizes, IsFull, IsFilled}
 use Rattle.l6_store.specs.declared.tag.Tag.{Tag}
 use Rattle.l6_store.specs.declared.tag.Tag.TheVariants.{Free, First}
 use Rattle.l6_store.proofs.Runs.{filled_full}
@@ -34,10 +34,10 @@ fill-requires c =
     = first_at c.self.inside.tags.items c.deref.result.now c.args.place c.level_at.result
     c.unwrap-level.result c.deref.ensures.value
     c.level_at.ensures c.unwrap-level.ensures in
-    let stands = c.self.invariant.kept.are_tags.first c.args.place c.unwrap-level.result first in
+    let is_aligned = c.self.invariant.kept.are_tags.first c.args.place c.unwrap-level.result first in
     omega (
       arith,
-      stands.within,
+      is_aligned.within,
       c.size_of.ensures,
       ap length c.deref_mut.ensures.value,
       c.self.invariant.kept.are_tags.count,
@@ -76,7 +76,7 @@ kept c =
 
 pub invariant_of-self : goal.invariant_of-self
 invariant_of-self c =
-    let stands = c.self.invariant.kept.are_tags.first c.args.place c.unwrap-level.result
+    let is_aligned = c.self.invariant.kept.are_tags.first c.args.place c.unwrap-level.result
     (first c) in
     record {
       kept = kept c;
@@ -89,7 +89,7 @@ invariant_of-self c =
           (subst (λ (low : ℕ). IsFull c.fill.new.tags low) (sym c.min-self-inside.ensures)
           (filled_full c.self.inside.tags.items c.fill.new.tags c.self.inside.low c.args.place
           (2 ^ c.unwrap-level.result)
-          c.self.invariant.full stands.above (filled c)));
+          c.self.invariant.full is_aligned.above (filled c)));
     }
 
 pub returns-clause-after : goal.returns-clause-after

@@ -1,13 +1,15 @@
-use Rattle.std.proofs.Common.{◌≡◌, ℕ, ◌*◌, ◌%◌, ◌^◌, List, set, arith, ap, sym, ◌∙◌, subst, Option, Some}
+use Rattle.std.proofs.Common.{◌≡◌, ℕ, ◌*◌, ◌%◌, ◌^◌, List, replicate, set, arith, ap, sym, ◌∙◌, subst, Option, Some}
 use Rattle.std.proofs.lemmas.List.{with_items_is}
 use Rattle.std.proofs.lemmas.Nat.{one_shl}
 use Rattle.std.specs.Vec.{with_items}
+use Rattle.std.specs.FinMap as finite
 use Rattle.l6_store.specs.Open.{IsAnswer}
 use Rattle.l6_store.specs.Scan.{scan_rule}
 use Rattle.l6_store.specs.Store.{Store, IsSound, picked, after_get}
 use Rattle.l6_store.specs.inner.Tags.{store_of, IsKept}
-use Rattle.l6_store.specs.inner.Marks.{AreSizes, IsMarked, IsCleared, IsFull, IsLowest}
+use Rattle.l6_store.specs.inner.PlaceTags.{AreSizes, IsMarked, IsCleared, IsFull, IsLowest}
 use Rattle.l6_store.specs.declared.tag.Tag.{Tag}
+use Rattle.l6_store.proofs.Gathered.{get-insert_same}
 use Rattle.l6_store.proofs.Runs.{raised_full}
 use Rattle.l6_store.proofs.Kept.{sound_of}
 use Rattle.l6_store.proofs.Sizes.{got_sizes}
@@ -54,10 +56,10 @@ lowest c =
     c.deref.ensures.value c.lowest_open.ensures)
 
 marked : (c : goal.After-self-4-1)
-    → IsMarked c.self.inside.tags.items c.mark.new.tags c.in_ok-place.place c.args.level
+    → IsMarked c.self.inside.tags.items c.place_tag.new.tags c.in_ok-place.place c.args.level
 marked c =
-    subst (λ (old : List Tag). IsMarked old c.mark.new.tags c.in_ok-place.place c.args.level)
-    c.deref_mut.ensures.value c.mark.ensures
+    subst (λ (old : List Tag). IsMarked old c.place_tag.new.tags c.in_ok-place.place c.args.level)
+    c.deref_mut.ensures.value c.place_tag.ensures
 
 cleared : (c : goal.After-self-4-1)
     → IsCleared c.self.inside.words.items c.clear.new.words c.in_ok-place.place (2 ^ c.args.level)
@@ -68,9 +70,9 @@ cleared c =
     c.deref_mut-2.ensures.value c.clear.ensures)
 
 tags_are : (c : goal.After-self-4-1)
-    → (with_items c.self.inside.tags c.mark.new.tags).items ≡ c.mark.new.tags
+    → (with_items c.self.inside.tags c.place_tag.new.tags).items ≡ c.place_tag.new.tags
 tags_are c =
-    with_items_is c.self.inside.tags c.mark.new.tags
+    with_items_is c.self.inside.tags c.place_tag.new.tags
     ((marked c).count ∙ sym c.self.inside.tags.ok.0)
 
 words_are : (c : goal.After-self-4-1)
@@ -80,13 +82,14 @@ words_are c =
     ((cleared c).count ∙ sym c.self.inside.words.ok.0)
 
 kept : (c : goal.After-self-4-1)
-    → IsKept c.self.inside.units (with_items c.self.inside.tags c.mark.new.tags).items
+    → IsKept c.self.inside.units (with_items c.self.inside.tags c.place_tag.new.tags).items
     (with_items c.self.inside.words c.clear.new.words).items
 kept c =
     subst (λ (ts : List Tag). IsKept c.self.inside.units ts
     (with_items c.self.inside.words c.clear.new.words).items) (sym (tags_are c))
-    (subst (λ (ws : List ℕ). IsKept c.self.inside.units c.mark.new.tags ws) (sym (words_are c))
-    (got_kept c.self.inside.units c.self.inside.tags.items c.mark.new.tags c.self.inside.words.items
+    (subst (λ (ws : List ℕ). IsKept c.self.inside.units c.place_tag.new.tags ws) (sym (words_are c))
+    (got_kept c.self.inside.units c.self.inside.tags.items c.place_tag.new.tags
+    c.self.inside.words.items
     c.clear.new.words c.self.invariant.kept
     c.in_ok-place.place c.args.level c.requires (lowest c).0 (marked c) (cleared c)))
 
@@ -96,12 +99,12 @@ invariant_of-self c = record {
   sized = subst (λ (ts : List Tag). AreSizes ts
       (set c.self.inside.sizes.items c.in_ok-place.place (1 * 2 ^ c.args.level % 2 ^ 16)))
       (sym (tags_are c))
-      (got_sizes c.self.inside.tags.items c.mark.new.tags c.self.inside.sizes.items
+      (got_sizes c.self.inside.tags.items c.place_tag.new.tags c.self.inside.sizes.items
       c.in_ok-place.place c.args.level c.self.invariant.sized (lowest c).0 (marked c)
       (1 * 2 ^ c.args.level % 2 ^ 16)
       (one_shl c.args.level 16 (omega (arith, c.requires))));
   full = subst (λ (ts : List Tag). IsFull ts c.raised-self-inside.result) (sym (tags_are c))
-      (raised_full c.self.inside.tags.items c.mark.new.tags c.self.inside.low c.in_ok-place.place
+      (raised_full c.self.inside.tags.items c.place_tag.new.tags c.self.inside.low c.in_ok-place.place
       c.args.level c.raised-self-inside.result
       c.self.invariant.full (lowest c) (marked c) c.raised-self-inside.ensures);
 }
@@ -124,15 +127,20 @@ pub returns-clause-after : goal.returns-clause-after
 returns-clause-after c =
     ap (λ (ts : List Tag). store_of c.self.inside.units ts
     (with_items c.self.inside.words c.clear.new.words).items) (tags_are c)
-    ∙ ap (λ (ws : List ℕ). store_of c.self.inside.units c.mark.new.tags ws) (words_are c)
-    ∙ got_store c.self.inside.units c.self.inside.tags.items c.mark.new.tags
+    ∙ ap (λ (ws : List ℕ). store_of c.self.inside.units c.place_tag.new.tags ws) (words_are c)
+    ∙ got_store c.self.inside.units c.self.inside.tags.items c.place_tag.new.tags
     c.self.inside.words.items c.clear.new.words c.self.invariant.kept
     c.in_ok-place.place c.args.level (lowest c).0 (marked c) (cleared c)
     ∙ ap (λ (s : Store). after_get scan_rule s c.args.level (Some c.in_ok-place.place))
     c.self.view_is
 
+pub returns-clause-block : goal.returns-clause-block
+returns-clause-block c =
+    ap (λ (s : Store). finite.get s.blocks c.in_ok-place.place) (returns-clause-after c)
+    ∙ get-insert_same _ c.in_ok-place.place (replicate (2 ^ c.args.level) 0)
+
 pub returns-clause-sound : goal.returns-clause-sound
 returns-clause-sound c =
-    sound_of c.self.inside.units (with_items c.self.inside.tags c.mark.new.tags).items
+    sound_of c.self.inside.units (with_items c.self.inside.tags c.place_tag.new.tags).items
     (with_items c.self.inside.words c.clear.new.words).items
     (kept c)

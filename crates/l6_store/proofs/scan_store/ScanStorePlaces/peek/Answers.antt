@@ -2,7 +2,7 @@ use Rattle.std.proofs.Common.{◌^◌, List, ap, ◌∙◌, subst}
 use Rattle.l6_store.specs.Open.{IsAnswer}
 use Rattle.l6_store.specs.Scan.{scan_rule}
 use Rattle.l6_store.specs.Store.{Store, picked}
-use Rattle.l6_store.specs.inner.Marks.{IsLowest}
+use Rattle.l6_store.specs.inner.PlaceTags.{IsLowest}
 use Rattle.l6_store.specs.declared.tag.Tag.{Tag}
 use Rattle.l6_store.proofs.Kept.{picked_of_lowest, answer_of_lowest}
 use Rattle.l6_store.proofs.scan_store.ScanStorePlaces.peek.Goals as goal

@@ -1,0 +1,286 @@
+//! Builders of statements, item by item.
+
+ghost use Rattle.std.specs.Prelude.{◌≡◌, ◌+◌, ◌≤◌, [], length, IfOk, OnOk};
+ghost use Rattle.l6_group.specs.Operation.{operation_of};
+ghost use Rattle.l6_group.specs.Test.{test_of};
+ghost use Rattle.l6_group.specs.Word.{condition_from};
+ghost use Rattle.l6_card.specs.Numerals.{most_deck_bytes};
+ghost use Rattle.l6_card.specs.inner.StatementBuilder as spec;
+ghost use Rattle.l6_card.specs.Items.{group, word};
+ghost use Rattle.l6_card.specs.Statement.{placed_exit};
+ghost use Rattle.l6_card.specs.inner.First.{letters_of};
+ghost use Rattle.l6_card.specs.inner.Drafted.{phased, drafted, drafted_parts, Takes};
+
+use crate::cards::{Parts, Placed, PlacedLabel};
+use crate::fault::CardFault;
+use crate::span::Span;
+use l6_group::{
+    Label, Spelling, after_then, condition_from, exit_from, operation_of, spelled, test_of,
+};
+use l6_prog::{Cond, Exit, MAX_OPERATIONS, MAX_TESTS, Op, Test};
+use std::alloc::{AllocError, Global};
+use std::mem;
+
+/// How many characters a word may have: those of THEN and of a label.
+const MAX_WORD: usize = 10;
+
+/// How far the items of a statement have come.
+#[derive(Clone, Copy, Debug)]
+pub(crate) enum Phase {
+    /// There is no item so far.
+    New,
+    /// A word that is this condition where a group follows, and else an exit.
+    Worded(Cond),
+    /// A condition and its tests so far. THEN must follow.
+    Tested,
+    /// Operations may follow, and an exit.
+    Open,
+    /// The exit has come, and nothing may follow.
+    Closed,
+}
+
+/// What the items of a statement so far make of it.
+#[derive(Drop)]
+pub(crate) struct StatementBuilder {
+    phase: Phase,
+    condition: Cond,
+    tests: Vec<Placed<Test>>,
+    operations: Vec<Placed<Op<Label>>>,
+    exit: Exit<PlacedLabel>,
+}
+
+impl StatementBuilder {
+    /// The builder of a statement without items.
+    pub(crate) fn new(alloc: Global) -> Self
+        ensures { drafted result ≡ spec.new_builder }
+    {
+        StatementBuilder {
+            phase: Phase::New,
+            condition: Cond::Always,
+            tests: Vec::new(alloc),
+            operations: Vec::new(alloc),
+            exit: Exit::Next,
+        }
+    }
+
+    /// A copy of the builder, in lists that have just room for its items. This builder then has no
+    /// items, and keeps its room for the next statement.
+    pub(crate) fn take(&mut self, alloc: Global) -> Result<Self, AllocError>
+        ensures taken { IfOk result (λ builder. drafted builder ≡ drafted self.old) }
+        ensures left { OnOk result (drafted self.new ≡ spec.new_builder) }
+    {
+        let builder = StatementBuilder {
+            phase: self.phase,
+            condition: self.condition,
+            tests: take_all(alloc, &mut self.tests)?,
+            operations: take_all(alloc, &mut self.operations)?,
+            exit: mem::replace(&mut self.exit, Exit::Next),
+        };
+        self.phase = Phase::New;
+        self.condition = Cond::Always;
+        Ok(builder)
+    }
+
+    /// Whether the items are a whole statement.
+    pub(crate) fn is_whole(&self) -> bool
+        ensures { result ≡ spec.is_whole (drafted self.now) }
+    {
+        match self.phase {
+            Phase::Tested => false,
+            _ => true,
+        }
+    }
+
+    /// The parts of the statement with this label.
+    pub(crate) fn into_parts(self, label: Option<PlacedLabel>) -> Parts
+        ensures { drafted_parts result ≡ spec.statement_from label (drafted self) }
+    {
+        let StatementBuilder {
+            phase: _,
+            condition,
+            tests,
+            operations,
+            exit,
+        } = self;
+        Parts {
+            label,
+            condition,
+            tests,
+            operations,
+            exit,
+        }
+    }
+
+    /// A group on this card, whose `(` has this offset in the deck, with these columns between its
+    /// parentheses.
+    pub(crate) fn take_group(
+        &mut self,
+        card: u32,
+        offset: usize,
+        columns: &[u8],
+    ) -> Result<(), CardFault>
+        requires { offset + length columns.now + 2 ≤ most_deck_bytes }
+        ensures { let made = spec.with_item card (drafted self.old) (group offset columns.now) in
+            Takes result (drafted self.new) made }
+    {
+        // A deck is shorter than a `u32` can say.
+        let span = Span {
+            offset: offset as u32,
+            length: columns.len() as u32 + 2,
+        };
+        match self.phase {
+            Phase::New | Phase::Open => self.take_operation(card, span, columns),
+            Phase::Worded(condition) => self.take_test(card, span, condition, columns),
+            Phase::Tested => match self.condition {
+                Cond::If | Cond::Not => Err(CardFault::Form(card)),
+                condition => self.take_test(card, span, condition, columns),
+            },
+            Phase::Closed => Err(CardFault::Form(card)),
+        }
+    }
+
+    /// The operation that a group with these columns spells, if it is one.
+    fn take_operation(&mut self, card: u32, span: Span, columns: &[u8]) -> Result<(), CardFault>
+        ensures { let operation = operation_of columns.now in
+            let made = spec.with_operation card span (drafted self.old) operation in
+            Takes result (drafted self.new) made }
+    {
+        let reading = operation_of(columns).ok_or(CardFault::Form(card))?;
+        if self.operations.len() >= MAX_OPERATIONS {
+            return Err(CardFault::Limit(card));
+        }
+        self.operations
+            .push(Placed {
+                reading,
+                card,
+                span,
+            })
+            .map_err(|_| CardFault::NoMemory)?;
+        self.phase = Phase::Open;
+        Ok(())
+    }
+
+    /// The test of this condition that a group with these columns spells, if it is one.
+    fn take_test(
+        &mut self,
+        card: u32,
+        span: Span,
+        condition: Cond,
+        columns: &[u8],
+    ) -> Result<(), CardFault>
+        ensures { let test = test_of columns.now in
+            let made = spec.with_test card span (drafted self.old) condition test in
+            Takes result (drafted self.new) made }
+    {
+        let reading = test_of(columns).ok_or(CardFault::Form(card))?;
+        if self.tests.len() >= MAX_TESTS {
+            return Err(CardFault::Limit(card));
+        }
+        self.tests
+            .push(Placed {
+                reading,
+                card,
+                span,
+            })
+            .map_err(|_| CardFault::NoMemory)?;
+        self.phase = Phase::Tested;
+        self.condition = condition;
+        self.exit = Exit::Next;
+        Ok(())
+    }
+
+    /// A word on this card, of the letters of these columns.
+    pub(crate) fn take_word(&mut self, card: u32, columns: &[u8]) -> Result<(), CardFault>
+        ensures { let item = word (letters_of columns.now) in
+            Takes result (drafted self.new) (spec.with_item card (drafted self.old) item) }
+    {
+        let characters: Option<Spelling<'_, MAX_WORD>> = spelled(columns);
+        match characters {
+            None => Err(CardFault::Form(card)),
+            Some(characters) => self.take_characters(card, characters.as_slice()),
+        }
+    }
+
+    /// A word of these characters.
+    fn take_characters(&mut self, card: u32, characters: &[u8]) -> Result<(), CardFault>
+        ensures { let made = spec.with_characters card (drafted self.old) characters.now in
+            Takes result (drafted self.new) made }
+    {
+        match self.phase {
+            Phase::New => self.take_first(card, characters),
+            Phase::Open => self.take_exit(card, Phase::Closed, characters),
+            Phase::Tested => self.take_then(card, characters),
+            _ => Err(CardFault::Form(card)),
+        }
+    }
+
+    /// A first word of these characters.
+    fn take_first(&mut self, card: u32, characters: &[u8]) -> Result<(), CardFault>
+        ensures { let made = spec.with_first card (drafted self.old) characters.now in
+            Takes result (drafted self.new) made }
+    {
+        let phase = first_phase(characters);
+        self.take_exit(card, phase, characters)
+    }
+
+    /// A word that must begin with THEN.
+    fn take_then(&mut self, card: u32, characters: &[u8]) -> Result<(), CardFault>
+        ensures { let made = spec.with_then card (drafted self.old) characters.now in
+            Takes result (drafted self.new) made }
+    {
+        match after_then(characters) {
+            None => Err(CardFault::Form(card)),
+            Some(following) => {
+                if following.is_empty() {
+                    self.phase = Phase::Open;
+                    return Ok(());
+                }
+                self.take_exit(card, Phase::Closed, following)
+            }
+        }
+    }
+
+    /// The exit that characters spell, and the phase that it leads to.
+    fn take_exit(&mut self, card: u32, phase: Phase, characters: &[u8]) -> Result<(), CardFault>
+        ensures { let made = spec.with_exit card (drafted self.old) (phased phase) characters.now in
+            Takes result (drafted self.new) made }
+    {
+        let exit = exit_from(characters).ok_or(CardFault::Form(card))?;
+        self.exit = placed_exit(card, exit);
+        self.phase = phase;
+        Ok(())
+    }
+}
+
+/// All entries of a list, in one that has just room for them. The list is left empty, and keeps its
+/// room.
+fn take_all<T: Drop>(alloc: Global, list: &mut Vec<T>) -> Result<Vec<T>, AllocError>
+    ensures taken { IfOk result (λ taken. taken.items ≡ list.old.items) }
+    ensures left { OnOk result (list.new.items ≡ []) }
+{
+    let mut taken = Vec::with_capacity(alloc, list.len())?;
+    taken.append(list)?;
+    Ok(taken)
+}
+
+/// The phase after a first word of these characters, which may be a condition.
+fn first_phase(characters: &[u8]) -> Phase
+    ensures { phased result ≡ spec.phase_of (condition_from characters.now) }
+{
+    match condition_from(characters) {
+        Some(condition) => Phase::Worded(condition),
+        None => Phase::Closed,
+    }
+}
+
+/// An exit that is on this card.
+fn placed_exit(card: u32, exit: Exit<Label>) -> Exit<PlacedLabel>
+    ensures { result ≡ placed_exit card exit }
+{
+    match exit {
+        Exit::Next => Exit::Next,
+        Exit::Label(label) => Exit::Label(PlacedLabel { label, card }),
+        Exit::Done => Exit::Done,
+        Exit::Fail => Exit::Fail,
+    }
+}

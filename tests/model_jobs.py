@@ -1,0 +1,136 @@
+#!/usr/bin/env python3
+"""Runs jobs on the built program beside the model of tests/model/, which was written from the manual alone.
+
+model_jobs.py PROGRAM prints each difference, and last 'N passed, M failed'. The model is tried first, on
+cases.jsonl and on examples/, whose answers were worked out by hand, save for those of the groups that count
+requests for memory, which are the model's own. Then the random jobs of hostile_jobs.py and of further_jobs.py
+are given to both, and what goes to the two outputs and the exit status must be the same. A job is made from
+its number, so the number is enough to make it again.
+
+    python3 tests/model_jobs.py PROGRAM --first 708 --jobs 1
+    python3 tests/model_jobs.py PROGRAM --jobs 100000 --processes 4 --keep FOLDER
+
+With --keep what a job gives to standard input is written to FOLDER, where the two answers differ. The cases
+with long texts take the model a minute, and are tried with --long.
+"""
+from __future__ import annotations
+
+import argparse
+import multiprocessing
+import shlex
+import sys
+from collections.abc import Callable, Iterator
+from dataclasses import dataclass
+from pathlib import Path
+
+import further_jobs
+import hostile_jobs
+from answers import Answer, answer, answer_of
+from cases import read_cases
+from further_jobs import Job
+from model.command import WRONG_WORDS
+from model.command import answer_of as answer_of_model
+from trials import Trial, report
+
+EXAMPLES = Path(__file__).resolve().parent.parent / "examples"
+BATCH = 50  # numbers that a process takes at a time
+LONG = 100_000  # bytes of a text of a case
+
+
+def without_usage(stdout: bytes, stderr: bytes, status: int | str) -> Answer[bytes]:
+    """An answer. What is said of wrong words is free, so it is left out."""
+    return answer(stdout, b"" if status == WRONG_WORDS else stderr, status)
+
+
+def model_answer(words: list[str], stdin: bytes) -> Answer[bytes]:
+    """The answer of the model."""
+    made = answer_of_model(words, lambda: stdin)
+    return without_usage(made.stdout, made.stderr, made.status)
+
+
+def program_answer(program: str, words: list[str], stdin: bytes) -> Answer[bytes]:
+    """The answer of the program."""
+    made = answer_of([program, *words], input=stdin, preexec_fn=None)
+    return without_usage(made.stdout, made.stderr, made.status)
+
+
+def cases(with_long: bool) -> Iterator[Trial]:
+    """The trials of the model on cases.jsonl."""
+    for case in read_cases():
+        stdin, known = case.stdin, case.expected
+        expected = without_usage(known.stdout, known.stderr, known.status)
+        if with_long or len(stdin) <= LONG and len(expected.stdout) <= LONG:
+            yield f"the model: {case.name}", expected, model_answer(case.args, stdin)
+
+
+def examples() -> Iterator[Trial]:
+    """The trials of the model on the decks, the listings and the sessions of examples/."""
+    for verb, job, result in (
+        ("run", ".deck", ".printout"), ("list", ".deck", ".listing"), ("debug", ".session", ".transcript"),
+    ):
+        for file in sorted(EXAMPLES.glob(f"*{result}")):
+            actual = model_answer([verb], file.with_suffix(job).read_bytes())
+            yield f"the model: {verb} of the example {file.stem}", answer(file.read_bytes()), actual
+
+
+def hostile_job(number: int) -> Job:
+    """The hostile job of a number, of which the model makes the image."""
+    job = hostile_jobs.job_of(number)
+    image = model_answer(["asm"], job.deck).stdout if job.has_image else b""
+    return Job(job.words, job.stdin(image))
+
+
+KINDS: list[tuple[str, Callable[[int], Job]]] = [("hostile", hostile_job), ("further", further_jobs.job_of)]
+
+
+@dataclass(frozen=True)
+class Beside:
+    """A program that is run beside the model, and where jobs with different answers are kept."""
+
+    program: str
+    keep: Path | None
+
+    def trials(self, numbers: range) -> list[Trial]:
+        """The trials on the jobs of these numbers, of each kind."""
+        return [self.trial(f"{kind} job {at}", make(at)) for at in numbers for kind, make in KINDS]
+
+    def trial(self, name: str, job: Job) -> Trial:
+        """The trial on a job."""
+        expected = model_answer(job.words, job.stdin)
+        actual = program_answer(self.program, job.words, job.stdin)
+        if self.keep and expected != actual:
+            self.keep.joinpath(name.replace(" ", "-")).write_bytes(job.stdin)
+        return f"{name}: {shlex.join(job.words)}", expected, actual
+
+
+def random_jobs(beside: Beside, numbers: range, processes: int) -> Iterator[Trial]:
+    """The trials on the random jobs of these numbers."""
+    batches = [numbers[at:at + BATCH] for at in range(0, len(numbers), BATCH)]
+    with multiprocessing.Pool(processes) as pool:
+        for trials in pool.imap(beside.trials, batches):
+            yield from trials
+
+
+def trials(given: argparse.Namespace) -> Iterator[Trial]:
+    """All trials."""
+    beside = Beside(str(Path(given.program).resolve()), given.keep)
+    yield from cases(given.long)
+    yield from examples()
+    yield from random_jobs(beside, range(given.first, given.first + given.jobs), given.processes)
+
+
+def main() -> int:
+    """Makes the trials, and answers the exit status."""
+    parser = argparse.ArgumentParser(
+        description=__doc__, formatter_class=argparse.RawDescriptionHelpFormatter)
+    parser.add_argument("program")
+    parser.add_argument("--first", type=int, default=1, help="the first number")
+    parser.add_argument("--jobs", type=int, default=1_000, help="how many numbers; each makes two jobs")
+    parser.add_argument("--processes", type=int, default=1)
+    parser.add_argument("--keep", type=Path, help="the folder where jobs with a difference are kept")
+    parser.add_argument("--long", action="store_true", help="try the model on cases with long texts, too")
+    return report(trials(parser.parse_args()))
+
+
+if __name__ == "__main__":
+    sys.exit(main())

@@ -1,0 +1,69 @@
+// Has the program assemble the deck while it is typed, and shows its fault: the program's own line, and
+// beside it what is most likely meant. Where there is none, a card that is too long is told.
+
+import {firstLongCard} from "./deck.js";
+import {byId, make} from "./dom.js";
+import {bytesOf} from "./engine.js";
+import {COLUMNS} from "./fault.js";
+import {job} from "./session.js";
+
+const CHECK_AFTER = 300;  // milliseconds without a key, until the deck is assembled
+const BLAME_AFTER = 1500; // and until a fault of the card that is being typed is shown
+
+export class Checker {
+  // `page` has the deck, and asks the engine.
+  constructor(page) {
+    this.page = page;
+    this.typed = -BLAME_AFTER;
+  }
+
+  // The deck was changed by the reader.
+  typing() {
+    this.typed = performance.now();
+    this.later(CHECK_AFTER);
+  }
+
+  later(milliseconds) {
+    clearTimeout(this.timer);
+    this.timer = setTimeout(() => this.check(), milliseconds);
+  }
+
+  async check() {
+    const {page} = this;
+    if (page.isBusy) return this.later(CHECK_AFTER);
+    const {deck} = page.job();
+    try {
+      const answer = await page.ask(["asm"], bytesOf(job(deck, null, "")));
+      if (byId("deck").value !== deck) return;
+      const line = answer.status === 0 ? "" : answer.errors.trim();
+      const isTyping =
+        performance.now() - this.typed < BLAME_AFTER && cardBlamed(line) === page.editor.cursor().card;
+      this.show(isTyping ? "" : line);
+      if (isTyping) this.later(BLAME_AFTER);
+    } catch (error) {
+      page.tell(error.message);
+    }
+  }
+
+  show(line) {
+    const {editor} = this.page;
+    const fault = byId("fault");
+    const longCard = line ? -1 : firstLongCard(editor.text.value);
+    const note = longCard < 0 ? "" : `Card ${longCard + 1}: what is past column ${COLUMNS} is ignored.`;
+    fault.hidden = line === "" && note === "";
+    fault.classList.toggle("note", note !== "");
+    const card = cardBlamed(line);
+    const own = editor.deck.fault;
+    const isSame = own && own.card === card && line.endsWith(own.kind);
+    editor.blame(card < 0 ? null : isSame ? own : {card, from: 0, to: COLUMNS});
+    if (note && fault.textContent !== note) fault.textContent = note; // (once, for screen readers)
+    if (!line) return;
+    fault.replaceChildren(make("code", {}, line), isSame ? ` — ${own.why}` : "");
+    if (card >= 0) editor.reveal(card);
+  }
+}
+
+// The card that a fault's line names, counted from 0, or -1.
+function cardBlamed(line) {
+  return Number(/^l6: card (\d+): /.exec(line)?.[1] ?? 0) - 1;
+}

@@ -1,0 +1,47 @@
+// Plays a run: a step, a pause, a step, until it ends or the reader pauses it.
+
+import {byId} from "./dom.js";
+
+const QUICK = 300; // milliseconds from step to step, below which blocks do not glide
+
+export class Player {
+  // `step` goes on by a step and answers whether the run has ended; `begin` goes back to the start.
+  constructor({step, begin, atEnd, paused}) {
+    Object.assign(this, {step, begin, atEnd, paused});
+    this.timer = null;
+  }
+
+  get isPlaying() {
+    return this.timer !== null;
+  }
+
+  toggle() {
+    if (this.isPlaying) return this.pause();
+    const first = this.atEnd() ? this.begin : this.step;
+    this.timer = setTimeout(() => this.beat(first), 0);
+    return this.show();
+  }
+
+  async beat(go) {
+    await go();
+    if (!this.isPlaying) return;
+    if (this.atEnd()) return this.pause();
+    document.body.classList.toggle("quick", Number(byId("speed").value) < QUICK);
+    this.timer = setTimeout(() => this.beat(this.step), Number(byId("speed").value));
+  }
+
+  pause() {
+    if (!this.isPlaying) return;
+    clearTimeout(this.timer);
+    this.timer = null;
+    document.body.classList.remove("quick");
+    this.show();
+    this.paused();
+  }
+
+  show() {
+    const button = byId("play");
+    button.querySelector("use").setAttribute("href", this.isPlaying ? "#i-pause" : "#i-play");
+    button.querySelector("span").textContent = this.isPlaying ? "Pause" : "Play";
+  }
+}

@@ -1,0 +1,33 @@
+// The drawing in words, for those who do not see it.
+
+import {count, told} from "./word.js";
+
+const MOST_LINKS = 60; // that the text of a drawing names
+
+// A block with the bugs that lead to it, and what its fields show.
+export function blockInWords(block, bugs) {
+  const names = bugs.map((it) => it.name).join(" and ");
+  const led = bugs.length ? `, ${names} ${bugs.length === 1 ? "leads" : "lead"} here` : "";
+  const cells = block.shape.isBox ? [] : block.shape.rows.flatMap((row) => row.cells).filter((it) => it.name);
+  const shown =
+    cells.map((it) => (it.link ? `${it.name} leads to ${it.value}` : `${it.name} ${it.text || it.value}`));
+  const linked = block.shape.isBox ? block.links.map((it) => `${it.name} leads to ${it.target}`) : [];
+  const lost = block.isLost ? ", lost" : "";
+  return `Block ${block.place}, ${count(block.size, "word")}${lost}${led}. ${
+      [...shown, ...linked].join(", ")}`;
+}
+
+// The number of blocks, and where bugs and fields lead.
+export function drawingInWords({blocks, bugs}) {
+  if (!blocks.length) return "No blocks";
+  const reached = blocks.filter((it) => !it.isLost);
+  const lost = blocks.length - reached.length;
+  const links =
+    reached.flatMap((it) => it.links.map((link) => `${link.name} of ${it.place} to ${link.target}`));
+  const all = [
+    `${count(reached.length, "block")}${lost ? `, and ${told(lost)} lost` : ""}`,
+    ...bugs.map((it) => `${it.name} leads to ${it.place}`),
+    ...links.slice(0, MOST_LINKS),
+  ];
+  return all.join("; ");
+}

@@ -3,6 +3,7 @@
 
 use l6_asm::assemble;
 use l6_machine::{Halt, Machine, StepResult};
+use l6_prog::Program;
 use l6_steps::Limits;
 use l6_store::{Buddy, Places, ScanStore};
 use std::alloc::Global;
@@ -22,26 +23,31 @@ const X: usize = 23;
 
 #[test]
 fn a_machine_over_the_buddy_system_goes_its_own_way(rt: HostRuntime) -> Result<(), Fail> {
-    let store = Buddy::new(rt.alloc(), 1)?;
-    assert!(rt; goes_its_own_way(rt.alloc(), store)?);
+    let (program, store) = (program(rt.alloc())?, Buddy::new(rt.alloc(), 1)?);
+    let machine = Machine::with_program(rt.alloc(), program, &[], store, LIMITS)?;
+    assert!(rt; goes_its_own_way(rt.alloc(), machine)?);
     Ok(())
 }
 
 #[test]
 fn a_machine_over_the_plain_store_goes_its_own_way(rt: HostRuntime) -> Result<(), Fail> {
-    let store = ScanStore::new(rt.alloc(), 1)?;
-    assert!(rt; goes_its_own_way(rt.alloc(), store)?);
+    let (program, store) = (program(rt.alloc())?, ScanStore::new(rt.alloc(), 1)?);
+    let machine = Machine::with_program(rt.alloc(), program, &[], store, LIMITS)?;
+    assert!(rt; goes_its_own_way(rt.alloc(), machine)?);
     Ok(())
+}
+
+/// The program of the deck.
+fn program(alloc: Global) -> Result<Program, Fail> {
+    Ok(assemble(alloc, DECK)?.into_program())
 }
 
 /// Whether a machine that is copied after 3 steps comes to its end, its copy to the same end later, and
 /// once more the machine itself, after it is reset.
-fn goes_its_own_way<S: Places>(alloc: Global, store: S) -> Result<bool, Fail>
+fn goes_its_own_way<S: Places>(alloc: Global, mut machine: Machine<S>) -> Result<bool, Fail>
 where
     S: Drop,
 {
-    let program = assemble(alloc, DECK)?.into_program();
-    let mut machine = Machine::with_program(alloc, program, &[], store, LIMITS)?;
     let mut well = shows(&machine, 0, 0, b"", None) && has_blocks(&machine, 0);
     for _ in 0..3 {
         well &= machine.step() == StepResult::Went;

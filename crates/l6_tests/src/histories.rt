@@ -5,7 +5,7 @@ use l6_asm::assemble;
 use l6_debug::History;
 use l6_machine::Machine;
 use l6_steps::Limits;
-use l6_store::Buddy;
+use l6_store::{Buddy, Places, ScanStore};
 use std::alloc::Global;
 use std::test::Fail;
 
@@ -58,5 +58,32 @@ fn a_state_is_kept_once(rt: HostRuntime) -> Result<(), Fail> {
         assert_eq!(rt; history.number(), number);
     }
     assert_eq!(rt; history.kept(8_192), true);
+    Ok(())
+}
+
+/// Gets four blocks of a word, frees the first and the third, and gets one into E: the plain store
+/// has it at the first place that is free, so at 1024.
+const BLOCKS: &[u8] = b" (A,GT,1)(B,GT,1)(C,GT,1)(D,GT,1)(A,FR)(C,FR)(E,GT,1)\n";
+
+/// The place of E among the bugs.
+const E: usize = 4;
+
+#[test]
+fn a_history_over_the_plain_store_goes_back(rt: HostRuntime) -> Result<(), Fail> {
+    let program = assemble(rt.alloc(), BLOCKS)?.into_program();
+    let store = ScanStore::new(rt.alloc(), 1)?;
+    let machine = Machine::with_program(rt.alloc(), program, &[], store, LIMITS)?;
+    let mut history = History::new(rt.alloc(), machine);
+    for (number, bug, level) in [
+        (11, 1024, Some(0)),
+        (7, 0, None),
+        (5, 0, Some(0)),
+        (8, 1024, Some(0)),
+        (1, 0, None),
+    ] {
+        history.to(rt.alloc(), number);
+        assert_eq!(rt; history.machine().bugs()[E].get(), bug);
+        assert_eq!(rt; history.machine().store().live(1024_u32.into()), level);
+    }
     Ok(())
 }

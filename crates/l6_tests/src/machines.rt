@@ -1,5 +1,5 @@
-//! A machine, a copy that is made of it in the middle of its run, and the same machine once it is reset,
-//! step by step.
+//! Machines over both stores: where they differ, and step by step one, a copy that is made of it in the
+//! middle of its run, and the same machine after it is reset.
 
 use l6_asm::assemble;
 use l6_machine::{Halt, Machine, StepResult};
@@ -12,7 +12,10 @@ use std::test::Fail;
 /// Gets two blocks of 4 words: field N of each keeps what X held before.
 const DECK: &[u8] = b" (1,DN,18,35)(X,GT,3,XN)(X,GT,3,XN)(X,PD)(PL)(XN,PD)\n";
 
-/// Limits that its run does not reach.
+/// Gets four blocks of a word, frees the first and the third, and prints where one more begins.
+const BLOCKS: &[u8] = b" (A,GT,1)(B,GT,1)(C,GT,1)(D,GT,1)(A,FR)(C,FR)(E,GT,1)(E,PD)\n";
+
+/// Limits that their runs do not reach.
 const LIMITS: Limits = Limits {
     steps: 100,
     output: 100,
@@ -23,7 +26,7 @@ const X: usize = 23;
 
 #[test]
 fn a_machine_over_the_buddy_system_goes_its_own_way(rt: HostRuntime) -> Result<(), Fail> {
-    let (program, store) = (program(rt.alloc())?, Buddy::new(rt.alloc(), 1)?);
+    let (program, store) = (program_of(rt.alloc(), DECK)?, Buddy::new(rt.alloc(), 1)?);
     let machine = Machine::with_program(rt.alloc(), program, &[], store, LIMITS)?;
     assert!(rt; goes_its_own_way(rt.alloc(), machine)?);
     Ok(())
@@ -31,15 +34,46 @@ fn a_machine_over_the_buddy_system_goes_its_own_way(rt: HostRuntime) -> Result<(
 
 #[test]
 fn a_machine_over_the_plain_store_goes_its_own_way(rt: HostRuntime) -> Result<(), Fail> {
-    let (program, store) = (program(rt.alloc())?, ScanStore::new(rt.alloc(), 1)?);
+    let (program, store) = (
+        program_of(rt.alloc(), DECK)?,
+        ScanStore::new(rt.alloc(), 1)?,
+    );
     let machine = Machine::with_program(rt.alloc(), program, &[], store, LIMITS)?;
     assert!(rt; goes_its_own_way(rt.alloc(), machine)?);
     Ok(())
 }
 
-/// The program of the deck.
-fn program(alloc: Global) -> Result<Program, Fail> {
-    Ok(assemble(alloc, DECK)?.into_program())
+#[test]
+fn the_buddy_system_gives_what_was_freed_last(rt: HostRuntime) -> Result<(), Fail> {
+    let (program, store) = (program_of(rt.alloc(), BLOCKS)?, Buddy::new(rt.alloc(), 1)?);
+    let machine = Machine::with_program(rt.alloc(), program, &[], store, LIMITS)?;
+    assert!(rt; prints(machine, b"1026"));
+    Ok(())
+}
+
+#[test]
+fn the_plain_store_gives_the_first_free_place(rt: HostRuntime) -> Result<(), Fail> {
+    let (program, store) = (
+        program_of(rt.alloc(), BLOCKS)?,
+        ScanStore::new(rt.alloc(), 1)?,
+    );
+    let machine = Machine::with_program(rt.alloc(), program, &[], store, LIMITS)?;
+    assert!(rt; prints(machine, b"1024"));
+    Ok(())
+}
+
+/// The program of a deck.
+fn program_of(alloc: Global, deck: &[u8]) -> Result<Program, Fail> {
+    Ok(assemble(alloc, deck)?.into_program())
+}
+
+/// Whether a machine runs to the end and has printed this.
+fn prints<S: Places>(mut machine: Machine<S>, output: &[u8]) -> bool
+where
+    S: Drop,
+{
+    machine.run();
+    machine.output() == output && machine.ending() == Some(Halt::Done)
 }
 
 /// Whether a machine that is copied after 3 steps comes to its end, its copy to the same end later, and

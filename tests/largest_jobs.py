@@ -1,7 +1,8 @@
-"""The largest job of all: each of its parts is as large as possible, and so is all that it makes.
+"""The largest job of all, a full store, and the longest image.
 
-Its deck has 1 MiB and 65,534 statements. It saves 1,024 contents and as many definitions, and makes
-1,024 calls that do not return. Then it takes characters from an input of 1 MiB, and prints 16 MiB.
+Each part of the largest job is as large as possible, and so is all that it makes. Its deck has 1 MiB and
+65,534 statements. It saves 1,024 contents and as many definitions, and makes 1,024 calls that do not return.
+Then it takes characters from an input of 1 MiB, and prints 16 MiB.
 """
 from __future__ import annotations
 
@@ -75,3 +76,20 @@ def full_store(units: int) -> tuple[bytes, bytes]:
         lines += [f"BLOCK {place} SIZE 1", f"  N -> {place - 1}"]
     lines += [f"{blocks} BLOCKS", *(f"{place} BLOCK 1" for place in range(first, end))]
     return job, "\n".join([*lines, f"{blocks} WORDS USED 0 FREE\n"]).encode("ascii")
+
+
+def longest_image() -> tuple[bytes, bytes, bytes]:
+    """A deck of 1 MiB, its image, which is as long as that of any deck, and what both print.
+
+    No group has more words for its bytes than a print of one character, which has three for six bytes, and a
+    statement has a first word for column 1 and the line feed of its card: a word for two bytes, or 524,288.
+    With three words at the front and that of the added DONE there are 524,292, each of them a line of 13
+    bytes, and so 6,815,796 bytes. A card has room for eleven such groups, and two cards of one fill the deck.
+    """
+    group, words = b"(A,PH)", [0o336077000000, 1, 0o410000000000]
+    counts = [11] * 15_420 + [1] * 2  # of groups on each card
+    deck = b"".join(b" %b\n" % (group * count) for count in counts)
+    body = [word for count in counts for word in [count << 21, *words * count]] + [0o000002000000]
+    image = b"".join(b"%012o\n" % word for word in [0o542651554722, len(counts) + 1, len(body), *body])
+    steps = sum(count + 2 for count in counts) + 2
+    return deck, image, b"%b\n== DONE AFTER %d STEPS\n" % (b"A" * sum(counts), steps)

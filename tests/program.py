@@ -19,7 +19,7 @@ from pathlib import Path
 
 from answers import Answer, answer, answer_of, leave_little_room
 from cases import read_cases
-from largest_jobs import debug_job, full_store, run_job
+from largest_jobs import debug_job, full_store, longest_image, run_job
 from memory import library_of, memory_trials
 from trials import Trial, report
 
@@ -156,6 +156,16 @@ def largest(program: str) -> Iterator[Trial]:
         yield f"the largest job: {words[0]}", answer(stdout, status=status), actual
 
 
+def longest(program: str) -> Iterator[Trial]:
+    """The trials on the longest image that a deck has, which have as much room as there is."""
+    deck, image, printout = longest_image()
+    for verb, job, stdout in (
+        ("asm", deck, image), ("renew", image, image), ("load", image, printout), ("run", deck, printout)
+    ):
+        actual = answer_of([program, verb], input=job, preexec_fn=None)
+        yield f"the longest image: {verb}", answer(stdout), actual
+
+
 def failing_devices(program: str) -> Iterator[Trial]:
     """The trials on a full device, a folder and a closed pipe, and without standard error."""
     with open(os.devnull, "rb") as nothing, open("/dev/full", "wb") as full:
@@ -258,6 +268,7 @@ def trials(program: str) -> Iterator[Trial]:
     yield from large_stores(program)
     yield from cut_images(program)
     yield from largest(program)
+    yield from longest(program)
     yield from failing_devices(program)
     with tempfile.TemporaryDirectory() as folder:
         yield from helps(program, folder)

@@ -7,3 +7,8 @@ pub mod Blanks
 pub mod Columns
 pub mod StatementLines
 pub mod Listed
+pub mod ElementLengths
+pub mod RowLengths
+pub mod GroupLengths
+pub mod StatementLengths
+pub mod ImageLengths

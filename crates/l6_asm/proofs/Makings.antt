@@ -16,15 +16,15 @@ taken_front s [] t y = ap into_iter_items y
 taken_front s (x ∷ xs) t y = y.1.0 ∙ ap (λ ys. x ∷ ys) (taken_front y.0 xs t y.2)
 
 -- one and others that were made
-record BothMade {B : Type 0} (one : Result B AssemblyFault) (others : Result (List B) AssemblyFault)
-    (done : List B) : Type 0 where
-  first : B
-  rest : List B
-  first_is : one ≡ Ok first
-  rest_is : others ≡ Ok rest
-  whole : first ∷ rest ≡ done
+pub record BothMade {B : Type 0} (one : Result B AssemblyFault)
+    (others : Result (List B) AssemblyFault) (done : List B) : Type 0 where
+  pub first : B
+  pub rest : List B
+  pub first_is : one ≡ Ok first
+  pub rest_is : others ≡ Ok rest
+  pub whole : first ∷ rest ≡ done
 
-both_made : {B : Type 0} (one : Result B AssemblyFault) (others : Result (List B) AssemblyFault)
+pub both_made : {B : Type 0} (one : Result B AssemblyFault) (others : Result (List B) AssemblyFault)
     (done : List B) →
     onto_made one others ≡ Ok done → BothMade one others done
 both_made (Err fault) others done made = absurd (cc)

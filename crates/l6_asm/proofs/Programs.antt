@@ -44,6 +44,12 @@ mapped : {A B : Type 0} (f : A → B) (found : Option A) (made : B) →
 mapped f None made so = absurd (cc)
 mapped f (Some x) made so = (x, refl, cc)
 
+-- what was there where a fault would else be
+pub found_operation : (card : ℕ) (found : Option (Op ℕ)) (made : Op ℕ) →
+    found_on card found ≡ Ok made → found ≡ Some made
+found_operation card None made so = absurd (cc)
+found_operation card (Some one) made so = cc
+
 module _ (end : ℕ) (labels : List (Label × ℕ)) (all : list_all (is_entry_below end) labels ≡ true)
   where
     given_below : (label : Option Label) (number : Option ℕ) →
@@ -101,11 +107,6 @@ module _ (end : ℕ) (labels : List (Label × ℕ)) (all : list_all (is_entry_be
         ∙ given_below label one.0 one.1
     resolved_below _ made so = no_target _ made refl so
 
-    found_operation : (card : ℕ) (found : Option (Op ℕ)) (made : Op ℕ) →
-        found_on card found ≡ Ok made → found ≡ Some made
-    found_operation card None made so = absurd (cc)
-    found_operation card (Some one) made so = cc
-
     operation_below : (group : Placed (Op Label)) (made : Op ℕ) → true ≡ true →
         operation_of labels group ≡ Ok made →
         list_all (is_below end) (targets_of_operation made) ≡ true
@@ -140,19 +141,20 @@ all_true [] = refl
 all_true (x ∷ xs) = all_true xs
 
 -- a statement that was made, and what it was made of
-record Made (labels : List (Label × ℕ)) (written : DeckStatementParts) (made : Parts) : Type 0 where
-  operations : List (Op ℕ)
-  leaving : Exit ℕ
-  operations_are : each_made (operation_of labels) written.operations ≡ Ok operations
-  exit_is : exit_of labels written.exit ≡ Ok leaving
-  whole : record {
+pub record Made (labels : List (Label × ℕ)) (written : DeckStatementParts)
+    (made : Parts) : Type 0 where
+  pub operations : List (Op ℕ)
+  pub leaving : Exit ℕ
+  pub operations_are : each_made (operation_of labels) written.operations ≡ Ok operations
+  pub exit_is : exit_of labels written.exit ≡ Ok leaving
+  pub whole : record {
     condition = written.condition;
     tests = map (λ (group : Placed Test). group.reading) written.tests;
     operations = operations;
     exit = leaving;
   } ≡ made
 
-statement_made : (labels : List (Label × ℕ)) (written : DeckStatementParts) (made : Parts) →
+pub statement_made : (labels : List (Label × ℕ)) (written : DeckStatementParts) (made : Parts) →
     statement_of labels written ≡ Ok made → Made labels written made
 statement_made labels written made so =
     let first = went_on (each_made (operation_of labels) written.operations) _ made so in

@@ -5,5 +5,6 @@ pub mod Labels
 pub mod Resolution
 pub mod Spells
 pub mod Listing
+pub mod Laws
 pub mod Worked
 pub mod inner

@@ -1,5 +1,6 @@
-//! The laws of spelling and of listings.
+//! The laws of spelling, of images and of listings.
 
+ghost use Rattle.l6_asm.specs.Laws.{ImagesOfDecksFit};
 ghost use Rattle.l6_asm.specs.Listing.{EachIsListed};
 ghost use Rattle.l6_asm.specs.Spells.{SpellsOrFails, NeverBoth, SpellsInOneWay};
 
@@ -8,6 +9,12 @@ pub fn spelling_is_settled()
     ensures either { SpellsOrFails }
     ensures never_both { NeverBoth }
     ensures one_way { SpellsInOneWay }
+{}
+
+/// The image of the program that a deck spells, of either version, is no longer than an image may be,
+/// if the deck is no longer than a deck may be. So it can be loaded.
+pub fn images_of_decks_fit()
+    ensures { ImagesOfDecksFit }
 {}
 
 /// The listing of a deck has the words of each statement of the program that the deck spells, after

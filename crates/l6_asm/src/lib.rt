@@ -14,6 +14,6 @@ mod worked;
 pub use assembler::assemble;
 pub use assembly::{Assembly, Labels};
 pub use fault::AsmFault;
-pub use laws::{each_statement_is_listed, spelling_is_settled};
+pub use laws::{each_statement_is_listed, images_of_decks_fit, spelling_is_settled};
 pub use listings::listing;
 pub use worked::{missing_is_refused, twice_is_refused};

@@ -4,6 +4,7 @@ use Rattle.l6_prog.specs.Statement.{Parts}
 use Rattle.l6_image.specs.Load.{TextsTellPrograms}
 use Rattle.l6_image.specs.declared.version.Version.TheVariants.{Two}
 use Rattle.l6_asm.specs.Assembled.{Assembled}
+use Rattle.l6_asm.specs.Laws.{ImagesOfDecksFit}
 use Rattle.l6_asm.specs.Spells.{SpellsInOneWay}
 use Rattle.l6_steps.specs.Laws.{EndsInOneState}
 use Rattle.l6_steps.specs.Configuration.{EndsBy}
@@ -50,11 +51,11 @@ prints-loaded_one one_program one_end options image input ending ending' text te
       prints.run.printed ∙ ap printout finals ∙ sym run.printed,
     )
 
-pub prints-as_deck : SpellsInOneWay → TextsTellPrograms → ImagesPrintAsDecks
-prints-as_deck one_way one_program options deck image input assembly ending text fits small
+pub prints-as_deck : SpellsInOneWay → TextsTellPrograms → ImagesOfDecksFit → ImagesPrintAsDecks
+prints-as_deck one_way one_program images_fit options deck image input assembly ending text fits
     spelled is_image = (
       λ (prints : Prints options deck input ending text). record {
-        fits = small;
+        fits = images_fit deck image assembly fits spelled is_image;
         input_fits = prints.input_fits;
         program = assembly.program;
         loaded = is_image;
@@ -72,7 +73,8 @@ prints-as_deck one_way one_program options deck image input assembly ending text
       },
     )
 
-pub written-prints_as_deck : SpellsInOneWay → TextsTellPrograms → WrittenImagesPrintAsDecks
-written-prints_as_deck one_way one_program options deck image input ending text written small =
-    prints-as_deck one_way one_program options deck image input written.assembly ending text
-    written.fits small written.spelled (Two, written.known, written.written)
+pub written-prints_as_deck : SpellsInOneWay → TextsTellPrograms → ImagesOfDecksFit →
+    WrittenImagesPrintAsDecks
+written-prints_as_deck one_way one_program images_fit options deck image input ending text written =
+    prints-as_deck one_way one_program images_fit options deck image input written.assembly ending text
+    written.fits written.spelled (Two, written.known, written.written)

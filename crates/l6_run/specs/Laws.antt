@@ -3,7 +3,6 @@ use Rattle.std.specs.Prelude.{◌≡◌, ◌≤◌, ℕ, List, length}
 use Rattle.l6_card.specs.Numerals.{most_deck_bytes}
 use Rattle.l6_asm.specs.Assembled.{Assembled}
 use Rattle.l6_asm.specs.Spells.{Spells}
-use Rattle.l6_image.specs.Numerals.{most_bytes}
 use Rattle.l6_image.specs.Text.{IsImageOf}
 use Rattle.l6_run.specs.declared.ending.Ending.{Ending}
 use Rattle.l6_run.specs.Options.{OptionValues}
@@ -26,14 +25,13 @@ PrintsLoadedInOneWay =
     PrintsLoaded options image input ending text →
     PrintsLoaded options image input ending' text' → (ending ≡ ending') × (text ≡ text')
 
--- a deck and an image of the program that it spells, of either version, print the same, if neither is
--- longer than it may be
+-- a deck and an image of the program that it spells, of either version, print the same, if the deck is
+-- no longer than it may be
 abbrev pub ImagesPrintAsDecks : Type 0
 ImagesPrintAsDecks =
     (options : OptionValues) (deck image input : List ℕ) (assembly : Assembled) (ending : Ending)
     (text : List ℕ) →
-    length deck ≤ most_deck_bytes → length image ≤ most_bytes →
-    Spells deck assembly → IsImageOf image assembly.program →
+    length deck ≤ most_deck_bytes → Spells deck assembly → IsImageOf image assembly.program →
     (Prints options deck input ending text → PrintsLoaded options image input ending text)
     × (PrintsLoaded options image input ending text → Prints options deck input ending text)
 
@@ -41,6 +39,6 @@ ImagesPrintAsDecks =
 abbrev pub WrittenImagesPrintAsDecks : Type 0
 WrittenImagesPrintAsDecks =
     (options : OptionValues) (deck image input : List ℕ) (ending : Ending) (text : List ℕ) →
-    WritesImage deck image → length image ≤ most_bytes →
+    WritesImage deck image →
     (Prints options deck input ending text → PrintsLoaded options image input ending text)
     × (PrintsLoaded options image input ending text → Prints options deck input ending text)

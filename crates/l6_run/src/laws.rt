@@ -19,13 +19,14 @@ pub fn printouts_are_determined()
 }
 
 /// A deck and an image of its program, of either version, print the same: whatever the options and
-/// the input, the run of one has the ending and the printout of the other's, if neither text is
-/// longer than it may be. So do a deck and the image that is written of it.
+/// the input, the run of one has the ending and the printout of the other's, if the deck is no longer
+/// than it may be. So do a deck and the image that is written of it.
 pub fn images_print_as_decks()
     ensures each { ImagesPrintAsDecks }
     ensures written { WrittenImagesPrintAsDecks }
 {
     l6_asm::spelling_is_settled();
+    l6_asm::images_of_decks_fit();
     l6_image::texts_tell_programs();
 }
 

@@ -5,7 +5,8 @@ pub returns : goal.returns
 returns c =
     let one_way = c.spelling_is_settled.ensures.one_way in
     let one_program = c.texts_tell_programs.ensures in
+    let images_fit = c.images_of_decks_fit.ensures in
     record {
-      each = prints-as_deck one_way one_program;
-      written = written-prints_as_deck one_way one_program;
+      each = prints-as_deck one_way one_program images_fit;
+      written = written-prints_as_deck one_way one_program images_fit;
     }

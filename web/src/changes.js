@@ -2,7 +2,7 @@
 
 import {findPiece, freePieceWith} from "./pieces.js";
 import {windowsOf} from "./shape.js";
-import {count, seenThrough, told, UNIT} from "./word.js";
+import {count, seenThrough, withCommas, UNIT} from "./word.js";
 
 const MOST_TOLD = 7;
 
@@ -77,7 +77,7 @@ function halved(before, block) {
   const size = freePieceWith(before.store, block.place);
   if (!size) return "";
   const times = Math.log2(size / block.size);
-  return times > 0 ? ` (a free piece of ${told(size)} was halved ${count(times, "time")})` :
+  return times > 0 ? ` (a free piece of ${withCommas(size)} was halved ${count(times, "time")})` :
                      " (a free piece of this size was there: none was halved)";
 }
 
@@ -86,7 +86,9 @@ function joined(view, block) {
   const size = freePieceWith(view.store, block.place);
   if (!size) return "";
   const times = Math.log2(size / block.size);
-  const much = times > 0 ? `joined ${count(times, "time")}, to a free piece of ${told(size)}` : "not joined";
+  const much = times > 0
+    ? `joined ${count(times, "time")}, to a free piece of ${withCommas(size)}`
+    : "not joined";
   return ` (${much}${whyNoMore(view.store, block.place - (block.place % size), size)})`;
 }
 

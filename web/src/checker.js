@@ -1,5 +1,5 @@
 // Has the program assemble the deck while it is typed, and shows its fault: the program's own line, and
-// beside it what is most likely meant. Where there is none, a card that is too long is told.
+// beside it what is most likely meant. Where there is none, the page says that a card is too long.
 
 import {firstLongCard} from "./deck.js";
 import {byId, make} from "./dom.js";

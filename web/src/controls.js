@@ -2,7 +2,7 @@
 // pressed.
 
 import {byId} from "./dom.js";
-import {told} from "./word.js";
+import {withCommas} from "./word.js";
 
 const SHORT = 1000; // states on the slider where it is not known how many there are
 
@@ -11,9 +11,10 @@ export function showNumber(number, last) {
   const slider = byId("slider");
   slider.max = last ?? Math.max(SHORT, 2 * number);
   slider.value = number;
-  slider.setAttribute("aria-valuetext", `state ${told(number)}${last === null ? "" : ` of ${told(last)}`}`);
+  const end = last === null ? "" : ` of ${withCommas(last)}`;
+  slider.setAttribute("aria-valuetext", `state ${withCommas(number)}${end}`);
   byId("number").value = number;
-  byId("of").textContent = last === null ? "of ?" : `of ${told(last)}`;
+  byId("of").textContent = last === null ? "of ?" : `of ${withCommas(last)}`;
   byId("step").disabled = byId("end").disabled = last !== null && number >= last;
   byId("back").disabled = byId("start").disabled = number === 0;
 }

@@ -7,7 +7,7 @@ import {graphOf} from "./graph.js";
 import {arrange} from "./layout.js";
 import {GRID} from "./shape.js";
 import {blockInWords, drawingInWords} from "./spoken.js";
-import {count, told} from "./word.js";
+import {count, withCommas} from "./word.js";
 
 const SCALES =
   [1.25, 1, 0.86, 0.74, 0.64]; // how large a drawing is, and how small it may get to be seen whole
@@ -156,7 +156,7 @@ export class Drawing {
     const {hidden, hiddenLost} = this.view.shown;
     const more = [
       hidden ? `${count(hidden, "block")} further from the bugs` : "",
-      hiddenLost ? `${told(hiddenLost)} lost` : ""
+      hiddenLost ? `${withCommas(hiddenLost)} lost` : ""
     ].filter((it) => it);
     if (!more.length) return;
     this.notes.push({

@@ -29,7 +29,7 @@ export function graphOf(view, before, directions, detail) {
   return {windows, blocks, ways, isBox, bugs: bugsLeading(view, before)};
 }
 
-// Where the windows of a block lead. The debugger tells it of blocks that are reached; lost ones are read
+// Where the windows of a block lead. The debugger gives it for blocks that are reached; lost ones are read
 // here.
 function linksOf(view, place, windows, pieces) {
   const words = view.words.get(place);

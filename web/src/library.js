@@ -5,7 +5,7 @@ import {linkOf, readLink} from "./links.js";
 import {DEFAULTS} from "./options.js";
 import {save} from "./papers.js";
 import {job, partsOf} from "./session.js";
-import {told} from "./word.js";
+import {withCommas} from "./word.js";
 
 const MOST_BYTES = 16_777_216; // of a job
 
@@ -169,7 +169,7 @@ export class Library {
     if (link.number !== null) {
       const go = make(
         "button", {type: "button", class: "main", onclick: () => this.page.state(link.number)},
-        `Go to state ${told(link.number)}`
+        `Go to state ${withCommas(link.number)}`
       );
       byId("empty").replaceChildren(
         make("div", {}, make("b", {}, "This deck came with the link, and was not run."), make("br"), go)

@@ -13,6 +13,6 @@ async function load() {
 }
 
 load().catch((error) => {
-  document.getElementById("told").textContent =
+  document.getElementById("run-note").textContent =
     `The page can't begin: ${error.message}. It needs a browser of 2023 or later.`;
 });

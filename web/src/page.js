@@ -16,7 +16,7 @@ import {referenceOf} from "./reference.js";
 import {partsOf, Refused, Session} from "./session.js";
 import {unpacked} from "./unpack.js";
 import {Viewer} from "./viewer.js";
-import {count, told} from "./word.js";
+import {count, withCommas} from "./word.js";
 
 const SHORT_RUN = 2_000_000; // steps of a run that is made ahead, to know how many states there are
 const LAST_STATE = 1_000_000_001;
@@ -100,14 +100,14 @@ class Page {
     else {
       byId("stop").disabled = !this.player.isPlaying;
       document.body.classList.remove("busy");
-      if (byId("told").textContent === "running ..") byId("told").textContent = "";
+      if (byId("run-note").textContent === "running ..") byId("run-note").textContent = "";
     }
   }
 
   tellBusy() {
     byId("stop").disabled = false;
     document.body.classList.add("busy");
-    byId("told").textContent = "running ..";
+    byId("run-note").textContent = "running ..";
   }
 
   trouble(error) {
@@ -131,7 +131,7 @@ class Page {
       if (session !== this.session) return; // (the deck was changed meanwhile)
       this.show(view, null);
       this.tell(`${count(ending.steps, "step")} in ${
-        milliseconds < 10 ? milliseconds.toFixed(1) : told(Math.round(milliseconds))} ms`);
+        milliseconds < 10 ? milliseconds.toFixed(1) : withCommas(Math.round(milliseconds))} ms`);
     });
   }
 
@@ -246,7 +246,7 @@ class Page {
   }
 
   tell(text) {
-    byId("told").textContent = text;
+    byId("run-note").textContent = text;
     byId("spoken").textContent = text;
   }
 
@@ -398,5 +398,6 @@ async function begin() {
 }
 
 begin().catch((error) => {
-  byId("told").textContent = `The page can't begin: ${error.message}. It needs a browser of 2023 or later.`;
+  byId("run-note").textContent =
+    `The page can't begin: ${error.message}. It needs a browser of 2023 or later.`;
 });

@@ -1,4 +1,4 @@
-// The store's pieces. The debugger tells blocks and runs of free words. The free pieces of the buddy system
+// The store's pieces. The debugger lists blocks and runs of free words. The free pieces of the buddy system
 // are determined by these: they are aligned, have sizes that are powers of two, and no two buddies are both
 // free (which is proved of the store), so they are the largest aligned pieces that fit into the runs.
 

@@ -1,6 +1,6 @@
 // A session: the states of one run, asked of the debugger as they are needed, and kept.
 //
-// A question is a whole job that begins at state 0. To come to state 100,000,000 takes a second or two, and
+// A question is a whole job that begins at state 0. To reach state 100,000,000 takes a second or two, and
 // each state there is cheap: so the states around the one that is wanted are asked for at the same time.
 
 import {choose} from "./choice.js";
@@ -40,7 +40,7 @@ export class Session {
     return [verb, "--store", String(store), "--steps", String(steps), "--output", String(output)];
   }
 
-  // What `run` answers. It tells how many states there are, and all of the output.
+  // What `run` answers. It gives how many states there are, and all of the output.
   async run() {
     if (!this.printout) {
       const answer = await this.ask(this.words("run"), bytesOf(job(this.deck, null, this.input)));

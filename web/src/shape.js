@@ -154,7 +154,7 @@ function shortOf(values, text) {
   return only.split(" ").at(-1).slice(0, 6);
 }
 
-// Whether other fields show all bits of a window, so that it tells nothing more.
+// Whether other fields show all bits of a window, so that it adds nothing.
 function isCovered(window, windows) {
   return windows.some(
     (it) => it !== window && it.word === window.word && it.first >= window.first && it.last <= window.last

@@ -1,6 +1,6 @@
 // The drawing in words, for those who do not see it.
 
-import {count, told} from "./word.js";
+import {count, withCommas} from "./word.js";
 
 const MOST_LINKS = 60; // that the text of a drawing names
 
@@ -25,7 +25,7 @@ export function drawingInWords({blocks, bugs}) {
   const links =
     reached.flatMap((it) => it.links.map((link) => `${link.name} of ${it.place} to ${link.target}`));
   const all = [
-    `${count(reached.length, "block")}${lost ? `, and ${told(lost)} lost` : ""}`,
+    `${count(reached.length, "block")}${lost ? `, and ${withCommas(lost)} lost` : ""}`,
     ...bugs.map((it) => `${it.name} leads to ${it.place}`),
     ...links.slice(0, MOST_LINKS),
   ];

@@ -2,7 +2,7 @@
 
 import {Pen} from "./pen.js";
 import {findPiece, freePieceWith, piecesBetween} from "./pieces.js";
-import {count, told, UNIT} from "./word.js";
+import {count, withCommas, UNIT} from "./word.js";
 
 const LEAST_PART = 32; // words
 const LEVELS = 11;
@@ -32,9 +32,9 @@ export class Strip {
     const {store} = view;
     const blocks = store.pieces.filter((it) => !it.isFree);
     const lost = blocks.filter((it) => it.isLost).length;
-    const lostText = lost ? `, ${told(lost)} lost` : "";
+    const lostText = lost ? `, ${withCommas(lost)} lost` : "";
     this.amounts = `${count(blocks.length, "block")}${lostText}; ${count(store.used, "word")} used, ${
-      told(store.free)} free`;
+      withCommas(store.free)} free`;
     this.draw();
   }
 
@@ -124,7 +124,7 @@ export class Strip {
     for (const piece of this.pieces) {
       const box = this.boxOf(piece, 1, 35);
       this.drawPiece(pen, piece, box);
-      const [ink, size] = [piece.isFree ? "--soft" : "--block-ink", told(piece.size)];
+      const [ink, size] = [piece.isFree ? "--soft" : "--block-ink", withCommas(piece.size)];
       if (box.width > size.length * 7 + 4) pen.text(ink, size, box.x + box.width / 2, 29, 12.5);
       if (box.width > 34) pen.text(ink, String(piece.place), box.x + 4, 12, 10, "left");
     }
@@ -163,7 +163,7 @@ export class Strip {
     this.widths = widthsOf(this.pieces, pen.width - LEVELS_LEFT);
     const line = (size) => (LEVELS - 1 - Math.log2(size)) * height + 1;
     for (let size = 1; size <= UNIT; size *= 2)
-      pen.text("--soft", told(size), LEVELS_LEFT - 6, line(size) + height - 4.5, 10.5, "right");
+      pen.text("--soft", withCommas(size), LEVELS_LEFT - 6, line(size) + height - 4.5, 10.5, "right");
     for (const [key, {from, to}] of halvedOf(this.pieces, this.widths)) {
       const size = Number(key.split(" ")[1]);
       pen.frame(
@@ -210,7 +210,7 @@ export class Strip {
     const piece = findPiece(this.view.store, place);
     if (!piece) return;
     const free =
-      piece.isFree ? `${place}: in a free piece of ${told(freePieceWith(this.view.store, place))}` : "";
+      piece.isFree ? `${place}: in a free piece of ${withCommas(freePieceWith(this.view.store, place))}` : "";
     event.currentTarget.title =
       free || `block ${piece.place}, ${count(piece.size, "word")}${piece.isLost ? ", lost" : ""}`;
   }

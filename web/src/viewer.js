@@ -6,7 +6,7 @@ import {Drawing} from "./drawing.js";
 import {actionAt, meaningOf} from "./meaning.js";
 import {showBugs, showChain, showFields, showWords} from "./panels.js";
 import {Strip} from "./strip.js";
-import {count, told} from "./word.js";
+import {count, withCommas} from "./word.js";
 
 export class Viewer {
   // The editor has the deck; `trouble` is called where a question to the debugger fails.
@@ -108,7 +108,7 @@ export class Viewer {
     const {before, view} = this;
     const parts = shortened(changes).flatMap((it, index) => [index ? " · " : "", it]);
     const isFar = before && Math.abs(before.state.number - view.state.number) > 1;
-    const since = isFar ? `since state ${told(before.state.number)}: ` : "";
+    const since = isFar ? `since state ${withCommas(before.state.number)}: ` : "";
     const ending = endingOf(view);
     byId("changes").replaceChildren(
       ...(ending ? [make("b", {class: "ending"}, ending), parts.length ? " " : ""] : []),

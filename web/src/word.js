@@ -49,12 +49,12 @@ export function likelyText(number) {
   return /^[A-Z][A-Z .'-]*[A-Z.]$/.test(text) ? text : "";
 }
 
-// A number with its thousands parted.
-export function told(number) {
+// A number with a comma before each three digits.
+export function withCommas(number) {
   return String(number).replace(/\B(?=(\d{3})+$)/g, ",");
 }
 
 // A count with its noun.
 export function count(number, one, many = `${one}s`) {
-  return `${told(number)} ${number === 1 ? one : many}`;
+  return `${withCommas(number)} ${number === 1 ? one : many}`;
 }

@@ -72,7 +72,7 @@ class Firefox:
         end = time.monotonic() + SECONDS
         while self.value("document.body.dataset.ready") != "yes":
             if time.monotonic() > end:
-                raise AssertionError(f"the page is not ready: {self.value(text('told'))}")
+                raise AssertionError(f"the page is not ready: {self.value(text('run-note'))}")
             time.sleep(0.05)
 
     def value(self, script: str):
@@ -150,7 +150,7 @@ STOPPED = f"""(async () => {{
     await until(() => !document.getElementById('stop').disabled);
     l6.stop();
     await until(() => !l6.isBusy);
-    return {text('told')};
+    return {text('run-note')};
 }})()"""
 TRIALS = [  # what is tried, the link, a script, and its answer
     ("the first deck", "", f"l6.run().then(() => {text('printed')})", "5\n== DONE AFTER 6 STEPS"),

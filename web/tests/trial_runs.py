@@ -33,7 +33,7 @@ def an_endless_deck(page: Page) -> None:
     page.browser.wait("!document.getElementById('stop').disabled")
     page.same("the page answers while it runs", page.value("1 + 1"), 2)
     page.click("stop")
-    page.same("it is stopped", page.text("told"), "stopped")
+    page.same("it is stopped", page.text("run-note"), "stopped")
     page.do("l6.state(1000)")
     page.same("and goes on", page.text("where"), "AT 0.1 AFTER 1000 STEPS")
     page.do("l6.state(100000000)")
@@ -114,11 +114,11 @@ def blocks_and_chains(page: Page) -> None:
     page.has("halvings", page.text("changes"), "a free piece of 1,024 was halved 10 times")
     page.has("the picture has a text", page.label("levels"), "1536 free of 512")
     page.open("#join@0")
-    told = []
+    freed = []
     for _ in range(11):
         page.do("l6.step()")
-        told.append(page.text("changes").removeprefix("Changed ").partition(" · ")[0])
-    page.same("joinings", [it for it in told if it.startswith("freed")], JOININGS)
+        freed.append(page.text("changes").removeprefix("Changed ").partition(" · ")[0])
+    page.same("joinings", [it for it in freed if it.startswith("freed")], JOININGS)
     page.open("#tree@137")
     before = page.value("l6.viewer.drawing.size.width")
     page.value("document.querySelectorAll('.legend button')[0].click()")

@@ -3,7 +3,6 @@
 
 use l6_asm::assemble;
 use l6_machine::{Halt, Machine, StepResult};
-use l6_prog::Program;
 use l6_steps::Limits;
 use l6_store::{Buddy, Places, ScanStore};
 use std::alloc::Global;
@@ -26,7 +25,8 @@ const X: usize = 23;
 
 #[test]
 fn a_machine_over_the_buddy_system_goes_its_own_way(rt: HostRuntime) -> Result<(), Fail> {
-    let (program, store) = (program_of(rt.alloc(), DECK)?, Buddy::new(rt.alloc(), 1)?);
+    let program = assemble(rt.alloc(), DECK)?.into_program();
+    let store = Buddy::new(rt.alloc(), 1)?;
     let machine = Machine::with_program(rt.alloc(), program, &[], store, LIMITS)?;
     assert!(rt; goes_its_own_way(rt.alloc(), machine)?);
     Ok(())
@@ -34,10 +34,8 @@ fn a_machine_over_the_buddy_system_goes_its_own_way(rt: HostRuntime) -> Result<(
 
 #[test]
 fn a_machine_over_the_plain_store_goes_its_own_way(rt: HostRuntime) -> Result<(), Fail> {
-    let (program, store) = (
-        program_of(rt.alloc(), DECK)?,
-        ScanStore::new(rt.alloc(), 1)?,
-    );
+    let program = assemble(rt.alloc(), DECK)?.into_program();
+    let store = ScanStore::new(rt.alloc(), 1)?;
     let machine = Machine::with_program(rt.alloc(), program, &[], store, LIMITS)?;
     assert!(rt; goes_its_own_way(rt.alloc(), machine)?);
     Ok(())
@@ -45,7 +43,8 @@ fn a_machine_over_the_plain_store_goes_its_own_way(rt: HostRuntime) -> Result<()
 
 #[test]
 fn the_buddy_system_gives_what_was_freed_last(rt: HostRuntime) -> Result<(), Fail> {
-    let (program, store) = (program_of(rt.alloc(), BLOCKS)?, Buddy::new(rt.alloc(), 1)?);
+    let program = assemble(rt.alloc(), BLOCKS)?.into_program();
+    let store = Buddy::new(rt.alloc(), 1)?;
     let machine = Machine::with_program(rt.alloc(), program, &[], store, LIMITS)?;
     assert!(rt; prints(machine, b"1026"));
     Ok(())
@@ -53,18 +52,11 @@ fn the_buddy_system_gives_what_was_freed_last(rt: HostRuntime) -> Result<(), Fai
 
 #[test]
 fn the_plain_store_gives_the_first_free_place(rt: HostRuntime) -> Result<(), Fail> {
-    let (program, store) = (
-        program_of(rt.alloc(), BLOCKS)?,
-        ScanStore::new(rt.alloc(), 1)?,
-    );
+    let program = assemble(rt.alloc(), BLOCKS)?.into_program();
+    let store = ScanStore::new(rt.alloc(), 1)?;
     let machine = Machine::with_program(rt.alloc(), program, &[], store, LIMITS)?;
     assert!(rt; prints(machine, b"1024"));
     Ok(())
-}
-
-/// The program of a deck.
-fn program_of(alloc: Global, deck: &[u8]) -> Result<Program, Fail> {
-    Ok(assemble(alloc, deck)?.into_program())
 }
 
 /// Whether a machine runs to the end and has printed this.

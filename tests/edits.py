@@ -24,6 +24,7 @@ import sys
 import tempfile
 import threading
 import time
+import traceback
 from collections import Counter
 from collections.abc import Callable, Iterator
 from concurrent.futures import ThreadPoolExecutor, as_completed
@@ -206,12 +207,15 @@ class Bench:
         return check
 
     def _checked_in(self, memory: int, prepare: Callable[[Path], None]) -> Report:
-        """Checks a copy of the crate that was prepared."""
-        with self._lanes.lane(memory, self.crate.lines), room_of(self.crate) as folder:
-            prepare(folder)
-            ended = self._commands.run(["rt", "check", "--jobs", "1"], folder)
-            files = [it for it in files_with_errors(ended.text) if (folder / it).is_file()]
-            proofs = {it: (folder / it).read_text("utf-8") for it in files}
+        """Checks a copy of the crate that was prepared; where the copy can't be made, nothing is judged."""
+        try:
+            with self._lanes.lane(memory, self.crate.lines), room_of(self.crate) as folder:
+                prepare(folder)
+                ended = self._commands.run(["rt", "check", "--jobs", "1"], folder)
+                files = [it for it in files_with_errors(ended.text) if (folder / it).is_file()]
+                proofs = {it: (folder / it).read_text("utf-8") for it in files}
+        except OSError as why:  # such as a full disk
+            return Report(1, f"{why}\n", 0.0)
         with self._lock:
             self.checks += 1
             self.processor_seconds += ended.processor_seconds
@@ -274,12 +278,16 @@ def all_tried(benches: list[Bench], jobs: int, commands: Commands) -> Iterator[T
         try:
             runs = {pool.submit(bench.try_all): bench for bench in benches}
             for run in as_completed(runs):
-                bench, summary = runs[run], run.result()
+                bench, error = runs[run], run.exception()
+                if error:
+                    traceback.print_exception(error)
+                    yield f"the edits of {bench.crate.name}", "tried", f"not all tried: {error!r}"
                 for trial in bench.trials:
                     yield bench.name_of(trial), "refused", "refused" if trial.is_refused else trial.failure
                     if trial.by_proof_alone:
                         print(f"{bench.name_of(trial)}: only a proof that was written by hand refuses it")
-                print(summary, flush=True)
+                if not error:
+                    print(run.result(), flush=True)
         except BaseException:
             commands.stop()
             raise

@@ -29,7 +29,8 @@ def room_of(crate: Crate) -> Iterator[Path]:
 
     Nothing is written to the crates below, so their files are linked if the file system can do that.
     """
-    with tempfile.TemporaryDirectory(prefix=PREFIX, dir=place_of_rooms()) as room:
+    # (a check that was killed may leave a process that still writes here; what remains is removed a day later)
+    with tempfile.TemporaryDirectory(prefix=PREFIX, dir=place_of_rooms(), ignore_cleanup_errors=True) as room:
         Path(room, "crates.txt").write_text(rows_of((*crate.below, crate)), "utf-8")
         for library in crate.below:
             for part in (*SOURCES, LIBRARY):

@@ -3,28 +3,27 @@ use Rattle.std.proofs.Common.{◌≡◌, inl, ℕ, ◌-◌, List, [], ◌∷◌,
 use Rattle.std.proofs.Math.ListN.{replicate}
 use Rattle.std.specs.FinMap as map
 use Rattle.std.specs.Fmt.{digits}
-use Rattle.l6_store.specs.Blocks.{Blocks}
-use Rattle.l6_store.specs.Laws.{ScanChooses}
-use Rattle.l6_store.specs.Open.{Choice, FitsStore}
-use Rattle.l6_store.specs.Scan.{scan_rule}
 use Rattle.l6_prog.specs.Numerals.{letter_count}
 use Rattle.l6_prog.specs.declared.operand.Operand.TheVariants.{Number}
 use Rattle.l6_prog.specs.declared.operation.Op.TheVariants.{Set, PrintDecimal}
 use Rattle.l6_prog.specs.declared.operation.Op.{Op}
 use Rattle.l6_prog.specs.declared.condition.Cond.TheVariants.{Always}
 use Rattle.l6_prog.specs.declared.exit.Exit.TheVariants.{Next}
+use Rattle.l6_store.specs.Blocks.{Blocks}
+use Rattle.l6_store.specs.Laws.{ScanChooses}
+use Rattle.l6_store.specs.Open.{Choice, FitsStore}
+use Rattle.l6_store.specs.Scan.{scan_rule}
 use Rattle.l6_group.specs.declared.label.Label.{Label}
-use Rattle.l6_card.specs.declared.cards.Placed.{Placed}
-use Rattle.l6_card.specs.Items.{PlacedItem, group, item_on}
-use Rattle.l6_card.specs.Numerals.{card_width}
 use Rattle.l6_steps.specs.Configuration.{EndsBy}
 use Rattle.l6_steps.specs.Run.{IsRun}
 use Rattle.l6_steps.specs.declared.halt.Halt.{Halt}
 use Rattle.l6_steps.specs.declared.halt.Halt.TheVariants.{Done}
 use Rattle.l6_steps.specs.State.{RunContext, State, is_last, start}
 use Rattle.l6_steps.specs.Step.{Step, next}
-use Rattle.l6_run.specs.Options.{default_options}
-use Rattle.l6_run.specs.Prints.{store_rule, context_under}
+use Rattle.l6_machine.specs.Options.{context_under, default_options, store_rule}
+use Rattle.l6_card.specs.declared.cards.Placed.{Placed}
+use Rattle.l6_card.specs.Items.{PlacedItem, group, item_on}
+use Rattle.l6_card.specs.Numerals.{card_width}
 use Rattle.l6.specs.Worked.{FiveIsSpelled, FiveIsPrinted, five_program, five_assembly, name_a}
 
 -- the items of the second card
@@ -148,7 +147,7 @@ run chooses = (
   ),
 )
 
--- the run under the rule comes to it after 6 steps
+-- the run under the rule reaches it after 6 steps
 by_rule : EndsBy store_rule context final
 unfolding digits
 by_rule = record { number = 6; is = refl; last = refl }

@@ -1,19 +1,20 @@
 -- Refusals pass from the call that serves a verb to the job.
 use Rattle.std.proofs.Common.{◌≡◌, Bool, false, ℕ, List, [], ◌∷◌, Option, Result, Ok, Err, inl, inr, refl, subst, sym}
-use Rattle.l6_run.specs.Device.{Health}
-use Rattle.l6_run.specs.Numerals.{most_retries}
-use Rattle.l6_run.specs.Options.{OptionValues}
-use Rattle.l6_run.specs.Patience.{RetriesAccounted, RetriesAccountedWith, device_use, reader_use, reports_read, reported_by}
+use Rattle.l6_machine.specs.Options.{OptionValues}
+use Rattle.l6_machine.specs.declared.ending.Ending.{Ending}
+use Rattle.l6_device.specs.Device.{Health}
+use Rattle.l6_device.specs.Numerals.{most_retries}
+use Rattle.l6_device.specs.Patience.{RetriesAccounted, RetriesAccountedWith, device_use, reader_use, reports_read, reported_by}
+use Rattle.l6_device.specs.declared.fault.Part.{Part}
+use Rattle.l6_device.specs.declared.fault.Part.TheVariants.{Deck, Image, Input, Commands, Job}
+use Rattle.l6_device.specs.declared.fault.RunFault.{RunFault}
+use Rattle.l6_device.specs.declared.fault.RunFault.TheVariants.{TooLong, Asm, Load, Read, Write, NoMemory}
+use Rattle.l6_device.proofs.DeviceUses.{retries-alone}
 use Rattle.l6_run.specs.Prints.{Prints, PrintsLoaded, RefusesDeck, RefusesImage}
 use Rattle.l6_run.specs.Serves.{Serves}
 use Rattle.l6_run.specs.Texts.{RefusesCards, RefusesRewriting, RewritesImage, WritesImage}
-use Rattle.l6_run.specs.declared.ending.Ending.{Ending}
-use Rattle.l6_run.specs.declared.fault.Part.{Part}
-use Rattle.l6_run.specs.declared.fault.Part.TheVariants.{Deck, Image, Input, Commands, Job}
-use Rattle.l6_run.specs.declared.fault.RunFault.{RunFault}
-use Rattle.l6_run.specs.declared.fault.RunFault.TheVariants.{TooLong, Asm, Load, Read, Write, NoMemory}
-use Rattle.l6_run.proofs.Faring.{retries-alone, untold-reader}
-use Rattle.l6_debug.proofs.Sessions.{untold-debugger_state}
+use Rattle.l6_run.proofs.Servings.{unreported-reader}
+use Rattle.l6_debug.proofs.Sessions.{unreported-debugger_state}
 use Rattle.l6_debug.specs.Serving as sessions
 use Rattle.l6.specs.declared.job.Outcome.{Outcome}
 use Rattle.l6.specs.declared.job.Outcome.TheVariants.{Ran, Written}
@@ -28,18 +29,18 @@ renamed : (Outcome : Type 0) (Other : Type 0) (call : Outcome → Other)
     (Stops : RunFault → Type 0) (old new : Option (List ℕ)) (fault : RunFault) →
     ((outcome : Outcome) (text : List ℕ) → Said outcome text → SaidSo (call outcome) text) →
     Serves Said Stops old new (Err fault) → Serves SaidSo Stops old new (Err fault)
-renamed Outcome Other call Said SaidSo Stops old new (TooLong part) as_said served = served
-renamed Outcome Other call Said SaidSo Stops old new (Asm asm) as_said served = served
-renamed Outcome Other call Said SaidSo Stops old new (Load load) as_said served = served
-renamed Outcome Other call Said SaidSo Stops old new (Read part) as_said served = served
-renamed Outcome Other call Said SaidSo Stops old new (Write n) as_said served = record {
+renamed Outcome Other call Said SaidSo Stops old new (TooLong part) as_denoted served = served
+renamed Outcome Other call Said SaidSo Stops old new (Asm asm) as_denoted served = served
+renamed Outcome Other call Said SaidSo Stops old new (Load load) as_denoted served = served
+renamed Outcome Other call Said SaidSo Stops old new (Read part) as_denoted served = served
+renamed Outcome Other call Said SaidSo Stops old new (Write n) as_denoted served = record {
   outcome = call served.outcome;
   text = served.text;
-  answers = as_said served.outcome served.text served.answers;
+  answers = as_denoted served.outcome served.text served.answers;
   short = served.short;
   out = served.out;
 }
-renamed Outcome Other call Said SaidSo Stops old new NoMemory as_said served = tt
+renamed Outcome Other call Said SaidSo Stops old new NoMemory as_denoted served = tt
 
 -- why no image was written of a deck is why the job was not done whose head it is
 pub image_refused : (verb : Verb) (options : OptionValues) (job deck : List ℕ)
@@ -147,28 +148,28 @@ debug_refused verb options job deck input commands old new fault is head followi
     old new (Err fault)) asked
     (session_ended options deck input commands old new fault served))))
 
--- a job that was read whole tells no trouble of its reader
-pub untold-job : (verb : Verb) (options : OptionValues) (job : List ℕ) (part : Part)
+-- a job that was read whole reports no trouble of its reader
+pub unreported-job : (verb : Verb) (options : OptionValues) (job : List ℕ) (part : Part)
     (old new : Option (List ℕ)) (result : Result Outcome RunFault) →
     JobOutcome verb options job old new result → reported_by (reports_read part) result ≡ false
-untold-job verbs.Asm options job part old new result served =
-    untold-reader (Answers verbs.Asm options job) (Refuses verbs.Asm job) part old new result
+unreported-job verbs.Asm options job part old new result served =
+    unreported-reader (Answers verbs.Asm options job) (Refuses verbs.Asm job) part old new result
     (λ _ refused. refused) served
-untold-job verbs.List options job part old new result served =
-    untold-reader (Answers verbs.List options job) (Refuses verbs.List job) part old new result
+unreported-job verbs.List options job part old new result served =
+    unreported-reader (Answers verbs.List options job) (Refuses verbs.List job) part old new result
     (λ _ refused. refused) served
-untold-job verbs.Run options job part old new result served =
-    untold-reader (Answers verbs.Run options job) (Refuses verbs.Run job) part old new result
+unreported-job verbs.Run options job part old new result served =
+    unreported-reader (Answers verbs.Run options job) (Refuses verbs.Run job) part old new result
     (λ _ refused. refused) served
-untold-job verbs.Load options job part old new result served =
-    untold-reader (Answers verbs.Load options job) (Refuses verbs.Load job) part old new result
+unreported-job verbs.Load options job part old new result served =
+    unreported-reader (Answers verbs.Load options job) (Refuses verbs.Load job) part old new result
     (λ _ refused. refused) served
-untold-job verbs.Renew options job part old new result served =
-    untold-reader (Answers verbs.Renew options job) (Refuses verbs.Renew job) part old new result
+unreported-job verbs.Renew options job part old new result served =
+    unreported-reader (Answers verbs.Renew options job) (Refuses verbs.Renew job) part old new result
     (λ _ refused. refused) served
-untold-job verbs.Debug options job part old new (Ok _) served = refl
-untold-job verbs.Debug options job part old new (Err fault) served =
-    untold-debugger_state options (deck_of (head_of job)) (input_of job) (commands_of (head_of job)) part
+unreported-job verbs.Debug options job part old new (Ok _) served = refl
+unreported-job verbs.Debug options job part old new (Err fault) served =
+    unreported-debugger_state options (deck_of (head_of job)) (input_of job) (commands_of (head_of job)) part
     old new (Err fault) served
 
 -- the reader of a job that was read whole
@@ -180,5 +181,5 @@ pub retries-read : (verb : Verb) (options : OptionValues) (job : List ℕ)
     RetriesAccounted (reader_use Job old new result ∷ [])
 retries-read verb options job taken taken' result old new start left is retries served =
     subst (λ (b : Bool). RetriesAccounted (device_use old new b ∷ []))
-    (sym (untold-job verb options job Job taken taken' result served))
+    (sym (unreported-job verb options job Job taken taken' result served))
     (retries-alone (device_use old new false ∷ []) start left is retries)

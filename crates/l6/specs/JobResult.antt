@@ -1,12 +1,12 @@
 -- What becomes of a job.
-use Rattle.std.specs.Prelude.{◌≡◌, List, ℕ, Option, Result, Ok, Err}
-use Rattle.l6_run.specs.Options.{OptionValues}
+use Rattle.std.specs.Prelude.{List, ℕ, Option, Result, Ok}
+use Rattle.l6_machine.specs.Options.{OptionValues}
+use Rattle.l6_device.specs.Transfer.{Reads}
+use Rattle.l6_device.specs.declared.fault.Part.TheVariants.{Job}
+use Rattle.l6_device.specs.declared.fault.RunFault.{RunFault}
 use Rattle.l6_run.specs.Prints.{Prints, PrintsLoaded, RefusesDeck, RefusesImage}
-use Rattle.l6_run.specs.Runs.{Reads}
 use Rattle.l6_run.specs.Serves.{IsUnwritten, Serves}
 use Rattle.l6_run.specs.Texts.{RefusesCards, RefusesRewriting, RewritesImage, WritesImage, WritesListing}
-use Rattle.l6_run.specs.declared.fault.Part.TheVariants.{Job}
-use Rattle.l6_run.specs.declared.fault.RunFault.{RunFault}
 use Rattle.l6_debug.specs.Serving as sessions
 use Rattle.l6_debug.specs.Serving.{IsRefused}
 use Rattle.l6.specs.JobParts.{commands_of, deck_of, head_of, input_of}

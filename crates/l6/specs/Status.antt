@@ -1,10 +1,10 @@
 -- Exit statuses.
 use Rattle.std.specs.Prelude.{ℕ, Result, Ok, Err}
-use Rattle.l6_run.specs.declared.ending.Ending.TheVariants.{Done, Fail, Trap, Limit}
-use Rattle.l6_run.specs.declared.fault.RunFault.{RunFault}
-use Rattle.l6_run.specs.declared.fault.RunFault.TheVariants.{TooLong, Asm, Load, Read, Write, NoMemory}
-use Rattle.l6_asm.specs.declared.fault.AsmFault.TheVariants as asm
 use Rattle.l6_image.specs.declared.fault.LoadFault.TheVariants as load
+use Rattle.l6_machine.specs.declared.ending.Ending.TheVariants.{Done, Fail, Trap, Limit}
+use Rattle.l6_asm.specs.declared.fault.AsmFault.TheVariants as asm
+use Rattle.l6_device.specs.declared.fault.RunFault.{RunFault}
+use Rattle.l6_device.specs.declared.fault.RunFault.TheVariants.{TooLong, Asm, Load, Read, Write, NoMemory}
 use Rattle.l6.specs.declared.arguments.WordsFault.{WordsFault}
 use Rattle.l6.specs.declared.arguments.WordsFault.TheVariants as words
 use Rattle.l6.specs.declared.job.Outcome.{Outcome}

@@ -1,23 +1,23 @@
 -- Worked examples of the definitions, each by hand.
 use Rattle.std.specs.Prelude.{◌≡◌, ℕ, ◌+◌, List, [], ◌∷◌, codes, Some}
-use Rattle.l6_store.specs.Open.{Choice}
 use Rattle.l6_prog.specs.declared.condition.Cond.TheVariants.{Always}
 use Rattle.l6_prog.specs.declared.exit.Exit.TheVariants.{Next}
 use Rattle.l6_prog.specs.declared.operand.Operand.TheVariants.{Number}
 use Rattle.l6_prog.specs.declared.operation.Op.TheVariants.{Set, PrintDecimal}
 use Rattle.l6_prog.specs.Numerals.{first_letter}
 use Rattle.l6_prog.specs.Statement.{Parts, plain_done}
-use Rattle.l6_card.specs.DeckFault.{form}
-use Rattle.l6_card.specs.Fault.{fault_of}
-use Rattle.l6_asm.specs.Assembled.{Assembled}
+use Rattle.l6_store.specs.Open.{Choice}
 use Rattle.l6_steps.specs.declared.halt.Halt.TheVariants as halts
 use Rattle.l6_steps.specs.declared.trap.Trap.TheVariants.{UndefinedField}
 use Rattle.l6_steps.specs.State.{RunContext, State, start}
 use Rattle.l6_steps.specs.Step.{next}
-use Rattle.l6_run.specs.declared.ending.Ending.TheVariants.{Done}
-use Rattle.l6_run.specs.Options.{default_options}
-use Rattle.l6_run.specs.Prints.{Prints, context_under}
+use Rattle.l6_machine.specs.declared.ending.Ending.TheVariants.{Done}
+use Rattle.l6_machine.specs.Options.{context_under, default_options}
+use Rattle.l6_card.specs.DeckFault.{form}
+use Rattle.l6_card.specs.Fault.{fault_of}
+use Rattle.l6_asm.specs.Assembled.{Assembled}
 use Rattle.l6_asm.specs.Spells.{Spells}
+use Rattle.l6_run.specs.Prints.{Prints}
 
 -- a deck that sets A to 5 and prints it, after a comment
 abbrev pub five_deck : List ℕ

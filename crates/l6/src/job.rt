@@ -1,10 +1,10 @@
 //! One job, from the reader to the writer.
 
 ghost use Rattle.std.specs.Prelude.{◌≡◌, ◌+◌, [], ◌∷◌};
-ghost use Rattle.l6_run.specs.Numerals.{most_job_bytes};
-ghost use Rattle.l6_run.specs.Patience.{RetriesAccounted, RetriesAccountedWith, reader_use, writer_use};
-ghost use Rattle.l6_run.specs.Transfer.{GivesAtMost};
-ghost use Rattle.l6_run.specs.declared.fault.Part.TheVariants.{Job};
+ghost use Rattle.l6_device.specs.Numerals.{most_job_bytes};
+ghost use Rattle.l6_device.specs.Patience.{RetriesAccounted, WriterRetries, reader_use, writer_use};
+ghost use Rattle.l6_device.specs.Transfer.{GivesAtMost};
+ghost use Rattle.l6_device.specs.declared.fault.Part.TheVariants.{Job};
 ghost use Rattle.l6.specs.JobResult.{JobOutcome, IsUnwrittenBy, JobResult};
 
 use crate::parts::{parts_of, session_of};
@@ -84,9 +84,8 @@ fn serve<W: Sink>(
 ) -> Result<Outcome, RunFault>
     ensures done { JobOutcome verb options job.now (W.taken writer.old) (W.taken writer.new) result }
     ensures unwritten { IsUnwrittenBy verb result → writer.new ≡ writer.old }
-    ensures retries { RetriesAccountedWith
-        (writer_use (W.health writer.old) (W.health writer.new) result ∷ [])
-        patience.old patience.new }
+    ensures retries { WriterRetries (W.health writer.old) (W.health writer.new)
+        patience.old patience.new result }
 {
     let parts = parts_of(job);
     match verb {
@@ -99,11 +98,11 @@ fn serve<W: Sink>(
             Ok(Outcome::Written)
         }
         Verb::Run => {
-            let ending = run_deck(alloc, options, parts.head, parts.input, writer, patience)?;
+            let ending = run_deck(alloc, parts.head, parts.input, writer, options, patience)?;
             Ok(Outcome::Ran(ending))
         }
         Verb::Load => {
-            let ending = run_image_text(alloc, options, parts.head, parts.input, writer, patience)?;
+            let ending = run_image_text(alloc, parts.head, parts.input, writer, options, patience)?;
             Ok(Outcome::Ran(ending))
         }
         Verb::Renew => {
@@ -114,11 +113,11 @@ fn serve<W: Sink>(
             let session = session_of(parts.head);
             debug_deck(
                 alloc,
-                options,
                 session.deck,
                 parts.input,
                 session.commands,
                 writer,
+                options,
                 patience,
             )?;
             Ok(Outcome::Written)

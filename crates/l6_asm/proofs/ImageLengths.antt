@@ -12,7 +12,7 @@ use Rattle.l6_image.specs.Version.{most_in}
 use Rattle.l6_image.specs.declared.version.Version.{Version}
 use Rattle.l6_image.specs.declared.version.Version.TheVariants.{One, Two}
 use Rattle.l6_card.specs.Spans.{all_spans}
-use Rattle.l6_card.proofs.Spans.{groups_stand_at_spans, spans_rise}
+use Rattle.l6_card.proofs.Spans.{groups_are_at_spans, spans_rise}
 use Rattle.l6_asm.specs.Assembled.{Assembled}
 use Rattle.l6_asm.specs.Labels.{labels_of}
 use Rattle.l6_asm.specs.Laws.{ImagesOfDecksFit}
@@ -82,7 +82,7 @@ body-few version deck assembly spells =
     let made = went_on (each_made (statement_of labels) written) _ stated.0 stated.1 in
     let program : made.0 ++ plain_done ∷ [] ≡ assembly.program = cc (stated.2, made.2) in
     let few = statements-few version deck labels written made.0
-    (groups_stand_at_spans deck written spells.reads) made.1 in
+    (groups_are_at_spans deck written spells.reads) made.1 in
     omega (
       arith,
       few,

@@ -30,7 +30,7 @@ same-role false false false false a b c x y z l m n k = refl
 role-anywhere : (number offset : ℕ) (columns : List ℕ) →
     role_in (card_of number offset columns) ≡ role_in (card_of 1 0 columns)
 role-anywhere number offset [] = refl
-role-anywhere number offset (mark ∷ columns) = same-role _ _ _ _ _ _ _ _ _ _ _ _ _ _
+role-anywhere number offset (column ∷ columns) = same-role _ _ _ _ _ _ _ _ _ _ _ _ _ _
 
 -- 1 for a statement that goes on, and else 0
 abbrev going : Bool → ℕ

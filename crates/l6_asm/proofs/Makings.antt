@@ -59,7 +59,7 @@ module _ {A B : Type 0} (make : A → Result B AssemblyFault) where
       ∙ ap (onto_made (Ok parts.first))
       (each_made-stops front x rest parts.rest fault parts.rest_is own)
 
-  -- a fault that one met, if it tells of the deck, is that of all
+  -- a fault that one met, if it is one of the deck, is that of all
   pub stops_at : (items front : List A) (x : A) (rest : List A) (done : List B)
       (found : Option AssemblyFault) →
       items ≡ front ++ x ∷ rest → each_made make front ≡ Ok done →

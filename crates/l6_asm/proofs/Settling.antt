@@ -9,11 +9,10 @@ use Rattle.l6_card.specs.DeckFault.{DeckFault}
 use Rattle.l6_card.specs.Fault.{fault_of}
 use Rattle.l6_card.specs.ReadsAs.{ReadsAs}
 use Rattle.l6_card.specs.Statement.{DeckStatementParts}
-use Rattle.l6_card.specs.Laws.{IsFirstFault}
 use Rattle.l6_card.proofs.Settling.{reads_without_fault, reads_in_one_way, reads_only_without_fault}
 use Rattle.l6_asm.specs.declared.fault.AsmFault.{AsmFault}
 use Rattle.l6_asm.specs.inner.MakesOrFails.{MakesOrFails}
-use Rattle.l6_asm.specs.AssemblyFault.{AssemblyFault, unread, twice_labelled, no_label, assembly_fault, unread_fault}
+use Rattle.l6_asm.specs.AssemblyFault.{AssemblyFault, unread, twice_labelled, no_label, assembly_fault}
 use Rattle.l6_asm.specs.Assembled.{Assembled}
 use Rattle.l6_asm.specs.Labels.{number_of, with_label, and_then, labels_after, labels_of}
 use Rattle.l6_asm.specs.Resolution.{resolved, found_on, operation_of, exit_of, onto_made, each_made, statement_of, statements_of}
@@ -102,7 +101,7 @@ assembled_of_labels written =
     (each_of_labels (statement_of labels) (statement_of_labels labels) written) (λ made. refl))
     (λ statements. refl))
 
--- what the statements of a deck come to, if it is a fault, is the deck's
+-- the fault of a deck's statements, if they have one, is the deck's
 pub fault_comes : (deck : List ℕ) (written : List DeckStatementParts) (fault : AssemblyFault) →
     ReadsAs deck written → assembled written ≡ Err fault → IsFault deck fault
 fault_comes deck written (unread objection) reads stops =
@@ -151,18 +150,7 @@ either_by deck None none =
 pub spells_or_fails : SpellsOrFails
 spells_or_fails deck = either_by deck (fault_of deck) refl
 
--- the fault of a deck that is not read
-pub unread_unspelled : (deck : List ℕ) (found : Option DeckFault) →
-    IfSome found (IsFirstFault deck) → IfSome (unread_fault found) (IsUnspelled deck)
-unread_unspelled deck None first = tt
-unread_unspelled deck (Some objection) first =
-    record {
-      first = first.first;
-      nothing =
-          λ assembly spells. first.unread spells.written spells.reads;
-    }
-
--- the fault that the statements of a deck come to
+-- the fault that the statements of a deck have
 pub read_unspelled : (deck : List ℕ) (written : List DeckStatementParts)
     (found : Option AssemblyFault) →
     ReadsAs deck written → IfSome found (λ fault. assembled written ≡ Err fault) →
@@ -192,21 +180,21 @@ pub spells_in_one_way : SpellsInOneWay
 spells_in_one_way deck assembly other spells spells' =
     (spells_just deck spells.written assembly spells.reads spells.whole).only other spells'
 
--- an answer that gives what the statements of a deck come to tells the deck's fault, if it is one
-pub tells_fault : (deck : List ℕ) (written : List DeckStatementParts)
+-- an answer that gives what is made of a deck's statements is the deck's fault, if it is one
+pub shows_fault : (deck : List ℕ) (written : List DeckStatementParts)
     (result : Result Assembled AsmFault)
     →
     ReadsAs deck written → MakesOrFails result (λ assembly. assembly) (assembled written) →
     IfErr result (λ fault. IfSome (assembly_fault fault) (IsUnspelled deck))
-tells_fault deck written (Ok assembly) reads gives = tt
-tells_fault deck written (Err fault) reads gives =
+shows_fault deck written (Ok assembly) reads gives = tt
+shows_fault deck written (Err fault) reads gives =
     read_unspelled deck written (assembly_fault fault) reads gives
 
 -- and the program with its labels, if it is one
-pub tells_assembly : (deck : List ℕ) (written : List DeckStatementParts)
+pub shows_assembly : (deck : List ℕ) (written : List DeckStatementParts)
     (result : Result Assembled AsmFault) →
     ReadsAs deck written → MakesOrFails result (λ assembly. assembly) (assembled written) →
     IfOk result (SpellsJust deck)
-tells_assembly deck written (Ok assembly) reads gives =
+shows_assembly deck written (Ok assembly) reads gives =
     spells_just deck written assembly reads gives
-tells_assembly deck written (Err fault) reads gives = tt
+shows_assembly deck written (Err fault) reads gives = tt

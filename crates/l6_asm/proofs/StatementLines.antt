@@ -35,8 +35,8 @@ lines-past program number past =
     ap (λ s. flat_map word_line (words_if_given s)) (sym (slice_get_past program number past))
 
 -- each target of a program's statement is one that an image can tell
-pub targets-told : (program : List Parts) (statement : Parts) → length program ≤ most_statements →
+pub targets-known : (program : List Parts) (statement : Parts) → length program ≤ most_statements →
     list_all (is_below (length program)) (targets_of statement) ≡ true →
     list_all (is_below most_statements) (targets_of statement) ≡ true
-targets-told program statement few below =
+targets-known program statement few below =
     below-more (length program) most_statements (targets_of statement) (omega (arith, few)) below

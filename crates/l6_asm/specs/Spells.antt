@@ -32,8 +32,8 @@ pub record SpellsJust (deck : List ℕ) (assembly : Assembled) : Type 0 where
   pub spells : Spells deck assembly
   pub only : (other : Assembled) → Spells deck other → other ≡ assembly
 
--- the deck is read, but its statements have this fault
-pub record ComesTo (deck : List ℕ) (fault : AssemblyFault) : Type 0 where
+-- the deck is read, but its statements are not assembled: they have this fault
+pub record FailsToAssemble (deck : List ℕ) (fault : AssemblyFault) : Type 0 where
   pub written : List DeckStatementParts
   pub reads : ReadsAs deck written
   pub stops : assembled written ≡ Err fault
@@ -41,8 +41,8 @@ pub record ComesTo (deck : List ℕ) (fault : AssemblyFault) : Type 0 where
 -- the fault is the deck's: the first objection to it, or else that of its statements
 abbrev pub IsFault : List ℕ → AssemblyFault → Type 0
 IsFault deck (unread objection) = fault_of deck ≡ Some objection
-IsFault deck (twice_labelled card) = ComesTo deck (twice_labelled card)
-IsFault deck (no_label card) = ComesTo deck (no_label card)
+IsFault deck (twice_labelled card) = FailsToAssemble deck (twice_labelled card)
+IsFault deck (no_label card) = FailsToAssemble deck (no_label card)
 
 -- the fault is the deck's, which spells no program
 pub record IsUnspelled (deck : List ℕ) (fault : AssemblyFault) : Type 0 where

@@ -2,7 +2,7 @@
 
 ghost use Rattle.std.specs.Prelude.{◌≡◌, ◌≤◌, ◌<◌, ◌^◌, ℕ, ◌++◌, true, length, map, take, drop, codes, decimal, OnOk};
 ghost use Rattle.std.specs.List.{list_all, flat_map};
-ghost use Rattle.l6_image.specs.Row.{is_word};
+ghost use Rattle.l6_word.specs.Word.{is_word};
 ghost use Rattle.l6_asm.specs.Listing as spec;
 ghost use Rattle.l6_asm.specs.Numerals.{word_margin};
 

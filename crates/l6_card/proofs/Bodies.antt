@@ -140,10 +140,10 @@ closed-cut inside columns following parts = record {
 }
 
 -- a `(` in front of columns up to the first `)` makes a group
-pub opened_first : {body inside columns following : List ℕ} {mark : ℕ} → body ≡ mark ∷ inside →
-    mark ≡ byte "(" →
+pub opened_first : {body inside columns following : List ℕ} {column : ℕ} → body ≡ column ∷ inside →
+    column ≡ byte "(" →
     ClosesFirst inside columns following → (offset : ℕ) → GroupFirst offset body columns following
-opened_first {body} {inside} {columns} {following} {mark} whole opens closes offset = record {
+opened_first {body} {inside} {columns} {following} {column} whole opens closes offset = record {
   opening = offset;
   items = ap (items_of offset) whole
       ∙ ap (λ m. items_of offset (m ∷ inside)) opens

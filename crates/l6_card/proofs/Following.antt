@@ -10,10 +10,10 @@ use Rattle.l6_card.specs.Card.{Card, skipped, plain, labelled, continued, unknow
 use Rattle.l6_card.specs.Statement.{DeckStatementParts, label_on}
 use Rattle.l6_card.specs.Form.{are_prefix, are_whole, are_within_limits}
 use Rattle.l6_card.specs.Pieces.{Piece, ends, begins, label, item, pieces_of_cards}
-use Rattle.l6_card.specs.Fault as told
+use Rattle.l6_card.specs.Fault as determined
 use Rattle.l6_card.specs.Fault.{Begun, Known, nothing_known, and_then, fault_in, fault_of}
 use Rattle.l6_card.specs.inner.StatementBuilder.{StatementBuilder, new_builder, is_whole, statement_from, with_item, builder_then, builder_of}
-use Rattle.l6_card.specs.inner.Pass.{Stage, first_stage, stage_if, when_over, when_begun, when_continued, when_labelled, when_drafted, after_pieces, pass_of}
+use Rattle.l6_card.specs.inner.Pass.{Stage, first_stage, stage_if, when_over, when_begun, when_continued, when_labelled, when_built, after_pieces, pass_of}
 use Rattle.l6_card.proofs.Steps.{builder_of-append}
 use Rattle.l6_card.proofs.Fitness.{items_sound, new_sound}
 use Rattle.l6_card.proofs.Forms.{View}
@@ -54,7 +54,7 @@ begun_is_seen : (stage : Stage) (over : ℕ) (begun : Option Begun) →
 begun_is_seen stage over None sees = absurd sees
 begun_is_seen stage over (Some statement) sees = sees
 
--- two courses stop at one objection, or come to what is related
+-- two readings stop at one objection, or lead to what is related
 abbrev Agree : (Stage → ℕ → Option Begun → Type 0) → Result Stage DeckFault →
     Result Known DeckFault → Type 0
 Agree R (Ok stage) (Ok known) = R stage known.over known.begun
@@ -95,7 +95,7 @@ whole_items items builder made =
 ends_agree : (statements : List DeckStatementParts) (is_open : Bool) (given : Option PlacedLabel)
     (builder : StatementBuilder) (card continuations over : ℕ) (begun : Option Begun) →
     let stage = staged statements is_open given builder card continuations in
-    Sees stage over begun → Agree Sees (when_over stage) (told.when_over over begun)
+    Sees stage over begun → Agree Sees (when_over stage) (determined.when_over over begun)
 ends_agree statements true given builder card continuations over None sees = absurd (cc (sees.1))
 ends_agree statements false given builder card continuations over None sees = (sees.0, refl)
 ends_agree statements false given builder card continuations over (Some statement) sees =
@@ -114,7 +114,7 @@ count_of stage over None sees = sym sees.0
 count_of stage over (Some statement) sees = sym sees.count
 
 begins_agree : (stage : Stage) (card over : ℕ) (begun : Option Begun) →
-    Sees stage over begun → Agree SeesBegun (when_begun card stage) (told.when_begun card over)
+    Sees stage over begun → Agree SeesBegun (when_begun card stage) (determined.when_begun card over)
 begins_agree stage card over begun sees =
     let count = count_of stage over begun sees in
     if_agree SeesBegun (ltb (length stage.statements) most_deck_statements)
@@ -135,7 +135,7 @@ continues_agree : (statements : List DeckStatementParts) (is_open : Bool) (given
     (builder : StatementBuilder) (last continuations card over : ℕ) (begun : Option Begun) →
     let stage = staged statements is_open given builder last continuations in
     Sees stage over begun →
-    Agree SeesBegun (when_continued card stage) (told.when_continued card over begun)
+    Agree SeesBegun (when_continued card stage) (determined.when_continued card over begun)
 continues_agree statements true given builder last continuations card over None sees =
     absurd (cc (sees.1))
 continues_agree statements false given builder last continuations card over None sees = refl
@@ -188,7 +188,7 @@ item_agree_in : (made : Result StatementBuilder DeckFault) (prefix few : Bool) (
     (cond (not few) (Some (limit card)) None) →
     ((next : StatementBuilder) → made ≡ Ok next →
     SeesBegun (record stage { builder = next }) known.over known.begun) →
-    Agree SeesBegun (when_drafted made stage)
+    Agree SeesBegun (when_built made stage)
     (cond (not prefix) (Err (form card)) (cond (not few) (Err (limit card)) (Ok known)))
 item_agree_in (Ok next) true true card stage known same sees = sees next refl
 item_agree_in (Ok next) true false card stage known same sees = absurd (cc)
@@ -199,8 +199,8 @@ item_agree_in (Err fault) false few card stage known same sees = cc
 
 item_agree : (stage : Stage) (card : ℕ) (i : Item) (over : ℕ) (begun : Option Begun) →
     SeesBegun stage over begun →
-    Agree SeesBegun (when_drafted (with_item card stage.builder i) stage)
-    (told.when_item card i over begun)
+    Agree SeesBegun (when_built (with_item card stage.builder i) stage)
+    (determined.when_item card i over begun)
 item_agree stage card i over None sees = absurd sees
 item_agree stage card i over (Some statement) sees =
     let one = item_on card i ∷ [] in
@@ -225,16 +225,16 @@ items_agree : (items : List Item) (number : ℕ) (rest : List Piece) (stage : St
     (known : Known) →
     SeesBegun stage known.over known.begun →
     ((s : Stage) (k : Known) → Sees s k.over k.begun →
-    Agree Sees (after_pieces s rest) (told.after_pieces k rest)) →
+    Agree Sees (after_pieces s rest) (determined.after_pieces k rest)) →
     Agree Sees (after_pieces stage (map (item number) items ++ rest))
-    (told.after_pieces known (map (item number) items ++ rest))
+    (determined.after_pieces known (map (item number) items ++ rest))
 items_agree [] number rest stage known sees each =
     each stage known (begun_is_seen stage known.over known.begun sees)
 items_agree (i ∷ items) number rest stage known sees each =
-    then_agree SeesBegun Sees (when_drafted (with_item number stage.builder i) stage)
-    (told.when_item number i known.over known.begun)
+    then_agree SeesBegun Sees (when_built (with_item number stage.builder i) stage)
+    (determined.when_item number i known.over known.begun)
     (λ s. after_pieces s (map (item number) items ++ rest))
-    (λ k. told.after_pieces k (map (item number) items ++ rest))
+    (λ k. determined.after_pieces k (map (item number) items ++ rest))
     (item_agree stage number i known.over known.begun sees)
     (λ s k sees'. items_agree items number rest s k sees' each)
 
@@ -242,25 +242,25 @@ items_agree (i ∷ items) number rest stage known sees each =
 begun_agree : (number : ℕ) (following : List Piece) (stage : Stage) (known : Known) →
     Sees stage known.over known.begun →
     ((s : Stage) (k : Known) → SeesBegun s k.over k.begun →
-    Agree Sees (after_pieces s following) (told.after_pieces k following)) →
+    Agree Sees (after_pieces s following) (determined.after_pieces k following)) →
     Agree Sees (after_pieces stage (ends ∷ begins number ∷ following))
-    (told.after_pieces known (ends ∷ begins number ∷ following))
+    (determined.after_pieces known (ends ∷ begins number ∷ following))
 begun_agree number following stage known sees each =
-    then_agree Sees Sees (when_over stage) (told.when_over known.over known.begun)
+    then_agree Sees Sees (when_over stage) (determined.when_over known.over known.begun)
     (λ s. after_pieces s (begins number ∷ following))
-    (λ k. told.after_pieces k (begins number ∷ following))
+    (λ k. determined.after_pieces k (begins number ∷ following))
     (ends_agree stage.statements stage.is_open stage.label stage.builder stage.card
     stage.continuations known.over known.begun sees)
-    (λ s k sees'. then_agree SeesBegun Sees (when_begun number s) (told.when_begun number k.over)
-    (λ s'. after_pieces s' following) (λ k'. told.after_pieces k' following)
+    (λ s k sees'. then_agree SeesBegun Sees (when_begun number s) (determined.when_begun number k.over)
+    (λ s'. after_pieces s' following) (λ k'. determined.after_pieces k' following)
     (begins_agree s number k.over k.begun sees') each)
 
 cards_agree : (cards : List Card) (stage : Stage) (known : Known) →
     Sees stage known.over known.begun →
     Agree Sees (after_pieces stage (pieces_of_cards cards))
-    (told.after_pieces known (pieces_of_cards cards))
+    (determined.after_pieces known (pieces_of_cards cards))
 cards_agree [] stage known sees =
-    then_agree Sees Sees (when_over stage) (told.when_over known.over known.begun)
+    then_agree Sees Sees (when_over stage) (determined.when_over known.over known.begun)
     (λ s. Ok s) (λ k. Ok k)
     (ends_agree stage.statements stage.is_open stage.label stage.builder stage.card
     stage.continuations known.over known.begun sees)
@@ -279,8 +279,8 @@ cards_agree (labelled columns body ∷ cards) stage known sees =
     begun_agree body.card (label body.card columns ∷ following) stage known sees
     (λ s k begun. then_agree SeesBegun Sees
     (when_labelled body.card (label_on body.card columns) s)
-    (told.when_labelled body.card columns k)
-    (λ s'. after_pieces s' following) (λ k'. told.after_pieces k' following)
+    (determined.when_labelled body.card columns k)
+    (λ s'. after_pieces s' following) (λ k'. determined.after_pieces k' following)
     (label_agree (label_on body.card columns) s body.card k begun)
     (λ s' k' begun'. items_agree items body.card rest s' k' begun'
     (λ s'' k'' sees'. cards_agree cards s'' k'' sees')))
@@ -289,14 +289,14 @@ cards_agree (continued body ∷ cards) stage known sees =
     let rest = pieces_of_cards cards in
     let following = map (item body.card) items ++ rest in
     then_agree SeesBegun Sees (when_continued body.card stage)
-    (told.when_continued body.card known.over known.begun)
-    (λ s. after_pieces s following) (λ k. told.after_pieces k following)
+    (determined.when_continued body.card known.over known.begun)
+    (λ s. after_pieces s following) (λ k. determined.after_pieces k following)
     (continues_agree stage.statements stage.is_open stage.label stage.builder stage.card
     stage.continuations body.card known.over known.begun sees)
     (λ s k begun. items_agree items body.card rest s k begun
     (λ s' k' sees'. cards_agree cards s' k' sees'))
 cards_agree (unknown number ∷ cards) stage known sees =
-    then_agree Sees Sees (when_over stage) (told.when_over known.over known.begun)
+    then_agree Sees Sees (when_over stage) (determined.when_over known.over known.begun)
     (λ s. Err (form number)) (λ k. Err (form number))
     (ends_agree stage.statements stage.is_open stage.label stage.builder stage.card
     stage.continuations known.over known.begun sees)
@@ -312,5 +312,5 @@ one_fault (Err fault) (Ok known) agree = absurd agree
 -- the fault of a deck is the objection at which a reader's pass stops
 pub fault_of_pass : (deck : List ℕ) → fault_of deck ≡ fault_in (pass_of deck)
 fault_of_pass deck =
-    one_fault (pass_of deck) (told.after_pieces nothing_known (pieces_of_cards (cards_of deck)))
+    one_fault (pass_of deck) (determined.after_pieces nothing_known (pieces_of_cards (cards_of deck)))
     (cards_agree (cards_of deck) first_stage nothing_known (refl, refl))

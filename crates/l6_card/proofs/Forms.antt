@@ -9,7 +9,7 @@ use Rattle.l6_card.specs.Items.{PlacedItem}
 use Rattle.l6_card.specs.Form.{condition_in, then_in, is_operation, is_test, is_exit, are_operations_and_exit, word_on, following_then, count_tests, following_tests, body_of, are_whole, are_prefix, tests_among, count_operations}
 use Rattle.l6_card.specs.inner.StatementBuilder.{Phase, New, Worded, Tested, Open, Closed}
 
--- what the forms say of items: whether they are whole, whether they stand, and how many tests and
+-- what the forms say of items: whether they are whole, whether they are a prefix, and how many tests and
 -- operations are among them
 pub record View : Type 0 where
   pub whole : Bool
@@ -95,12 +95,6 @@ exit_ends : (i : PlacedItem) (rest : List PlacedItem) →
     is_operation i ≡ false → is_exit i ≡ true → are_operations_and_exit (i ∷ rest) ≡ is_none rest
 exit_ends i [] is_no is_one = rw (is_no, is_one) refl
 exit_ends i (j ∷ rest) is_no is_one = ap (λ b. b && are_operations_and_exit (j ∷ rest)) is_no
-
--- what is neither has no place there
-neither_stands : (i : PlacedItem) (rest : List PlacedItem) →
-    is_operation i ≡ false → is_exit i ≡ false → are_operations_and_exit (i ∷ rest) ≡ false
-neither_stands i [] is_no is_none = rw (is_no, is_none) refl
-neither_stands i (j ∷ rest) is_no is_none = ap (λ b. b && are_operations_and_exit (j ∷ rest)) is_no
 
 pub open_operation : (i : PlacedItem) (n m : ℕ) (rest : List PlacedItem) →
     is_operation i ≡ true → plain_view n m (i ∷ rest) ≡ plain_view n (m + 1) rest

@@ -7,12 +7,15 @@ pub mod Spellings
 pub mod Forms
 pub mod Viewing
 pub mod Objections
-pub mod Sayings
-pub mod Drafting
+pub mod OperationsDenoted
+pub mod Denotations
+pub mod OperationsTaken
+pub mod Building
 pub mod Statements
 pub mod Takings
 pub mod Following
 pub mod Beginnings
+pub mod WholeItems
 pub mod Settling
 pub mod Passes
 pub mod Offsets

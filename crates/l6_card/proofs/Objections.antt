@@ -35,7 +35,7 @@ objection_of card seen =
     (limit card)
     else None
 
--- a view of items that stand, within the limits
+-- a view of items that are a prefix, within the limits
 fine : (card n m : ℕ) (whole : Bool) → n ≤ most_tests → m ≤ most_operations →
     objection_of card (record { whole = whole; prefix = true; tests = n; operations = m }) ≡ None
 fine card n m whole tests operations =

@@ -1,4 +1,4 @@
--- Where the bytes of a deck stand: its lines, its cards and their items.
+-- Where the bytes of a deck are: its lines, its cards and their items.
 use Rattle.std.proofs.Common.{◌≡◌, ℕ, ◌+◌, ◌-◌, ◌≤◌, List, [], ◌∷◌, ◌++◌, length, take, drop, Bool, true, false, cond, eqb, refl, sym, ap, ◌∙◌, subst, arith, append_assoc, length-append, length-drop}
 use Rattle.std.specs.Prelude.{◌||◌}
 use Rattle.std.specs.List.{list_all, onto_first}
@@ -94,12 +94,12 @@ lines_first deck offset first rest false lines text are_prefix =
     lines_onto deck offset first rest lines text are_prefix
 
 -- the lines of a text are where the text does
-pub lines_stand : (text deck : List ℕ) (offset : ℕ) → drop offset deck ≡ text →
+pub lines_hold : (text deck : List ℕ) (offset : ℕ) → drop offset deck ≡ text →
     LinesStand deck offset (lines_of text)
-lines_stand [] deck offset text = tt
-lines_stand (first ∷ rest) deck offset text =
+lines_hold [] deck offset text = tt
+lines_hold (first ∷ rest) deck offset text =
     lines_first deck offset first rest (eqb first (byte "\n")) (lines_of rest) text
-    (lines_stand rest deck (offset + 1) (following_bytes deck offset (first ∷ []) rest text))
+    (lines_hold rest deck (offset + 1) (following_bytes deck offset (first ∷ []) rest text))
 
 -- a body is at its offset, which is this one or a later one
 pub record BodyStands (deck : List ℕ) (from : ℕ) (body : Body) : Type 0 where
@@ -147,21 +147,21 @@ run_parts (column ∷ columns) =
     (run_parts columns)
 
 -- a card is where its columns do, if the cards after it do
-card_stands : (deck : List ℕ) (from number offset : ℕ) (columns : List ℕ) (cards : List Card) →
+card_holds : (deck : List ℕ) (from number offset : ℕ) (columns : List ℕ) (cards : List Card) →
     from ≤ offset → HasBytes deck offset columns →
     ((later : ℕ) → later ≤ offset + length columns → CardsArePrefixes deck later cards) →
     CardsArePrefixes deck from (card_of number offset columns ∷ cards)
-card_stands deck from number offset [] cards after has are_prefix = are_prefix from (omega arith)
-card_stands deck from number offset (mark ∷ columns) cards after has are_prefix =
-    let run = run_of (mark ∷ columns) in
-    let following = following_run (mark ∷ columns) in
-    let parts : mark ∷ columns ≡ run ++ following = run_parts (mark ∷ columns) in
+card_holds deck from number offset [] cards after has are_prefix = are_prefix from (omega arith)
+card_holds deck from number offset (column ∷ columns) cards after has are_prefix =
+    let run = run_of (column ∷ columns) in
+    let following = following_run (column ∷ columns) in
+    let parts : column ∷ columns ≡ run ++ following = run_parts (column ∷ columns) in
     let body : Body = record { card = number; offset = offset + 1; columns = columns } in
     let other : Body =
     record { card = number; offset = offset + length run; columns = following } in
     let none = are_prefix from (omega arith) in
     let inside : BodyStands deck from body × CardsArePrefixes deck (end_of body) cards = (
-      record { after = omega arith; bytes = last_bytes deck offset (mark ∷ []) columns has },
+      record { after = omega arith; bytes = last_bytes deck offset (column ∷ []) columns has },
       are_prefix (end_of body) (omega arith),
     ) in
     let split : HasBytes deck offset (run ++ following) =
@@ -172,8 +172,8 @@ card_stands deck from number offset (mark ∷ columns) cards after has are_prefi
       are_prefix (end_of other) (omega (arith, count)),
     ) in
     by_kind (λ card. CardsArePrefixes deck from (card ∷ cards))
-    (eqb mark (byte "*") || list_all is_blank (mark ∷ columns)) (is_blank mark)
-    (eqb mark (byte "+")) (is_letter mark)
+    (eqb column (byte "*") || list_all is_blank (column ∷ columns)) (is_blank column)
+    (eqb column (byte "+")) (is_letter column)
     skipped (plain body) (continued body) (labelled run other) (unknown number)
     none inside inside rest none
 
@@ -202,26 +202,26 @@ begins_columns line =
     }
 
 -- cards are where their lines do
-pub cards_stand : (lines : List (List ℕ)) (deck : List ℕ) (from number offset : ℕ) →
+pub cards_hold : (lines : List (List ℕ)) (deck : List ℕ) (from number offset : ℕ) →
     from ≤ offset → from ≤ length deck → LinesStand deck offset lines →
     CardsArePrefixes deck from (cards_from number offset lines)
-cards_stand [] deck from number offset after within are_prefix = within
-cards_stand (line ∷ lines) deck from number offset after within are_prefix =
+cards_hold [] deck from number offset after within are_prefix = within
+cards_hold (line ∷ lines) deck from number offset after within are_prefix =
     let columns = begins_columns line in
     let count = ap length columns.whole ∙ length-append (columns_of line) columns.others in
     let has : HasBytes deck offset (columns_of line ++ columns.others) =
     subst (λ (l : List ℕ). HasBytes deck offset l) columns.whole are_prefix.0 in
-    card_stands deck from number offset (columns_of line)
+    card_holds deck from number offset (columns_of line)
     (cards_from (number + 1) (offset + length line + 1) lines) after
     (first_bytes deck offset (columns_of line) columns.others has)
-    (λ later soon. cards_stand lines deck later (number + 1) (offset + length line + 1)
+    (λ later soon. cards_hold lines deck later (number + 1) (offset + length line + 1)
     (omega (arith, count)) (omega (arith, count, are_prefix.1)) are_prefix.2)
 
 -- the deck's cards are in it
-pub deck_stands : (deck : List ℕ) → CardsArePrefixes deck 0 (cards_of deck)
-deck_stands deck =
-    cards_stand (lines_of deck) deck 0 1 0 (omega arith) (omega arith)
-    (lines_stand deck deck 0 refl)
+pub deck_holds : (deck : List ℕ) → CardsArePrefixes deck 0 (cards_of deck)
+deck_holds deck =
+    cards_hold (lines_of deck) deck 0 1 0 (omega arith) (omega arith)
+    (lines_hold deck deck 0 refl)
 
 -- at this offset the deck has a group of these columns
 pub record GroupStands (deck : List ℕ) (offset : ℕ) (columns : List ℕ) : Type 0 where
@@ -239,7 +239,7 @@ ItemsArePrefix deck from (word columns ∷ items) end = ItemsArePrefix deck from
 ItemsArePrefix deck from (unclosed ∷ items) end = ItemsArePrefix deck from items end
 ItemsArePrefix deck from (unopened columns ∷ items) end = ItemsArePrefix deck from items end
 
--- they stand from any sooner offset on
+-- they are there from any earlier offset on
 pub sooner : (deck : List ℕ) (from later : ℕ) (items : List Item) (end : ℕ) →
     from ≤ later → ItemsArePrefix deck later items end → ItemsArePrefix deck from items end
 sooner deck from later [] end soon are_prefix = omega (arith, are_prefix)
@@ -253,25 +253,25 @@ sooner deck from later (unopened columns ∷ items) end soon are_prefix =
     sooner deck from later items end soon are_prefix
 
 -- items in a row
-pub items_stand-append : (deck : List ℕ) (from middle end : ℕ) (front following : List Item) →
+pub items_fit-append : (deck : List ℕ) (from middle end : ℕ) (front following : List Item) →
     ItemsArePrefix deck from front middle → ItemsArePrefix deck middle following end →
     ItemsArePrefix deck from (front ++ following) end
-items_stand-append deck from middle end [] following are_prefix are_prefix' =
+items_fit-append deck from middle end [] following are_prefix are_prefix' =
     sooner deck from middle following end are_prefix are_prefix'
-items_stand-append deck from middle end
+items_fit-append deck from middle end
     (group offset columns ∷ front) following are_prefix are_prefix' =
     let next = offset + length columns + 2 in (
       are_prefix.0,
       are_prefix.1,
-      items_stand-append deck next middle end front following
+      items_fit-append deck next middle end front following
           are_prefix.2 are_prefix',
     )
-items_stand-append deck from middle end (word columns ∷ front) following are_prefix are_prefix' =
-    items_stand-append deck from middle end front following are_prefix are_prefix'
-items_stand-append deck from middle end (unclosed ∷ front) following are_prefix are_prefix' =
-    items_stand-append deck from middle end front following are_prefix are_prefix'
-items_stand-append deck from middle end (unopened columns ∷ front) following are_prefix are_prefix' =
-    items_stand-append deck from middle end front following are_prefix are_prefix'
+items_fit-append deck from middle end (word columns ∷ front) following are_prefix are_prefix' =
+    items_fit-append deck from middle end front following are_prefix are_prefix'
+items_fit-append deck from middle end (unclosed ∷ front) following are_prefix are_prefix' =
+    items_fit-append deck from middle end front following are_prefix are_prefix'
+items_fit-append deck from middle end (unopened columns ∷ front) following are_prefix are_prefix' =
+    items_fit-append deck from middle end front following are_prefix are_prefix'
 
 -- so do items whose first may be a `)` with what is before it, right at this offset
 abbrev pub ItemsBegin : List ℕ → ℕ → List Item → ℕ → Type 0
@@ -284,20 +284,20 @@ ItemsBegin deck from (group offset columns ∷ items) end =
 ItemsBegin deck from (word columns ∷ items) end = ItemsArePrefix deck from (word columns ∷ items) end
 ItemsBegin deck from (unclosed ∷ items) end = ItemsArePrefix deck from (unclosed ∷ items) end
 
-begun_stand : (deck : List ℕ) (from : ℕ) (items : List Item) (end : ℕ) →
+begun_hold : (deck : List ℕ) (from : ℕ) (items : List Item) (end : ℕ) →
     ItemsBegin deck from items end → ItemsArePrefix deck from items end
-begun_stand deck from [] end begin = begin
-begun_stand deck from (group offset columns ∷ items) end begin = begin
-begun_stand deck from (word columns ∷ items) end begin = begin
-begun_stand deck from (unclosed ∷ items) end begin = begin
-begun_stand deck from (unopened columns ∷ items) end begin =
+begun_hold deck from [] end begin = begin
+begun_hold deck from (group offset columns ∷ items) end begin = begin
+begun_hold deck from (word columns ∷ items) end begin = begin
+begun_hold deck from (unclosed ∷ items) end begin = begin
+begun_hold deck from (unopened columns ∷ items) end begin =
     sooner deck from (from + length columns + 1) items end (omega arith) begin.2
 
 -- the bytes of a group
-group_stands : (deck : List ℕ) (offset : ℕ) (columns : List ℕ) →
+group_holds : (deck : List ℕ) (offset : ℕ) (columns : List ℕ) →
     list_all is_inner columns ≡ true →
     HasBytes deck offset (byte "(" ∷ columns ++ byte ")" ∷ []) → GroupStands deck offset columns
-group_stands deck offset columns inner has = record {
+group_holds deck offset columns inner has = record {
   inner = inner;
   bytes = ap (take (length columns + 2)) has.same
       ∙ take_at (byte "(" ∷ columns ++ byte ")" ∷ []) has.others (length columns + 2)
@@ -317,7 +317,7 @@ opening_begins deck offset rest (unclosed ∷ items) end text begin =
     sooner deck offset (offset + 1) (unclosed ∷ items) end (omega arith) begin
 opening_begins deck offset rest (unopened columns ∷ items) end text begin = (
   omega arith,
-  group_stands deck offset columns begin.0
+  group_holds deck offset columns begin.0
       (more_bytes deck offset (byte "(") rest (columns ++ byte ")" ∷ []) text begin.1),
   subst (λ (o : ℕ). ItemsArePrefix deck o items end) (omega arith) begin.2,
 )
@@ -377,7 +377,7 @@ column_begins deck offset column rest items end true opens blank text begin clos
     same = text ∙ ap (λ c. c ∷ rest) (eqb-true column (byte ")") closes);
   },
   subst (λ (o : ℕ). ItemsArePrefix deck o items end) (omega arith)
-      (begun_stand deck (offset + 1) items end begin),
+      (begun_hold deck (offset + 1) items end begin),
 )
 column_begins deck offset column rest items end false true blank text begin closes opens =
     opening_begins deck offset rest items end
@@ -402,5 +402,5 @@ pub body_items : (deck : List ℕ) (from : ℕ) (body : Body) → BodyStands dec
     ItemsArePrefix deck from (items_of body.offset body.columns) (end_of body)
 body_items deck from body is_prefix =
     sooner deck from body.offset (items_of body.offset body.columns) (end_of body) is_prefix.after
-    (begun_stand deck body.offset (items_of body.offset body.columns) (end_of body)
+    (begun_hold deck body.offset (items_of body.offset body.columns) (end_of body)
     (items_begin body.columns deck body.offset (end_of body) is_prefix.bytes (omega arith)))

@@ -1,9 +1,8 @@
 -- The pass of a deck, card after card.
-use Rattle.std.proofs.Common.{◌≡◌, ℕ, ◌+◌, ◌-◌, ◌≤◌, List, [], ◌∷◌, ◌++◌, map, length, take, length-take, Bool, true, false, cond, eqb, arith, Option, Some, None, IfSome, Result, Ok, Err, refl, sym, ap, ◌∙◌}
+use Rattle.std.proofs.Common.{◌≡◌, ℕ, ◌+◌, ◌-◌, ◌≤◌, List, [], ◌∷◌, ◌++◌, map, length, Bool, true, false, cond, eqb, arith, Option, Some, None, IfSome, Result, Ok, Err, refl, sym, ap, ◌∙◌}
 use Rattle.std.specs.List.{onto_first}
 use Rattle.std.specs.Str.{byte}
-use Rattle.l6_word.specs.Lines.{lines_of, without_return}
-use Rattle.l6_card.specs.Numerals.{card_width}
+use Rattle.l6_word.specs.Lines.{lines_of}
 use Rattle.l6_card.specs.Card.{card_of, cards_from, columns_of}
 use Rattle.l6_card.specs.Items.{Item, group, word, items_of}
 use Rattle.l6_card.specs.inner.First.{GroupFirst, WordFirst, letters_of}
@@ -141,7 +140,7 @@ pass_over text number offset known final pass none before taken =
     ∙ ap (λ ls. after_pieces known (pieces_of_cards (cards_from number offset ls))) none
     ∙ ap (λ r. and_then r (λ k. Ok k)) taken
 
--- a fault that a card met, if it tells of the deck, is the first of the deck
+-- a fault that a card met, if it is one of the deck, is the first of the deck
 pub refused : (deck text columns following : List ℕ) (number offset : ℕ) (known : Stage)
     (found : Option DeckFault) →
     FirstCard text columns following →
@@ -154,7 +153,7 @@ refused deck text columns following number offset known (Some fault) first befor
     first_fault_met deck fault
     (pass_stops text columns following number offset known fault (pass_of deck) first before stops)
 
--- the objection of the last statement's end, if it tells of the deck, is the first of the deck
+-- the objection of the last statement's end, if there is one, is the first of the deck
 pub refused_at_end : (deck text : List ℕ) (number offset : ℕ) (known : Stage)
     (found : Option DeckFault) →
     lines_of text ≡ [] →
@@ -191,14 +190,3 @@ bytes_in-lines (first ∷ rest) =
     let more = bytes_in-first (eqb first (byte "\n")) first (lines_of rest) rest
     (bytes_in-lines rest) in
     omega arith
-
-fewer_without_return : (returns : Bool) (line : List ℕ) →
-    length (cond returns (take (length line - 1) line) line) ≤ length line
-fewer_without_return true line = omega (arith, length-take (length line - 1) line)
-fewer_without_return false line = omega arith
-
--- a card has no more columns than its line has bytes
-pub fewer_columns : (line : List ℕ) → length (columns_of line) ≤ length line
-fewer_columns line =
-    let returned : length (without_return line) ≤ length line = fewer_without_return _ line in
-    omega (arith, length-take card_width (without_return line), returned)

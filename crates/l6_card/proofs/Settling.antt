@@ -9,7 +9,7 @@ use Rattle.l6_card.specs.inner.Pass.{Stage, pass_of}
 use Rattle.l6_card.specs.ReadsAs.{ReadsAs, CardsDenote}
 use Rattle.l6_card.specs.Laws.{AreWithinLimits, ReadsOnlyWithoutFault, ReadsWithoutFault, ReadsInOneWay, IsOnlyReading, IsFirstFault}
 use Rattle.l6_card.specs.Fault.{fault_in, fault_of}
-use Rattle.l6_card.proofs.Statements.{cards_said}
+use Rattle.l6_card.proofs.Statements.{cards_denoted}
 use Rattle.l6_card.proofs.Takings.{cards_go, same_statements}
 use Rattle.l6_card.proofs.Following.{fault_of_pass}
 
@@ -17,12 +17,12 @@ use Rattle.l6_card.proofs.Following.{fault_of_pass}
 pub reads_when_taken : (deck : List ℕ) (final : Stage) → pass_of deck ≡ Ok final →
     ReadsAs deck final.statements
 reads_when_taken deck final taken =
-    let said = cards_said (cards_of deck) final taken in
+    let denoted = cards_denoted (cards_of deck) final taken in
     record {
-      begins = said.begins;
+      begins = denoted.begins;
       cards = subst (λ (s : List DeckStatementParts). CardsDenote (cards_of deck) s)
-          (sym said.all) said.denote;
-      fits = omega (arith, said.fits, ap length said.all);
+          (sym denoted.all) denoted.denote;
+      fits = omega (arith, denoted.fits, ap length denoted.all);
     }
 
 pub reads_only_without_fault : ReadsOnlyWithoutFault

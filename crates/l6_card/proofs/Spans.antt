@@ -26,10 +26,10 @@ use Rattle.l6_card.specs.Spans.{group_span, spans_of, all_spans, Rise}
 use Rattle.l6_card.specs.inner.StatementBuilder.{StatementBuilder, Phase, New, Worded, Tested, Open, Closed, new_builder, phase_of, with_operation, with_test, with_further_test, with_placed, with_rest, with_word_in, with_group_in, with_item, builder_of}
 use Rattle.l6_card.specs.ReadsAs.{placed_items, continued_items, Denotes, CardsDenote}
 use Rattle.l6_card.specs.Laws.{IsSpelled, AreSpelled, GroupsAreAtSpans, SpansRise}
-use Rattle.l6_card.proofs.Drafting.{drafts_of}
+use Rattle.l6_card.proofs.Building.{builders_of}
 use Rattle.l6_card.proofs.Steps.{is_prefix}
 use Rattle.l6_card.proofs.Fitness.{decided}
-use Rattle.l6_card.proofs.Offsets.{GroupStands, ItemsArePrefix, BodyStands, CardsArePrefixes, end_of, items_stand-append, body_items, deck_stands}
+use Rattle.l6_card.proofs.Offsets.{GroupStands, ItemsArePrefix, BodyStands, CardsArePrefixes, end_of, items_fit-append, body_items, deck_holds}
 
 -- spans that rise may begin sooner
 rise_sooner : (from later : ℕ) (spans : List Span) (end : ℕ) → from ≤ later →
@@ -80,17 +80,17 @@ rise_push from end spans offset columns rise after =
     rise_append from end (offset + length columns + 2) spans (group_span offset columns ∷ []) rise
     (after, omega arith)
 
--- an operation leaves groups that stand
-operation_stands : (deck : List ℕ) (from end card offset : ℕ) (columns : List ℕ)
+-- after an operation the groups are still at their spans
+operation_holds : (deck : List ℕ) (from end card offset : ℕ) (columns : List ℕ)
     (builder next : StatementBuilder) (found : Option (Op Label)) →
     BuilderIsPrefix deck from end builder → end ≤ offset → GroupStands deck offset columns →
     operation_of columns ≡ found →
     with_operation card (group_span offset columns) builder found ≡ Ok next →
     BuilderIsPrefix deck from (offset + length columns + 2) next
-operation_stands deck from end card offset columns builder next None are_prefix after group'
+operation_holds deck from end card offset columns builder next None are_prefix after group'
     is_found made
     = absurd (cc)
-operation_stands deck from end card offset columns builder next
+operation_holds deck from end card offset columns builder next
     (Some operation) are_prefix after group' is_found made =
     let span = group_span offset columns in
     let one : Placed (Op Label) = record { reading = operation; card = card; span = span } in
@@ -118,16 +118,16 @@ operation_stands deck from end card offset columns builder next
       may_have = tt;
     })
 
--- a test leaves groups that stand, where no operation came before
-test_stands : (deck : List ℕ) (from end card offset : ℕ) (columns : List ℕ)
+-- so they are after a test, where no operation came before
+test_holds : (deck : List ℕ) (from end card offset : ℕ) (columns : List ℕ)
     (builder next : StatementBuilder) (condition : Cond) (found : Option Test) →
     BuilderIsPrefix deck from end builder → builder.operations ≡ [] → end ≤ offset →
     GroupStands deck offset columns → test_of columns ≡ found →
     with_test card (group_span offset columns) builder condition found ≡ Ok next →
     BuilderIsPrefix deck from (offset + length columns + 2) next
-test_stands deck from end card offset columns builder next condition
+test_holds deck from end card offset columns builder next condition
     None are_prefix none after group' is_found made = absurd (cc)
-test_stands deck from end card offset columns builder next condition
+test_holds deck from end card offset columns builder next condition
     (Some test) are_prefix none after group' is_found made =
     let span = group_span offset columns in
     let one : Placed Test = record { reading = test; card = card; span = span } in
@@ -160,69 +160,69 @@ test_stands deck from end card offset columns builder next condition
       may_have = none;
     })
 
-further_stands : (deck : List ℕ) (from end card offset : ℕ) (columns : List ℕ)
+further_holds : (deck : List ℕ) (from end card offset : ℕ) (columns : List ℕ)
     (builder next : StatementBuilder) (condition : Cond) (found : Option Test) →
     BuilderIsPrefix deck from end builder → builder.operations ≡ [] → end ≤ offset →
     GroupStands deck offset columns → test_of columns ≡ found →
     with_further_test card (group_span offset columns) builder condition found ≡ Ok next →
     BuilderIsPrefix deck from (offset + length columns + 2) next
-further_stands deck from end card offset columns builder next If found are_prefix none after group'
+further_holds deck from end card offset columns builder next If found are_prefix none after group'
     is_found made = absurd (cc)
-further_stands deck from end card offset columns builder next Not found are_prefix none after group'
+further_holds deck from end card offset columns builder next Not found are_prefix none after group'
     is_found made = absurd (cc)
-further_stands deck from end card offset columns builder next Always found are_prefix none after group'
+further_holds deck from end card offset columns builder next Always found are_prefix none after group'
     is_found made =
-    test_stands deck from end card offset columns builder next Always found are_prefix none after group'
+    test_holds deck from end card offset columns builder next Always found are_prefix none after group'
     is_found made
-further_stands deck from end card offset columns builder next IfAll found are_prefix none after group'
+further_holds deck from end card offset columns builder next IfAll found are_prefix none after group'
     is_found made =
-    test_stands deck from end card offset columns builder next IfAll found are_prefix none after group'
+    test_holds deck from end card offset columns builder next IfAll found are_prefix none after group'
     is_found made
-further_stands deck from end card offset columns builder next IfAny found are_prefix none after group'
+further_holds deck from end card offset columns builder next IfAny found are_prefix none after group'
     is_found made =
-    test_stands deck from end card offset columns builder next IfAny found are_prefix none after group'
+    test_holds deck from end card offset columns builder next IfAny found are_prefix none after group'
     is_found made
-further_stands deck from end card offset columns builder next IfNone found are_prefix none after group'
+further_holds deck from end card offset columns builder next IfNone found are_prefix none after group'
     is_found made =
-    test_stands deck from end card offset columns builder next IfNone found are_prefix none after group'
+    test_holds deck from end card offset columns builder next IfNone found are_prefix none after group'
     is_found made
-further_stands deck from end card offset columns builder next IfNotAll found are_prefix none after
+further_holds deck from end card offset columns builder next IfNotAll found are_prefix none after
     group'
     is_found made =
-    test_stands deck from end card offset columns builder next IfNotAll found are_prefix none after
+    test_holds deck from end card offset columns builder next IfNotAll found are_prefix none after
     group'
     is_found made
 
--- a group leaves groups that stand
-group_stands_in : (phase : Phase) (deck : List ℕ) (from end card offset : ℕ) (columns : List ℕ)
+-- and after any group
+group_holds_in : (phase : Phase) (deck : List ℕ) (from end card offset : ℕ) (columns : List ℕ)
     (builder next : StatementBuilder) →
     BuilderIsPrefix deck from end builder → MayHave phase builder.operations → end ≤ offset →
     GroupStands deck offset columns →
     with_group_in phase card (group_span offset columns) builder columns ≡ Ok next →
     BuilderIsPrefix deck from (offset + length columns + 2) next
-group_stands_in New deck from end card offset columns builder next are_prefix may after group' made =
-    operation_stands deck from end card offset columns builder next (operation_of columns)
+group_holds_in New deck from end card offset columns builder next are_prefix may after group' made =
+    operation_holds deck from end card offset columns builder next (operation_of columns)
     are_prefix after group' refl made
-group_stands_in Open deck from end card offset columns builder next are_prefix may after group' made =
-    operation_stands deck from end card offset columns builder next (operation_of columns)
+group_holds_in Open deck from end card offset columns builder next are_prefix may after group' made =
+    operation_holds deck from end card offset columns builder next (operation_of columns)
     are_prefix after group' refl made
-group_stands_in (Worded w) deck from end card offset columns builder next are_prefix may after group'
+group_holds_in (Worded w) deck from end card offset columns builder next are_prefix may after group'
     made =
-    test_stands deck from end card offset columns builder next w (test_of columns)
+    test_holds deck from end card offset columns builder next w (test_of columns)
     are_prefix may after group' refl made
-group_stands_in Tested deck from end card offset columns builder next are_prefix may after group' made =
-    further_stands deck from end card offset columns builder next builder.condition (test_of columns)
+group_holds_in Tested deck from end card offset columns builder next are_prefix may after group' made =
+    further_holds deck from end card offset columns builder next builder.condition (test_of columns)
     are_prefix may after group' refl made
-group_stands_in Closed deck from end card offset columns builder next are_prefix may after group' made =
+group_holds_in Closed deck from end card offset columns builder next are_prefix may after group' made =
     absurd (cc)
 
 -- a word leaves the groups as they are
-placed_stands : (deck : List ℕ) (from end card : ℕ) (builder next : StatementBuilder) (phase : Phase)
+placed_holds : (deck : List ℕ) (from end card : ℕ) (builder next : StatementBuilder) (phase : Phase)
     (found : Option (Exit Label)) →
     BuilderIsPrefix deck from end builder → MayHave phase builder.operations →
     with_placed card builder phase found ≡ Ok next → BuilderIsPrefix deck from end next
-placed_stands deck from end card builder next phase None are_prefix may made = absurd (cc)
-placed_stands deck from end card builder next phase (Some given) are_prefix may made =
+placed_holds deck from end card builder next phase None are_prefix may made = absurd (cc)
+placed_holds deck from end card builder next phase (Some given) are_prefix may made =
     let same : record builder { phase = phase; exit = placed_exit card given } ≡ next = cc in
     subst (BuilderIsPrefix deck from end) same (record {
       rise = are_prefix.rise;
@@ -231,12 +231,12 @@ placed_stands deck from end card builder next phase (Some given) are_prefix may 
       may_have = may;
     })
 
-rest_stands : (deck : List ℕ) (from end card : ℕ) (builder next : StatementBuilder)
+rest_holds : (deck : List ℕ) (from end card : ℕ) (builder next : StatementBuilder)
     (found : Option (List ℕ)) →
     BuilderIsPrefix deck from end builder → with_rest card builder found ≡ Ok next →
     BuilderIsPrefix deck from end next
-rest_stands deck from end card builder next None are_prefix made = absurd (cc)
-rest_stands deck from end card builder next (Some []) are_prefix made =
+rest_holds deck from end card builder next None are_prefix made = absurd (cc)
+rest_holds deck from end card builder next (Some []) are_prefix made =
     let same : record builder { phase = Open } ≡ next = cc in
     subst (BuilderIsPrefix deck from end) same (record {
       rise = are_prefix.rise;
@@ -244,28 +244,28 @@ rest_stands deck from end card builder next (Some []) are_prefix made =
       operations = are_prefix.operations;
       may_have = tt;
     })
-rest_stands deck from end card builder next (Some (first ∷ rest)) are_prefix made =
-    placed_stands deck from end card builder next Closed (exit_from (first ∷ rest)) are_prefix tt made
+rest_holds deck from end card builder next (Some (first ∷ rest)) are_prefix made =
+    placed_holds deck from end card builder next Closed (exit_from (first ∷ rest)) are_prefix tt made
 
 first_may : (found : Option Cond) (operations : List (Placed (Op Label))) →
     operations ≡ [] → MayHave (phase_of found) operations
 first_may None operations none = tt
 first_may (Some condition) operations none = none
 
-word_stands_in : (phase : Phase) (deck : List ℕ) (from end card : ℕ) (builder next : StatementBuilder)
+word_holds_in : (phase : Phase) (deck : List ℕ) (from end card : ℕ) (builder next : StatementBuilder)
     (characters : List ℕ) →
     BuilderIsPrefix deck from end builder → MayHave phase builder.operations →
     with_word_in phase card builder characters ≡ Ok next → BuilderIsPrefix deck from end next
-word_stands_in New deck from end card builder next characters are_prefix may made =
-    placed_stands deck from end card builder next (phase_of (condition_from characters))
+word_holds_in New deck from end card builder next characters are_prefix may made =
+    placed_holds deck from end card builder next (phase_of (condition_from characters))
     (exit_from characters) are_prefix
     (first_may (condition_from characters) builder.operations may) made
-word_stands_in Open deck from end card builder next characters are_prefix may made =
-    placed_stands deck from end card builder next Closed (exit_from characters) are_prefix tt made
-word_stands_in Tested deck from end card builder next characters are_prefix may made =
-    rest_stands deck from end card builder next (after_then characters) are_prefix made
-word_stands_in (Worded w) deck from end card builder next characters are_prefix may made = absurd (cc)
-word_stands_in Closed deck from end card builder next characters are_prefix may made = absurd (cc)
+word_holds_in Open deck from end card builder next characters are_prefix may made =
+    placed_holds deck from end card builder next Closed (exit_from characters) are_prefix tt made
+word_holds_in Tested deck from end card builder next characters are_prefix may made =
+    rest_holds deck from end card builder next (after_then characters) are_prefix made
+word_holds_in (Worded w) deck from end card builder next characters are_prefix may made = absurd (cc)
+word_holds_in Closed deck from end card builder next characters are_prefix may made = absurd (cc)
 
 -- the items of placed ones
 abbrev whats : List PlacedItem → List Item
@@ -275,8 +275,8 @@ whats items = map (λ (i : PlacedItem). i.what) items
 record Left (deck : List ℕ) (from : ℕ) (builder : StatementBuilder) (items : List Item)
     (end : ℕ) : Type 0 where
   pub middle : ℕ
-  pub builder_stands : BuilderIsPrefix deck from middle builder
-  pub items_stand : ItemsArePrefix deck middle items end
+  pub builder_holds : BuilderIsPrefix deck from middle builder
+  pub items_fit : ItemsArePrefix deck middle items end
 
 item_left : (i : Item) (deck : List ℕ) (from end card : ℕ) (builder next : StatementBuilder)
     (items : List Item) →
@@ -284,16 +284,16 @@ item_left : (i : Item) (deck : List ℕ) (from end card : ℕ) (builder next : S
     Left deck from next items end
 item_left (group offset columns) deck from end card builder next items left made = record {
   middle = offset + length columns + 2;
-  builder_stands = group_stands_in builder.phase deck from left.middle card offset columns builder next
-      left.builder_stands left.builder_stands.may_have left.items_stand.0 left.items_stand.1 made;
-  items_stand = left.items_stand.2;
+  builder_holds = group_holds_in builder.phase deck from left.middle card offset columns builder next
+      left.builder_holds left.builder_holds.may_have left.items_fit.0 left.items_fit.1 made;
+  items_fit = left.items_fit.2;
 }
 item_left (word columns) deck from end card builder next items left made = record {
   middle = left.middle;
-  builder_stands = word_stands_in builder.phase deck from left.middle card builder next
+  builder_holds = word_holds_in builder.phase deck from left.middle card builder next
       (spelled columns)
-      left.builder_stands left.builder_stands.may_have made;
-  items_stand = left.items_stand;
+      left.builder_holds left.builder_holds.may_have made;
+  items_fit = left.items_fit;
 }
 item_left unclosed deck from end card builder next items left made = absurd (cc)
 item_left (unopened columns) deck from end card builder next items left made = absurd (cc)
@@ -305,11 +305,11 @@ items_left : (items : List PlacedItem) (deck : List ℕ) (from end : ℕ)
 items_left [] deck from end builder final left made =
     let same : builder ≡ final = cc in
     subst (BuilderIsPrefix deck from end) same (record {
-      rise = rise_later from (builder_spans builder) left.middle end left.items_stand
-          left.builder_stands.rise;
-      tests = left.builder_stands.tests;
-      operations = left.builder_stands.operations;
-      may_have = left.builder_stands.may_have;
+      rise = rise_later from (builder_spans builder) left.middle end left.items_fit
+          left.builder_holds.rise;
+      tests = left.builder_holds.tests;
+      operations = left.builder_holds.operations;
+      may_have = left.builder_holds.may_have;
     })
 items_left (i ∷ items) deck from end builder final left made =
     let first = is_prefix (with_item i.card builder i.what)
@@ -323,11 +323,11 @@ record StatementStands (deck : List ℕ) (from end : ℕ) (statement : DeckState
   pub rise : Rise from (spans_of statement) end
   pub spelled : AreSpelled deck statement
 
-statement_stands : (deck : List ℕ) (from end : ℕ) (given : Option PlacedLabel)
+statement_holds : (deck : List ℕ) (from end : ℕ) (given : Option PlacedLabel)
     (items : List PlacedItem) (further : ℕ) (statement : DeckStatementParts) →
     Denotes given items further statement → ItemsArePrefix deck from (whats items) end →
     StatementStands deck from end statement
-statement_stands deck from end given items further statement denotes are_prefix =
+statement_holds deck from end given items further statement denotes are_prefix =
     let empty : BuilderIsPrefix deck from from new_builder =
     record {
       rise = omega arith;
@@ -335,13 +335,13 @@ statement_stands deck from end given items further statement denotes are_prefix 
       operations = All-nil (IsSpelled operation_of deck);
       may_have = refl;
     } in
-    let drafts = drafts_of given items further statement denotes in
-    let drafted =
-    items_left items deck from end new_builder drafts.builder
-    (record { middle = from; builder_stands = empty; items_stand = are_prefix }) drafts.items_make in
-    subst (StatementStands deck from end) (sym drafts.statement_is) (record {
-      rise = drafted.rise;
-      spelled = record { tests = drafted.tests; operations = drafted.operations };
+    let builders = builders_of given items further statement denotes in
+    let kept_builder =
+    items_left items deck from end new_builder builders.builder
+    (record { middle = from; builder_holds = empty; items_fit = are_prefix }) builders.items_make in
+    subst (StatementStands deck from end) (sym builders.statement_is) (record {
+      rise = kept_builder.rise;
+      spelled = record { tests = kept_builder.tests; operations = kept_builder.operations };
     })
 
 whats_placed : (card : ℕ) (items : List Item) →
@@ -359,7 +359,7 @@ body_first deck from end body items is_prefix' are_prefix =
     ap (λ (is : List Item). is ++ whats items) (sym (whats_placed body.card own))
     ∙ sym (map-append (λ (i : PlacedItem). i.what) (placed_items body) items) in
     subst (λ (is : List Item). ItemsArePrefix deck from is end) same
-    (items_stand-append deck from (end_of body) end own (whats items)
+    (items_fit-append deck from (end_of body) end own (whats items)
     (body_items deck from body is_prefix') are_prefix)
 
 -- what cards say: the items that continue the statement before are first, and then the statements
@@ -381,7 +381,7 @@ begun_rise : (deck : List ℕ) (from : ℕ) (given : Option PlacedLabel) (body :
     × All (AreSpelled deck) (statement ∷ statements)
 begun_rise deck from given body cards further statement statements is_prefix' denotes following =
     let one =
-    statement_stands deck from following.middle given (placed_items body ++ continued_items cards)
+    statement_holds deck from following.middle given (placed_items body ++ continued_items cards)
     further statement denotes
     (body_first deck from following.middle body (continued_items cards) is_prefix' following.items) in (
       rise_append from following.middle (length deck) (spans_of statement) (all_spans statements)
@@ -431,11 +431,11 @@ cards_rise (labelled columns body ∷ cards) deck from (statement ∷ statements
     record { middle = from; items = omega arith; rise = all.0; spelled = all.1 }
 cards_rise (unknown number ∷ cards) deck from statements are_prefix denote = absurd denote
 
-pub groups_stand_at_spans : GroupsAreAtSpans
-groups_stand_at_spans deck statements reads =
-    (cards_rise (cards_of deck) deck 0 statements (deck_stands deck) reads.cards).spelled
+pub groups_are_at_spans : GroupsAreAtSpans
+groups_are_at_spans deck statements reads =
+    (cards_rise (cards_of deck) deck 0 statements (deck_holds deck) reads.cards).spelled
 
 pub spans_rise : SpansRise
 spans_rise deck statements reads =
-    let said = cards_rise (cards_of deck) deck 0 statements (deck_stands deck) reads.cards in
-    rise_sooner 0 said.middle (all_spans statements) (length deck) (omega arith) said.rise
+    let denoted = cards_rise (cards_of deck) deck 0 statements (deck_holds deck) reads.cards in
+    rise_sooner 0 denoted.middle (all_spans statements) (length deck) (omega arith) denoted.rise

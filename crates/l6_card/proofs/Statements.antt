@@ -1,4 +1,4 @@
--- What cards say is what taking their pieces comes to.
+-- What cards denote is what is made by taking their pieces.
 use Rattle.std.proofs.Common.{◌≡◌, ℕ, ◌+◌, ◌<◌, ◌≤◌, List, [], ◌∷◌, ◌++◌, length, true, false, Bool, ltb, Option, Some, None, Ok, Err, refl, sym, ap, ◌∙◌, arith, length-append, append_assoc}
 use Rattle.std.proofs.lemmas.Bool.{ltb-true}
 use Rattle.l6_card.specs.declared.cards.PlacedLabel.{PlacedLabel}
@@ -12,7 +12,7 @@ use Rattle.l6_card.specs.Pieces.{begins, label, items_on, pieces_of_cards}
 use Rattle.l6_card.specs.inner.Pass.{Stage, first_stage, stage_if, after_pieces}
 use Rattle.l6_card.specs.ReadsAs.{placed_items, continued_items, continuations, DenotesFrom, CardsDenote}
 use Rattle.l6_card.specs.Fault.{and_then}
-use Rattle.l6_card.proofs.Drafting.{denotes_of}
+use Rattle.l6_card.proofs.Building.{denotes_of}
 use Rattle.l6_card.proofs.Steps.{opened, went_if, went_labelled, Taken, items_taken, builder_of-append}
 
 -- what cards say that were taken within a statement: its items, and the statements after it
@@ -38,7 +38,7 @@ record Begun (given : Option PlacedLabel) (body : Body) (cards : List Card)
   pub all : final.statements ≡ over ++ statement ∷ statements
   pub fits : length over + 1 + length statements ≤ most_deck_statements
 
-begun_said : (given : Option PlacedLabel) (body : Body) (cards : List Card)
+begun_denoted : (given : Option PlacedLabel) (body : Body) (cards : List Card)
     (over : List DeckStatementParts) (final : Stage) →
     length over < most_deck_statements →
     (taken : Taken (items_of body.offset body.columns) body.card
@@ -46,26 +46,26 @@ begun_said : (given : Option PlacedLabel) (body : Body) (cards : List Card)
     (pieces_of_cards cards)) →
     OpenSaid cards (opened over given taken.builder body.card 0) final →
     Begun given body cards over final
-begun_said given body cards over final room taken said =
+begun_denoted given body cards over final room taken denoted =
     record {
-      statement = statement_from given said.builder;
+      statement = statement_from given denoted.builder;
       denotes =
           denotes_of given (placed_items body ++ continued_items cards) (continuations cards)
-          (statement_from given said.builder)
+          (statement_from given denoted.builder)
           (record {
-            builder = said.builder;
+            builder = denoted.builder;
             items_make =
                 builder_of-append (placed_items body) (continued_items cards)
                 new_builder taken.builder taken.made
-                ∙ said.made;
-            whole = said.whole;
+                ∙ denoted.made;
+            whole = denoted.whole;
             statement_is = refl;
-            few = omega (arith, said.few (omega arith));
+            few = omega (arith, denoted.few (omega arith));
           });
-      statements = said.statements;
-      denote = said.denote;
-      all = said.all;
-      fits = said.fits (omega arith);
+      statements = denoted.statements;
+      denote = denoted.denote;
+      all = denoted.all;
+      fits = denoted.fits (omega arith);
     }
 
 -- the cards after one that begins a statement, within the statement before
@@ -98,13 +98,13 @@ unknown_stops : (holds : Bool) (objection other : DeckFault) (known final : Stag
 unknown_stops true objection other known final taken = cc
 unknown_stops false objection other known final taken = cc
 
-pub open_said : (cards : List Card) (statements : List DeckStatementParts)
+pub open_denoted : (cards : List Card) (statements : List DeckStatementParts)
     (given : Option PlacedLabel)
     (builder : StatementBuilder) (card further : ℕ) (final : Stage) →
     after_pieces (opened statements given builder card further) (pieces_of_cards cards)
     ≡ Ok final →
     OpenSaid cards (opened statements given builder card further) final
-open_said [] statements given builder card further final taken =
+open_denoted [] statements given builder card further final taken =
     let over = statements ++ statement_from given builder ∷ [] in
     let next : Stage =
     record {
@@ -128,19 +128,19 @@ open_said [] statements given builder card further final taken =
       all = sym (ap (λ (k : Stage). k.statements) same);
       fits = λ few. omega arith;
     }
-open_said (skipped ∷ cards) statements given builder card further final taken =
-    let said = open_said cards statements given builder card further final taken in
+open_denoted (skipped ∷ cards) statements given builder card further final taken =
+    let denoted = open_denoted cards statements given builder card further final taken in
     record {
-      builder = said.builder;
-      made = said.made;
-      whole = said.whole;
-      few = said.few;
-      statements = said.statements;
-      denote = said.denote;
-      all = said.all;
-      fits = said.fits;
+      builder = denoted.builder;
+      made = denoted.made;
+      whole = denoted.whole;
+      few = denoted.few;
+      statements = denoted.statements;
+      denote = denoted.denote;
+      all = denoted.all;
+      fits = denoted.fits;
     }
-open_said (continued body ∷ cards) statements given builder card further final taken =
+open_denoted (continued body ∷ cards) statements given builder card further final taken =
     let rest = pieces_of_cards cards in
     let went = went_if (ltb further most_continuations) (limit body.card)
     (opened statements given builder body.card (further + 1))
@@ -149,23 +149,23 @@ open_said (continued body ∷ cards) statements given builder card further final
     items_taken (items_of body.offset body.columns) body.card
     (opened statements given builder body.card (further + 1))
     final rest went.rest in
-    let said =
-    open_said cards statements given items.builder body.card
+    let denoted =
+    open_denoted cards statements given items.builder body.card
     (further + 1) final items.rest_goes in
     let room = ltb-true further most_continuations went.sound in
     record {
-      builder = said.builder;
+      builder = denoted.builder;
       made = builder_of-append (placed_items body) (continued_items cards)
           builder items.builder items.made
-          ∙ said.made;
-      whole = said.whole;
-      few = λ few. omega (arith, said.few (omega arith));
-      statements = said.statements;
-      denote = said.denote;
-      all = said.all;
-      fits = said.fits;
+          ∙ denoted.made;
+      whole = denoted.whole;
+      few = λ few. omega (arith, denoted.few (omega arith));
+      statements = denoted.statements;
+      denote = denoted.denote;
+      all = denoted.all;
+      fits = denoted.fits;
     }
-open_said (plain body ∷ cards) statements given builder card further final taken =
+open_denoted (plain body ∷ cards) statements given builder card further final taken =
     let over = statements ++ statement_from given builder ∷ [] in
     let closed : Stage =
     record {
@@ -188,14 +188,14 @@ open_said (plain body ∷ cards) statements given builder card further final tak
     items_taken (items_of body.offset body.columns) body.card
     (opened over None new_builder body.card 0)
     final rest began.rest in
-    let said = open_said cards over None items.builder body.card 0 final items.rest_goes in
+    let denoted = open_denoted cards over None items.builder body.card 0 final items.rest_goes in
     let begun =
-    begun_said None body cards over final (ltb-true (length over) most_deck_statements began.sound)
-    items said in
+    begun_denoted None body cards over final (ltb-true (length over) most_deck_statements began.sound)
+    items denoted in
     open_begun (plain body ∷ cards) statements given builder card further final ended.sound
     (begun.statement ∷ begun.statements) (begun.denotes, begun.denote) begun.all
     (omega (arith, begun.fits)) refl refl
-open_said (labelled columns body ∷ cards) statements given builder card further final taken =
+open_denoted (labelled columns body ∷ cards) statements given builder card further final taken =
     let over = statements ++ statement_from given builder ∷ [] in
     let closed : Stage =
     record {
@@ -223,17 +223,17 @@ open_said (labelled columns body ∷ cards) statements given builder card furthe
     items_taken (items_of body.offset body.columns) body.card
     (opened over (Some found.given) new_builder body.card 0)
     final rest found.rest in
-    let said =
-    open_said cards over
+    let denoted =
+    open_denoted cards over
     (Some found.given) items.builder body.card 0 final items.rest_goes in
     let begun =
-    begun_said (Some found.given) body cards over final
-    (ltb-true (length over) most_deck_statements began.sound) items said in
+    begun_denoted (Some found.given) body cards over final
+    (ltb-true (length over) most_deck_statements began.sound) items denoted in
     open_begun (labelled columns body ∷ cards)
     statements given builder card further final ended.sound
     (begun.statement ∷ begun.statements) ((found.given, found.is_found, begun.denotes), begun.denote)
     begun.all (omega (arith, begun.fits)) refl refl
-open_said (unknown number ∷ cards) statements given builder card further final taken =
+open_denoted (unknown number ∷ cards) statements given builder card further final taken =
     absurd (unknown_stops (is_whole builder) (form card) (form number) _ final taken)
 
 -- what cards say that were taken from the start
@@ -244,9 +244,9 @@ pub record CardsSaid (cards : List Card) (final : Stage) : Type 0 where
   pub all : final.statements ≡ statements
   pub fits : length statements ≤ most_deck_statements
 
-pub cards_said : (cards : List Card) (final : Stage) →
+pub cards_denoted : (cards : List Card) (final : Stage) →
     after_pieces first_stage (pieces_of_cards cards) ≡ Ok final → CardsSaid cards final
-cards_said [] final taken =
+cards_denoted [] final taken =
     let same : first_stage ≡ final = cc in
     record {
       statements = [];
@@ -256,24 +256,24 @@ cards_said [] final taken =
           sym (ap (λ (k : Stage). k.statements) same);
       fits = omega arith;
     }
-cards_said (skipped ∷ cards) final taken =
-    let said = cards_said cards final taken in
+cards_denoted (skipped ∷ cards) final taken =
+    let denoted = cards_denoted cards final taken in
     record {
-      statements = said.statements;
-      denote = said.denote;
-      begins = said.begins;
+      statements = denoted.statements;
+      denote = denoted.denote;
+      begins = denoted.begins;
       all =
-          said.all;
-      fits = said.fits;
+          denoted.all;
+      fits = denoted.fits;
     }
-cards_said (continued body ∷ cards) final taken = absurd (cc)
-cards_said (plain body ∷ cards) final taken =
+cards_denoted (continued body ∷ cards) final taken = absurd (cc)
+cards_denoted (plain body ∷ cards) final taken =
     let rest = pieces_of_cards cards in
     let items =
     items_taken (items_of body.offset body.columns) body.card
     (opened [] None new_builder body.card 0) final rest taken in
-    let said = open_said cards [] None items.builder body.card 0 final items.rest_goes in
-    let begun = begun_said None body cards [] final (omega arith) items said in
+    let denoted = open_denoted cards [] None items.builder body.card 0 final items.rest_goes in
+    let begun = begun_denoted None body cards [] final (omega arith) items denoted in
     record {
       statements = begun.statement ∷ begun.statements;
       denote = (begun.denotes, begun.denote);
@@ -281,7 +281,7 @@ cards_said (plain body ∷ cards) final taken =
       all = begun.all;
       fits = omega (arith, begun.fits);
     }
-cards_said (labelled columns body ∷ cards) final taken =
+cards_denoted (labelled columns body ∷ cards) final taken =
     let rest = pieces_of_cards cards in
     let found = went_labelled body.card (label_on body.card columns)
     (opened [] None new_builder body.card 0)
@@ -290,9 +290,9 @@ cards_said (labelled columns body ∷ cards) final taken =
     items_taken (items_of body.offset body.columns) body.card
     (opened [] (Some found.given) new_builder body.card 0)
     final rest found.rest in
-    let said =
-    open_said cards [] (Some found.given) items.builder body.card 0 final items.rest_goes in
-    let begun = begun_said (Some found.given) body cards [] final (omega arith) items said in
+    let denoted =
+    open_denoted cards [] (Some found.given) items.builder body.card 0 final items.rest_goes in
+    let begun = begun_denoted (Some found.given) body cards [] final (omega arith) items denoted in
     record {
       statements = begun.statement ∷ begun.statements;
       denote = ((found.given, found.is_found, begun.denotes), begun.denote);
@@ -300,4 +300,4 @@ cards_said (labelled columns body ∷ cards) final taken =
       all = begun.all;
       fits = omega (arith, begun.fits);
     }
-cards_said (unknown number ∷ cards) final taken = absurd (cc)
+cards_denoted (unknown number ∷ cards) final taken = absurd (cc)

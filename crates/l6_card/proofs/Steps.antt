@@ -6,7 +6,7 @@ use Rattle.l6_card.specs.DeckFault.{DeckFault}
 use Rattle.l6_card.specs.Items.{Item, PlacedItem}
 use Rattle.l6_card.specs.inner.StatementBuilder.{StatementBuilder, with_item, builder_then, builder_of}
 use Rattle.l6_card.specs.Pieces.{Piece, item}
-use Rattle.l6_card.specs.inner.Pass.{Stage, stage_if, when_drafted, when_labelled, after_pieces}
+use Rattle.l6_card.specs.inner.Pass.{Stage, stage_if, when_built, when_labelled, after_pieces}
 use Rattle.l6_card.specs.Fault.{and_then}
 
 -- what is known within a statement
@@ -41,13 +41,13 @@ pub record WentDrafted (made : Result StatementBuilder DeckFault) (known : Stage
   pub is_made : made ≡ Ok builder
   pub rest : step (record known { builder = builder }) ≡ Ok final
 
-went_drafted : (made : Result StatementBuilder DeckFault) (known : Stage) (step : Stage →
+went_built : (made : Result StatementBuilder DeckFault) (known : Stage) (step : Stage →
     Result Stage DeckFault)
     (final : Stage) →
-    and_then (when_drafted made known) step ≡ Ok final → WentDrafted made known step final
-went_drafted (Ok builder) known step final went =
+    and_then (when_built made known) step ≡ Ok final → WentDrafted made known step final
+went_built (Ok builder) known step final went =
     record { builder = builder; is_made = refl; rest = went }
-went_drafted (Err objection) known step final went = absurd (cc)
+went_built (Err objection) known step final went = absurd (cc)
 
 -- a label that was found, and a pass that went on with it
 pub record WentLabelled (found : Option PlacedLabel) (known : Stage) (step : Stage →
@@ -81,7 +81,7 @@ pub items_taken : (items : List Item) (number : ℕ) (known final : Stage) (rest
 items_taken [] number known final rest taken =
     record { builder = known.builder; made = refl; rest_goes = taken }
 items_taken (i ∷ items) number known final rest taken =
-    let first = went_drafted (with_item number known.builder i) known
+    let first = went_built (with_item number known.builder i) known
     (λ next. after_pieces next (map (item number) items ++ rest)) final taken in
     let others =
     items_taken items number (record known { builder = first.builder }) final rest first.rest in
@@ -151,7 +151,7 @@ items_go (i ∷ items) more number known builder rest makes =
       middle = others.middle;
       makes = others.makes;
       goes = ap
-          (λ r. and_then (when_drafted r known)
+          (λ r. and_then (when_built r known)
           (λ next. after_pieces next (map (item number) items ++ rest))) first.is_made
           ∙ others.goes;
     }

@@ -12,7 +12,7 @@ use Rattle.l6_card.specs.Pieces.{begins, label, items_on, pieces_of_cards}
 use Rattle.l6_card.specs.inner.Pass.{Stage, first_stage, stage_if, when_labelled, after_pieces}
 use Rattle.l6_card.specs.ReadsAs.{continued_items, continuations, Denotes, CardsDenote}
 use Rattle.l6_card.specs.Fault.{and_then}
-use Rattle.l6_card.proofs.Drafting.{drafts_of}
+use Rattle.l6_card.proofs.Building.{builders_of}
 use Rattle.l6_card.proofs.Steps.{opened, items_go}
 
 -- a pass that ends well
@@ -98,7 +98,7 @@ open_goes (plain body ∷ cards) statements given builder card further made
     let count = length-append statements (statement_from given builder ∷ []) in
     let rest = pieces_of_cards cards in
     let known = opened over None new_builder body.card 0 in
-    let denotes = drafts_of None _ _ statement denote.0 in
+    let denotes = builders_of None _ _ statement denote.0 in
     let items =
     items_go (items_of body.offset body.columns) (continued_items cards) body.card known
     denotes.builder rest denotes.items_make in
@@ -129,7 +129,7 @@ open_goes (labelled columns body ∷ cards) statements given builder card furthe
     let count = length-append statements (statement_from given builder ∷ []) in
     let rest = pieces_of_cards cards in
     let own = denote.0.0 in
-    let denotes = drafts_of (Some own) _ _ statement denote.0.2 in
+    let denotes = builders_of (Some own) _ _ statement denote.0.2 in
     let begun = opened over None new_builder body.card 0 in
     let known = opened over (Some own) new_builder body.card 0 in
     let items =
@@ -162,7 +162,7 @@ cards_go (plain body ∷ cards) [] none denote fits = absurd denote
 cards_go (plain body ∷ cards) (statement ∷ statements) none denote fits =
     let rest = pieces_of_cards cards in
     let known = opened [] None new_builder body.card 0 in
-    let denotes = drafts_of None _ _ statement denote.0 in
+    let denotes = builders_of None _ _ statement denote.0 in
     let items =
     items_go (items_of body.offset body.columns) (continued_items cards) body.card known
     denotes.builder rest denotes.items_make in
@@ -174,7 +174,7 @@ cards_go (labelled columns body ∷ cards) [] none denote fits = absurd denote
 cards_go (labelled columns body ∷ cards) (statement ∷ statements) none denote fits =
     let rest = pieces_of_cards cards in
     let own = denote.0.0 in
-    let denotes = drafts_of (Some own) _ _ statement denote.0.2 in
+    let denotes = builders_of (Some own) _ _ statement denote.0.2 in
     let begun = opened [] None new_builder body.card 0 in
     let known = opened [] (Some own) new_builder body.card 0 in
     let items =
@@ -192,8 +192,8 @@ same_statement : (given : Option PlacedLabel) (items : List PlacedItem) (further
     (one other : DeckStatementParts) →
     Denotes given items further one → Denotes given items further other → one ≡ other
 same_statement given items further one other denotes denotes' =
-    let first = drafts_of given items further one denotes in
-    let second = drafts_of given items further other denotes' in
+    let first = builders_of given items further one denotes in
+    let second = builders_of given items further other denotes' in
     let same : first.builder ≡ second.builder = cc (first.items_make, second.items_make) in
     first.statement_is ∙ ap (statement_from given) same ∙ sym second.statement_is
 
@@ -217,11 +217,11 @@ same_statements (labelled columns body ∷ cards) [] other denote denote' = absu
 same_statements (labelled columns body ∷ cards) (x ∷ xs) [] denote denote' = absurd denote'
 same_statements (labelled columns body ∷ cards) (x ∷ xs) (y ∷ ys) denote denote' =
     let own : denote.0.0 ≡ denote'.0.0 = cc (denote.0.1, denote'.0.1) in
-    let first = drafts_of (Some denote.0.0) _ _ x denote.0.2 in
-    let second = drafts_of (Some denote'.0.0) _ _ y denote'.0.2 in
-    let drafts : first.builder ≡ second.builder = cc (first.items_make, second.items_make) in
+    let first = builders_of (Some denote.0.0) _ _ x denote.0.2 in
+    let second = builders_of (Some denote'.0.0) _ _ y denote'.0.2 in
+    let builders : first.builder ≡ second.builder = cc (first.items_make, second.items_make) in
     let head : x ≡ y = first.statement_is
-    ∙ ap (statement_from (Some denote.0.0)) drafts
+    ∙ ap (statement_from (Some denote.0.0)) builders
     ∙ ap (λ (l : PlacedLabel). statement_from (Some l) second.builder) own
     ∙ sym second.statement_is in
     let tail = same_statements cards xs ys denote.1 denote'.1 in

@@ -43,17 +43,17 @@ pub data Card : Type 0 where
 -- that continues one has `+`
 abbrev pub card_of : ℕ → ℕ → List ℕ → Card
 card_of number offset [] = skipped
-card_of number offset (mark ∷ columns) =
-    if mark == byte "*" || list_all is_blank (mark ∷ columns) then skipped
-    else if is_blank mark then
+card_of number offset (column ∷ columns) =
+    if column == byte "*" || list_all is_blank (column ∷ columns) then skipped
+    else if is_blank column then
     plain (record { card = number; offset = offset + 1; columns = columns })
-    else if mark == byte "+" then
+    else if column == byte "+" then
     continued (record { card = number; offset = offset + 1; columns = columns })
-    else if is_letter mark then
-    labelled (run_of (mark ∷ columns)) (record {
+    else if is_letter column then
+    labelled (run_of (column ∷ columns)) (record {
       card = number;
-      offset = offset + length (run_of (mark ∷ columns));
-      columns = following_run (mark ∷ columns);
+      offset = offset + length (run_of (column ∷ columns));
+      columns = following_run (column ∷ columns);
     })
     else unknown number
 

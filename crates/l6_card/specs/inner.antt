@@ -2,5 +2,5 @@ pub mod Kinds
 pub mod First
 pub mod StatementBuilder
 pub mod Pass
-pub mod Drafted
+pub mod KeptBuilder
 pub mod Reader

@@ -9,7 +9,7 @@ ghost use Rattle.l6_card.specs.inner.StatementBuilder as spec;
 ghost use Rattle.l6_card.specs.Items.{group, word};
 ghost use Rattle.l6_card.specs.Statement.{placed_exit};
 ghost use Rattle.l6_card.specs.inner.First.{letters_of};
-ghost use Rattle.l6_card.specs.inner.Drafted.{phased, drafted, drafted_parts, Takes};
+ghost use Rattle.l6_card.specs.inner.KeptBuilder.{phase_of_kept, kept_builder, statement_of_parts, Takes};
 
 use crate::cards::{Parts, Placed, PlacedLabel};
 use crate::fault::CardFault;
@@ -52,7 +52,7 @@ pub(crate) struct StatementBuilder {
 impl StatementBuilder {
     /// The builder of a statement without items.
     pub(crate) fn new(alloc: Global) -> Self
-        ensures { drafted result ≡ spec.new_builder }
+        ensures { kept_builder result ≡ spec.new_builder }
     {
         StatementBuilder {
             phase: Phase::New,
@@ -66,8 +66,8 @@ impl StatementBuilder {
     /// A copy of the builder, in lists that have just room for its items. This builder then has no
     /// items, and keeps its room for the next statement.
     pub(crate) fn take(&mut self, alloc: Global) -> Result<Self, AllocError>
-        ensures taken { IfOk result (λ builder. drafted builder ≡ drafted self.old) }
-        ensures left { OnOk result (drafted self.new ≡ spec.new_builder) }
+        ensures taken { IfOk result (λ builder. kept_builder builder ≡ kept_builder self.old) }
+        ensures left { OnOk result (kept_builder self.new ≡ spec.new_builder) }
     {
         let builder = StatementBuilder {
             phase: self.phase,
@@ -83,7 +83,7 @@ impl StatementBuilder {
 
     /// Whether the items are a whole statement.
     pub(crate) fn is_whole(&self) -> bool
-        ensures { result ≡ spec.is_whole (drafted self.now) }
+        ensures { result ≡ spec.is_whole (kept_builder self.now) }
     {
         match self.phase {
             Phase::Tested => false,
@@ -93,7 +93,7 @@ impl StatementBuilder {
 
     /// The parts of the statement with this label.
     pub(crate) fn into_parts(self, label: Option<PlacedLabel>) -> Parts
-        ensures { drafted_parts result ≡ spec.statement_from label (drafted self) }
+        ensures { statement_of_parts result ≡ spec.statement_from label (kept_builder self) }
     {
         let StatementBuilder {
             phase: _,
@@ -120,8 +120,8 @@ impl StatementBuilder {
         columns: &[u8],
     ) -> Result<(), CardFault>
         requires { offset + length columns.now + 2 ≤ most_deck_bytes }
-        ensures { let made = spec.with_item card (drafted self.old) (group offset columns.now) in
-            Takes result (drafted self.new) made }
+        ensures { let made = spec.with_item card (kept_builder self.old) (group offset columns.now) in
+            Takes result (kept_builder self.new) made }
     {
         // A deck is shorter than a `u32` can say.
         let span = Span {
@@ -142,8 +142,8 @@ impl StatementBuilder {
     /// The operation that a group with these columns spells, if it is one.
     fn take_operation(&mut self, card: u32, span: Span, columns: &[u8]) -> Result<(), CardFault>
         ensures { let operation = operation_of columns.now in
-            let made = spec.with_operation card span (drafted self.old) operation in
-            Takes result (drafted self.new) made }
+            let made = spec.with_operation card span (kept_builder self.old) operation in
+            Takes result (kept_builder self.new) made }
     {
         let reading = operation_of(columns).ok_or(CardFault::Form(card))?;
         if self.operations.len() >= MAX_OPERATIONS {
@@ -169,8 +169,8 @@ impl StatementBuilder {
         columns: &[u8],
     ) -> Result<(), CardFault>
         ensures { let test = test_of columns.now in
-            let made = spec.with_test card span (drafted self.old) condition test in
-            Takes result (drafted self.new) made }
+            let made = spec.with_test card span (kept_builder self.old) condition test in
+            Takes result (kept_builder self.new) made }
     {
         let reading = test_of(columns).ok_or(CardFault::Form(card))?;
         if self.tests.len() >= MAX_TESTS {
@@ -192,7 +192,7 @@ impl StatementBuilder {
     /// A word on this card, of the letters of these columns.
     pub(crate) fn take_word(&mut self, card: u32, columns: &[u8]) -> Result<(), CardFault>
         ensures { let item = word (letters_of columns.now) in
-            Takes result (drafted self.new) (spec.with_item card (drafted self.old) item) }
+            Takes result (kept_builder self.new) (spec.with_item card (kept_builder self.old) item) }
     {
         let characters: Option<Spelling<'_, MAX_WORD>> = spelled(columns);
         match characters {
@@ -203,8 +203,8 @@ impl StatementBuilder {
 
     /// A word of these characters.
     fn take_characters(&mut self, card: u32, characters: &[u8]) -> Result<(), CardFault>
-        ensures { let made = spec.with_characters card (drafted self.old) characters.now in
-            Takes result (drafted self.new) made }
+        ensures { let made = spec.with_characters card (kept_builder self.old) characters.now in
+            Takes result (kept_builder self.new) made }
     {
         match self.phase {
             Phase::New => self.take_first(card, characters),
@@ -216,8 +216,8 @@ impl StatementBuilder {
 
     /// A first word of these characters.
     fn take_first(&mut self, card: u32, characters: &[u8]) -> Result<(), CardFault>
-        ensures { let made = spec.with_first card (drafted self.old) characters.now in
-            Takes result (drafted self.new) made }
+        ensures { let made = spec.with_first card (kept_builder self.old) characters.now in
+            Takes result (kept_builder self.new) made }
     {
         let phase = first_phase(characters);
         self.take_exit(card, phase, characters)
@@ -225,8 +225,8 @@ impl StatementBuilder {
 
     /// A word that must begin with THEN.
     fn take_then(&mut self, card: u32, characters: &[u8]) -> Result<(), CardFault>
-        ensures { let made = spec.with_then card (drafted self.old) characters.now in
-            Takes result (drafted self.new) made }
+        ensures { let made = spec.with_then card (kept_builder self.old) characters.now in
+            Takes result (kept_builder self.new) made }
     {
         match after_then(characters) {
             None => Err(CardFault::Form(card)),
@@ -242,8 +242,8 @@ impl StatementBuilder {
 
     /// The exit that characters spell, and the phase that it leads to.
     fn take_exit(&mut self, card: u32, phase: Phase, characters: &[u8]) -> Result<(), CardFault>
-        ensures { let made = spec.with_exit card (drafted self.old) (phased phase) characters.now in
-            Takes result (drafted self.new) made }
+        ensures { let made = spec.with_exit card (kept_builder self.old) (phase_of_kept phase) characters.now in
+            Takes result (kept_builder self.new) made }
     {
         let exit = exit_from(characters).ok_or(CardFault::Form(card))?;
         self.exit = placed_exit(card, exit);
@@ -265,7 +265,7 @@ fn take_all<T: Drop>(alloc: Global, list: &mut Vec<T>) -> Result<Vec<T>, AllocEr
 
 /// The phase after a first word of these characters, which may be a condition.
 fn first_phase(characters: &[u8]) -> Phase
-    ensures { phased result ≡ spec.phase_of (condition_from characters.now) }
+    ensures { phase_of_kept result ≡ spec.phase_of (condition_from characters.now) }
 {
     match condition_from(characters) {
         Some(condition) => Phase::Worded(condition),

@@ -65,19 +65,19 @@ pub(crate) fn kind_of(card: u32, offset: usize, columns: &[u8]) -> Kind<'_>
 {
     match columns.split_first() {
         None => Kind::Skipped,
-        Some((mark, following)) => {
+        Some((column, following)) => {
             let body = Body {
                 card,
                 offset: offset + 1,
                 columns: following,
             };
-            if *mark == b'*' || are_blank(columns) {
+            if *column == b'*' || are_blank(columns) {
                 Kind::Skipped
-            } else if is_blank(*mark) {
+            } else if is_blank(*column) {
                 Kind::Plain(body)
-            } else if *mark == b'+' {
+            } else if *column == b'+' {
                 Kind::Continued(body)
-            } else if is_letter(*mark) {
+            } else if is_letter(*column) {
                 let (label, following) = split_label(columns);
                 let body = Body {
                     card,

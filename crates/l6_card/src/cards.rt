@@ -83,6 +83,34 @@ impl DeckStatement {
         &self.parts.label
     }
 
+    /// The condition.
+    pub fn condition(&self) -> Cond
+        ensures { result ≡ self.now.condition }
+    {
+        self.parts.condition
+    }
+
+    /// The tests of the condition, in order.
+    pub fn tests(&self) -> &[Placed<Test>]
+        ensures { result.now ≡ self.now.tests }
+    {
+        self.parts.tests.as_slice()
+    }
+
+    /// The operations, in order.
+    pub fn operations(&self) -> &[Placed<Op<Label>>]
+        ensures { result.now ≡ self.now.operations }
+    {
+        self.parts.operations.as_slice()
+    }
+
+    /// The exit.
+    pub fn exit(&self) -> &Exit<PlacedLabel>
+        ensures { result.now ≡ self.now.exit }
+    {
+        &self.parts.exit
+    }
+
     /// The parts. The statement is used up.
     pub fn into_parts(self) -> Parts
         ensures label { result.label ≡ self.label }

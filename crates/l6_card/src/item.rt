@@ -35,8 +35,8 @@ fn first_of(body: &[u8]) -> First<'_>
 {
     match body.split_first() {
         None => First::End,
-        Some((mark, inside)) => {
-            if *mark == b'(' {
+        Some((column, inside)) => {
+            if *column == b'(' {
                 match first_group(inside) {
                     Some((columns, following)) => First::Group(columns, following),
                     None => First::Other,
@@ -56,8 +56,8 @@ fn first_group(inside: &[u8]) -> Option<(&[u8], &[u8])>
     ensures following { IfSome result (λ parts. length parts.1.now < length inside.now) }
 {
     let (columns, rest) = split_at_parenthesis(inside);
-    let (mark, following) = rest.split_first()?;
-    if *mark == b')' {
+    let (column, following) = rest.split_first()?;
+    if *column == b')' {
         Some((columns, following))
     } else {
         None

@@ -22,8 +22,8 @@ pub fn groups_have_their_spans()
 
 /// Items are a prefix exactly if further items after them can make them a whole statement.
 pub fn prefixes_begin_statements()
-    ensures stand_only_if { PrefixesBecomeWhole }
-    ensures stand_if { BeginningsArePrefixes }
+    ensures become_whole { PrefixesBecomeWhole }
+    ensures are_prefixes { BeginningsArePrefixes }
 {}
 
 /// Items are a whole statement within its limits exactly if they denote a statement that is fit,

@@ -18,6 +18,7 @@ pub use card::columns_of;
 pub use cards::{Cards, DeckStatement, Parts, Placed, PlacedLabel};
 pub use deck::read_deck;
 pub use fault::CardFault;
+pub use l6_group::Label;
 pub use laws::{
     decks_have_their_limits, groups_have_their_spans, items_are_groups_and_words,
     prefixes_begin_statements, reading_is_settled, whole_items_denote_statements,

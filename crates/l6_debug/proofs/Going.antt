@@ -6,14 +6,13 @@ use Rattle.std.specs.Io.KnownBytes.{Appends}
 use Rattle.std.proofs.KnownBytes.{Appends-trans}
 use Rattle.std.proofs.lemmas.List.{append-nil, take-append-le}
 use Rattle.std.proofs.Math.Seq.{take-append-add}
-use Rattle.l6_run.specs.Numerals.{most_counted}
-use Rattle.l6_run.specs.declared.fault.RunFault.{RunFault}
-use Rattle.l6_run.specs.declared.fault.RunFault.TheVariants.{TooLong, Asm, Load, Read, Write, NoMemory}
 use Rattle.l6_word.specs.Lines.{lines_of}
 use Rattle.l6_store.specs.Rule.{Rule}
 use Rattle.l6_steps.specs.State.{RunContext}
+use Rattle.l6_device.specs.Numerals.{most_counted}
+use Rattle.l6_device.specs.declared.fault.RunFault.{RunFault}
+use Rattle.l6_device.specs.declared.fault.RunFault.TheVariants.{TooLong, Asm, Load, Read, Write, NoMemory}
 use Rattle.l6_debug.specs.declared.command.Reading.{Reading}
-use Rattle.l6_debug.specs.declared.command.Reading.TheVariants.{Quit}
 use Rattle.l6_debug.specs.Command.{reading_of}
 use Rattle.l6_debug.specs.DebuggerState.{DebuggerState}
 use Rattle.l6_debug.specs.Transcript.{answered, answers_from, is_quit, moved}
@@ -35,14 +34,6 @@ length-both (first ∷ one) other = omega (arith, length-both one other)
 pub nothing-out : (taken : Option (List ℕ)) → Appends taken taken []
 nothing-out None = tt
 nothing-out (Some bytes) = sym (append-nil bytes)
-
-pub gone-none : (all : List (List ℕ)) (taken : Option (List ℕ)) → HaveGoneOut all all taken taken 0
-gone-none all taken = record {
-  gone = [];
-  are = refl;
-  out = nothing-out taken;
-  counted = refl;
-}
 
 -- and so no answer
 pub no-answer : (all : List (List ℕ)) (taken : Option (List ℕ)) → TakesAnswers all taken taken
@@ -73,11 +64,6 @@ gone-more all now rest old mid new sent sent' before out counted =
 all-gone : (one : List (List ℕ)) → one ++ [] ≡ one
 all-gone [] = refl
 all-gone (first ∷ one) = ap (λ rest. first ∷ rest) (all-gone one)
-
-pub gone-all : (all : List (List ℕ)) (old new : Option (List ℕ)) (sent : ℕ) →
-    HaveGoneOut all [] old new sent → Appends old new (concat all)
-gone-all all old new sent gone =
-    subst (Appends old new) (ap concat (sym (gone.are ∙ all-gone gone.gone))) gone.out
 
 -- a fault while answers go out is one of all answers
 pub gone-fault : (T U : Type 0) (all now rest : List (List ℕ)) (old mid new : Option (List ℕ))
@@ -133,15 +119,6 @@ gone-fault T U all now rest old mid new sent NoMemory gone out =
           (Appends-trans old mid new (concat gone.gone) (concat (take out.count now)) gone.out
           out.out);
     }
-
--- a line that quits has no answer, and none follows
-pub from-quit : (rule : Rule) (context : RunContext) (debugger_state : DebuggerState) (line : List ℕ)
-    (lines : List (List ℕ)) → reading_of line ≡ Quit →
-    answers_from rule context debugger_state (line ∷ lines) ≡ []
-from-quit rule context debugger_state line lines is =
-    ap (λ r. answered rule context debugger_state r
-    ++ (if is_quit r then [] else answers_from rule context
-    (moved rule context debugger_state r) lines)) is
 
 -- another one has its answer, in front of those that follow
 pub from-line : (rule : Rule) (context : RunContext) (debugger_state : DebuggerState) (line : List ℕ)

@@ -34,25 +34,25 @@ last-bound rule context allowed =
 pub is-last-at : (rule : Rule) (run_state : RunState) (number : ℕ) (last : _) →
     IsAtState rule run_state number → is_last run_state.context run_state.configuration.state ≡ last →
     is_last run_state.context (state_at rule run_state.context number) ≡ last
-is-last-at rule run_state number last stands is =
-    ap (λ (s : RunState). is_last run_state.context s.configuration.state) (sym stands.is) ∙ is
+is-last-at rule run_state number last holds_there is =
+    ap (λ (s : RunState). is_last run_state.context s.configuration.state) (sym holds_there.is) ∙ is
 
 -- a last state is where it is
 pub stays-last : (rule : Rule) (run_state : RunState) (number : ℕ) → IsAtState rule run_state number →
     is_last run_state.context run_state.configuration.state ≡ true →
     number ≡ last_number rule run_state.context
-stays-last rule run_state number stands is =
+stays-last rule run_state number holds_there is =
     let least = last-least rule run_state.context number
-    (is-last-at rule run_state number true stands is) in
-    omega (arith, least, stands.within)
+    (is-last-at rule run_state number true holds_there is) in
+    omega (arith, least, holds_there.within)
 
 -- another one is before the last
 pub goes-on : (rule : Rule) (run_state : RunState) (number : ℕ) → IsAtState rule run_state number →
     is_last run_state.context run_state.configuration.state ≡ false →
     number < last_number rule run_state.context
-goes-on rule run_state number stands is =
-    not_last-below rule run_state.context number stands.within
-    (is-last-at rule run_state number false stands is)
+goes-on rule run_state number holds_there is =
+    not_last-below rule run_state.context number holds_there.within
+    (is-last-at rule run_state number false holds_there is)
 
 -- and a step leads to the next
 pub steps-on : (rule : Rule) (old new : RunState) (number : ℕ) → IsAtState rule old number →
@@ -60,17 +60,17 @@ pub steps-on : (rule : Rule) (old new : RunState) (number : ℕ) → IsAtState r
     new.configuration ≡ configuration_after rule old.context old.configuration →
     new.context ≡ old.context →
     IsAtState rule new (number + 1)
-steps-on rule old new number stands is next same =
+steps-on rule old new number holds_there is next same =
     let there : new.configuration ≡ configuration_at rule old.context (number + 1) =
-    next ∙ ap (λ (s : RunState). configuration_after rule old.context s.configuration) stands.is
+    next ∙ ap (λ (s : RunState). configuration_after rule old.context s.configuration) holds_there.is
     ∙ ap (configuration_at rule old.context) (sym (add-one number)) in
-    let below = goes-on rule old number stands is in
+    let below = goes-on rule old number holds_there is in
     record {
       is = ap (λ m. record { context = new.context; configuration = m })
           (there ∙ ap (λ w. configuration_at rule w (number + 1)) (sym same));
       within = subst (λ w. number + 1 ≤ last_number rule w) (sym same) (omega (arith, below));
       allowed = subst (λ (w : RunContext). are_allowed w.parameters.limits ≡ true) (sym same)
-          stands.allowed;
+          holds_there.allowed;
     }
 
 -- a jump that goes on or ends the run is counted, and a trap is not
@@ -111,7 +111,7 @@ counted-at rule context zero before = refl
 counted-at rule context (suc n) before =
     counted-following rule context n (before n (omega arith)) ∙ add-one n
 
--- so the number of the last state is told by its count and its ending
+-- so the number of the last state follows from its count and its ending
 pub last-counted : (rule : Rule) (context : RunContext) →
     number_of (state_at rule context (last_number rule context)) ≡ last_number rule context
 last-counted rule context =
@@ -197,11 +197,11 @@ reached rule old new goal ran false goes is =
 within-goal : (rule : Rule) (old new : RunState) (number goal ran : ℕ) →
     IsAtState rule old number → number ≤ goal → GoesTo rule old new goal ran →
     number + ran ≤ last_number rule old.context → number + ran ≤ goal
-within-goal rule old new number goal ran stands on goes within =
+within-goal rule old new number goal ran holds_there on goes within =
     elim (cases_lt number (last_number rule old.context)) as (λ _. number + ran ≤ goal) [
       | inl below ↦
           (let counted : old.configuration.state.count ≡ number =
-          ap (λ (s : RunState). s.configuration.state.count) stands.is
+          ap (λ (s : RunState). s.configuration.state.count) holds_there.is
           ∙ open-at rule old.context number below in
           let few = goes.few in
           omega (arith, counted, few, on))
@@ -211,29 +211,29 @@ within-goal rule old new number goal ran stands on goes within =
 pub goes-to : (rule : Rule) (old new : RunState) (number goal ran : ℕ) →
     IsAtState rule old number → number ≤ goal → GoesTo rule old new goal ran →
     IsAtState rule new (number + ran) × (number + ran ≡ number_to rule old.context goal)
-goes-to rule old new number goal ran stands on goes =
+goes-to rule old new number goal ran holds_there on goes =
     let context = new.context in
     let before : number_of old.configuration.state ≡ number =
-    ap (λ (s : RunState). number_of s.configuration.state) stands.is
-    ∙ number-at rule old.context number stands.within in
+    ap (λ (s : RunState). number_of s.configuration.state) holds_there.is
+    ∙ number-at rule old.context number holds_there.within in
     let there : number_of new.configuration.state ≡ number + ran =
     goes.counted ∙ ap (λ n. n + ran) before in
-    let stands_at =
+    let holds_at =
     configuration-of-number rule context new.configuration
     (is_last context new.configuration.state) goes.numbered refl in
     let same : last_number rule context ≡ last_number rule old.context =
     ap (last_number rule) goes.context in
     let last : number + ran ≤ last_number rule old.context =
-    omega (arith, there, stands_at.1, same) in
+    omega (arith, there, holds_at.1, same) in
     let short =
     reached rule old new goal ran (is_last context new.configuration.state) goes refl in
-    let past = within-goal rule old new number goal ran stands on goes last in (
+    let past = within-goal rule old new number goal ran holds_there on goes last in (
       record {
         is = ap (λ m. record { context = context; configuration = m })
-            (stands_at.0 ∙ ap (configuration_at rule context) there);
+            (holds_at.0 ∙ ap (configuration_at rule context) there);
         within = omega (arith, last, same);
         allowed = subst (λ (w : RunContext). are_allowed w.parameters.limits ≡ true) (sym goes.context)
-            stands.allowed;
+            holds_there.allowed;
       },
       omega (arith, there, same, last, short, past),
     )
@@ -242,9 +242,9 @@ goes-to rule old new number goal ran stands on goes =
 pub outputs-alike : (rule : Rule) (one other : RunState) (first second : ℕ) →
     IsAtState rule one first → IsAtState rule other second → one.context ≡ other.context →
     BeginAlike one.configuration.state.memory.output other.configuration.state.memory.output
-outputs-alike rule one other first second stands also same =
+outputs-alike rule one other first second holds_there also same =
     subst (λ (s : RunState). BeginAlike s.configuration.state.memory.output
-    other.configuration.state.memory.output) (sym stands.is)
+    other.configuration.state.memory.output) (sym holds_there.is)
     (subst (λ (s : RunState). BeginAlike (state_at rule one.context first).memory.output
     s.configuration.state.memory.output) (sym also.is)
     (subst (λ (w : RunContext). BeginAlike (state_at rule one.context first).memory.output

@@ -1,11 +1,10 @@
 -- The numbers of the states that a ring keeps.
-use Rattle.std.proofs.Common.{◌≡◌, ℕ, ◌+◌, ◌-◌, ◌<◌, ◌≤◌, true, false, List, [], ◌∷◌, ◌++◌, Some, None, length, refl, sym, ap, ◌∙◌, subst, take, drop, arith, inl, inr}
-use Rattle.std.specs.Prelude.{◌==◌, ◌||◌, max, slice_get, get_or, Option, MatchOption, Result, Ok, Err, OnOk, OnErr, is_ok, if◌then◌else◌}
-use Rattle.std.specs.List.{All, list_any}
-use Rattle.std.proofs.lemmas.Bool.{cases_lt, le-leb, lt-leb, eq-eqb, ne_eqb}
+use Rattle.std.proofs.Common.{◌≡◌, ℕ, ◌+◌, ◌-◌, ◌<◌, ◌≤◌, true, false, List, [], ◌∷◌, ◌++◌, Some, None, length, sym, ap, ◌∙◌, subst, take, drop, arith, inl, inr}
+use Rattle.std.specs.Prelude.{max, slice_get, get_or, Option, MatchOption, Result, Ok, Err, OnOk, OnErr, is_ok, if◌then◌else◌}
+use Rattle.std.specs.List.{All}
+use Rattle.std.proofs.lemmas.Bool.{cases_lt, le-leb, lt-leb}
 use Rattle.std.proofs.lemmas.List.{length-append, take_all, take_more}
 use Rattle.std.proofs.lemmas.List.Elements.{All-head}
-use Rattle.std.proofs.lemmas.List.Folds.{list_any_at, list_any_more}
 use Rattle.std.proofs.lemmas.Option.{get_or_from_slice_get, slice_get_within}
 use Rattle.circular_buffer.specs.Buffer.{Buffer, buffer, keep_last}
 use Rattle.l6_steps.specs.State.{RunContext}
@@ -97,22 +96,6 @@ found-same numbers nearest' nearest greatest' greatest there is found =
     subst (λ o. IsFoundAt numbers o greatest') (sym there)
     (subst (λ k. IsFoundAt numbers nearest k) (sym is) found)
 
--- whether one is among them
-pub held-at : (numbers : List ℕ) (index n : ℕ) → IsAt numbers index n →
-    list_any (λ kept. kept == n) numbers ≡ true
-held-at numbers index n is =
-    list_any_at (λ kept. kept == n) numbers index n (slice_get_within numbers index n is)
-    (ap (λ k. k == n) (get_or_from_slice_get numbers index n n is) ∙ eq-eqb n n refl)
-
-pub not-held-at : (numbers : List ℕ) (index k n : ℕ) → IsAt numbers index k →
-    (k ≡ n → ⊥) → list_any (λ kept. kept == n) (take index numbers) ≡ false →
-    list_any (λ kept. kept == n) (take (index + 1) numbers) ≡ false
-not-held-at numbers index k n is other before =
-    list_any_more (λ kept. kept == n) numbers index k (slice_get_within numbers index k is)
-    ∙ ap (λ b. b || (get_or numbers index k == n)) before
-    ∙ ap (λ j. j == n) (get_or_from_slice_get numbers index k k is)
-    ∙ ne_eqb k n other
-
 -- ---- a ring that is full
 -- one more takes the place of the first: it follows the others
 pub next-full : {A : Type 0} (items : List A) (new : A) (capacity : ℕ) →
@@ -181,7 +164,7 @@ may-add-none kept ring popped pushed numbered_machine first item there full some
     ∙ ap (λ (vs : List NumberedMachine). buffer vs ring.capacity)
     (back-full ring.items first ring.capacity full some front))))
 
--- what an answer tells once it is known which it is
+-- what follows from an answer once it is known which it is
 pub on-ok : {T E : Type 0} (P : Type 0) (result : Result T E) → is_ok result ≡ true →
     OnOk result P → P
 on-ok P (Ok value) is reported = reported

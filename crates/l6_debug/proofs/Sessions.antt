@@ -1,31 +1,30 @@
 -- What becomes of a session: it reports no trouble of a reader, and the states that it shows are reached.
 use Rattle.std.proofs.Common.{◌≡◌, ◌≤◌, false, inr, length, ℕ, List, Option, Result, Ok, Err, refl}
+use Rattle.l6_steps.specs.Numerals.{most_input}
+use Rattle.l6_steps.proofs.Tiled.{buddy_by_steps}
+use Rattle.l6_machine.specs.Options.{OptionValues, context_under, store_rule}
 use Rattle.l6_card.specs.Numerals.{most_deck_bytes}
 use Rattle.l6_asm.specs.Assembled.{Assembled}
 use Rattle.l6_asm.specs.Spells.{Spells}
-use Rattle.l6_steps.specs.Numerals.{most_input}
-use Rattle.l6_steps.proofs.Tiled.{buddy_by_steps}
-use Rattle.l6_run.specs.Numerals.{most_command_bytes}
-use Rattle.l6_run.specs.Prints.{context_under, store_rule}
-use Rattle.l6_run.specs.Options.{OptionValues}
-use Rattle.l6_run.specs.Patience.{reports_read, reported_by}
-use Rattle.l6_run.specs.declared.fault.Part.{Part}
-use Rattle.l6_run.specs.declared.fault.RunFault.{RunFault}
-use Rattle.l6_run.specs.declared.fault.RunFault.TheVariants.{TooLong, Asm, Load, Read, Write, NoMemory}
+use Rattle.l6_device.specs.Numerals.{most_command_bytes}
+use Rattle.l6_device.specs.Patience.{reports_read, reported_by}
+use Rattle.l6_device.specs.declared.fault.Part.{Part}
+use Rattle.l6_device.specs.declared.fault.RunFault.{RunFault}
+use Rattle.l6_device.specs.declared.fault.RunFault.TheVariants.{TooLong, Asm, Load, Read, Write, NoMemory}
 use Rattle.l6_debug.specs.Serving.{Debugs, GoOut, ServesSession}
 use Rattle.l6_debug.specs.Transcript.{answers_to}
 
-pub untold-debugger_state : {Outcome : Type 0} (options : OptionValues) (deck input commands : List ℕ)
+pub unreported-debugger_state : {Outcome : Type 0} (options : OptionValues) (deck input commands : List ℕ)
     (part : Part) (old new : Option (List ℕ)) (result : Result Outcome RunFault) →
     ServesSession options deck input commands old new result →
     reported_by (reports_read part) result ≡ false
-untold-debugger_state options deck input commands part old new (Ok _) served = refl
-untold-debugger_state options deck input commands part old new (Err (TooLong _)) served = refl
-untold-debugger_state options deck input commands part old new (Err (Asm _)) served = refl
-untold-debugger_state options deck input commands part old new (Err (Load _)) served = refl
-untold-debugger_state options deck input commands part old new (Err (Read _)) served = absurd served
-untold-debugger_state options deck input commands part old new (Err (Write _)) served = refl
-untold-debugger_state options deck input commands part old new (Err NoMemory) served = refl
+unreported-debugger_state options deck input commands part old new (Ok _) served = refl
+unreported-debugger_state options deck input commands part old new (Err (TooLong _)) served = refl
+unreported-debugger_state options deck input commands part old new (Err (Asm _)) served = refl
+unreported-debugger_state options deck input commands part old new (Err (Load _)) served = refl
+unreported-debugger_state options deck input commands part old new (Err (Read _)) served = absurd served
+unreported-debugger_state options deck input commands part old new (Err (Write _)) served = refl
+unreported-debugger_state options deck input commands part old new (Err NoMemory) served = refl
 
 -- the deck spells a program, and the answers went out so
 module _ {Outcome : Type 0} (options : OptionValues) (deck input commands : List ℕ)

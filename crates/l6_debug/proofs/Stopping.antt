@@ -166,7 +166,7 @@ pub record Next (rule : Rule) (now : DebuggerRun) (there : RunContext) (n : ℕ)
   pub breakpoints : kept ≡ now.debugger_state.breakpoints
   pub number : n ≡ number_to rule now.context (now.debugger_state.number + 1)
 
--- where it is a stop, or not, told of where the session began
+-- whether it is a stop, from where the session began
 stop-there : (rule : Rule) (old now : DebuggerRun) (context : RunContext) (number : ℕ)
     (breakpoints : List Bool)
     (stop : Bool) → OnItsWay rule old now → Next rule now context number breakpoints →

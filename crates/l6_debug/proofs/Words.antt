@@ -1,45 +1,35 @@
 -- The words of a line, cut at its blanks.
-use Rattle.std.proofs.Common.{◌≡◌, ℕ, ◌+◌, ◌<◌, List, [], ◌∷◌, ◌++◌, length, take, drop, get_or, true, Bool, refl, sym, ap, ◌∙◌, add-one, drop-cons}
-use Rattle.std.specs.Prelude.{not}
-use Rattle.std.specs.List.{list_all, onto_first, slice_split}
-use Rattle.std.proofs.lemmas.Bool.{and_parts, not-true}
-use Rattle.std.proofs.lemmas.List.{take-append-drop}
-use Rattle.std.proofs.lemmas.List.Splits.{slice_split-cons_no, slice_split-cons_yes}
+use Rattle.std.proofs.Common.{◌≡◌, ℕ, ◌+◌, ◌-◌, List, [], ◌∷◌, Option, Some, None, length, take, drop, false, sym, ap, ◌∙◌, subst, arith, inl, inr, length-drop, take_all}
+use Rattle.std.specs.Prelude.{MatchOption, cond}
+use Rattle.std.specs.List.{after_first, position, position_or_len, slice_split}
+use Rattle.std.proofs.lemmas.Bool.{cases_lt, lt-ltb, le-ltb}
+use Rattle.std.proofs.lemmas.List.Elements.{All-from_get_or}
+use Rattle.std.proofs.lemmas.List.Splits.{slice_split_first, slice_split_none}
+use Rattle.std.proofs.lemmas.List.Sums.{fails_before_first}
 use Rattle.l6_group.specs.Character.{is_blank}
 
--- no blank is in these bytes
-abbrev pub lack_blanks : List ℕ → Bool
-lack_blanks bytes = list_all (λ given. not (is_blank given)) bytes
+-- bytes are cut at the first blank, if one is found
+abbrev pub IsCutAt : List ℕ → Option ℕ → Type 0
+IsCutAt bytes found =
+    MatchOption found (slice_split is_blank bytes ≡ bytes ∷ [])
+    (λ place. slice_split is_blank bytes
+    ≡ take place bytes ∷ slice_split is_blank
+    (take (length bytes - (place + 1)) (drop (place + 1) bytes)))
 
-split-front : (front following : List ℕ) (blank : ℕ) → lack_blanks front ≡ true →
-    is_blank blank ≡ true →
-    slice_split is_blank (front ++ blank ∷ following) ≡ front ∷ slice_split is_blank following
-split-front [] following blank lacking is = slice_split-cons_yes is_blank blank following is
-split-front (first ∷ rest) following blank lacking is =
-    let parts = and_parts (not (is_blank first)) (lack_blanks rest) lacking in
-    slice_split-cons_no is_blank first (rest ++ blank ∷ following)
-    (not-true (is_blank first) parts.0)
-    ∙ ap (onto_first first) (split-front rest following blank parts.1 is)
-
--- bytes without a blank are one part
-pub split-none : (bytes : List ℕ) → lack_blanks bytes ≡ true →
-    slice_split is_blank bytes ≡ bytes ∷ []
-split-none [] lacking = refl
-split-none (first ∷ rest) lacking =
-    let parts = and_parts (not (is_blank first)) (lack_blanks rest) lacking in
-    slice_split-cons_no is_blank first rest (not-true (is_blank first) parts.0)
-    ∙ ap (onto_first first) (split-none rest parts.1)
-
--- and others are cut at the first
-pub split-there : (bytes following : List ℕ) (place : ℕ) → place < length bytes →
-    lack_blanks (take place bytes) ≡ true → is_blank (get_or bytes place 0) ≡ true →
-    following ≡ drop (place + 1) bytes →
-    slice_split is_blank bytes ≡ take place bytes ∷ slice_split is_blank following
-split-there bytes following place within lacking is rest =
-    let left : drop place bytes ≡ get_or bytes place 0 ∷ following =
-    drop-cons bytes place 0 within
-    ∙ ap (λ n. get_or bytes place 0 ∷ drop n bytes) (sym (add-one place))
-    ∙ ap (λ l. get_or bytes place 0 ∷ l) (sym rest) in
-    ap (slice_split is_blank)
-    (sym (take-append-drop place bytes) ∙ ap (λ l. take place bytes ++ l) left)
-    ∙ split-front (take place bytes) following (get_or bytes place 0) lacking is
+pub split-first : (bytes : List ℕ) → IsCutAt bytes (position is_blank bytes)
+split-first bytes =
+    let place = position_or_len is_blank bytes in
+    elim (cases_lt place (length bytes)) as (λ _. IsCutAt bytes (position is_blank bytes)) [
+      | inl within ↦
+          (let after = after_first is_blank bytes in
+          subst (λ b. IsCutAt bytes (cond b (Some place) None)) (sym (lt-ltb place (length bytes) within))
+          (slice_split_first is_blank bytes 0 within
+          ∙ ap (λ l. take place bytes ∷ slice_split is_blank l)
+          (sym (take_all (length bytes - (place + 1)) after
+          (omega (arith, length-drop (place + 1) bytes))))))
+      | inr past ↦
+          subst (λ b. IsCutAt bytes (cond b (Some place) None)) (sym (le-ltb place (length bytes) past))
+          (slice_split_none is_blank bytes
+          (All-from_get_or (λ b. is_blank b ≡ false) bytes 0
+          (λ i within. fails_before_first is_blank bytes i 0 (omega arith))))
+    ]

@@ -7,9 +7,9 @@ use Rattle.l6_word.specs.Octal.{octal12}
 use Rattle.l6_word.specs.Window.{Window}
 use Rattle.l6_prog.specs.Numerals.{first_letter}
 use Rattle.l6_steps.specs.State.{Memory, State, RunContext, is_last}
+use Rattle.l6_machine.specs.Printout.{ending_line, missing_line_feed}
 use Rattle.l6_draw.specs.Drawing.{character_of, drawing}
 use Rattle.l6_draw.specs.StoreMap.{store_map}
-use Rattle.l6_run.specs.Printout.{ending_line, missing_line_feed}
 use Rattle.l6_debug.specs.declared.command.Command.{Command}
 use Rattle.l6_debug.specs.declared.command.Command.TheVariants.{Step, Go, Back, Break, Clear, Show, Fields, Block, Draw, Store, Out}
 use Rattle.l6_debug.specs.Numerals.{index_places}
@@ -72,12 +72,12 @@ abbrev pub word_line : ℕ × ℕ → List ℕ
 word_line word = index_text word.0 ++ codes " " ++ octal12 word.1 ++ codes "\n"
 
 -- a line of a few words and a number
-abbrev pub told_of : List ℕ → ℕ → List ℕ
-told_of reported number = reported ++ decimal number ++ codes "\n"
+abbrev pub report_of : List ℕ → ℕ → List ℕ
+report_of reported number = reported ++ decimal number ++ codes "\n"
 
 -- the block that begins at a place, by its words, if there is one
 abbrev pub block_lines : ℕ → Option (List ℕ) → List ℕ
-block_lines place None = told_of (codes "NO BLOCK AT ") place
+block_lines place None = report_of (codes "NO BLOCK AT ") place
 block_lines place (Some words) =
     codes "BLOCK " ++ decimal place ++ codes " SIZE " ++ decimal (length words) ++ codes "\n"
     ++ flat_map word_line (enumerate_from 0 words)
@@ -92,7 +92,7 @@ printed output =
 abbrev pub breakpoint_line : RunContext → ℕ → List ℕ → List ℕ
 breakpoint_line context statement reported =
     if nat_lt statement (length context.program)
-    then told_of reported statement
+    then report_of reported statement
     else codes "?? NO SUCH STATEMENT\n"
 
 -- the answer to a command

@@ -2,21 +2,19 @@
 use Rattle.std.specs.Prelude.{ℕ, ◌<◌, ◌≤◌, ◌⊎◌, List, [], length, take, Option, Result, Ok, Err, IsSomeAnd}
 use Rattle.std.specs.Io.KnownBytes.{Appends}
 use Rattle.std.specs.List.{concat}
+use Rattle.l6_steps.specs.Configuration.{state_at}
+use Rattle.l6_steps.specs.Numerals.{most_input}
+use Rattle.l6_steps.specs.Run.{IsReached}
+use Rattle.l6_machine.specs.Options.{OptionValues, context_under, store_rule}
 use Rattle.l6_card.specs.Numerals.{most_deck_bytes}
 use Rattle.l6_asm.specs.Assembled.{Assembled}
 use Rattle.l6_asm.specs.AssemblyFault.{assembly_fault}
 use Rattle.l6_asm.specs.Spells.{Spells, IsUnspelled}
-use Rattle.l6_steps.specs.Configuration.{state_at}
-use Rattle.l6_steps.specs.Numerals.{most_input}
-use Rattle.l6_steps.specs.Run.{IsReached}
-use Rattle.l6_run.specs.declared.fault.Part.TheVariants.{Deck, Input, Commands}
-use Rattle.l6_run.specs.declared.fault.RunFault.{RunFault}
-use Rattle.l6_run.specs.declared.fault.RunFault.TheVariants.{TooLong, Asm, Read, Write, NoMemory}
-use Rattle.l6_run.specs.Numerals.{most_command_bytes}
-use Rattle.l6_run.specs.Options.{OptionValues}
-use Rattle.l6_run.specs.Prints.{store_rule, context_under}
-use Rattle.l6_run.specs.Runs.{Reads}
-use Rattle.l6_run.specs.Transfer.{TakesFront}
+use Rattle.l6_device.specs.declared.fault.Part.TheVariants.{Deck, Input, Commands}
+use Rattle.l6_device.specs.declared.fault.RunFault.{RunFault}
+use Rattle.l6_device.specs.declared.fault.RunFault.TheVariants.{TooLong, Asm, Read, Write, NoMemory}
+use Rattle.l6_device.specs.Numerals.{most_command_bytes}
+use Rattle.l6_device.specs.Transfer.{Reads, TakesFront}
 use Rattle.l6_debug.specs.Transcript.{answers_to}
 
 -- the first answers of some went out, each whole

@@ -1,7 +1,6 @@
 -- The transcript of a session: the answers to its commands, each of the state of the run at which the
 -- session then is.
 use Rattle.std.specs.Prelude.{ℕ, Bool, true, false, List, [], ◌∷◌, ◌++◌, codes, if◌then◌else◌}
-use Rattle.std.specs.List.{concat}
 use Rattle.l6_store.specs.Rule.{Rule}
 use Rattle.l6_word.specs.Lines.{lines_of}
 use Rattle.l6_steps.specs.Configuration.{state_at}
@@ -38,10 +37,7 @@ answers_from rule context debugger_state (line ∷ lines) =
     ++ (if is_quit (reading_of line) then []
     else answers_from rule context (moved rule context debugger_state (reading_of line)) lines)
 
--- the answers to commands, and their text
+-- the answers to commands: the transcript is the text of them all
 abbrev pub answers_to : Rule → RunContext → List ℕ → List (List ℕ)
 answers_to rule context commands =
     answers_from rule context (first_debugger_state context) (lines_of commands)
-
-abbrev pub transcript : Rule → RunContext → List ℕ → List ℕ
-transcript rule context commands = concat (answers_to rule context commands)

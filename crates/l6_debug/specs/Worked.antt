@@ -6,8 +6,8 @@ use Rattle.l6_debug.specs.Command.{reading_of}
 
 -- words are between blanks and tabs, a carriage return at the end is none, and letters are of
 -- either case
-abbrev pub WordsStandApart : Type 0
-WordsStandApart =
+abbrev pub WordsAreSeparated : Type 0
+WordsAreSeparated =
     (reading_of (codes "step 3") ≡ Asked (Step 3))
     × (reading_of (codes "\t Break  007 \r") ≡ Asked (Break 7))
     × (reading_of (codes "gO") ≡ Asked Go)

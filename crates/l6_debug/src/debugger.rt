@@ -128,12 +128,7 @@ impl<S: Places> Debugger<S> {
     fn has_breakpoints(&self) -> bool
         ensures { result ≡ list_any (λ breakpoint. breakpoint) self.now.debugger_state.breakpoints }
     {
-        for breakpoint in &self.breakpoints {
-            if *breakpoint {
-                return true;
-            }
-        }
-        false
+        self.breakpoints.iter().any(|breakpoint| *breakpoint)
     }
 
     /// Whether the state is at the condition of a statement with a breakpoint.
@@ -149,9 +144,9 @@ impl<S: Places> Debugger<S> {
     fn has_breakpoint(&self, statement: u16) -> bool
         ensures { result ≡ slice_index_or self.now.debugger_state.breakpoints statement false }
     {
-        match self.breakpoints.get(usize::from(statement)) {
-            Some(breakpoint) => *breakpoint,
-            None => false,
-        }
+        self.breakpoints
+            .get(usize::from(statement))
+            .copied()
+            .unwrap_or(false)
     }
 }

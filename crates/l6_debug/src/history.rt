@@ -164,7 +164,7 @@ impl<S: Places> History<S> {
     }
 
     /// Goes to the next state, where there is one. Answers whether there was.
-    pub(crate) fn step(&mut self, alloc: Global) -> bool
+    pub fn step(&mut self, alloc: Global) -> bool
     where
         S: Drop,
         ensures context { self.new.context ≡ self.old.context }

@@ -16,4 +16,4 @@ mod worked;
 pub use debugging::{debug, debug_deck};
 pub use history::History;
 pub use laws::{checkpoints_have_their_places, numbers_have_their_limit};
-pub use worked::{others_are_wrong, words_stand_apart};
+pub use worked::{others_are_wrong, words_are_separated};

@@ -1,10 +1,10 @@
 //! How the lines of commands are obeyed, and their answers written.
 
-ghost use Rattle.std.specs.Prelude.{◌≡◌, ◌+◌, min, length, [], ◌∷◌, IfOk};
+ghost use Rattle.std.specs.Prelude.{◌≡◌, ◌+◌, min, length, IfOk};
 ghost use Rattle.std.specs.List.{concat};
 ghost use Rattle.l6_word.specs.Lines.{lines_of};
-ghost use Rattle.l6_run.specs.Numerals.{most_counted};
-ghost use Rattle.l6_run.specs.Patience.{RetriesAccountedWith, writer_use};
+ghost use Rattle.l6_device.specs.Numerals.{most_counted};
+ghost use Rattle.l6_device.specs.Patience.{WriterRetries};
 ghost use Rattle.l6_debug.specs.Serving.{GoOut};
 ghost use Rattle.l6_debug.specs.Transcript.{answered, answers_from, is_quit, moved};
 
@@ -12,7 +12,7 @@ use crate::command::Reading;
 use crate::debugger::Debugger;
 use crate::reading::reading_of;
 use crate::showing::push_answer;
-use l6_run::{Patience, RunFault, Sink, write_text};
+use l6_device::{Patience, RunFault, Sink, write_text};
 use l6_store::Places;
 use l6_word::first_line;
 use std::alloc::{AllocError, Global};
@@ -31,9 +31,8 @@ where
     ensures answers { let debugger_state = debugger.old.debugger_state in
         GoOut (answers_from S.rule debugger.old.context debugger_state (lines_of commands.now)) 0
         (W.taken writer.old) (W.taken writer.new) result }
-    ensures retries { RetriesAccountedWith
-        (writer_use (W.health writer.old) (W.health writer.new) result ∷ [])
-        patience.old patience.new }
+    ensures retries { WriterRetries (W.health writer.old) (W.health writer.new)
+        patience.old patience.new result }
 {
     let mut sent = 0;
     let mut rest = commands;
@@ -81,9 +80,8 @@ where
     ensures counted { let answers = answered S.rule debugger.old.context
         debugger.old.debugger_state reading in
         IfOk result (λ sent. sent ≡ min (before + length (concat answers)) most_counted) }
-    ensures retries { RetriesAccountedWith
-        (writer_use (W.health writer.old) (W.health writer.new) result ∷ [])
-        patience.old patience.new }
+    ensures retries { WriterRetries (W.health writer.old) (W.health writer.new)
+        patience.old patience.new result }
 {
     let text = answer_to(alloc, debugger, reading)?;
     write_text(writer, text.as_slice(), before, patience)?;

@@ -107,10 +107,6 @@ fn split_at_blank(bytes: &[u8]) -> Option<(&[u8], &[u8])>
         (λ cut. parts ≡ cut.0.now ∷ slice_split is_blank cut.1.now) }
     ensures shorter { IfSome result (λ cut. length cut.1.now < length bytes.now) }
 {
-    for (place, byte) in bytes.iter().enumerate() {
-        if is_blank(*byte) {
-            return Some((&bytes[..place], &bytes[place + 1..]));
-        }
-    }
-    None
+    let place = bytes.iter().position(|byte| is_blank(*byte))?;
+    Some((&bytes[..place], &bytes[place + 1..]))
 }

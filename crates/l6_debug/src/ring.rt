@@ -38,22 +38,19 @@ impl<S: Places> Ring<S> {
     pub(crate) fn holds(&self, number: u64) -> bool
         ensures { result ≡ list_any (λ kept. kept == number) (numbers_of self.now.numbered_machines) }
     {
-        for index in 0..self.len() {
-            if self.number_at(index) == number {
-                return true;
-            }
+        match &self.numbered_machines {
+            Some(numbered_machines) => numbered_machines.iter().any(|kept| kept.number() == number),
+            None => false,
         }
-        false
     }
 
     /// How many states are kept.
     fn len(&self) -> usize
         ensures { result ≡ length (numbers_of self.now.numbered_machines) }
     {
-        match &self.numbered_machines {
-            Some(numbered_machines) => numbered_machines.len(),
-            None => 0,
-        }
+        self.numbered_machines
+            .as_ref()
+            .map_or(0, |numbered_machines| numbered_machines.len())
     }
 
     /// The number of a state that is kept, by its place in the ring.

@@ -12,10 +12,9 @@ ghost use Rattle.l6_debug.specs.Numerals.{index_places};
 
 use crate::command::Command;
 use itoa::Buffer;
-use l6_draw::{drawing, store_map};
-use l6_machine::{Depths, Machine, push_decimal};
+use l6_draw::{character_of, drawing, store_map};
+use l6_machine::{Depths, Machine, ending_line, push_decimal, push_whole_lines};
 use l6_prog::DIGITS;
-use l6_run::{ending_line, push_whole_lines};
 use l6_store::{Place, Places};
 use l6_word::{UNIT_SIZE, Window, Word, octal12};
 use std::alloc::{AllocError, Global};
@@ -89,7 +88,7 @@ fn push_breakpoint<S: Places>(
         ++ spec.breakpoint_line machine.now.context statement reported.now) }
 {
     if statement < machine.program().statements().len() as u64 {
-        push_told(text, reported, statement)
+        push_report(text, reported, statement)
     } else {
         text.extend_from_slice(b"?? NO SUCH STATEMENT\n")
     }
@@ -142,12 +141,7 @@ fn push_name(text: &mut Vec<u8>, name: u8) -> Result<(), AllocError>
     ensures { OnOk result (text.new.items ≡ text.old.items
         ++ (character_of name ∷ codes " ")) }
 {
-    let character = if name < DIGITS {
-        b'0' + name
-    } else {
-        b'A' + (name - DIGITS)
-    };
-    text.extend_from_slice(&[character, b' '])
+    text.extend_from_slice(&[character_of(name), b' '])
 }
 
 /// Adds how much is saved, taken and printed.
@@ -202,12 +196,7 @@ fn push_fields(text: &mut Vec<u8>, definitions: &[Option<Window>]) -> Result<(),
 fn are_none(definitions: &[Option<Window>]) -> bool
     ensures { result ≡ list_all is_none definitions.now }
 {
-    for definition in definitions {
-        if definition.is_some() {
-            return false;
-        }
-    }
-    true
+    definitions.iter().all(|definition| definition.is_none())
 }
 
 /// Adds the line of a field, if it is defined.
@@ -249,14 +238,14 @@ fn push_block(text: &mut Vec<u8>, place: u64, block: Option<&[u64]>) -> Result<(
         ++ spec.block_lines place (option_copied block.entry)) }
 {
     match block {
-        None => push_told(text, b"NO BLOCK AT ", place),
+        None => push_report(text, b"NO BLOCK AT ", place),
         Some(words) => push_some(text, place, words),
     }
 }
 
 /// Adds a line of a few words and a number.
-fn push_told(text: &mut Vec<u8>, reported: &[u8], number: u64) -> Result<(), AllocError>
-    ensures { OnOk result (text.new.items ≡ text.old.items ++ spec.told_of reported.now number) }
+fn push_report(text: &mut Vec<u8>, reported: &[u8], number: u64) -> Result<(), AllocError>
+    ensures { OnOk result (text.new.items ≡ text.old.items ++ spec.report_of reported.now number) }
 {
     text.extend_from_slice(reported)?;
     push_decimal(text, number)?;

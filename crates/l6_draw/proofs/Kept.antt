@@ -11,14 +11,14 @@ pub kept_is : (memory : Memory) (found kept : List ℕ) (visited : List Bool)
     → found ≡ places.keys memory.blocks
     → ((place : ℕ) → get_or visited place false ≡ is_reached memory place)
     → kept ≡ filter (λ place. get_or visited place false) found → kept ≡ reached_places memory
-kept_is memory found kept visited all told is =
-    is ∙ filter_agree (λ place. get_or visited place false) (is_reached memory) told found
+kept_is memory found kept visited all determined is =
+    is ∙ filter_agree (λ place. get_or visited place false) (is_reached memory) determined found
     ∙ ap (filter (is_reached memory)) all
 
 pub kept_are_reached : (memory : Memory) (found kept : List ℕ) (visited : List Bool)
     → found ≡ places.keys memory.blocks
     → ((place : ℕ) → get_or visited place false ≡ is_reached memory place)
     → kept ≡ filter (λ place. get_or visited place false) found → AreReachable memory kept
-kept_are_reached memory found kept visited all told is =
+kept_are_reached memory found kept visited all determined is =
     subst (λ (reached : List ℕ). AreReachable memory reached)
-    (sym (kept_is memory found kept visited all told is)) (are_reached memory)
+    (sym (kept_is memory found kept visited all determined is)) (are_reached memory)

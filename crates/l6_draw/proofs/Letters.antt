@@ -1,5 +1,5 @@
 -- The letters, one after another.
-use Rattle.std.proofs.Common.{◌≡◌, ℕ, zero, suc, ◌+◌, ◌-◌, ◌<◌, List, [], ◌∷◌, refl, arith, ap, ◌∙◌}
+use Rattle.std.proofs.Common.{◌≡◌, ℕ, suc, ◌+◌, ◌-◌, ◌<◌, [], ◌∷◌, arith, ap}
 use Rattle.std.specs.List.{range_with_len}
 use Rattle.l6_prog.specs.Numerals.{name_count}
 use Rattle.l6_draw.specs.Reach.{letters_from}

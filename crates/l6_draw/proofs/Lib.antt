@@ -2,6 +2,7 @@ pub mod Members
 pub mod Keys
 pub mod Counting
 pub mod Reaching
+pub mod Visiting
 pub mod Walking
 pub mod Letters
 pub mod Meeting

@@ -1,5 +1,5 @@
--- What is in a list, told by tests and by elements.
-use Rattle.std.proofs.Common.{◌≡◌, ℕ, zero, suc, ◌+◌, ◌<◌, Bool, true, false, ◌||◌, ◌==◌, List, [], ◌∷◌, length, get_or, cond, inl, inr, ◌⊎◌, refl, arith, eq-eqb, ap, ◌∙◌, sym, subst}
+-- What is in a list, by tests and by elements.
+use Rattle.std.proofs.Common.{◌≡◌, ℕ, zero, suc, ◌<◌, Bool, true, false, ◌||◌, ◌==◌, List, [], ◌∷◌, length, get_or, cond, inl, inr, ◌⊎◌, refl, arith, eq-eqb, ap, ◌∙◌, sym, subst}
 use Rattle.std.proofs.lemmas.Bool.{or_cases, or_left, or_right, eqb-true}
 use Rattle.std.specs.List.{Contains, filter, list_any}
 

@@ -1,5 +1,5 @@
 -- The test of what is reached finds the end of every path, and of no other list.
-use Rattle.std.proofs.Common.{◌≡◌, ℕ, zero, suc, ◌<◌, ◌≤◌, Bool, true, false, ◌||◌, ◌&&◌, ◌==◌, List, [], ◌∷◌, map, length, inl, inr, ◌⊎◌, refl, arith, ap, ◌∙◌, sym, subst}
+use Rattle.std.proofs.Common.{◌≡◌, ℕ, zero, suc, ◌≤◌, Bool, true, ◌||◌, ◌&&◌, ◌==◌, List, [], ◌∷◌, map, length, inl, inr, ◌⊎◌, arith, ap, ◌∙◌, sym}
 use Rattle.std.proofs.lemmas.Bool.{and_parts, and_from, or_cases, or_left, or_right}
 use Rattle.std.proofs.lemmas.List.{length-map}
 use Rattle.std.proofs.lemmas.List.Kept.{IsStrictlyIncreasing-filter}
@@ -10,7 +10,7 @@ use Rattle.l6_steps.specs.State.{Memory}
 use Rattle.l6_draw.specs.Reach.{AreReachable, IsPath, IsReachable, held_by_bugs, held_in, is_reached, is_within, reached_places}
 use Rattle.l6_draw.specs.Laws.{ReachIsDecided, ReachIsSettled}
 use Rattle.l6_draw.proofs.Members.{any_gives, any_held, any_made, filter_has, filter_keeps, held_any}
-use Rattle.l6_draw.proofs.Keys.{key_live, keys_rise, live_key, same_rising}
+use Rattle.l6_draw.proofs.Keys.{keys_rise, live_key, same_rising}
 use Rattle.l6_draw.proofs.Counting.{all_pass, more_or_same}
 
 -- whether a field of the block at a place holds another place

@@ -164,8 +164,8 @@ pub scan-finds : (units : ℕ) (blocks : Blocks) → Fits units blocks → (plac
     → Scanned blocks (place + 1 * 2 ^ level % 2 ^ 32) after
 scan-finds units blocks fits place word level found after is live size small pushed scanned =
     let here : IsLive blocks place = subst (λ (p : ℕ). IsLive blocks p) is live in
-    let told = subst (λ (p : ℕ). option_map (λ (k : ℕ). 2 ^ k) (Some level)
+    let determined = subst (λ (p : ℕ). option_map (λ (k : ℕ). 2 ^ k) (Some level)
     ≡ option_map (λ (words : List ℕ). length words) (places.get blocks p)) is size in
     subst (λ (f : List ℕ). Scanned blocks (place + 1 * 2 ^ level % 2 ^ 32) f) (sym pushed)
     (scanned-block units blocks fits place (1 * 2 ^ level % 2 ^ 32) found here
-    (small_power level small ∙ sym (live_size blocks place level here told)) scanned)
+    (small_power level small ∙ sym (live_size blocks place level here determined)) scanned)

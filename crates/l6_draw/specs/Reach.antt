@@ -60,7 +60,7 @@ is_within memory (suc count) place =
     (held_in memory before))
     (places.keys memory.blocks))
 
--- whether a place is reached: a path need not come to a block twice
+-- whether a place is reached: a path need not visit a block twice
 unfoldable pub is_reached : Memory → ℕ → Bool
 is_reached memory place = is_within memory (places.len memory.blocks) place
 

@@ -4,9 +4,7 @@ ghost use Rattle.std.specs.Prelude.{◌≡◌, ◌<◌, ◌≤◌, ◌^◌, IfOk
 ghost use Rattle.std.specs.List.{All};
 ghost use Rattle.std.specs.FinMap as map;
 ghost use Rattle.l6_word.specs.Numerals.{word_bits};
-ghost use Rattle.l6_store.specs.Blocks as store;
 ghost use Rattle.l6_store.specs.Blocks.{block_at};
-ghost use Rattle.l6_store.specs.Numerals.{most_units};
 ghost use Rattle.l6_draw.specs.Reach as reach;
 ghost use Rattle.l6_prog.specs.Numerals.{first_letter, name_count};
 ghost use Rattle.l6_steps.specs.declared.locus.Locus.TheVariants.{Bug};
@@ -14,17 +12,9 @@ ghost use Rattle.l6_steps.specs.Locus.{content};
 
 use l6_machine::Machine;
 use l6_prog::Name;
-use l6_store::{Place, Places};
+use l6_store::{Place, Places, end_of};
 use l6_word::{UNIT_SIZE, Window, Word};
 use std::alloc::{AllocError, Global};
-
-/// The place after a store of so many units.
-pub(crate) fn end_of(units: u32) -> Place
-    requires { units ≤ most_units }
-    ensures { result ≡ store.end_of units }
-{
-    (units + 1) * Place::from(UNIT_SIZE)
-}
 
 /// The places where blocks begin, rising.
 pub(crate) fn places<S: Places>(alloc: Global, store: &S) -> Result<Vec<Place>, AllocError>

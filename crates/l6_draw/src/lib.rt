@@ -12,5 +12,6 @@ mod walk;
 
 pub use drawings::drawing;
 pub use laws::{map_is_whole, reach_is_settled};
+pub use line::character_of;
 pub use reach::reachable;
 pub use store_maps::store_map;

@@ -8,10 +8,10 @@ ghost use Rattle.l6_store.specs.Blocks as blocks;
 ghost use Rattle.l6_draw.specs.Reach.{is_reached};
 ghost use Rattle.l6_draw.specs.StoreMap as spec;
 
-use crate::blocks::{end_of, places, words_at};
+use crate::blocks::{places, words_at};
 use crate::walk::{is_visited, visited};
 use l6_machine::{Machine, push_decimal};
-use l6_store::{Place, Places};
+use l6_store::{Place, Places, end_of};
 use l6_word::UNIT_SIZE;
 use std::alloc::{AllocError, Global};
 

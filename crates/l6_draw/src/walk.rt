@@ -4,10 +4,10 @@ ghost use Rattle.std.specs.Prelude.{◌≡◌, ℕ, ◌<◌, ◌≤◌, ◌++◌
 ghost use Rattle.l6_draw.specs.Reach.{held_by_bugs, held_in, is_reached};
 ghost use Rattle.l6_draw.specs.inner.Walk.{Walk as State, all_met, is_new, met};
 
-use crate::blocks::{bug, end_of, held_by, words_at};
+use crate::blocks::{bug, held_by, words_at};
 use l6_machine::Machine;
 use l6_prog::{DIGITS, NAMES};
-use l6_store::{Place, Places};
+use l6_store::{Place, Places, end_of};
 use l6_word::Word;
 use std::alloc::{AllocError, Global};
 use std::marker::Model;

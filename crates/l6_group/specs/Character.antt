@@ -1,13 +1,10 @@
 -- The characters of an element.
-use Rattle.std.specs.Prelude.{ℕ, ◌+◌, ◌-◌, ◌==◌, ◌||◌, not, Bool, List, map, filter, Option, Some, None, if◌then◌else◌}
+use Rattle.std.specs.Prelude.{ℕ, ◌+◌, ◌-◌, ◌||◌, not, Bool, List, map, filter, Option, Some, None, if◌then◌else◌}
 use Rattle.std.specs.Int.{is_in_range}
 use Rattle.std.specs.Str.{byte}
 use Rattle.l6_word.specs.Code.{character_of}
+pub use Rattle.l6_word.specs.Code.{is_blank}
 use Rattle.l6_prog.specs.Numerals.{first_letter}
-
--- the byte is read as a blank: it is one, or a tab
-abbrev pub is_blank : ℕ → Bool
-is_blank given = given == byte " " || given == byte "\t"
 
 -- the character is a capital letter
 abbrev pub is_capital : ℕ → Bool

@@ -8,13 +8,7 @@ ghost use Rattle.l6_group.specs.Element.{chain_of, operand_of, field_of, chain_i
 use crate::number::decimal_of;
 use arrayvec::ArrayVec;
 use l6_prog::{Chain, DIGITS, MAX_NAMES, Name, Operand};
-
-/// Whether a byte is read as a blank: it is one, or a tab.
-pub fn is_blank(byte: u8) -> bool
-    ensures { result ≡ spec.is_blank byte }
-{
-    byte == b' ' || byte == b'\t'
-}
+use l6_word::is_blank;
 
 /// Whether a byte is read as a letter.
 pub fn is_letter(byte: u8) -> bool
@@ -102,10 +96,5 @@ pub(crate) fn nothing_given(element: &[u8]) -> Option<()>
 pub fn are_blank(bytes: &[u8]) -> bool
     ensures { result ≡ list_all spec.is_blank bytes.now }
 {
-    for byte in bytes {
-        if !is_blank(*byte) {
-            return false;
-        }
-    }
-    true
+    bytes.iter().all(|byte| is_blank(*byte))
 }

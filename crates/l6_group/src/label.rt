@@ -116,12 +116,7 @@ fn is_capital(character: u8) -> bool
 fn are_alphanumeric(characters: &[u8]) -> bool
     ensures { result ≡ list_all spelling.is_alphanumeric characters.now }
 {
-    for character in characters {
-        if !matches!(*character, b'A'..=b'Z' | b'0'..=b'9') {
-            return false;
-        }
-    }
-    true
+    characters.iter().all(|character| matches!(*character, b'A'..=b'Z' | b'0'..=b'9'))
 }
 
 /// The label that an element spells.

@@ -12,7 +12,8 @@ mod test;
 mod value;
 mod word;
 
-pub use element::{are_blank, is_blank, is_letter};
+pub use element::{are_blank, is_letter};
+pub use l6_word::is_blank;
 pub use label::{Label, MAX_LABEL_CHARACTERS, label_of};
 pub use laws::labels_have_their_limit;
 pub use number::decimal_of;

@@ -6,15 +6,12 @@ ghost use Rattle.l6_prog.specs.Numerals.{digit_count};
 ghost use Rattle.l6_group.specs.Number as spec;
 ghost use Rattle.l6_group.specs.inner.Long.{IsReadUpTo};
 
-use crate::element::is_blank;
 use arrayvec::ArrayVec;
 use l6_prog::{DIGITS, MAX_CHARACTERS, PrintText};
-use l6_word::{Word, code_of};
+use l6_word::{CODE_COUNT, Word, code_of, is_blank};
 
 /// How many digits an octal number has to choose from.
 const OCTAL_DIGITS: u8 = 8;
-/// How many codes of characters there are.
-const CODES: u64 = 64;
 /// How many characters stand for a number.
 const MAX_TEXT_CHARACTERS: usize = 6;
 
@@ -96,7 +93,7 @@ fn number_from(codes: &[u8]) -> Option<Word>
         if value >= 1 << Word::BITS {
             return None;
         }
-        value = value * CODES + u64::from(*code);
+        value = value * CODE_COUNT + u64::from(*code);
     }
     Word::new(value)
 }

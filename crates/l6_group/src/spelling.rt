@@ -3,9 +3,8 @@
 ghost use Rattle.std.specs.Prelude.{◌≡◌, ◌<◌, true, length, MatchOption};
 ghost use Rattle.l6_group.specs.Character as spec;
 
-use crate::element::is_blank;
 use arrayvec::ArrayVec;
-use l6_word::character_of;
+use l6_word::{character_of, is_blank};
 use std::marker::Model;
 
 /// The characters of an element, its blanks left out, small letters as capitals.
@@ -18,7 +17,7 @@ pub struct Spelling<'a, const ROOM: usize> {
 #[derive(Drop)]
 enum Characters<'a, const ROOM: usize> {
     /// On the card.
-    Standing(&'a [u8]),
+    Borrowed(&'a [u8]),
     /// In a copy, without the card's blanks and small letters.
     Copied(ArrayVec<u8, ROOM>),
 }
@@ -38,7 +37,7 @@ impl<'a, const ROOM: usize> Spelling<'a, ROOM> {
         ensures { result.now ≡ self.now }
     {
         match &self.characters {
-            Characters::Standing(characters) => characters,
+            Characters::Borrowed(characters) => characters,
             Characters::Copied(characters) => characters.as_slice(),
         }
     }
@@ -50,9 +49,9 @@ pub fn spelled<const ROOM: usize>(element: &[u8]) -> Option<Spelling<'_, ROOM>>
     ensures { let characters = spec.spelled element.now in
         MatchOption result (ROOM < length characters) (λ given. given ≡ characters) }
 {
-    if stands_spelled(element) {
+    if needs_no_copy(element) {
         return Some(Spelling {
-            characters: Characters::Standing(element),
+            characters: Characters::Borrowed(element),
         });
     }
     let characters = copied(element)?;
@@ -62,15 +61,12 @@ pub fn spelled<const ROOM: usize>(element: &[u8]) -> Option<Spelling<'_, ROOM>>
 }
 
 /// Whether an element has neither blanks nor small letters.
-fn stands_spelled(element: &[u8]) -> bool
+fn needs_no_copy(element: &[u8]) -> bool
     ensures { result ≡ true → spec.spelled element.now ≡ element.now }
 {
-    for byte in element {
-        if is_blank(*byte) || character_of(*byte) != *byte {
-            return false;
-        }
-    }
-    true
+    element
+        .iter()
+        .all(|byte| !is_blank(*byte) && character_of(*byte) == *byte)
 }
 
 /// A copy of the characters of an element; `None` where they are more than there is room for.

@@ -2,9 +2,9 @@
 use Rattle.std.proofs.Common.{◌≡◌, ℕ, ◌+◌, ◌-◌, ◌<◌, ◌≤◌, suc, List, [], ◌∷◌, ◌++◌, Option, Some, None, refl, ap, sym, ◌∙◌, arith, append_assoc, append-nil}
 use Rattle.l6_image.specs.declared.fault.ReadFault.{ReadFault}
 use Rattle.l6_image.specs.declared.fault.ReadFault.TheVariants.{NotAnImage, NoMemory}
-use Rattle.l6_image.specs.inner.Reading.{◌>>=◌}
-use Rattle.l6_image.specs.inner.Statements.{many, with_front}
-use Rattle.l6_image.specs.inner.Seen.{Fails}
+use Rattle.l6_image.specs.inner.decode.Reading.{◌>>=◌}
+use Rattle.l6_image.specs.inner.decode.Statements.{many, with_front}
+use Rattle.l6_image.specs.inner.decode.Seen.{Fails}
 
 -- one more in front of others
 with_front-more : {A : Type 0} (front : List A) (x : A) (others : Option (List A × List ℕ)) →

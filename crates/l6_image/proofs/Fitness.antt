@@ -7,20 +7,24 @@ use Rattle.std.proofs.lemmas.List.Concat.{flat_map-cons}
 use Rattle.l6_word.specs.Numerals.{word_bits}
 use Rattle.l6_prog.specs.declared.condition.Test.{Test}
 use Rattle.l6_prog.specs.declared.operation.Op.{Op}
-use Rattle.l6_prog.specs.Chain.{is_chain}
 use Rattle.l6_prog.specs.PrintText.{may_print}
 use Rattle.l6_prog.specs.Statement.{Parts}
 use Rattle.l6_prog.specs.Target.{is_below, targets_of}
 use Rattle.l6_prog.specs.Program.{fits}
+use Rattle.l6_prog.specs.Values.{has_values}
 use Rattle.l6_image.specs.Bits.{item, six}
 use Rattle.l6_image.specs.Numerals.{no_name}
-use Rattle.l6_image.specs.Row.{Slot, absent, chain, number, text, Row, sixes, slot_words, row_head, row_words, is_name, is_word, is_slot, is_row}
+use Rattle.l6_image.specs.Row.{Slot, absent, chain, number, text, Row, sixes, slot_words, row_head, row_words}
+use Rattle.l6_image.proofs.RowValues.{is_slot, is_row}
+use Rattle.l6_prog.specs.Chain.{is_name}
+use Rattle.l6_word.specs.Word.{is_word}
 use Rattle.l6_image.specs.Table.{row_of, row_of_test}
-use Rattle.l6_image.specs.Image.{header, test_words, operation_words, words_in_statement, body, words_in, HasImage, has_values}
+use Rattle.l6_image.specs.Image.{header, test_words, operation_words, words_in_statement, body, words_in, HasImage}
 use Rattle.l6_image.specs.Version.{magic, most_in}
 use Rattle.l6_image.specs.declared.version.Version.{Version}
 use Rattle.l6_image.specs.declared.version.Version.TheVariants.{One, Two}
 use Rattle.l6_image.proofs.Packing.{packed-below}
+use Rattle.l6_image.proofs.Sixes.{each_name}
 use Rattle.l6_image.proofs.Slots.{item-below, name-small, code-small, text-known, length-sixes}
 use Rattle.l6_image.proofs.Found.{Known, head_fields, head_fit}
 use Rattle.l6_image.proofs.Knowing.{Each, KnownStatement, known_program, known_parts, KnownOperation, known_test, known_operation, known_statement}
@@ -111,10 +115,9 @@ most_of_statement = 5000
 fine-slot : (slot : Slot) → is_slot slot ≡ true → Fine most_of_slot (slot_words slot)
 fine-slot absent known = record { words = refl; count = omega arith }
 fine-slot (chain names) known =
-    let parts = and_parts (is_chain names) (list_all is_name names) known in
     fine-more 1 most_of_slot (six no_name names ∷ []) (omega arith)
     (fine-one (six no_name names)
-    (six-below is_name name-small no_name (omega arith) names parts.1))
+    (six-below is_name name-small no_name (omega arith) names (each_name names known)))
 fine-slot (number n) known =
     fine-more 1 most_of_slot (n ∷ []) (omega arith)
     (fine-one n (ltb-true n (2 ^ word_bits) known))
@@ -193,7 +196,7 @@ module _ (version : Version) where
         fine.words,
       ) refl
 
-  -- so are those of a statement whose targets can be told apart
+  -- so are those of a statement whose targets differ
   pub statement_words-words : (s : Parts) → fits s ≡ true → has_values s ≡ true →
       list_all (is_below (most_in version)) (targets_of s) ≡ true →
       list_all is_word (words_in_statement version s) ≡ true

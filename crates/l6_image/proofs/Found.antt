@@ -11,18 +11,18 @@ use Rattle.l6_prog.specs.declared.operand.Operand.TheVariants.{Chain, Number}
 use Rattle.l6_prog.specs.declared.operation.Op.{Op}
 use Rattle.l6_prog.specs.declared.operation.Op.TheVariants.{Get, Duplicate, Call, Input, Set, Add, Subtract, Multiply, Divide, Remainder, And, Or, ExclusiveOr, Complement, ShiftLeft, ShiftRight, Exchange, Define, SaveContent, RestoreContent, SaveDefinition, RestoreDefinition, Free, PrintCharacters, PrintDecimal, PrintOctal, PrintText, PrintLine}
 use Rattle.l6_prog.specs.Numerals.{name_count}
-use Rattle.l6_prog.specs.Chain.{is_chain}
 use Rattle.l6_prog.specs.Target.{is_below, targets_of_operation}
 use Rattle.l6_image.specs.Numerals.{no_name}
 use Rattle.l6_image.specs.Bits.{BitField, bits}
 use Rattle.l6_image.specs.Version.{label_number, most_in}
 use Rattle.l6_image.specs.declared.version.Version.{Version}
 use Rattle.l6_image.specs.declared.version.Version.TheVariants.{One, Two}
-use Rattle.l6_image.specs.Row.{Slot, absent, chain, number, text, Row, row, kind, slot_words, row_head, row_words, is_name, is_slot, is_field, is_row}
+use Rattle.l6_image.specs.Row.{Slot, absent, chain, number, text, Row, row, kind, slot_words, row_head, row_words}
+use Rattle.l6_image.proofs.RowValues.{is_slot, is_field, is_row}
 use Rattle.l6_image.specs.Table.{operand, operand_if_given, chain_if_given, code_of_comparison, row_of, row_of_test}
-use Rattle.l6_image.specs.inner.Fields.{name_if, label_in}
-use Rattle.l6_image.specs.inner.Reading.{row_at}
-use Rattle.l6_image.specs.inner.Back.{comparison_of, chain_in, operand_in, chain_if_given_in, operand_if_given_in, statement_in, text_in, of_two, of_one, test_of, operation_of}
+use Rattle.l6_image.specs.inner.decode.Fields.{name_if, label_in}
+use Rattle.l6_image.specs.inner.decode.Reading.{row_at}
+use Rattle.l6_image.specs.inner.decode.Back.{comparison_of, chain_in, operand_in, chain_if_given_in, operand_if_given_in, statement_in, text_in, of_two, of_one, test_of, operation_of}
 use Rattle.l6_image.proofs.Packing.{AllFit, unpacked, unpacked-packed, values}
 use Rattle.l6_image.proofs.Slots.{slot-again}
 
@@ -125,16 +125,16 @@ label_in-again One word None below is =
     rw flagged refl
 label_in-again One word (Some label) below is =
     let flagged : word / 2 ^ 12 % 2 ≡ 1 = omega (arith, is, below) in
-    let told : word % 2 ^ 12 ≡ label = omega (arith, is, below) in
-    rw (flagged, told) refl
+    let determined : word % 2 ^ 12 ≡ label = omega (arith, is, below) in
+    rw (flagged, determined) refl
 label_in-again Two word None below is =
-    let told : word % 2 ^ 16 ≡ 0 = omega (arith, is) in
-    rw told refl
+    let determined : word % 2 ^ 16 ≡ 0 = omega (arith, is) in
+    rw determined refl
 label_in-again Two word (Some label) below is =
-    let told : word % 2 ^ 16 ≡ suc label = omega (arith, is, below) in
+    let determined : word % 2 ^ 16 ≡ suc label = omega (arith, is, below) in
     let some : nat_eq (word % 2 ^ 16) 0 ≡ false =
-    ne_eqb (word % 2 ^ 16) 0 (λ none. absurd (omega (arith, told, none))) in
-    let less : word % 2 ^ 16 - 1 ≡ label = omega (arith, told) in
+    ne_eqb (word % 2 ^ 16) 0 (λ none. absurd (omega (arith, determined, none))) in
+    let less : word % 2 ^ 16 - 1 ≡ label = omega (arith, determined) in
     rw (some, less) refl
 
 -- a row is found again in words that begin with one that has its fields
@@ -185,28 +185,24 @@ row-again version row rest known =
 -- operands are found again in their slots
 chain-again : (names : List ℕ) → is_slot (chain names) ≡ true → chain_in (chain names) ≡ Some names
 unfolding chain_in
-chain-again names known =
-    rw (and_parts (is_chain names) (list_all is_name names) known).0 refl
+chain-again names known = rw known refl
 
 operand-again : (v : Operand) → is_slot (operand v) ≡ true → operand_in (operand v) ≡ Some v
 unfolding operand_in
-operand-again (Chain names) known =
-    rw (and_parts (is_chain names) (list_all is_name names) known).0 refl
+operand-again (Chain names) known = rw known refl
 operand-again (Number n) known = rw known refl
 
 chain_if_given-again : (d : Option (List ℕ)) → is_slot (chain_if_given d) ≡ true →
     chain_if_given_in (chain_if_given d) ≡ Some d
 unfolding chain_if_given_in
 chain_if_given-again None known = refl
-chain_if_given-again (Some names) known =
-    rw (and_parts (is_chain names) (list_all is_name names) known).0 refl
+chain_if_given-again (Some names) known = rw known refl
 
 operand_if_given-again : (v : Option Operand) → is_slot (operand_if_given v) ≡ true →
     operand_if_given_in (operand_if_given v) ≡ Some v
 unfolding operand_if_given_in operand_in
 operand_if_given-again None known = refl
-operand_if_given-again (Some (Chain names)) known =
-    rw (and_parts (is_chain names) (list_all is_name names) known).0 refl
+operand_if_given-again (Some (Chain names)) known = rw known refl
 operand_if_given-again (Some (Number n)) known = rw known refl
 
 statement-again : (n : ℕ) → n < 2 ^ 16 → statement_in (number n) ≡ Some n

@@ -15,11 +15,12 @@ use Rattle.l6_prog.specs.Numerals.{most_statements, most_tests, most_operations}
 use Rattle.l6_prog.specs.Statement.{Parts}
 use Rattle.l6_prog.specs.Target.{is_below, targets_of, targets_of_operation, targets_of_exit}
 use Rattle.l6_prog.specs.Program.{fits}
-use Rattle.l6_prog.proofs.Programs.{takes_just_programs}
-use Rattle.l6_prog.proofs.Targets.{list_all-flat_map}
-use Rattle.l6_image.specs.Row.{is_row}
+use Rattle.l6_prog.specs.Values.{is_test, is_operation, has_values}
+use Rattle.l6_word.specs.Numerals.{word_bits}
+use Rattle.l6_prog.proofs.Targets.{all_of_pieces}
+use Rattle.l6_image.proofs.RowValues.{is_row, test_row, operation_row}
 use Rattle.l6_image.specs.Table.{code_of_comparison, row_of, row_of_test}
-use Rattle.l6_image.specs.Image.{exit_target, has_values, HasImage}
+use Rattle.l6_image.specs.Image.{exit_target, HasImage}
 use Rattle.l6_image.specs.Version.{most_in}
 use Rattle.l6_image.specs.declared.version.Version.{Version}
 use Rattle.l6_image.specs.declared.version.Version.TheVariants.{One, Two}
@@ -51,6 +52,10 @@ below-more end later (target ∷ targets) more each =
 some-most : (version : Version) → 0 < most_in version
 some-most One = omega arith
 some-most Two = omega arith
+
+most-word : (version : Version) → most_in version < 2 ^ word_bits
+most-word One = omega arith
+most-word Two = omega arith
 
 module _ (version : Version) where
   -- what is known of a statement of a program
@@ -92,7 +97,7 @@ module _ (version : Version) where
 
   pub known_program : (program : List Parts) → HasImage version program → KnownProgram program
   known_program program has =
-      let is = (takes_just_programs program).0 has.taken in
+      let is = has.is in
       let few = nat_le (length program) most_statements in
       let parts = and_parts few (list_all fits program) is.limits in
       let below : list_all (is_below (most_in version)) (flat_map targets_of program) ≡ true =
@@ -100,8 +105,8 @@ module _ (version : Version) where
       has.few is.targets in
       record {
         count = has.few;
-        each = known_statements program parts.1 has.values
-            (sym (list_all-flat_map (is_below (most_in version)) targets_of program) ∙ below);
+        each = known_statements program parts.1 is.values
+            (sym (all_of_pieces (is_below (most_in version)) targets_of program) ∙ below);
       }
 
   -- a label is below an end, or there is none
@@ -195,16 +200,20 @@ module _ (version : Version) where
     pub targets : list_all (is_below (most_in version)) (targets_of_operation operation) ≡ true
 
   known_operations : (operations : List (Op ℕ)) →
-      list_all (λ operation. is_row (row_of operation)) operations ≡ true →
+      list_all is_operation operations ≡ true →
       list_all (λ o. list_all (is_below (most_in version)) (targets_of_operation o)) operations ≡ true →
       Each KnownOperation operations
   known_operations [] values targets = tt
   known_operations (operation ∷ operations) values targets =
-      let p = λ (o : Op ℕ). is_row (row_of o) in
       let q = λ (o : Op ℕ). list_all (is_below (most_in version)) (targets_of_operation o) in
-      let a = and_parts (p operation) (list_all p operations) values in
-      let b = and_parts (q operation) (list_all q operations) targets in
-      (record { values = a.0; targets = b.0 }, known_operations operations a.1 b.1)
+      let a = and_parts (is_operation operation) (list_all is_operation operations) values in
+      let b = and_parts (q operation) (list_all q operations) targets in (
+        record {
+          values = operation_row (most_in version) operation (most-word version) a.0 b.0;
+          targets = b.0;
+        },
+        known_operations operations a.1 b.1,
+      )
 
   -- what is known of the parts of a statement
   pub record KnownParts (s : Parts) : Type 0 where
@@ -223,16 +232,14 @@ module _ (version : Version) where
 
   pub known_parts : (s : Parts) → KnownStatement s → KnownParts s
   known_parts s known =
-      let p = λ (test : Test). is_row (row_of_test test) in
-      let q = λ (o : Op ℕ). is_row (row_of o) in
       let below = is_below (most_in version) in
       let called = flat_map targets_of_operation s.operations in
-      let a = and_parts (list_all p s.tests) (list_all q s.operations) known.values in
+      let a = and_parts (list_all is_test s.tests) (list_all is_operation s.operations) known.values in
       let b = and_parts (list_all below called) (list_all below (targets_of_exit s.exit))
       (sym (list_all-append below called (targets_of_exit s.exit)) ∙ known.targets) in
       record {
-        tests = each_of p (λ test. p test ≡ true) (λ test is. is) s.tests a.0;
+        tests = each_of is_test (λ test. is_row (row_of_test test) ≡ true) test_row s.tests a.0;
         operations = known_operations s.operations a.1
-            (sym (list_all-flat_map below targets_of_operation s.operations) ∙ b.0);
+            (sym (all_of_pieces below targets_of_operation s.operations) ∙ b.0);
         target = exit-below s.exit b.1;
       }

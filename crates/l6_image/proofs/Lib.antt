@@ -3,6 +3,7 @@ pub mod Taken
 pub mod Counted
 pub mod Packing
 pub mod Slots
+pub mod RowValues
 pub mod Found
 pub mod Knowing
 pub mod Programs

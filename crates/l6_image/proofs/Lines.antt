@@ -11,8 +11,8 @@ use Rattle.std.proofs.lemmas.List.Concat.{flat_map-cons}
 use Rattle.std.proofs.Math.Seq.{take-append_seam, get_or-append_seam}
 use Rattle.l6_word.specs.Numerals.{word_bits, word_octals}
 use Rattle.l6_word.specs.Octal.{octal12, is_octal12, is_octal_digit}
-use Rattle.l6_word.proofs.Octals.{digits_tell_words}
-use Rattle.l6_image.specs.Row.{is_word}
+use Rattle.l6_word.proofs.Octals.{octals_are_read_again}
+use Rattle.l6_word.specs.Word.{is_word}
 use Rattle.l6_image.specs.Text.{word_line, text_of_words, whole_lines, is_word_line, first_other}
 use Rattle.l6_image.specs.inner.Lines.{begins_with_word}
 
@@ -53,7 +53,7 @@ pub first_other-more : (number word : ℕ) (rest : List ℕ) → word < 2 ^ word
     ≡ first_other (number + 1) (whole_lines rest)
 first_other-more number word rest fits =
     let digits : List ℕ = octal12 word in
-    let is = (digits_tell_words word fits).0 in
+    let is = (octals_are_read_again word fits).0 in
     let each = (and_parts (eqb (length digits) word_octals) (list_all is_octal_digit digits) is).1 in
     let lines : whole_lines (word_line word ++ rest) ≡ word_line word ∷ whole_lines rest =
     ap whole_lines (append_assoc digits (byte "\n" ∷ []) rest)

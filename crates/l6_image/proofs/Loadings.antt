@@ -6,14 +6,14 @@ use Rattle.l6_image.specs.declared.fault.LoadFault.{LoadFault}
 use Rattle.l6_image.specs.declared.fault.LoadFault.TheVariants.{NotWords, NotAnImage, NoMemory}
 use Rattle.l6_image.specs.declared.fault.ReadFault.{ReadFault}
 use Rattle.l6_image.specs.declared.fault.ReadFault.TheVariants as reads
-use Rattle.l6_image.specs.Row.{is_word}
+use Rattle.l6_word.specs.Word.{is_word}
 use Rattle.l6_image.specs.Image.{words_in}
 use Rattle.l6_image.specs.declared.version.Version.{Version}
 use Rattle.l6_image.specs.Text.{text_of_words, text_in, whole_lines, first_other, IsImageOf}
 use Rattle.l6_image.specs.Load.{Loads, TextHasFault}
 use Rattle.l6_image.specs.inner.Faults.{load_fault}
-use Rattle.l6_image.specs.inner.Loading.{program_in}
-use Rattle.l6_image.specs.inner.Seen.{Fails}
+use Rattle.l6_image.specs.inner.decode.Loading.{program_in}
+use Rattle.l6_image.specs.inner.decode.Seen.{Fails}
 use Rattle.l6_image.specs.inner.TextFault.{TextHasLineFault}
 use Rattle.l6_image.proofs.Fitness.{words_in-words}
 use Rattle.l6_image.proofs.Lines.{first_other-none}
@@ -30,10 +30,10 @@ lines-none text program is =
 -- a text with another line is no image
 pub line_loads : (text : List ℕ) (fault : LoadFault) (program : List Parts) →
     TextHasLineFault text fault → IsImageOf text program → Loads program (Err fault)
-line_loads text (NotWords line) program tells is =
+line_loads text (NotWords line) program determines is =
     let none = lines-none text program is in absurd (cc)
-line_loads text NotAnImage program tells is = absurd tells
-line_loads text NoMemory program tells is = tt
+line_loads text NotAnImage program determines is = absurd determines
+line_loads text NoMemory program determines is = tt
 
 module _ (text words : List ℕ) (each : list_all is_word words ≡ true)
     (lines : text ≡ text_of_words words) where
@@ -53,11 +53,11 @@ module _ (text words : List ℕ) (each : list_all is_word words ≡ true)
   no_other : first_other 1 (whole_lines text) ≡ None
   no_other = ap (λ t. first_other 1 (whole_lines t)) lines ∙ first_other-none words 1 each
 
-  pub words_tell : (fault : ReadFault) → Fails fault (program_in words) →
+  pub words_show : (fault : ReadFault) → Fails fault (program_in words) →
       TextHasFault text (load_fault fault)
-  words_tell reads.NotAnImage fails =
+  words_show reads.NotAnImage fails =
       (no_other, λ is. words_load reads.NotAnImage is.0 fails is.1)
-  words_tell reads.NoMemory fails = tt
+  words_show reads.NoMemory fails = tt
 
   -- the program that was found is the one that the text is of
   both_found : (found : Version × List Parts) (program : List Parts) →
@@ -79,7 +79,7 @@ module _ (text words : List ℕ) (each : list_all is_word words ≡ true)
       (both_found found program found_there is)
       ∙ sym (words-are text words is.0 program each is.1 lines is.2))
 
-  pub others_tell : (found : Version × List Parts) → program_in words ≡ Some found →
+  pub others_show : (found : Version × List Parts) → program_in words ≡ Some found →
       (words_in found.0 found.1 ≡ words → ⊥) → TextHasFault text NotAnImage
-  others_tell found found_there differ =
+  others_show found found_there differ =
       (no_other, λ image. others_load found image.0 found_there differ image.1)

@@ -10,18 +10,19 @@ use Rattle.l6_prog.specs.declared.condition.Test.{Test}
 use Rattle.l6_prog.specs.declared.operation.Op.{Op}
 use Rattle.l6_prog.specs.declared.exit.Exit.{Exit}
 use Rattle.l6_prog.specs.declared.exit.Exit.TheVariants.{Next, Label, Done, Fail}
+use Rattle.l6_prog.proofs.Programs.{taken}
 use Rattle.l6_prog.specs.Statement.{Parts}
 use Rattle.l6_prog.specs.Target.{targets_of_operation}
 use Rattle.l6_image.specs.Bits.{BitField, bits}
 use Rattle.l6_image.specs.Version.{magic, most_in}
 use Rattle.l6_image.specs.declared.version.Version.{Version}
 use Rattle.l6_image.specs.declared.version.Version.TheVariants.{One, Two}
-use Rattle.l6_image.specs.Row.{is_row}
+use Rattle.l6_image.proofs.RowValues.{is_row}
 use Rattle.l6_image.specs.Table.{row_of, row_of_test}
 use Rattle.l6_image.specs.Image.{condition_code, exit_code, exit_target, header, test_words, operation_words, words_in_statement, body, words_in, HasImage}
-use Rattle.l6_image.specs.inner.Fields.{target_in, version_of}
-use Rattle.l6_image.specs.inner.Statements.{many, test_at, operation_at, condition_in, exit_in, statement_at, statements_of}
-use Rattle.l6_image.specs.inner.Loading.{if_made, program_in}
+use Rattle.l6_image.specs.inner.decode.Fields.{target_in, version_of}
+use Rattle.l6_image.specs.inner.decode.Statements.{many, test_at, operation_at, condition_in, exit_in, statement_at, statements_of}
+use Rattle.l6_image.specs.inner.decode.Loading.{program_in}
 use Rattle.l6_image.proofs.Packing.{AllFit, unpacked, unpacked-packed, values}
 use Rattle.l6_image.proofs.Found.{row-again, test_again, operation_again}
 use Rattle.l6_image.proofs.Knowing.{Each, below-more, KnownStatement, KnownProgram, known_program, known_parts, KnownOperation, known_test, known_operation}
@@ -194,6 +195,6 @@ program_in-again version program has =
     rw (
       version_of-again version,
       statements_of-again version program (known_program version program has),
-      has.taken,
+      taken program has.is,
       le-ltb (most_in version) (length program) has.few,
     ) refl

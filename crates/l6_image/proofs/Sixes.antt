@@ -1,14 +1,13 @@
 -- Names and codes, six in a word.
-use Rattle.std.proofs.Common.{◌≡◌, ℕ, ◌<◌, ◌≤◌, List, [], ◌∷◌, ◌++◌, length, drop, min, true, false, eqb, refl, ap, sym, ◌∙◌, arith, append_assoc}
+use Rattle.std.proofs.Common.{◌≡◌, ℕ, ◌≤◌, ◌&&◌, List, [], ◌∷◌, ◌++◌, length, drop, min, true, false, eqb, refl, ap, sym, ◌∙◌, arith, append_assoc}
 use Rattle.std.specs.List.{list_all}
-use Rattle.std.specs.Prelude.{slice_index_or, nat_le}
+use Rattle.std.specs.Prelude.{nat_le}
 use Rattle.std.proofs.lemmas.List.{drop_min}
-use Rattle.std.proofs.lemmas.Bool.{and_parts, leb-true, lt-ltb}
-use Rattle.l6_prog.specs.Numerals.{name_count, most_names, first_letter}
-use Rattle.l6_prog.specs.Chain.{is_chain}
+use Rattle.std.proofs.lemmas.Bool.{and_parts, leb-true}
+use Rattle.l6_prog.specs.Numerals.{most_names, first_letter}
+use Rattle.l6_prog.specs.Chain.{is_name, is_chain}
 use Rattle.l6_image.specs.Bits.{six}
-use Rattle.l6_image.specs.Numerals.{no_name}
-use Rattle.l6_image.specs.Row.{chain, is_name, is_slot, sixes}
+use Rattle.l6_image.specs.Row.{sixes}
 
 -- the first of some codes are in one word, and the others after it
 sixes-step : (codes : List ℕ) → eqb (length codes) 0 ≡ false →
@@ -25,35 +24,17 @@ sixes-step (a ∷ b ∷ c ∷ d ∷ e ∷ f ∷ codes) some = refl
 pub few_names : (names : List ℕ) → is_chain names ≡ true → length names ≤ most_names
 few_names [] chained = omega arith
 few_names (bug ∷ fields) chained =
-    leb-true (length (bug ∷ fields)) most_names
-    (and_parts (nat_le first_letter bug) (nat_le (length (bug ∷ fields)) most_names) chained).1
+    let letter = nat_le first_letter bug in
+    let few = nat_le (length (bug ∷ fields)) most_names in
+    let front = (and_parts (letter && few) (list_all is_name (bug ∷ fields)) chained).0 in
+    leb-true (length (bug ∷ fields)) most_names (and_parts letter few front).1
 
--- six places tell all names of a chain
-pub names-known : (names : List ℕ) → is_chain names ≡ true →
-    (0 < length names → slice_index_or names 0 no_name < name_count) →
-    (1 < length names → slice_index_or names 1 no_name < name_count) →
-    (2 < length names → slice_index_or names 2 no_name < name_count) →
-    (3 < length names → slice_index_or names 3 no_name < name_count) →
-    (4 < length names → slice_index_or names 4 no_name < name_count) →
-    (5 < length names → slice_index_or names 5 no_name < name_count) →
-    is_slot (chain names) ≡ true
-names-known names chained a b c d e f = rw chained (each names (few_names names chained) a b c d e f)
-  where
-    each : (names : List ℕ) → length names ≤ most_names →
-        (0 < length names → slice_index_or names 0 no_name < name_count) →
-        (1 < length names → slice_index_or names 1 no_name < name_count) →
-        (2 < length names → slice_index_or names 2 no_name < name_count) →
-        (3 < length names → slice_index_or names 3 no_name < name_count) →
-        (4 < length names → slice_index_or names 4 no_name < name_count) →
-        (5 < length names → slice_index_or names 5 no_name < name_count) →
-        list_all is_name names ≡ true
-    each [] few a b c d e f = refl
-    each (x ∷ names) few a b c d e f =
-        rw (lt-ltb x name_count (a (omega arith)))
-        (each names (omega (arith, few)) (λ some. b (omega (arith, some)))
-        (λ some. c (omega (arith, some))) (λ some. d (omega (arith, some)))
-        (λ some. e (omega (arith, some))) (λ some. f (omega (arith, some)))
-        (λ past. absurd (omega (arith, few, past))))
+-- each name of a chain is one
+pub each_name : (names : List ℕ) → is_chain names ≡ true → list_all is_name names ≡ true
+each_name [] chained = refl
+each_name (bug ∷ fields) chained =
+    (and_parts (nat_le first_letter bug && nat_le (length (bug ∷ fields)) most_names)
+    (list_all is_name (bug ∷ fields)) chained).1
 
 -- the codes in front are written, and those after are left
 pub sixes-more : (words more codes following : List ℕ) (room : ℕ) → eqb (length codes) 0 ≡ false →

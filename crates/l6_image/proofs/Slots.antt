@@ -8,15 +8,16 @@ use Rattle.std.proofs.lemmas.List.Folds.{list_all-append}
 use Rattle.std.proofs.lemmas.List.Concat.{flat_map-cons}
 use Rattle.l6_word.specs.Numerals.{code_count}
 use Rattle.l6_prog.specs.Numerals.{name_count, most_characters, most_names}
-use Rattle.l6_prog.specs.Chain.{is_chain}
 use Rattle.l6_prog.specs.PrintText.{is_print_text, may_print, is_barred}
 use Rattle.l6_image.specs.Numerals.{no_name}
 use Rattle.l6_image.specs.Bits.{item, six}
-use Rattle.l6_image.specs.Row.{Slot, absent, chain, number, text, kind, sixes, slot_words, is_name, is_slot}
-use Rattle.l6_image.specs.inner.Fields.{items_in, names_in}
-use Rattle.l6_image.specs.inner.Reading.{slot_at, codes_at, codes_in}
+use Rattle.l6_image.specs.Row.{Slot, absent, chain, number, text, kind, sixes, slot_words}
+use Rattle.l6_image.proofs.RowValues.{is_slot}
+use Rattle.l6_prog.specs.Chain.{is_name}
+use Rattle.l6_image.specs.inner.decode.Fields.{items_in, names_in}
+use Rattle.l6_image.specs.inner.decode.Reading.{slot_at, codes_at, codes_in}
 use Rattle.l6_image.proofs.Packing.{unpacked, unpacked-packed}
-use Rattle.l6_image.proofs.Sixes.{few_names}
+use Rattle.l6_image.proofs.Sixes.{each_name, few_names}
 use Rattle.l6_image.proofs.Taken.{take_while-passes, take_while-fails}
 
 -- the items of a word, as a list
@@ -85,10 +86,10 @@ names-taken (x ∷ names) count each =
 names-again : (names : List ℕ) → is_slot (chain names) ≡ true →
     names_in (six no_name names) ≡ names
 names-again names known =
-    let parts = and_parts (is_chain names) (list_all is_name names) known in
-    ap (take_while is_name) (items-again is_name name-small no_name (omega arith) names parts.1
-    ∙ names-filled names (few_names names parts.0))
-    ∙ names-taken names (most_names - length names) parts.1
+    ap (take_while is_name)
+    (items-again is_name name-small no_name (omega arith) names (each_name names known)
+    ∙ names-filled names (few_names names known))
+    ∙ names-taken names (most_names - length names) (each_name names known)
 
 -- codes have six bits
 pub code-small : (n : ℕ) → may_print n ≡ true → n < 2 ^ 6

@@ -7,7 +7,7 @@ use Rattle.std.proofs.lemmas.List.{take_all, take-append-le, length-take, take-a
 use Rattle.std.proofs.lemmas.List.Sums.{take_while-cons}
 use Rattle.std.proofs.lemmas.List.Concat.{flat_map-cons}
 use Rattle.l6_prog.specs.Numerals.{most_characters}
-use Rattle.l6_image.specs.inner.Fields.{items_in}
+use Rattle.l6_image.specs.inner.decode.Fields.{items_in}
 
 -- what is taken from a list that begins with one that passes, or fails
 pub take_while-passes : {A : Type 0} (p : A → Bool) (x : A) (xs : List A) → p x ≡ true →

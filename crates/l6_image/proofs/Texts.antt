@@ -8,14 +8,14 @@ use Rattle.std.proofs.lemmas.List.Concat.{flat_map-cons}
 use Rattle.std.proofs.Math.Seq.{take-append_seam, drop-append_seam}
 use Rattle.l6_word.specs.Numerals.{word_bits, word_octals}
 use Rattle.l6_word.specs.Octal.{octal12, is_octal_digit}
-use Rattle.l6_word.proofs.Octals.{digits_tell_words}
+use Rattle.l6_word.proofs.Octals.{octals_are_read_again}
 use Rattle.l6_prog.specs.Statement.{Parts}
-use Rattle.l6_image.specs.Row.{is_word}
+use Rattle.l6_word.specs.Word.{is_word}
 use Rattle.l6_image.specs.Image.{words_in, HasImage}
 use Rattle.l6_image.specs.declared.version.Version.{Version}
 use Rattle.l6_image.specs.Text.{word_line, text_of_words, text_in}
-use Rattle.l6_image.specs.Load.{TextsTellPrograms}
-use Rattle.l6_image.specs.inner.Loading.{program_in}
+use Rattle.l6_image.specs.Load.{ImagesAreOfOneProgram}
+use Rattle.l6_image.specs.inner.decode.Loading.{program_in}
 use Rattle.l6_image.proofs.Fitness.{words_in-words}
 use Rattle.l6_image.proofs.Programs.{program_in-again}
 
@@ -24,7 +24,7 @@ octal12-length : (word : ℕ) → word < 2 ^ word_bits → length (octal12 word)
 octal12-length word fits =
     let digits : List ℕ = octal12 word in
     let parts = and_parts (eqb (length digits) word_octals) (list_all is_octal_digit digits)
-    (digits_tell_words word fits).0 in
+    (octals_are_read_again word fits).0 in
     eqb-true (length digits) word_octals parts.0
 
 -- the digits in front of a text, and what is after them
@@ -46,10 +46,10 @@ line-following word rest fits =
 same-word : (one other : ℕ) (xs ys : List ℕ) → one < 2 ^ word_bits → other < 2 ^ word_bits →
     word_line one ++ xs ≡ word_line other ++ ys → one ≡ other
 same-word one other xs ys fits too same =
-    sym (digits_tell_words one fits).1
+    sym (octals_are_read_again one fits).1
     ∙ ap (digits_value 8) (sym (line-front one xs fits) ∙ ap (take word_octals) same
     ∙ line-front other ys too)
-    ∙ (digits_tell_words other too).1
+    ∙ (octals_are_read_again other too).1
 
 same-rest : (one other : ℕ) (xs ys : List ℕ) → one < 2 ^ word_bits → other < 2 ^ word_bits →
     word_line one ++ xs ≡ word_line other ++ ys → xs ≡ ys
@@ -110,9 +110,9 @@ pub same_found : (one other : Version × List Parts) → Some one ≡ Some other
 same_found one other same = cc
 
 -- no text is that of two programs
-pub texts_tell_programs : TextsTellPrograms
+pub images_are_of_one_program : ImagesAreOfOneProgram
 unfolding text_in
-texts_tell_programs text one other is too =
+images_are_of_one_program text one other is too =
     let found : Some (is.0, one) ≡ Some (too.0, other) =
     sym (program_in-again is.0 one is.1)
     ∙ program_in-words text (words_in is.0 one) too.0 other (words_in-words is.0 one is.1) too.1

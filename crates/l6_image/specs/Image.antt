@@ -1,6 +1,6 @@
 -- Images: the words of programs.
-use Rattle.std.specs.Prelude.{◌≡◌, ℕ, ◌≤◌, List, [], ◌∷◌, ◌++◌, length, Option, Some, None, unwrap_or, Ok, Bool, true, ◌&&◌}
-use Rattle.std.specs.List.{list_all, flat_map}
+use Rattle.std.specs.Prelude.{ℕ, ◌≤◌, List, [], ◌∷◌, ◌++◌, length, Option, Some, None, unwrap_or}
+use Rattle.std.specs.List.{flat_map}
 use Rattle.l6_prog.specs.declared.condition.Cond.{Cond}
 use Rattle.l6_prog.specs.declared.condition.Cond.TheVariants.{Always, If, Not, IfAll, IfAny, IfNone, IfNotAll}
 use Rattle.l6_prog.specs.declared.condition.Test.{Test}
@@ -8,9 +8,9 @@ use Rattle.l6_prog.specs.declared.operation.Op.{Op}
 use Rattle.l6_prog.specs.declared.exit.Exit.{Exit}
 use Rattle.l6_prog.specs.declared.exit.Exit.TheVariants.{Next, Label, Done, Fail}
 use Rattle.l6_prog.specs.Statement.{Parts}
-use Rattle.l6_prog.specs.Program.{program_of}
+use Rattle.l6_prog.specs.Program.{IsProgram}
 use Rattle.l6_image.specs.Bits.{bits, packed}
-use Rattle.l6_image.specs.Row.{row_words, is_row}
+use Rattle.l6_image.specs.Row.{row_words}
 use Rattle.l6_image.specs.Table.{row_of, row_of_test}
 use Rattle.l6_image.specs.Version.{magic, most_in}
 use Rattle.l6_image.specs.declared.version.Version.{Version}
@@ -74,15 +74,7 @@ statement_words statement = words_in_statement Two statement
 abbrev pub words_of : List Parts → List ℕ
 words_of program = words_in Two program
 
--- operands and names of the statement's tests and operations are those of a program
-abbrev pub has_values : Parts → Bool
-has_values statement =
-    list_all (λ test. is_row (row_of_test test)) statement.tests
-    && list_all (λ operation. is_row (row_of operation)) statement.operations
-
--- the statements are a program, which has an image of this version: statements are lists of any
--- numbers, and in those of a program names are names, and numbers are words
+-- the statements are a program, which has an image of this version
 pub record HasImage (version : Version) (program : List Parts) : Type 0 where
-  pub taken : program_of program ≡ Ok program
-  pub values : list_all has_values program ≡ true
+  pub is : IsProgram program
   pub few : length program ≤ most_in version

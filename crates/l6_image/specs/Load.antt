@@ -20,7 +20,7 @@ TextHasFault text NotAnImage = (first_other 1 (whole_lines text) ≡ None) × (I
 TextHasFault text NoMemory = Unit {0}
 
 -- no text is that of two programs, in whichever versions
-abbrev pub TextsTellPrograms : Type 0
-TextsTellPrograms =
+abbrev pub ImagesAreOfOneProgram : Type 0
+ImagesAreOfOneProgram =
     (text : List ℕ) (one other : List Parts) → IsImageOf text one → IsImageOf text other →
     one ≡ other

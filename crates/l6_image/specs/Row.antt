@@ -1,10 +1,5 @@
 -- Rows: what a test or an operation is in an image, and the words of that.
-use Rattle.std.specs.Prelude.{ℕ, List, [], ◌∷◌, ◌++◌, length, Option, Some, None, unwrap_or, Bool, true, ◌&&◌, nat_lt, ◌^◌}
-use Rattle.std.specs.List.{list_all}
-use Rattle.l6_word.specs.Numerals.{word_bits}
-use Rattle.l6_prog.specs.Numerals.{name_count}
-use Rattle.l6_prog.specs.Chain.{is_chain}
-use Rattle.l6_prog.specs.PrintText.{is_print_text}
+use Rattle.std.specs.Prelude.{ℕ, List, [], ◌∷◌, ◌++◌, length, Option, unwrap_or}
 use Rattle.l6_image.specs.Numerals.{no_name}
 use Rattle.l6_image.specs.Bits.{bits, packed, six}
 use Rattle.l6_image.specs.Version.{label_number}
@@ -69,27 +64,3 @@ row_head version row =
 abbrev pub row_words : Version → Row → List ℕ
 row_words version row =
     row_head version row ∷ slot_words row.first ++ slot_words row.second ++ slot_words row.third
-
--- the number is one of a name
-abbrev pub is_name : ℕ → Bool
-is_name n = nat_lt n name_count
-
--- the number is a word
-abbrev pub is_word : ℕ → Bool
-is_word n = nat_lt n (2 ^ word_bits)
-
--- the operand is one of a program: names of a chain, a word, or a text that may be printed
-abbrev pub is_slot : Slot → Bool
-is_slot absent = true
-is_slot (chain names) = is_chain names && list_all is_name names
-is_slot (number n) = is_word n
-is_slot (text codes) = is_print_text codes
-
--- the name is one, if there is one
-abbrev pub is_field : Option ℕ → Bool
-is_field None = true
-is_field (Some name) = is_name name
-
--- operands and name are those of a program
-abbrev pub is_row : Row → Bool
-is_row row = is_slot row.first && is_slot row.second && is_slot row.third && is_field row.field

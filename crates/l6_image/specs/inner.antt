@@ -1,11 +1,6 @@
-pub mod Fields
 pub mod Heads
-pub mod Writing
-pub mod Reading
-pub mod Back
-pub mod Statements
-pub mod Seen
+pub mod encode
+pub mod decode
 pub mod Lines
-pub mod Loading
 pub mod TextFault
 pub mod Faults

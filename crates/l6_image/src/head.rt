@@ -2,10 +2,10 @@
 
 ghost use Rattle.std.specs.Prelude.{◌≡◌, ◌<◌, ◌/◌, ◌%◌, ◌^◌, unwrap_or};
 ghost use Rattle.l6_image.specs.Numerals.{no_name};
-ghost use Rattle.l6_image.specs.inner.Fields as fields;
+ghost use Rattle.l6_image.specs.inner.decode.Fields as fields;
 ghost use Rattle.l6_image.specs.inner.Heads.{kind_code, head_word};
 
-use crate::items::NO_NAME;
+use crate::encode::items::NO_NAME;
 use crate::version::Version;
 use l6_prog::Name;
 
@@ -65,34 +65,6 @@ fn kind_in(number: u64) -> OperandKind
 }
 
 impl Head {
-    /// The head of these parts.
-    pub(crate) fn new(
-        code: u8,
-        first: OperandKind,
-        second: OperandKind,
-        third: OperandKind,
-        field: Option<Name>,
-        label: Option<u16>,
-    ) -> Self
-        ensures { result ≡ record {
-          code = code;
-          first = first;
-          second = second;
-          third = third;
-          field = field;
-          label = label;
-        } }
-    {
-        Head {
-            code,
-            first,
-            second,
-            third,
-            field,
-            label,
-        }
-    }
-
     /// What a word says in a version.
     pub(crate) fn of(version: Version, word: u64) -> Self
         ensures code { result.code ≡ word / 2 ^ 30 % 64 }

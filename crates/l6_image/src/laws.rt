@@ -1,13 +1,13 @@
 //! That the numbers of the code are those of images, and that texts determine programs.
 
 ghost use Rattle.std.specs.Prelude.{◌≡◌};
-ghost use Rattle.l6_image.specs.Load.{TextsTellPrograms};
+ghost use Rattle.l6_image.specs.Load.{ImagesAreOfOneProgram};
 ghost use Rattle.l6_image.specs.Numerals.{no_name, most_bytes};
 ghost use Rattle.l6_image.specs.Version.{magic, most_in};
 ghost use Rattle.l6_image.specs.declared.version.Version.TheVariants.{One, Two};
 
-use crate::items::NO_NAME;
-use crate::loading::MAX_BYTES;
+use crate::decode::loading::MAX_BYTES;
+use crate::encode::items::NO_NAME;
 use crate::version::{MAGIC_ONE, MAGIC_TWO, MOST_IN_ONE, MOST_IN_TWO};
 
 /// The numbers of the code are those of images.
@@ -19,6 +19,6 @@ pub fn images_have_their_numbers()
 {}
 
 /// No text is that of two programs, in whichever versions.
-pub fn texts_tell_programs()
-    ensures { TextsTellPrograms }
+pub fn images_are_of_one_program()
+    ensures { ImagesAreOfOneProgram }
 {}

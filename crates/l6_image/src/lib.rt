@@ -1,24 +1,17 @@
 //! Images: programs as machine words, and those words as lines of octal digits.
 #![tactic(auto)]
 
+mod decode;
+mod encode;
 mod fault;
 mod head;
-mod items;
 mod laws;
-mod loading;
-mod operands;
-mod reader;
-mod reading;
-mod rows;
-mod statements;
-mod table;
 mod text;
 mod version;
-mod writing;
 
+pub use decode::loading::{MAX_BYTES, load};
+pub use encode::writing::{statement_words, words_of};
 pub use fault::LoadFault;
-pub use laws::{images_have_their_numbers, texts_tell_programs};
-pub use loading::{MAX_BYTES, load};
+pub use laws::{images_are_of_one_program, images_have_their_numbers};
 pub use text::text_of;
 pub use version::Version;
-pub use writing::{statement_words, words_of};

@@ -1,18 +1,18 @@
 //! Words as lines of octal digits.
 
-ghost use Rattle.std.specs.Prelude.{◌≡◌, ◌<◌, ◌≤◌, ◌+◌, ◌^◌, ◌++◌, length, true, false, IfOk, IfErr, IfSome, IfNone, OnOk};
+ghost use Rattle.std.specs.Prelude.{◌≡◌, ◌<◌, ◌≤◌, ◌+◌, ◌^◌, ◌++◌, length, true, false, IfOk, IfErr, IfSome, IfNone};
 ghost use Rattle.std.specs.List.{list_all};
 ghost use Rattle.l6_word.specs.Numerals.{word_bits};
+ghost use Rattle.l6_word.specs.Word.{is_word};
 ghost use Rattle.l6_image.specs.Image.{HasImage};
 ghost use Rattle.l6_image.specs.Numerals.{most_bytes};
-ghost use Rattle.l6_image.specs.Row.{is_word};
 ghost use Rattle.l6_image.specs.Text as spec;
 ghost use Rattle.l6_image.specs.declared.version.Version.TheVariants.{Two};
 ghost use Rattle.l6_image.specs.inner.Lines.{begins_with_word};
 ghost use Rattle.l6_image.specs.inner.TextFault.{TextHasLineFault};
 
+use crate::encode::writing::words_of;
 use crate::fault::LoadFault;
-use crate::writing::words_of;
 use l6_prog::Program;
 use l6_word::{OCTALS, Word, octal12, read_octal12};
 use std::alloc::{AllocError, Global};
@@ -29,7 +29,7 @@ const LINE_BYTES: usize = OCTALS + 1;
 pub fn text_of(alloc: Global, program: &Program) -> Result<Vec<u8>, AllocError>
     ensures text { IfOk result (λ text. text.items ≡ spec.text_of program.now) }
     // Every program has an image.
-    ensures known { OnOk result (HasImage Two program.now) }
+    ensures known { HasImage Two program.now }
 {
     let words = words_of(alloc, program)?;
     text_of_words(alloc, &words)

@@ -3,7 +3,7 @@
 
 ghost use Rattle.std.specs.Prelude.{◌≡◌, ◌<◌, ◌^◌, unwrap_or};
 ghost use Rattle.l6_image.specs.Version as spec;
-ghost use Rattle.l6_image.specs.inner.Fields as fields;
+ghost use Rattle.l6_image.specs.inner.decode.Fields as fields;
 
 /// A version of the format of images.
 #[derive(Clone, Copy, Debug, PartialEq, Eq, Hash)]

@@ -1,2 +1,5 @@
+pub mod Numerals
 pub mod Counting
+pub mod Options
+pub mod Printout
 pub mod inner

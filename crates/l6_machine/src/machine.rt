@@ -1,21 +1,22 @@
 //! The machine.
 
-ghost use Rattle.std.specs.Prelude.{◌≡◌, ◌≤◌, ◌<◌, ◌^◌, ◌+◌, ◌-◌, ◌↔◌, true, false, IfOk, IfErr, OnOk, OnErr, IsErrOf, slice_index, slice_index_or, length, All, None, Some};
-ghost use Rattle.l6_word.specs.Input.{characters_of};
+ghost use Rattle.std.specs.Prelude.{◌≡◌, ◌≤◌, ◌<◌, ◌^◌, ◌+◌, ◌-◌, ◌↔◌, true, false, IfOk, OnOk, OnErr, IsErrOf, slice_index, slice_index_or, length, All, None, Some};
 ghost use Rattle.l6_word.specs.Numerals.{word_bits};
 ghost use Rattle.l6_prog.specs.Numerals.{first_letter, letter_count, name_count};
 ghost use Rattle.l6_store.specs.Blocks.{Fits};
 ghost use Rattle.l6_store.specs.Store.{fresh};
 ghost use Rattle.l6_steps.specs.Limits.{are_allowed};
-ghost use Rattle.l6_steps.specs.Configuration.{first_configuration, configuration_after, EndsBy, IsNumbered};
+ghost use Rattle.l6_steps.specs.Configuration.{configuration_after, EndsBy, IsNumbered};
 ghost use Rattle.l6_steps.specs.Numerals.{most_entries, most_input, most_output, most_steps};
 ghost use Rattle.l6_steps.specs.Output.{BeginAlike};
-ghost use Rattle.l6_steps.specs.State.{is_at_limit, is_last};
+ghost use Rattle.l6_steps.specs.State.{is_at_limit, is_last, run_context};
 ghost use Rattle.l6_steps.specs.Locus.{index_of};
 ghost use Rattle.l6_steps.specs.Step.{Step, answer};
 ghost use Rattle.l6_steps.specs.Run.{EndsIn, IsReached};
+ghost use Rattle.l6_steps.specs.RunState.{IsAtStart};
 ghost use Rattle.l6_machine.specs.Counting.{number_of};
 
+use crate::fault::{MachineFault, check};
 use crate::progress::Progress;
 use l6_instructions::CompiledProgram;
 use l6_prog::{Name, Program};
@@ -26,41 +27,6 @@ use l6_word::{Window, Word};
 use std::alloc::{AllocError, Global};
 use std::marker::Model;
 use std::rc::Rc;
-use thiserror::Error;
-
-/// Why a machine was not made.
-#[derive(Clone, Copy, Debug, Error, PartialEq, Eq)]
-pub enum MachineFault {
-    /// Memory ran out.
-    #[error("out of memory")]
-    NoMemory,
-    /// More than 1,000,000,000 steps or 16,777,216 bytes of output.
-    #[error("limits out of range")]
-    BadLimits,
-}
-
-impl From<AllocError> for MachineFault {
-    ghost use Rattle.std.specs.Prelude.{◌≡◌};
-    ghost use Rattle.l6_machine.specs.declared.machine.MachineFault.TheVariants.{NoMemory};
-
-    ghost from_gives = { λ _ fault. fault ≡ NoMemory };
-
-    fn from(_error: AllocError) -> Self {
-        MachineFault::NoMemory
-    }
-}
-
-/// Whether a run may have these limits.
-fn check(limits: Limits) -> Result<(), MachineFault>
-    ensures bad_limits { IsErrOf result MachineFault.BadLimits ↔ (are_allowed limits ≡ false) }
-    ensures refused { IfErr result (λ fault. fault ≡ MachineFault.BadLimits) }
-{
-    if limits.are_allowed() {
-        Ok(())
-    } else {
-        Err(MachineFault::BadLimits)
-    }
-}
 
 /// A compiled program that machines share.
 fn shared(alloc: Global, code: CompiledProgram) -> Result<Rc<CompiledProgram, Global>, AllocError>
@@ -119,21 +85,13 @@ impl<S: Places> Machine<S> {
         S: Drop,
         requires input { length input.now ≤ most_input }
         requires fresh { S.store store ≡ fresh S.rule (S.store store).units }
-        ensures start { IfOk result (λ m. m.configuration ≡ first_configuration S.rule m.context) }
-        ensures context { IfOk result (λ m. m.context ≡ record {
-          program = program.now;
-          parameters = record {
-            units = (S.store store).units;
-            limits = limits;
-            input = characters_of input.now;
-          };
-        }) }
-        ensures reached { IfOk result (λ m. IsReached m.context m.configuration.state) }
+        ensures start { IfOk result (IsAtStart S.rule
+            (run_context program.now (S.store store).units limits input.now)) }
         ensures bad_limits { IsErrOf result MachineFault.BadLimits ↔ (are_allowed limits ≡ false) }
         ensures allowed { OnOk result (are_allowed limits ≡ true) }
     {
         check(limits)?;
-        Self::with_program(alloc, program.duplicate(alloc)?, input, store, limits)
+        Ok(Self::start(alloc, program.duplicate(alloc)?, input, store, limits)?)
     }
 
     /// Like `new`, but takes ownership of the program, and makes no copy of it.
@@ -152,28 +110,40 @@ impl<S: Places> Machine<S> {
         S: Drop,
         requires input { length input.now ≤ most_input }
         requires fresh { S.store store ≡ fresh S.rule (S.store store).units }
-        ensures start { IfOk result (λ m. m.configuration ≡ first_configuration S.rule m.context) }
-        ensures context { IfOk result (λ m. m.context ≡ record {
-          program = program;
-          parameters = record {
-            units = (S.store store).units;
-            limits = limits;
-            input = characters_of input.now;
-          };
-        }) }
-        ensures reached { IfOk result (λ m. IsReached m.context m.configuration.state) }
+        ensures start { IfOk result (IsAtStart S.rule
+            (run_context program (S.store store).units limits input.now)) }
         ensures bad_limits { IsErrOf result MachineFault.BadLimits ↔ (are_allowed limits ≡ false) }
         ensures allowed { OnOk result (are_allowed limits ≡ true) }
     {
         check(limits)?;
+        Ok(Self::start(alloc, program, input, store, limits)?)
+    }
+
+    /// Like `with_program`, for limits that are known to be allowed. The caller owes that, too
+    /// (`Limits::are_allowed`).
+    ///
+    /// # Errors
+    ///
+    /// Memory ran out.
+    pub fn start(
+        alloc: Global,
+        program: Program,
+        input: &[u8],
+        store: S,
+        limits: Limits,
+    ) -> Result<Self, AllocError>
+    where
+        S: Drop,
+        requires input { length input.now ≤ most_input }
+        requires fresh { S.store store ≡ fresh S.rule (S.store store).units }
+        requires allowed { are_allowed limits ≡ true }
+        ensures { IfOk result (IsAtStart S.rule
+            (run_context program (S.store store).units limits input.now)) }
+    {
         let code = CompiledProgram::new(alloc, program)?;
         let registers = Registers::new(alloc, input, store, limits)?;
-        let start = Position {
-            statement: 0,
-            action: 0,
-        };
         let progress = Progress {
-            place: code.place(start),
+            place: code.place(Position::start_of(0)),
             count: 0,
             ending: None,
         };
@@ -245,9 +215,7 @@ impl<S: Places> Machine<S> {
     /// Goes back to the state before the first step. The store has its first order again, too, and
     /// nothing of the input is taken.
     pub fn reset(&mut self)
-        ensures start { self.new.configuration ≡ first_configuration S.rule self.new.context }
-        ensures context { self.new.context ≡ self.old.context }
-        ensures reached { IsReached self.new.context self.new.configuration.state }
+        ensures { IsAtStart S.rule self.old.context self.new }
     {
         self.registers.reset();
         self.progress = Progress {

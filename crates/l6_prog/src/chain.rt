@@ -1,7 +1,8 @@
 //! Chains of names.
 
-ghost use Rattle.std.specs.Prelude.{⊤, ◌≡◌, ◌≤◌, ◌↔◌, slice_get, IsTrue, IsSome, IfSome, Some};
-ghost use Rattle.l6_prog.specs.Chain.{is_chain};
+ghost use Rattle.std.specs.Prelude.{⊤, ◌≡◌, ◌≤◌, ◌↔◌, slice_get, true, IsTrue, IsSome, IfSome, Some};
+ghost use Rattle.std.specs.List.{list_all};
+ghost use Rattle.l6_prog.specs.Chain.{is_chain, is_name};
 ghost use Rattle.l6_prog.specs.Numerals.{first_letter};
 
 use crate::name::Name;
@@ -48,6 +49,7 @@ impl Chain {
         ensures valid { IsSome result ↔ IsTrue (is_chain names.items) }
         ensures value { IfSome result (λ chain. chain ≡ names.items) }
     {
+        reveal_names(&names);
         if names.first()?.is_letter() {
             Some(Chain { names })
         } else {
@@ -69,6 +71,25 @@ impl Chain {
         ensures letter { first_letter ≤ result }
     {
         self.names[0]
+    }
+
+    /// Does nothing. Its clause gives the prover what is true of every chain.
+    #[inline(always)]
+    pub(crate) fn reveal(&self)
+        ensures { is_chain self.now ≡ true }
+    {
+        // a look at the field, for which the invariant is opened
+        let _ = &self.names;
+    }
+}
+
+/// Does nothing. Its clause gives the prover what is true of every name.
+#[inline(always)]
+fn reveal_names(names: &[Name])
+    ensures { list_all is_name names.now ≡ true }
+{
+    for name in names {
+        name.reveal();
     }
 }
 

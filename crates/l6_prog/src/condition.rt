@@ -1,7 +1,8 @@
 //! Conditions and their tests.
 
-ghost use Rattle.std.specs.Prelude.{◌≡◌};
+ghost use Rattle.std.specs.Prelude.{◌≡◌, true};
 ghost use Rattle.l6_prog.specs.Program.{may_have};
+ghost use Rattle.l6_prog.specs.Values.{is_test};
 
 use crate::chain::Chain;
 use crate::operand::Operand;
@@ -52,6 +53,17 @@ pub struct Test {
     pub chain: Chain,
     /// What it is compared to.
     pub operand: Operand,
+}
+
+impl Test {
+    /// Does nothing. Its clause gives the prover what is true of every test.
+    #[inline(always)]
+    pub(crate) fn reveal(&self)
+        ensures { is_test self.now ≡ true }
+    {
+        self.chain.reveal();
+        self.operand.reveal();
+    }
 }
 
 impl Cond {

@@ -1,6 +1,7 @@
 //! Names of bugs and fields.
 
-ghost use Rattle.std.specs.Prelude.{◌≡◌, ℕ, ◌<◌, ◌≤◌, ◌↔◌, IsTrue, IsSome, IfSome};
+ghost use Rattle.std.specs.Prelude.{◌≡◌, ℕ, ◌<◌, ◌≤◌, ◌↔◌, true, IsTrue, IsSome, IfSome};
+ghost use Rattle.l6_prog.specs.Chain.{is_name};
 ghost use Rattle.l6_prog.specs.Numerals.{name_count, first_letter};
 
 use std::marker::Model;
@@ -49,6 +50,15 @@ impl Name {
         ensures range { result < name_count }
     {
         self.number
+    }
+
+    /// Does nothing. Its clause gives the prover what is true of every name.
+    #[inline(always)]
+    pub(crate) fn reveal(self)
+        ensures { is_name self ≡ true }
+    {
+        // a look at the field, for which the invariant is opened
+        let _ = self.number;
     }
 
     /// Whether this is a letter, and so may name a bug.

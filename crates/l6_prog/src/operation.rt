@@ -1,8 +1,10 @@
 //! Operations.
 
-ghost use Rattle.std.specs.Prelude.{◌≡◌, ⊤, option_to_list};
+ghost use Rattle.std.specs.Prelude.{◌≡◌, ⊤, true, option_to_list};
 ghost use Rattle.std.specs.List.{list_all};
+ghost use Rattle.l6_prog.specs.Chain.{is_chain};
 ghost use Rattle.l6_prog.specs.Target.{targets_of_operation, is_below};
+ghost use Rattle.l6_prog.specs.Values.{is_operand, is_operation};
 
 use crate::chain::Chain;
 use crate::name::Name;
@@ -137,6 +139,66 @@ impl<L: Copy> Clone for Op<L> {
             Op::PrintLine => Ok(Op::PrintLine),
         }
     }
+}
+
+impl<L> Op<L> {
+    /// Does nothing. Its clause gives the prover what is true of every operation.
+    #[inline(always)]
+    pub(crate) fn reveal(&self)
+        ensures { is_operation self.now ≡ true }
+    {
+        match self {
+            Op::Set(chain, operand)
+            | Op::Add(chain, operand)
+            | Op::Subtract(chain, operand)
+            | Op::Multiply(chain, operand)
+            | Op::Divide(chain, operand)
+            | Op::Remainder(chain, operand)
+            | Op::And(chain, operand)
+            | Op::Or(chain, operand)
+            | Op::ExclusiveOr(chain, operand)
+            | Op::Complement(chain, operand)
+            | Op::ShiftLeft(chain, operand)
+            | Op::ShiftRight(chain, operand)
+            | Op::Duplicate(chain, operand, _)
+            | Op::Input(chain, operand, _)
+            | Op::PrintCharacters(chain, operand) => reveal_both(chain, operand),
+            Op::Exchange(one, other) => {
+                one.reveal();
+                other.reveal();
+            }
+            Op::Define(field, word, first, last) => {
+                field.reveal();
+                word.reveal();
+                first.reveal();
+                last.reveal();
+            }
+            Op::SaveContent(chain)
+            | Op::RestoreContent(chain)
+            | Op::PrintDecimal(chain)
+            | Op::PrintOctal(chain) => chain.reveal(),
+            Op::SaveDefinition(field) | Op::RestoreDefinition(field) => field.reveal(),
+            Op::Get(chain, size, Some(old), _) => {
+                reveal_both(chain, size);
+                old.reveal();
+            }
+            Op::Get(chain, size, None, _) => reveal_both(chain, size),
+            Op::Free(chain, Some(value)) => reveal_both(chain, value),
+            Op::Free(chain, None) => chain.reveal(),
+            Op::PrintText(text) => text.reveal(),
+            Op::Call(_, _) | Op::PrintLine => {}
+        }
+    }
+}
+
+/// Does nothing. Its clause gives the prover what is true of a chain and an operand.
+#[inline(always)]
+fn reveal_both(chain: &Chain, operand: &Operand)
+    ensures chain { is_chain chain.now ≡ true }
+    ensures operand { is_operand operand.now ≡ true }
+{
+    chain.reveal();
+    operand.reveal();
 }
 
 impl Op {

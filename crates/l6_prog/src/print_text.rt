@@ -1,16 +1,16 @@
 //! Texts that are printed.
 
-ghost use Rattle.std.specs.Prelude.{⊤, ◌≡◌, ◌↔◌, IsTrue, IsSome, IfSome};
+ghost use Rattle.std.specs.Prelude.{⊤, ◌≡◌, ◌↔◌, true, IsTrue, IsSome, IfSome};
+ghost use Rattle.std.specs.List.{list_all};
 ghost use Rattle.l6_prog.specs.PrintText.{is_print_text, may_print};
 
 use arrayvec::ArrayVec;
+use l6_word::CODE_COUNT;
 use std::alloc::AllocError;
 use std::marker::Model;
 
 /// How many characters a printed text may have.
 pub const MAX_CHARACTERS: usize = 60;
-/// How many codes of characters there are.
-pub(crate) const CODES: u8 = 64;
 
 /// The text of an operation that prints it: 1 to 60 characters as their codes, none of them a comma
 /// or a parenthesis, since a card could not spell those.
@@ -39,13 +39,8 @@ impl PrintText {
         ensures valid { IsSome result ↔ IsTrue (is_print_text codes.now) }
         ensures value { IfSome result (λ text. text ≡ codes.now) }
     {
-        if codes.is_empty() {
+        if codes.is_empty() || !each_may_print(codes) {
             return None;
-        }
-        for code in codes {
-            if !may_print(*code) {
-                return None;
-            }
         }
         let codes = ArrayVec::try_from(codes).ok()?;
         Some(PrintText { codes })
@@ -58,13 +53,32 @@ impl PrintText {
     {
         self.codes.as_slice()
     }
+
+    /// Does nothing. Its clause gives the prover what is true of every text.
+    #[inline(always)]
+    pub(crate) fn reveal(&self)
+        ensures { is_print_text self.now ≡ true }
+    {
+        // a look at the field, for which the invariant is opened
+        let _ = &self.codes;
+    }
+}
+
+/// Whether a text may have each of these codes.
+fn each_may_print(codes: &[u8]) -> bool
+    ensures { result ≡ list_all may_print codes.now }
+{
+    codes.iter().all(|code| may_print(*code))
 }
 
 /// Whether a text may have this code.
 fn may_print(code: u8) -> bool
     ensures { result ≡ may_print code }
 {
-    code < CODES && code != b',' - b' ' && code != b'(' - b' ' && code != b')' - b' '
+    u64::from(code) < CODE_COUNT
+        && code != b',' - b' '
+        && code != b'(' - b' '
+        && code != b')' - b' '
 }
 
 /// A clone is the same text. It takes no memory.

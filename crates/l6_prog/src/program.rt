@@ -2,10 +2,11 @@
 
 ghost use Rattle.std.specs.Prelude.{◌≡◌, ◌+◌, ◌-◌, ◌<◌, ◌≤◌, IfOk, IsTrue, is_ok, true, length, slice_get, slice_index_or};
 ghost use Rattle.std.specs.List.{list_all};
-ghost use Rattle.l6_prog.specs.Program.{program_of, IsProgram, fits, has_its_targets, has_its_tests, is_plain_done};
+ghost use Rattle.l6_prog.specs.Program.{program_of, IsProgram, fits, has_its_tests, is_plain_done};
 ghost use Rattle.l6_prog.specs.Numerals.{most_statements};
 ghost use Rattle.l6_prog.specs.Statement.{plain_done};
 ghost use Rattle.l6_prog.specs.Target.{is_below, targets_of};
+ghost use Rattle.l6_prog.specs.Values.{has_values};
 
 use crate::condition::Cond;
 use crate::exit::Exit;
@@ -45,14 +46,18 @@ pub struct Program {
 
 impl Model for Program {
     ghost use Rattle.std.specs.Prelude.{◌≡◌, List, is_ok, true};
+    ghost use Rattle.std.specs.List.{list_all};
     ghost use Rattle.l6_prog.specs.Statement.{Parts};
     ghost use Rattle.l6_prog.specs.Program.{program_of};
+    ghost use Rattle.l6_prog.specs.Values.{has_values};
 
     ghost Value = { List Parts };
 
     ghost view = { λ p. p.statements.items };
 
-    ghost invariant = { λ p. is_ok (program_of p.statements.items) ≡ true };
+    ghost invariant = { λ p.
+        (is_ok (program_of p.statements.items) ≡ true)
+        × (list_all has_values p.statements.items ≡ true) };
 }
 
 impl Program {
@@ -61,6 +66,7 @@ impl Program {
     /// # Errors
     ///
     /// The first of `Limit`, `Target` and `Shape` that applies.
+    #[tactic(auto, using(crate::proofs::Targets::all_of_pieces))]
     pub fn new(statements: Vec<Statement>) -> Result<Self, ProgFault>
         ensures { result ≡ program_of statements.items }
     {
@@ -73,7 +79,7 @@ impl Program {
         if !each_has_its_tests(&statements) || !ends_in_plain_done(&statements) {
             return Err(ProgFault::Shape);
         }
-        Ok(Program { statements })
+        Ok(Self::from_known(statements))
     }
 
     /// The program of these statements. The caller owes that they are one.
@@ -81,6 +87,7 @@ impl Program {
         requires { is_ok (program_of statements.items) ≡ true }
         ensures { result ≡ statements.items }
     {
+        reveal_statements(&statements);
         Program { statements }
     }
 
@@ -94,7 +101,8 @@ impl Program {
 
     /// The statement of this number, which the caller owes to be one of the program. The clauses
     /// also say what every program has: how many statements there are at most, that each target is
-    /// the number of one, and that after any but the plain `DONE` there is another.
+    /// the number of one, that after any but the plain `DONE` there is another, and that each name is
+    /// below the count of names and each number below 2^36.
     pub fn statement(&self, number: u16) -> &Statement
         requires { number < length self.now }
         ensures value { result.now ≡ slice_index_or self.now number plain_done }
@@ -103,6 +111,7 @@ impl Program {
         ensures targets { IsTrue (list_all (is_below (length self.now)) (targets_of result.now)) }
         ensures tests { IsTrue (has_its_tests result.now) }
         ensures last { number + 1 ≡ length self.now → result.now ≡ plain_done }
+        ensures values { IsTrue (has_values result.now) }
     {
         &self.statements[usize::from(number)]
     }
@@ -123,40 +132,40 @@ impl Program {
     }
 }
 
+/// Does nothing. Its clause gives the prover what is true of every statement.
+#[inline(always)]
+fn reveal_statements(statements: &[Statement])
+    ensures { list_all has_values statements.now ≡ true }
+{
+    for statement in statements {
+        statement.values_hold();
+    }
+}
+
 /// Whether no statement has more than 63 tests or 63 operations.
 fn each_fits(statements: &[Statement]) -> bool
     ensures { result ≡ list_all fits statements.now }
 {
-    for statement in statements {
-        if statement.tests().len() > MAX_TESTS || statement.operations().len() > MAX_OPERATIONS {
-            return false;
-        }
-    }
-    true
+    statements.iter().all(|statement| {
+        statement.tests().len() <= MAX_TESTS && statement.operations().len() <= MAX_OPERATIONS
+    })
 }
 
 /// Whether each target is the number of one of the statements.
 fn each_target_is_a_statement(statements: &[Statement]) -> bool
-    ensures { result ≡ has_its_targets statements.now }
+    ensures { result ≡ list_all (λ s. list_all (is_below (length statements.now)) (targets_of s))
+        statements.now }
 {
-    for statement in statements {
-        if !statement.leads_below(statements.len()) {
-            return false;
-        }
-    }
-    true
+    statements
+        .iter()
+        .all(|statement| statement.leads_below(statements.len()))
 }
 
 /// Whether each condition has as many tests as it needs.
 fn each_has_its_tests(statements: &[Statement]) -> bool
     ensures { result ≡ list_all has_its_tests statements.now }
 {
-    for statement in statements {
-        if !statement.condition().may_have(statement.tests().len()) {
-            return false;
-        }
-    }
-    true
+    statements.iter().all(|statement| statement.condition().may_have(statement.tests().len()))
 }
 
 /// Whether the last statement is the plain `DONE`.

@@ -1,8 +1,9 @@
 //! Statements.
 
-ghost use Rattle.std.specs.Prelude.{◌≡◌, IfOk};
+ghost use Rattle.std.specs.Prelude.{◌≡◌, true, IfOk, IsTrue};
 ghost use Rattle.std.specs.List.{list_all, flat_map};
 ghost use Rattle.l6_prog.specs.Target.{targets_of, targets_of_operation, is_below};
+ghost use Rattle.l6_prog.specs.Values.{is_test, is_operation, has_values};
 
 use crate::condition::{Cond, Test};
 use crate::exit::Exit;
@@ -20,7 +21,10 @@ pub struct Statement {
 }
 
 impl Model for Statement {
+    ghost use Rattle.std.specs.Prelude.{◌≡◌, true};
+    ghost use Rattle.std.specs.List.{list_all};
     ghost use Rattle.l6_prog.specs.Statement.{Parts};
+    ghost use Rattle.l6_prog.specs.Values.{is_test, is_operation};
 
     ghost Value = { Parts };
 
@@ -30,6 +34,10 @@ impl Model for Statement {
       operations = s.operations.items;
       exit = s.exit;
     } };
+
+    ghost invariant = { λ s.
+        (list_all is_test s.tests.items ≡ true)
+        × (list_all is_operation s.operations.items ≡ true) };
 }
 
 impl Statement {
@@ -44,6 +52,8 @@ impl Statement {
           exit = exit;
         } }
     {
+        reveal_tests(&tests);
+        reveal_operations(&operations);
         Statement {
             condition,
             tests,
@@ -87,7 +97,18 @@ impl Statement {
         self.exit
     }
 
+    /// Of each statement: in its tests and operations each name is below the count of names, and each
+    /// number below 2^36.
+    #[inline(always)]
+    pub fn values_hold(&self)
+        ensures { IsTrue (has_values self.now) }
+    {
+        // a look at a field, for which the invariant is opened
+        let _ = &self.tests;
+    }
+
     /// Whether each target of the operations and the exit is below a number.
+    #[tactic(auto, using(crate::proofs::Targets::all_of_targets))]
     pub(crate) fn leads_below(&self, end: usize) -> bool
         ensures { result ≡ list_all (is_below end) (targets_of self.now) }
     {
@@ -108,14 +129,31 @@ impl Statement {
     }
 }
 
-/// Whether each target of the operations is below a number.
-fn each_leads_below(operations: &[Op], end: usize) -> bool
-    ensures { result ≡ list_all (is_below end) (flat_map targets_of_operation operations.now) }
+/// Does nothing. Its clause gives the prover what is true of every test.
+#[inline(always)]
+fn reveal_tests(tests: &[Test])
+    ensures { list_all is_test tests.now ≡ true }
+{
+    for test in tests {
+        test.reveal();
+    }
+}
+
+/// Does nothing. Its clause gives the prover what is true of every operation.
+#[inline(always)]
+fn reveal_operations(operations: &[Op])
+    ensures { list_all is_operation operations.now ≡ true }
 {
     for operation in operations {
-        if !operation.leads_below(end) {
-            return false;
-        }
+        operation.reveal();
     }
-    true
+}
+
+/// Whether each target of the operations is below a number.
+fn each_leads_below(operations: &[Op], end: usize) -> bool
+    ensures { result ≡ list_all (λ o. list_all (is_below end) (targets_of_operation o)) operations.now }
+{
+    operations
+        .iter()
+        .all(|operation| operation.leads_below(end))
 }

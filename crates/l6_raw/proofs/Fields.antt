@@ -30,13 +30,13 @@ abbrev pub fields_own : Ptr → ℕ → ℕ → Fml
 fields_own start room written =
     Fields.own_val (start, (room, (written, tt))) (memory_val start room written ∷ [])
 
--- the token has no field that the machine knows, but a mark of its allocator's type
+-- the token has no field that the machine knows, but a tag of its allocator's type
 abbrev pub token_val : Val
 token_val = vstruct (vcons (vstruct vnil) vnil)
 
 -- a struct whose one field is a struct without fields
-abbrev Marked : RattleType
-Marked = Struct (record {
+abbrev Tagged : RattleType
+Tagged = Struct (record {
   name = [];
   args = [];
   types = [];
@@ -44,8 +44,8 @@ Marked = Struct (record {
 })
 
 -- so that is what is stored of it
-pub token_told : (vs : List Val) → Is Marked (tt, tt) vs → vs ≡ token_val ∷ []
-token_told vs is =
+pub token_known : (vs : List Val) → Is Tagged (tt, tt) vs → vs ≡ token_val ∷ []
+token_known vs is =
     let fields = is.1 in
     fields.0 ∙ ap (λ (field : List Val). vstruct (of_list (field ++ [])) ∷ []) fields.1.0.1.0
 

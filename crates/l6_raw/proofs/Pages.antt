@@ -1,5 +1,5 @@
 -- Words that become others, one page after another.
-use Rattle.std.proofs.Common.{◌≡◌, ℕ, ◌+◌, ◌-◌, ◌*◌, ◌/◌, ◌%◌, ◌<◌, ◌≤◌, Bool, false, List, length, get_or, take, drop, slice_range, refl, sym, ap, ◌∙◌, arith, inl, inr}
+use Rattle.std.proofs.Common.{◌≡◌, ℕ, ◌+◌, ◌-◌, ◌*◌, ◌/◌, ◌%◌, ◌<◌, ◌≤◌, Bool, false, List, length, get_or, take, drop, slice_range, sym, ap, ◌∙◌, arith, inl, inr}
 use Rattle.std.proofs.lemmas.Bool.{cases_lt}
 use Rattle.std.proofs.lemmas.List.{get_or_past, get_or-take, get_or-drop, ext_get_or}
 use Rattle.l6_raw.specs.Words.{overwritten}
@@ -20,13 +20,6 @@ pub record AreTaken (was words now : List ℕ) (first : ℕ) : Type 0 where
   pub long : length now ≡ length words
   pub taken : (at : ℕ) → at < first → get_or now at 0 ≡ get_or words at 0
   pub rest : (at : ℕ) → first ≤ at → get_or now at 0 ≡ get_or was at 0
-
-pub taken_none : (was words : List ℕ) → length was ≡ length words → AreTaken was words was 0
-taken_none was words long = record {
-  long = long;
-  taken = λ at below. absurd (omega (arith, below));
-  rest = λ at _. refl;
-}
 
 pub taken_all : (was words now : List ℕ) (first : ℕ) → AreTaken was words now first →
     length words ≤ first → now ≡ words

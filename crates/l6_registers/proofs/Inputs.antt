@@ -233,11 +233,6 @@ below-lines width (line ∷ lines) =
     (below-blanks width)))
     (below-lines width lines))
 
--- the next character has a code
-pub next_below : (xs rest : List ℕ) (n x : ℕ) → AllBelowBase code_count xs → drop n xs ≡ x ∷ rest →
-    x < code_count
-next_below xs rest n x all is = (subst (AllBelowBase code_count) is (below-drop n xs all)).0
-
 -- ---- keeping lines
 -- nothing is kept yet
 pub none_kept : (text codes : List ℕ) → codes ≡ [] → KeepsLines text codes text 0

@@ -7,16 +7,13 @@ ghost use Rattle.l6_steps.specs.Characters.{number_of};
 ghost use Rattle.l6_steps.specs.Numerals.{most_input, word_characters};
 ghost use Rattle.l6_registers.specs.inner.Input.{blank, kept_line, line_end, spread};
 
-use l6_word::{first_line, input_code, without_return};
+use l6_word::{CODE_COUNT, first_line, input_code, without_return};
 use std::alloc::{AllocError, Global};
 use std::marker::Model;
 use std::rc::Rc;
 
 /// How many characters a line of an input has.
 pub const INPUT_WIDTH: usize = 80;
-
-/// How many codes of characters there are.
-const CODES: u64 = 64;
 
 /// What follows the codes of a line: no character has this code.
 const LINE_END: u8 = 64;
@@ -120,7 +117,7 @@ impl Input {
     {
         let mut number = 0;
         for _ in 0..count {
-            number = number * CODES + u64::from(self.next());
+            number = number * CODE_COUNT + u64::from(self.next());
         }
         number
     }

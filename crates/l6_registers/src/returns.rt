@@ -18,7 +18,7 @@ use l6_store::Places;
 impl<S: Places> Registers<S> {
     /// Calls a statement, if there is room for one more return.
     pub(crate) fn call(&mut self, called: u16, fail: Option<u16>) -> Result<Jump, Trap>
-        ensures done { Executes S.rule (λ parameters choice. row parameters choice (Op.Call called fail))
+        ensures { Executes S.rule (λ parameters choice. row parameters choice (Op.Call called fail))
             self.old self.new result }
     {
         if self.saved.returns.has_room() {
@@ -30,17 +30,14 @@ impl<S: Places> Registers<S> {
 
     /// Leaves a statement by its exit, and answers where the run goes on.
     pub(crate) fn leave_by(&mut self, exit: Exit) -> Result<Jump, Trap>
-        ensures done { Executes S.rule (λ parameters choice. leave_by exit) self.old self.new result }
-        ensures held { AreHeld S.rule self.new }
+        ensures { Executes S.rule (λ parameters choice. leave_by exit) self.old self.new result }
     {
-        let result = match exit {
+        match exit {
             Exit::Next => Ok(Jump::Next),
             Exit::Label(statement) => Ok(Jump::To(statement)),
             Exit::Done => self.done(),
             Exit::Fail => self.fail(),
-        };
-        self.reveal_invariant();
-        result
+        }
     }
 
     /// Goes on after the latest call that waits for its return, or ends the run.
@@ -69,9 +66,9 @@ impl<S: Places> Registers<S> {
         Ok(Jump::To(label))
     }
 
-    /// Whether there is room for one more return.
+    /// Whether one more call may wait for its return.
     #[inline(always)]
-    pub fn may_wait(&self) -> bool
+    pub fn can_call(&self) -> bool
         ensures { result ≡ has_room self.now.memory.returns }
     {
         self.saved.returns.has_room()
@@ -79,7 +76,7 @@ impl<S: Places> Registers<S> {
 
     /// Pushes the return address of a call: the position after it. Another jump changes nothing.
     #[inline(always)]
-    pub fn wait(&mut self, jump: Jump, at: Position)
+    pub fn push_return(&mut self, jump: Jump, at: Position)
         requires room { FindsRoom jump self.old.memory.returns }
         requires action { at.action ≤ most_operations + 1 }
         ensures returns { self.new ≡ record self.old {

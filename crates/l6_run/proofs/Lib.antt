@@ -1,4 +1,2 @@
-pub mod Faring
-pub mod Transfers
 pub mod Printouts
 pub mod Servings

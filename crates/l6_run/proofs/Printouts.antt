@@ -1,19 +1,19 @@
 -- A deck has one printout, which is that of its image, too.
 use Rattle.std.proofs.Common.{◌≡◌, ℕ, List, ap, sym, subst, ◌∙◌}
 use Rattle.l6_prog.specs.Statement.{Parts}
-use Rattle.l6_image.specs.Load.{TextsTellPrograms}
+use Rattle.l6_image.specs.Load.{ImagesAreOfOneProgram}
 use Rattle.l6_image.specs.declared.version.Version.TheVariants.{Two}
-use Rattle.l6_asm.specs.Assembled.{Assembled}
-use Rattle.l6_asm.specs.Laws.{ImagesOfDecksFit}
-use Rattle.l6_asm.specs.Spells.{SpellsInOneWay}
 use Rattle.l6_steps.specs.Laws.{EndsInOneState}
 use Rattle.l6_steps.specs.Configuration.{EndsBy}
 use Rattle.l6_steps.specs.State.{State}
+use Rattle.l6_machine.specs.Printout.{ending_of, printout}
+use Rattle.l6_machine.specs.Options.{OptionValues, context_under, store_rule}
+use Rattle.l6_machine.specs.declared.ending.Ending.{Ending}
+use Rattle.l6_asm.specs.Assembled.{Assembled}
+use Rattle.l6_asm.specs.Laws.{ImagesOfDecksFit}
+use Rattle.l6_asm.specs.Spells.{SpellsInOneWay}
 use Rattle.l6_run.specs.Laws.{ImagesPrintAsDecks, PrintsInOneWay, PrintsLoadedInOneWay, WrittenImagesPrintAsDecks}
-use Rattle.l6_run.specs.Printout.{ending_of, printout}
-use Rattle.l6_run.specs.Prints.{Prints, PrintsLoaded, RunPrints, store_rule, context_under}
-use Rattle.l6_run.specs.Options.{OptionValues}
-use Rattle.l6_run.specs.declared.ending.Ending.{Ending}
+use Rattle.l6_run.specs.Prints.{Prints, PrintsLoaded, RunPrints}
 
 pub prints-one : SpellsInOneWay → EndsInOneState → PrintsInOneWay
 prints-one one_way one_end options deck input ending ending' text text' prints prints' =
@@ -38,7 +38,7 @@ printed_by options input ending text one other same prints =
     subst (λ (program : List Parts).
     RunPrints store_rule (context_under options input program) ending text) same prints
 
-pub prints-loaded_one : TextsTellPrograms → EndsInOneState → PrintsLoadedInOneWay
+pub prints-loaded_one : ImagesAreOfOneProgram → EndsInOneState → PrintsLoadedInOneWay
 prints-loaded_one one_program one_end options image input ending ending' text text' prints prints' =
     let program : prints'.program ≡ prints.program =
     one_program image prints'.program prints.program prints'.loaded prints.loaded in
@@ -51,7 +51,7 @@ prints-loaded_one one_program one_end options image input ending ending' text te
       prints.run.printed ∙ ap printout finals ∙ sym run.printed,
     )
 
-pub prints-as_deck : SpellsInOneWay → TextsTellPrograms → ImagesOfDecksFit → ImagesPrintAsDecks
+pub prints-as_deck : SpellsInOneWay → ImagesAreOfOneProgram → ImagesOfDecksFit → ImagesPrintAsDecks
 prints-as_deck one_way one_program images_fit options deck image input assembly ending text fits
     spelled is_image = (
       λ (prints : Prints options deck input ending text). record {
@@ -73,7 +73,7 @@ prints-as_deck one_way one_program images_fit options deck image input assembly 
       },
     )
 
-pub written-prints_as_deck : SpellsInOneWay → TextsTellPrograms → ImagesOfDecksFit →
+pub written-prints_as_deck : SpellsInOneWay → ImagesAreOfOneProgram → ImagesOfDecksFit →
     WrittenImagesPrintAsDecks
 written-prints_as_deck one_way one_program images_fit options deck image input ending text written =
     prints-as_deck one_way one_program images_fit options deck image input written.assembly ending text

@@ -1,11 +1,13 @@
--- What a writer took of an answer is what the call has served.
-use Rattle.std.proofs.Common.{◌≡◌, ◌<◌, ◌≤◌, ℕ, List, length, take, Option, Err, arith, subst}
+-- What a writer took of an answer is what the call has served, and that is no trouble of a reader.
+use Rattle.std.proofs.Common.{◌≡◌, ◌<◌, ◌≤◌, ℕ, false, List, length, take, Option, Result, Ok, Err, arith, refl, subst}
 use Rattle.std.specs.Io.KnownBytes.{Appends}
-use Rattle.l6_run.specs.Numerals.{most_counted}
+use Rattle.l6_device.specs.Numerals.{most_counted}
+use Rattle.l6_device.specs.Patience.{reports_read, reported_by}
+use Rattle.l6_device.specs.Transfer.{EndsWriting}
+use Rattle.l6_device.specs.declared.fault.Part.{Part}
+use Rattle.l6_device.specs.declared.fault.RunFault.{RunFault}
+use Rattle.l6_device.specs.declared.fault.RunFault.TheVariants.{TooLong, Asm, Load, Read, Write, NoMemory}
 use Rattle.l6_run.specs.Serves.{Serves}
-use Rattle.l6_run.specs.Transfer.{EndsWriting}
-use Rattle.l6_run.specs.declared.fault.RunFault.{RunFault}
-use Rattle.l6_run.specs.declared.fault.RunFault.TheVariants.{TooLong, Asm, Load, Read, Write, NoMemory}
 
 -- a call whose answer was cut off by its writer's trouble has served the front of it
 pub front_served : (Outcome : Type 0) (Answers : Outcome → List ℕ → Type 0)
@@ -26,3 +28,17 @@ front_served Outcome Answers Refuses outcome text old new (Write n) few answers 
       short = subst (λ (k : ℕ). k < length text) same ends.short;
       out = subst (λ (k : ℕ). Appends old new (take k text)) same ends.front;
     }
+
+-- what serves a text reports no trouble of a reader
+pub unreported-reader : {Outcome : Type 0} (Answers : Outcome → List ℕ → Type 0)
+    (Refuses : RunFault → Type 0) (part : Part) (old new : Option (List ℕ))
+    (result : Result Outcome RunFault) → ((which : Part) → Refuses (Read which) → ⊥) →
+    Serves Answers Refuses old new result → reported_by (reports_read part) result ≡ false
+unreported-reader Answers Refuses part old new (Ok _) never served = refl
+unreported-reader Answers Refuses part old new (Err (TooLong _)) never served = refl
+unreported-reader Answers Refuses part old new (Err (Asm _)) never served = refl
+unreported-reader Answers Refuses part old new (Err (Load _)) never served = refl
+unreported-reader Answers Refuses part old new (Err (Read which)) never served =
+    absurd (never which served)
+unreported-reader Answers Refuses part old new (Err (Write _)) never served = refl
+unreported-reader Answers Refuses part old new (Err NoMemory) never served = refl

@@ -1,11 +1,11 @@
 -- The laws of printouts.
 use Rattle.std.specs.Prelude.{◌≡◌, ◌≤◌, ℕ, List, length}
+use Rattle.l6_image.specs.Text.{IsImageOf}
+use Rattle.l6_machine.specs.declared.ending.Ending.{Ending}
+use Rattle.l6_machine.specs.Options.{OptionValues}
 use Rattle.l6_card.specs.Numerals.{most_deck_bytes}
 use Rattle.l6_asm.specs.Assembled.{Assembled}
 use Rattle.l6_asm.specs.Spells.{Spells}
-use Rattle.l6_image.specs.Text.{IsImageOf}
-use Rattle.l6_run.specs.declared.ending.Ending.{Ending}
-use Rattle.l6_run.specs.Options.{OptionValues}
 use Rattle.l6_run.specs.Prints.{Prints, PrintsLoaded}
 use Rattle.l6_run.specs.Texts.{WritesImage}
 

@@ -1,11 +1,3 @@
-pub mod Numerals
-pub mod Device
-pub mod Host
-pub mod Fault
-pub mod Patience
-pub mod Transfer
-pub mod Options
-pub mod Printout
 pub mod Prints
 pub mod Texts
 pub mod Runs

@@ -1,43 +1,26 @@
 -- What the run of a deck prints, and that of an image.
 use Rattle.std.specs.Prelude.{◌≡◌, ℕ, ◌<◌, ◌≤◌, List, length, IsSomeAnd}
-use Rattle.l6_word.specs.Input.{characters_of}
 use Rattle.l6_prog.specs.Statement.{Parts}
-use Rattle.l6_card.specs.Numerals.{most_deck_bytes}
-use Rattle.l6_asm.specs.AssemblyFault.{assembly_fault}
-use Rattle.l6_asm.specs.Assembled.{Assembled}
-use Rattle.l6_asm.specs.Spells.{Spells, IsUnspelled}
 use Rattle.l6_image.specs.Load.{TextHasFault}
 use Rattle.l6_image.specs.Numerals.{most_bytes}
 use Rattle.l6_image.specs.Text.{IsImageOf}
 use Rattle.l6_image.specs.declared.fault.LoadFault.{LoadFault}
 use Rattle.l6_image.specs.declared.fault.LoadFault.TheVariants as load
 use Rattle.l6_store.specs.Rule.{Rule}
-use Rattle.l6_store.specs.Buddy.{buddy_rule}
 use Rattle.l6_steps.specs.Configuration.{EndsBy}
 use Rattle.l6_steps.specs.Numerals.{most_input}
 use Rattle.l6_steps.specs.Run.{EndsIn}
 use Rattle.l6_steps.specs.State.{State, RunContext}
-use Rattle.l6_run.specs.declared.ending.Ending.{Ending}
-use Rattle.l6_run.specs.declared.fault.Part.TheVariants.{Deck, Image, Input}
-use Rattle.l6_run.specs.declared.fault.RunFault.{RunFault}
-use Rattle.l6_run.specs.declared.fault.RunFault.TheVariants.{TooLong, Asm, Load}
-use Rattle.l6_run.specs.Options.{OptionValues}
-use Rattle.l6_run.specs.Printout.{ending_of, printout}
-
--- the context in which a program runs under these options, with this input
-abbrev pub context_under : OptionValues → List ℕ → List Parts → RunContext
-context_under options input program = record {
-  program = program;
-  parameters = record {
-    units = options.units;
-    limits = options.limits;
-    input = characters_of input;
-  };
-}
-
--- the rule by which the store of a run picks its places: the buddy system's
-abbrev pub store_rule : Rule
-store_rule = buddy_rule
+use Rattle.l6_machine.specs.declared.ending.Ending.{Ending}
+use Rattle.l6_machine.specs.Options.{OptionValues, context_under, store_rule}
+use Rattle.l6_machine.specs.Printout.{ending_of, printout}
+use Rattle.l6_card.specs.Numerals.{most_deck_bytes}
+use Rattle.l6_asm.specs.AssemblyFault.{assembly_fault}
+use Rattle.l6_asm.specs.Assembled.{Assembled}
+use Rattle.l6_asm.specs.Spells.{Spells, IsUnspelled}
+use Rattle.l6_device.specs.declared.fault.Part.TheVariants.{Deck, Image, Input}
+use Rattle.l6_device.specs.declared.fault.RunFault.{RunFault}
+use Rattle.l6_device.specs.declared.fault.RunFault.TheVariants.{TooLong, Asm, Load}
 
 -- a whole run of the context, which is the one under the rule, ends in a state with this ending and
 -- this printout

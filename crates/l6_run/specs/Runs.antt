@@ -1,28 +1,13 @@
 -- What becomes of calls that read the parts of a job from readers, the one whole before the next.
-use Rattle.std.specs.Prelude.{ℕ, ◌≡◌, ◌⊎◌, List, Option, Result, Ok, Err}
-use Rattle.l6_run.specs.Options.{OptionValues}
+use Rattle.std.specs.Prelude.{ℕ, List, Option, Result}
+use Rattle.l6_machine.specs.Options.{OptionValues}
+use Rattle.l6_machine.specs.declared.ending.Ending.{Ending}
+use Rattle.l6_device.specs.Transfer.{Reads}
+use Rattle.l6_device.specs.declared.fault.Part.TheVariants.{Deck, Image, Input}
+use Rattle.l6_device.specs.declared.fault.RunFault.{RunFault}
 use Rattle.l6_run.specs.Prints.{Prints, PrintsLoaded, RefusesDeck, RefusesImage}
 use Rattle.l6_run.specs.Serves.{Serves}
 use Rattle.l6_run.specs.Texts.{RefusesCards, RefusesRewriting, RewritesImage}
-use Rattle.l6_run.specs.Transfer.{EndsReading, GivesPart}
-use Rattle.l6_run.specs.declared.ending.Ending.{Ending}
-use Rattle.l6_run.specs.declared.fault.Part.{Part}
-use Rattle.l6_run.specs.declared.fault.Part.TheVariants.{Deck, Image, Input}
-use Rattle.l6_run.specs.declared.fault.RunFault.{RunFault}
-use Rattle.l6_run.specs.declared.fault.RunFault.TheVariants.{TooLong, Read}
-
--- the call ended since the part was not read whole, and nothing went out
-abbrev pub EndsAtPart : {Outcome : Type 0} → Part → Option (List ℕ) → Option (List ℕ) →
-    Option (List ℕ) → Option (List ℕ) → Result Outcome RunFault → Type 0
-EndsAtPart part old new taken taken' (Ok outcome) = ⊥
-EndsAtPart part old new taken taken' (Err fault) = EndsReading part old new fault × (taken' ≡ taken)
-
--- the reader gave a whole part, of which this became; or the call ended there
-abbrev pub Reads : {Outcome : Type 0} → Part → Option (List ℕ) → Option (List ℕ) →
-    Option (List ℕ) → Option (List ℕ) → (List ℕ → Type 0) → Result Outcome RunFault → Type 0
-Reads part old new taken taken' Becomes result =
-    ((bytes : List ℕ) × GivesPart part old new bytes × Becomes bytes)
-    ⊎ EndsAtPart part old new taken taken' result
 
 -- what became of a run of a deck: what the reader of the deck gave, what that of the input gave, and
 -- what went out for it
@@ -58,9 +43,3 @@ abbrev pub Rewrites : Option (List ℕ) → Option (List ℕ) → Option (List �
 Rewrites image image' taken taken' result =
     Reads Image image image' taken taken' (λ lines.
     Serves (λ _ text. RewritesImage lines text) (RefusesRewriting lines) taken taken' result) result
-
--- the part was not read whole, for more came than it may have or its reader had trouble
-abbrev pub IsOfPart : {Outcome : Type 0} → Part → Result Outcome RunFault → Type 0
-IsOfPart part (Err (TooLong which)) = which ≡ part
-IsOfPart part (Err (Read which)) = which ≡ part
-IsOfPart part result = ⊥

@@ -1,8 +1,8 @@
 -- What becomes of a call that answers with a text: the frame of all of them.
 use Rattle.std.specs.Prelude.{ℕ, ◌<◌, List, length, take, Option, Result, Ok, Err}
 use Rattle.std.specs.Io.KnownBytes.{Appends}
-use Rattle.l6_run.specs.declared.fault.RunFault.{RunFault}
-use Rattle.l6_run.specs.declared.fault.RunFault.TheVariants.{Write, NoMemory}
+use Rattle.l6_device.specs.declared.fault.RunFault.{RunFault}
+use Rattle.l6_device.specs.declared.fault.RunFault.TheVariants.{Write, NoMemory}
 
 -- the text of the answer went out
 pub record AnswersWhole {Outcome : Type 0} (Answers : Outcome → List ℕ → Type 0)

@@ -1,20 +1,20 @@
 -- What is written of a deck that is not run, its image or its listing, and of an image that is
 -- rewritten.
 use Rattle.std.specs.Prelude.{◌≡◌, ℕ, ◌<◌, ◌≤◌, List, length, IsSomeAnd}
-use Rattle.l6_card.specs.Numerals.{most_deck_bytes}
-use Rattle.l6_asm.specs.AssemblyFault.{assembly_fault}
-use Rattle.l6_asm.specs.Assembled.{Assembled}
-use Rattle.l6_asm.specs.Listing.{listing_of}
-use Rattle.l6_asm.specs.Spells.{Spells, IsUnspelled}
 use Rattle.l6_prog.specs.Statement.{Parts}
 use Rattle.l6_image.specs.Image.{HasImage}
 use Rattle.l6_image.specs.Numerals.{most_bytes}
 use Rattle.l6_image.specs.Text.{text_of, IsImageOf}
 use Rattle.l6_image.specs.declared.version.Version.TheVariants.{Two}
+use Rattle.l6_card.specs.Numerals.{most_deck_bytes}
+use Rattle.l6_asm.specs.AssemblyFault.{assembly_fault}
+use Rattle.l6_asm.specs.Assembled.{Assembled}
+use Rattle.l6_asm.specs.Listing.{listing_of}
+use Rattle.l6_asm.specs.Spells.{Spells, IsUnspelled}
+use Rattle.l6_device.specs.declared.fault.Part.TheVariants.{Deck, Image}
+use Rattle.l6_device.specs.declared.fault.RunFault.{RunFault}
+use Rattle.l6_device.specs.declared.fault.RunFault.TheVariants.{TooLong, Asm, Load}
 use Rattle.l6_run.specs.Prints.{IsNoImage}
-use Rattle.l6_run.specs.declared.fault.Part.TheVariants.{Deck, Image}
-use Rattle.l6_run.specs.declared.fault.RunFault.{RunFault}
-use Rattle.l6_run.specs.declared.fault.RunFault.TheVariants.{TooLong, Asm, Load}
 
 -- the text is that of the deck's image: the deck is no longer than it may be and spells a program,
 -- which has an image, and this is its text

@@ -1,23 +1,19 @@
 //! Runs of a deck or an image, and of an input, that readers give.
 
 ghost use Rattle.std.specs.Prelude.{◌≡◌, ◌+◌, [], ◌∷◌};
-ghost use Rattle.l6_card.specs.Numerals.{most_deck_bytes};
 ghost use Rattle.l6_image.specs.Numerals.{most_bytes};
 ghost use Rattle.l6_steps.specs.Numerals.{most_input};
-ghost use Rattle.l6_run.specs.Patience.{RetriesAccounted, reader_use, writer_use};
-ghost use Rattle.l6_run.specs.Runs.{IsOfPart, Runs, RunsImage};
+ghost use Rattle.l6_card.specs.Numerals.{most_deck_bytes};
+ghost use Rattle.l6_device.specs.Patience.{RetriesAccounted, reader_use, writer_use};
+ghost use Rattle.l6_device.specs.Transfer.{GivesAtMost, IsOfPart};
+ghost use Rattle.l6_device.specs.declared.fault.Part.TheVariants.{Deck, Image, Input};
+ghost use Rattle.l6_run.specs.Runs.{Runs, RunsImage};
 ghost use Rattle.l6_run.specs.Serves.{IsUnwritten};
-ghost use Rattle.l6_run.specs.Transfer.{GivesAtMost};
-ghost use Rattle.l6_run.specs.declared.fault.Part.TheVariants.{Deck, Image, Input};
 
-use crate::device::{Sink, Source};
-use crate::ending::Ending;
-use crate::fault::{Part, RunFault};
 use crate::loaded::run_image_text;
-use crate::options::Options;
-use crate::patience::Patience;
 use crate::running::run_deck;
-use crate::transfer::read_part;
+use l6_device::{Part, Patience, RunFault, Sink, Source, read_part};
+use l6_machine::{Ending, Options};
 use std::alloc::Global;
 
 /// Reads a deck whole and then an input whole, runs the deck with the input, and writes the
@@ -53,10 +49,10 @@ pub fn run<D: Source, I: Source, W: Sink>(
     let lines = read_part(alloc, input, Part::Input, &mut patience)?;
     run_deck(
         alloc,
-        options,
         cards.as_slice(),
         lines.as_slice(),
         writer,
+        options,
         &mut patience,
     )
 }
@@ -94,10 +90,10 @@ pub fn run_image<D: Source, I: Source, W: Sink>(
     let given = read_part(alloc, input, Part::Input, &mut patience)?;
     run_image_text(
         alloc,
-        options,
         text.as_slice(),
         given.as_slice(),
         writer,
+        options,
         &mut patience,
     )
 }

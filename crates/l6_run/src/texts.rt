@@ -1,21 +1,17 @@
 //! What is written of a deck that is not run, its image or its listing, and of an image that is
 //! rewritten.
 
-ghost use Rattle.std.specs.Prelude.{◌≡◌, ◌≤◌, length, [], ◌∷◌, IfOk, IfErr};
-ghost use Rattle.l6_card.specs.Numerals.{most_deck_bytes};
-ghost use Rattle.l6_run.specs.Patience.{RetriesAccountedWith, writer_use};
-ghost use Rattle.l6_run.specs.Serves.{IsUnwritten, Serves};
+ghost use Rattle.std.specs.Prelude.{◌≡◌, ◌≤◌, length, IfOk, IfErr};
 ghost use Rattle.l6_image.specs.Numerals.{most_bytes};
+ghost use Rattle.l6_card.specs.Numerals.{most_deck_bytes};
+ghost use Rattle.l6_device.specs.Patience.{WriterRetries};
+ghost use Rattle.l6_run.specs.Serves.{IsUnwritten, Serves};
 ghost use Rattle.l6_run.specs.Texts.{RefusesCards, RefusesRewriting, RewritesImage, WritesImage, WritesListing};
 ghost use Rattle.l6_run.specs.inner.Running.{HasNoText};
 
-use crate::device::Sink;
-use crate::fault::{Part, RunFault};
-use crate::patience::Patience;
-use crate::transfer::write_text;
 use l6_asm::{assemble, listing};
-use l6_card::MAX_DECK_BYTES;
-use l6_image::{MAX_BYTES, load, text_of};
+use l6_device::{Part, Patience, RunFault, Sink, write_text};
+use l6_image::{load, text_of};
 use std::alloc::Global;
 
 /// Writes the text of a deck's image.
@@ -32,13 +28,10 @@ pub fn write_deck_image<W: Sink>(
     ensures done { Serves (λ _ text. WritesImage deck.now text) (RefusesCards deck.now)
         (W.taken writer.old) (W.taken writer.new) result }
     ensures unwritten { IsUnwritten result → writer.new ≡ writer.old }
-    ensures retries { RetriesAccountedWith
-        (writer_use (W.health writer.old) (W.health writer.new) result ∷ [])
-        patience.old patience.new }
+    ensures retries { WriterRetries (W.health writer.old) (W.health writer.new)
+        patience.old patience.new result }
 {
-    if deck.len() > MAX_DECK_BYTES {
-        return Err(RunFault::TooLong(Part::Deck));
-    }
+    Part::Deck.check(deck)?;
     let text = image_of(alloc, deck)?;
     write_text(writer, text.as_slice(), 0, patience)
 }
@@ -68,13 +61,10 @@ pub fn write_deck_listing<W: Sink>(
     ensures done { Serves (λ _ text. WritesListing deck.now text) (RefusesCards deck.now)
         (W.taken writer.old) (W.taken writer.new) result }
     ensures unwritten { IsUnwritten result → writer.new ≡ writer.old }
-    ensures retries { RetriesAccountedWith
-        (writer_use (W.health writer.old) (W.health writer.new) result ∷ [])
-        patience.old patience.new }
+    ensures retries { WriterRetries (W.health writer.old) (W.health writer.new)
+        patience.old patience.new result }
 {
-    if deck.len() > MAX_DECK_BYTES {
-        return Err(RunFault::TooLong(Part::Deck));
-    }
+    Part::Deck.check(deck)?;
     let text = listing_of(alloc, deck)?;
     write_text(writer, text.as_slice(), 0, patience)
 }
@@ -104,13 +94,10 @@ pub fn rewrite_image_text<W: Sink>(
     ensures done { Serves (λ _ text. RewritesImage image.now text) (RefusesRewriting image.now)
         (W.taken writer.old) (W.taken writer.new) result }
     ensures unwritten { IsUnwritten result → writer.new ≡ writer.old }
-    ensures retries { RetriesAccountedWith
-        (writer_use (W.health writer.old) (W.health writer.new) result ∷ [])
-        patience.old patience.new }
+    ensures retries { WriterRetries (W.health writer.old) (W.health writer.new)
+        patience.old patience.new result }
 {
-    if image.len() > MAX_BYTES {
-        return Err(RunFault::TooLong(Part::Image));
-    }
+    Part::Image.check(image)?;
     let text = renewed(alloc, image)?;
     write_text(writer, text.as_slice(), 0, patience)
 }

@@ -1,20 +1,17 @@
 //! The image and the listing of a deck that a reader gives, and an image that is rewritten.
 
 ghost use Rattle.std.specs.Prelude.{◌≡◌, ◌+◌, [], ◌∷◌};
-ghost use Rattle.l6_card.specs.Numerals.{most_deck_bytes};
-ghost use Rattle.l6_run.specs.Patience.{RetriesAccounted, reader_use, writer_use};
 ghost use Rattle.l6_image.specs.Numerals.{most_bytes};
+ghost use Rattle.l6_card.specs.Numerals.{most_deck_bytes};
+ghost use Rattle.l6_device.specs.Patience.{RetriesAccounted, reader_use, writer_use};
+ghost use Rattle.l6_device.specs.Transfer.{GivesAtMost};
+ghost use Rattle.l6_device.specs.declared.fault.Part.TheVariants.{Deck, Image};
 ghost use Rattle.l6_run.specs.Runs.{Rewrites, WritesText};
 ghost use Rattle.l6_run.specs.Serves.{IsUnwritten};
 ghost use Rattle.l6_run.specs.Texts.{WritesImage, WritesListing};
-ghost use Rattle.l6_run.specs.Transfer.{GivesAtMost};
-ghost use Rattle.l6_run.specs.declared.fault.Part.TheVariants.{Deck, Image};
 
-use crate::device::{Sink, Source};
-use crate::fault::{Part, RunFault};
-use crate::patience::Patience;
 use crate::texts::{rewrite_image_text, write_deck_image, write_deck_listing};
-use crate::transfer::read_part;
+use l6_device::{Part, Patience, RunFault, Sink, Source, read_part};
 use std::alloc::Global;
 
 /// Reads a deck whole, and writes the text of its image.

@@ -17,7 +17,7 @@ use Rattle.l6_store.specs.Open.{Choice, FitsStore, IsAnswer, IsOpen}
 use Rattle.l6_store.proofs.Fitting.{fits-got}
 use Rattle.l6_store.proofs.Fresh.{no_fits}
 use Rattle.l6_store.proofs.Gathered.{get-remove_other}
-use Rattle.l6_store.proofs.Marked.{fits-remove}
+use Rattle.l6_store.proofs.Tagged.{fits-remove}
 use Rattle.l6_prog.specs.declared.exit.Exit.TheVariants as exits
 use Rattle.l6_prog.specs.declared.operand.Operand.{Operand}
 use Rattle.l6_prog.specs.declared.operand.Operand.TheVariants.{Chain}
@@ -46,7 +46,7 @@ use Rattle.l6_steps.specs.Stack.{Popped, has_room, pop, push}
 use Rattle.l6_steps.specs.State.{Memory, RunParameters, State, RunContext, start}
 use Rattle.l6_steps.specs.Step.{action_at, done_at, outcome, returns_after}
 use Rattle.l6_steps.proofs.Levels.{HasLevel, level_at_fills, level_is_small}
-use Rattle.l6_steps.proofs.Loci.{StandsIn, after, assign_within, definition_of, locus_stands, read_fits, stands_assigned, stands_insert, words_at}
+use Rattle.l6_steps.proofs.Loci.{StandsIn, after, assign_within, definition_of, locus_holds, read_fits, holds_assigned, holds_insert, words_at}
 use Rattle.l6_steps.proofs.Rows.{both, chosen}
 
 push_by : {A : Type 0} (P : A → Type 0) (entry : A) (stack : List A) (room : Bool) → P entry →
@@ -100,16 +100,16 @@ module _ (units : ℕ) where
         IfOk (locus memory chain >>= second) Stays
     located chain second each =
         after (StandsIn memory.blocks) Stays (locus memory chain) second
-        (locus_stands units memory within chain) each
+        (locus_holds units memory within chain) each
 
     combine_stays : (calculation : Calculation) (chain : List ℕ) (operand : Operand) →
         IfOk (combine calculation chain operand memory) Stays
     unfolding Stays
     combine_stays calculation chain operand =
         located chain _
-        (λ at stands. both Stays (read memory operand) _
+        (λ at holds_there. both Stays (read memory operand) _
         (λ value. both Stays (calculated calculation (width at) (content memory at) value) _
-        (λ number. assign_within units memory within at number stands)))
+        (λ number. assign_within units memory within at number holds_there)))
 
     print_stays : (parameters : RunParameters) (text : List ℕ) →
         IfOk (print parameters text memory) Stays
@@ -150,7 +150,7 @@ module _ (units : ℕ) where
         IsOpen units memory.blocks (2 ^ level) place → length words ≡ 2 ^ level →
         All IsWord words → StandsIn memory.blocks at →
         IsWithinBounds units (new_block memory words at place)
-    new_block_within level place words at small clear count are_words stands =
+    new_block_within level place words at small clear count are_words holds_there =
         let later : Memory = record memory { blocks = finite.insert memory.blocks place words } in
         assign_within units later
         (record {
@@ -160,7 +160,7 @@ module _ (units : ℕ) where
           saved_definitions = within.saved_definitions;
           blocks = fits-got units memory.blocks level place words within.blocks small clear count
               are_words;
-        }) at place (stands_insert memory.blocks place words at stands)
+        }) at place (holds_insert memory.blocks place words at holds_there)
 
     -- a block is taken out; what lay elsewhere still is
     removed_within : (place : ℕ) →
@@ -173,48 +173,48 @@ module _ (units : ℕ) where
       blocks = fits-remove units memory.blocks place within.blocks;
     }
 
-    pub stands_removed : (place : ℕ) (at : Locus) → lies_in place at ≡ false →
+    pub holds_removed : (place : ℕ) (at : Locus) → lies_in place at ≡ false →
         StandsIn memory.blocks at → StandsIn (finite.remove memory.blocks place) at
-    stands_removed place (Bug bug) outside stands = tt
-    stands_removed place (Field q window) outside stands =
+    holds_removed place (Bug bug) outside holds_there = tt
+    holds_removed place (Field q window) outside holds_there =
         let kept = get-remove_other memory.blocks place q
         (λ same. (let inside = eq-eqb q place same in cc)) in
-        (stands.0, (let live = stands.1 in cc))
+        (holds_there.0, (let live = holds_there.1 in cc))
 
     free_by : (place : ℕ) (at : Locus) (number : ℕ) (lies : Bool) → lies_in place at ≡ lies →
         StandsIn memory.blocks at →
         IsWithinBounds units
         (cond lies (record memory { blocks = finite.remove memory.blocks place })
         (assign (record memory { blocks = finite.remove memory.blocks place }) at number))
-    free_by place at number true is stands = removed_within place
-    free_by place at number false is stands =
+    free_by place at number true is holds_there = removed_within place
+    free_by place at number false is holds_there =
         assign_within units (record memory { blocks = finite.remove memory.blocks place })
-        (removed_within place) at number (stands_removed place at is stands)
+        (removed_within place) at number (holds_removed place at is holds_there)
 
     take_stays : (parameters : RunParameters) (count : ℕ) (at : Locus) (label : Option ℕ) →
         StandsIn memory.blocks at → IfOk (take_characters parameters count at label memory) Stays
     unfolding Stays
-    take_stays parameters count at label stands =
+    take_stays parameters count at label holds_there =
         let left = left_of parameters memory in
         let later : Memory = record memory { taken = memory.taken + count } in
         chosen Stays (nat_le count (length left)) _ _
         (assign_within units later
         (beside memory memory.returns (memory.taken + count) memory.output within) at
-        (number_of (take count left)) stands)
+        (number_of (take count left)) holds_there)
         (refuse_stays InputEnded label)
 
   -- what is done once a content is kept in a memory that is within its bounds
-  kept_stays : (other : Option (List ℕ)) (number level : ℕ) (memory : Memory) →
+  kept_stays : (old : Option (List ℕ)) (number level : ℕ) (memory : Memory) →
       IsWithinBounds units memory →
-      IfOk (keep other number memory >>= λ after.
+      IfOk (keep old number memory >>= λ after.
       Ok (record { memory = after; jump = jumps.Onward; effect = took level })) Stays
   unfolding Stays
   kept_stays None number level memory within = within
   kept_stays (Some chain) number level memory within =
       after (IsWithinBounds units) Stays (keep (Some chain) number memory) _
       (after (StandsIn memory.blocks) (IsWithinBounds units) (locus memory chain) _
-      (locus_stands units memory within chain)
-      (λ at stands. assign_within units memory within at number stands))
+      (locus_holds units memory within chain)
+      (λ at holds_there. assign_within units memory within at number holds_there))
       (λ later within_later. within_later)
 
   module _ (parameters : RunParameters) (choice : Choice) (memory : Memory)
@@ -236,12 +236,12 @@ module _ (units : ℕ) where
     row_stays (op.ShiftRight chain operand) = combine_stays memory within ShiftRight chain operand
     row_stays (op.Exchange one other) =
         located memory within one _
-        (λ here stands. located memory within other _
-        (λ there stands_too.
+        (λ here holds_there. located memory within other _
+        (λ there holds_too.
         assign_within units (assign memory here (content memory there))
-        (assign_within units memory within here (content memory there) stands) there
+        (assign_within units memory within here (content memory there) holds_there) there
         (content memory here)
-        (stands_assigned memory here (content memory there) there stands_too)))
+        (holds_assigned memory here (content memory there) there holds_too)))
     row_stays (op.Define field word first last) =
         both Stays (read memory word) _
         (λ index. both Stays (read memory first) _
@@ -263,7 +263,7 @@ module _ (units : ℕ) where
         }))
     row_stays (op.RestoreContent chain) =
         located memory within chain _
-        (λ at stands.
+        (λ at holds_there.
         after (λ (saved : Popped ℕ). IsWord saved.latest × All IsWord saved.rest) Stays
         (pop memory.saved_contents) _
         (pop_keeps IsWord memory.saved_contents within.saved_contents)
@@ -275,7 +275,7 @@ module _ (units : ℕ) where
           definitions = within.definitions;
           saved_definitions = within.saved_definitions;
           blocks = within.blocks;
-        }) at saved.latest stands))
+        }) at saved.latest holds_there))
     row_stays (op.SaveDefinition field) =
         let definition = slice_index_or memory.definitions field None in
         after (All IsDefinition) Stays (push definition memory.saved_definitions) _
@@ -301,24 +301,23 @@ module _ (units : ℕ) where
           saved_definitions = are_definitions.1;
           blocks = within.blocks;
         })
-    row_stays (op.Call called fail) = chosen Stays (has_room memory.returns) _ _ within tt
-    row_stays (op.Get chain size other label) =
+    row_stays (op.Get chain size old label) =
         located memory within chain _
-        (λ at stands. both Stays (read memory size) _
+        (λ at holds_there. both Stays (read memory size) _
         (λ wanted.
         after (λ level. level ≤ largest_level) Stays (level_for wanted) _ (level_is_small wanted)
         (λ level small.
-        place_stays memory within (2 ^ level) (choice level) label (get level at other memory)
+        place_stays memory within (2 ^ level) (choice level) label (get level at old memory)
         (fits level small)
         (λ place clear.
         let zeros : List ℕ = replicate (2 ^ level) 0 in
-        kept_stays other (content memory at) level (new_block memory zeros at place)
+        kept_stays old (content memory at) level (new_block memory zeros at place)
         (new_block_within memory within level place zeros at small clear
         (length-replicate {A = ℕ} (2 ^ level) 0)
-        (All-replicate IsWord (2 ^ level) 0 (pow_pos word_bits)) stands)))))
+        (All-replicate IsWord (2 ^ level) 0 (pow_pos word_bits)) holds_there)))))
     row_stays (op.Duplicate chain block label) =
         located memory within chain _
-        (λ at stands. both Stays (read memory block) _
+        (λ at holds_there. both Stays (read memory block) _
         (λ from.
         after (HasLevel memory from) Stays (level_at memory from) _
         (level_at_fills units memory from within.blocks)
@@ -328,32 +327,33 @@ module _ (units : ℕ) where
         (λ place clear.
         new_block_within memory within level place (block_at memory.blocks from) at
         has_level.small clear has_level.size (words_at units memory.blocks from within.blocks)
-        stands))))
+        holds_there))))
     row_stays (op.Free chain value) =
         located memory within chain _
-        (λ at stands. both Stays (level_at memory (content memory at)) _
+        (λ at holds_there. both Stays (level_at memory (content memory at)) _
         (λ level. both Stays (read_or_0 memory value) _
         (λ number.
         free_by memory within (content memory at) at number (lies_in (content memory at) at) refl
-        stands)))
+        holds_there)))
+    row_stays (op.Call called fail) = chosen Stays (has_room memory.returns) _ _ within tt
     row_stays (op.Input chain count label) =
         located memory within chain _
-        (λ at stands. both Stays (read memory count) _
+        (λ at holds_there. both Stays (read memory count) _
         (λ wanted. both Stays (count_of wanted) _
-        (λ characters. take_stays memory within parameters characters at label stands)))
+        (λ characters. take_stays memory within parameters characters at label holds_there)))
     row_stays (op.PrintCharacters chain count) =
         both Stays (locus memory chain) _
         (λ at. both Stays (read memory count) _
         (λ wanted. both Stays (count_of wanted) _
         (λ characters.
         print_stays memory within parameters (last_characters characters (content memory at)))))
-    row_stays (op.PrintText text) = print_stays memory within parameters (map char_of text)
     row_stays (op.PrintDecimal chain) =
         both Stays (locus memory chain) _
         (λ at. print_stays memory within parameters (decimal (content memory at)))
     row_stays (op.PrintOctal chain) =
         both Stays (locus memory chain) _
         (λ at. print_stays memory within parameters (octal12 (content memory at)))
+    row_stays (op.PrintText text) = print_stays memory within parameters (map char_of text)
     row_stays op.PrintLine = print_stays memory within parameters (codes "\n")
 
     done_stays : (waiting : List Return) → IfOk (done waiting memory) Stays

@@ -87,7 +87,7 @@ at_limit-last rule context =
           ∙ eq-eqb steps steps refl
     ]
 
--- what an answer to the search for the last state tells
+-- what follows from an answer to the search for the last state
 abbrev Found : Rule → RunContext → ℕ → Type 0
 Found rule context number =
     (number ≤ context.parameters.limits.steps)

@@ -1,4 +1,4 @@
--- The levels of blocks that are wanted, and of those that stand.
+-- The levels of blocks that are asked for, and of those that are there.
 use Rattle.std.proofs.Common.{◌≡◌, ℕ, suc, ◌^◌, ◌<◌, ◌≤◌, Bool, true, false, cond, ◌==◌, List, [], length, Option, None, Some, Ok, Err, refl, ap, sym, ◌∙◌, arith, nat_le, ok_or}
 use Rattle.std.specs.Prelude.{IfOk}
 use Rattle.std.proofs.lemmas.Bool.{le-leb, lt-leb}

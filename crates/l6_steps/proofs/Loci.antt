@@ -103,19 +103,19 @@ live_insert blocks place words q live =
     ]
 
 -- it still is where a block is new or has new words
-pub stands_insert : (blocks : Blocks) (place : ℕ) (words : List ℕ) (at : Locus) →
+pub holds_insert : (blocks : Blocks) (place : ℕ) (words : List ℕ) (at : Locus) →
     StandsIn blocks at → StandsIn (map.insert blocks place words) at
-stands_insert blocks place words (Bug bug) stands = tt
-stands_insert blocks place words (Field q window) stands =
-    (stands.0, live_insert blocks place words q stands.1)
+holds_insert blocks place words (Bug bug) holds_there = tt
+holds_insert blocks place words (Field q window) holds_there =
+    (holds_there.0, live_insert blocks place words q holds_there.1)
 
 -- and so where something is assigned
-pub stands_assigned : (memory : Memory) (there : Locus) (number : ℕ) (at : Locus) →
+pub holds_assigned : (memory : Memory) (there : Locus) (number : ℕ) (at : Locus) →
     StandsIn memory.blocks at → StandsIn (assign memory there number).blocks at
-stands_assigned memory (Bug bug) number at stands = stands
-stands_assigned memory (Field place window) number at stands =
-    stands_insert memory.blocks place (put_into (block_at memory.blocks place) window number) at
-    stands
+holds_assigned memory (Bug bug) number at holds_there = holds_there
+holds_assigned memory (Field place window) number at holds_there =
+    holds_insert memory.blocks place (put_into (block_at memory.blocks place) window number) at
+    holds_there
 
 pub definition_of : (units : ℕ) (memory : Memory) (name : ℕ) → IsWithinBounds units memory →
     IsDefinition (slice_index_or memory.definitions name None)
@@ -133,42 +133,42 @@ field_by : (blocks : Blocks) (pointer : ℕ) (window : Window) (words : List ℕ
 field_by blocks pointer window words true window_is found = (window_is, cc)
 field_by blocks pointer window words false window_is found = tt
 
-field_stands : (blocks : Blocks) (pointer : ℕ) (defined : Option Window)
+field_holds : (blocks : Blocks) (pointer : ℕ) (defined : Option Window)
     (found : Option (List ℕ)) → IsDefinition defined → map.get blocks pointer ≡ found →
     IfOk (ok_or defined UndefinedField >>= λ window. ok_or found NotABlock >>= λ words.
     cond (nat_lt window.word (length words)) (Ok (Field pointer window)) (Err WordOutsideBlock))
     (StandsIn blocks)
-field_stands blocks pointer None found is stands = tt
-field_stands blocks pointer (Some window) None is stands = tt
-field_stands blocks pointer (Some window) (Some words) is stands =
-    field_by blocks pointer window words (nat_lt window.word (length words)) is stands
+field_holds blocks pointer None found is holds_there = tt
+field_holds blocks pointer (Some window) None is holds_there = tt
+field_holds blocks pointer (Some window) (Some words) is holds_there =
+    field_by blocks pointer window words (nat_lt window.word (length words)) is holds_there
 
 module _ (units : ℕ) (memory : Memory) (within : IsWithinBounds units memory) where
-  follow_stands : (names : List ℕ) (at : Locus) → StandsIn memory.blocks at →
+  follow_holds : (names : List ℕ) (at : Locus) → StandsIn memory.blocks at →
       IfOk (follow memory at names) (StandsIn memory.blocks)
-  follow_stands [] at stands = stands
-  follow_stands (name ∷ names) at stands =
+  follow_holds [] at holds_there = holds_there
+  follow_holds (name ∷ names) at holds_there =
       after (StandsIn memory.blocks) (StandsIn memory.blocks)
       (field_at memory name (content memory at)) _
-      (field_stands memory.blocks (content memory at) (slice_index_or memory.definitions name None)
+      (field_holds memory.blocks (content memory at) (slice_index_or memory.definitions name None)
       (map.get memory.blocks (content memory at)) (definition_of units memory name within) refl)
-      (λ next there. follow_stands names next there)
+      (λ next there. follow_holds names next there)
 
   -- what a chain leads to
-  pub locus_stands : (chain : List ℕ) → IfOk (locus memory chain) (StandsIn memory.blocks)
-  locus_stands [] = tt
-  locus_stands (bug ∷ fields) = follow_stands fields (Bug bug) tt
+  pub locus_holds : (chain : List ℕ) → IfOk (locus memory chain) (StandsIn memory.blocks)
+  locus_holds [] = tt
+  locus_holds (bug ∷ fields) = follow_holds fields (Bug bug) tt
 
   -- what it reads as
   pub read_fits : (chain : List ℕ) → IfOk (read memory (Chain chain)) IsWord
   read_fits chain =
-      after (StandsIn memory.blocks) IsWord (locus memory chain) _ (locus_stands chain)
-      (λ at stands. content_fits units memory at within)
+      after (StandsIn memory.blocks) IsWord (locus memory chain) _ (locus_holds chain)
+      (λ at holds_there. content_fits units memory at within)
 
   -- what is assigned keeps the memory within its bounds
   pub assign_within : (at : Locus) (number : ℕ) → StandsIn memory.blocks at →
       IsWithinBounds units (assign memory at number)
-  assign_within (Bug bug) number stands = record {
+  assign_within (Bug bug) number holds_there = record {
     bugs = All-set IsWord memory.bugs (index_of bug) (number % 2 ^ word_bits)
         (mod_below number (2 ^ word_bits) (pow_pos word_bits)) within.bugs;
     saved_contents = within.saved_contents;
@@ -176,7 +176,7 @@ module _ (units : ℕ) (memory : Memory) (within : IsWithinBounds units memory) 
     saved_definitions = within.saved_definitions;
     blocks = within.blocks;
   }
-  assign_within (Field place window) number stands =
+  assign_within (Field place window) number holds_there =
       let words = block_at memory.blocks place in
       let are_words = words_at units memory.blocks place within.blocks in
       let word = slice_index words window.word in
@@ -186,9 +186,9 @@ module _ (units : ℕ) (memory : Memory) (within : IsWithinBounds units memory) 
         definitions = within.definitions;
         saved_definitions = within.saved_definitions;
         blocks = fits-changed units memory.blocks place words (put_into words window number)
-            within.blocks (live_words memory.blocks place stands.1)
+            within.blocks (live_words memory.blocks place holds_there.1)
             (length-set words window.word (put window word number))
             (All-set IsWord words window.word (put window word number)
-            (put_fits window word number stands.0 (word_of words window.word are_words))
+            (put_fits window word number holds_there.0 (word_of words window.word are_words))
             are_words);
       }

@@ -105,9 +105,9 @@ located_prints (Ok at) number level memory later same =
     prints_same memory _ (assign_prints later at number ∙ same)
 located_prints (Err trap) number level memory later same = tt
 
-kept_prints : (other : Option (List ℕ)) (number level : ℕ) (memory later : Memory) →
+kept_prints : (old : Option (List ℕ)) (number level : ℕ) (memory later : Memory) →
     later.output ≡ memory.output →
-    IfOk (keep other number later >>= λ after.
+    IfOk (keep old number later >>= λ after.
     Ok (record { memory = after; jump = jumps.Onward; effect = took level })) (Prints memory)
 kept_prints None number level memory later same = prints_same memory _ same
 kept_prints (Some chain) number level memory later same =
@@ -175,16 +175,14 @@ module _ (parameters : RunParameters) (choice : Choice) (memory : Memory) where
       (λ saved. prints_same memory _ refl)
   row_prints (op.RestoreDefinition field) =
       both (Prints memory) (pop memory.saved_definitions) _ (λ saved. prints_same memory _ refl)
-  row_prints (op.Call called fail) =
-      chosen (Prints memory) (has_room memory.returns) _ _ (prints_same memory _ refl) tt
-  row_prints (op.Get chain size other label) =
+  row_prints (op.Get chain size old label) =
       both (Prints memory) (locus memory chain) _
       (λ at. both (Prints memory) (read memory size) _
       (λ wanted. both (Prints memory) (level_for wanted) _
-      (λ level. place_prints (choice level) label memory (get level at other memory)
+      (λ level. place_prints (choice level) label memory (get level at old memory)
       (λ place.
       let zeros : List ℕ = replicate (2 ^ level) 0 in
-      kept_prints other (content memory at) level memory (new_block memory zeros at place)
+      kept_prints old (content memory at) level memory (new_block memory zeros at place)
       (block_prints memory zeros at place)))))
   row_prints (op.Duplicate chain block label) =
       both (Prints memory) (locus memory chain) _
@@ -201,6 +199,8 @@ module _ (parameters : RunParameters) (choice : Choice) (memory : Memory) where
       let place = content memory at in
       prints_same memory _ (free_prints (lies_in place at)
       (record memory { blocks = finite.remove memory.blocks place }) at number))))
+  row_prints (op.Call called fail) =
+      chosen (Prints memory) (has_room memory.returns) _ _ (prints_same memory _ refl) tt
   row_prints (op.Input chain count label) =
       both (Prints memory) (locus memory chain) _
       (λ at. both (Prints memory) (read memory count) _
@@ -212,13 +212,13 @@ module _ (parameters : RunParameters) (choice : Choice) (memory : Memory) where
       (λ wanted. both (Prints memory) (count_of wanted) _
       (λ characters.
       print_prints parameters (last_characters characters (content memory at)) memory)))
-  row_prints (op.PrintText text) = print_prints parameters (map char_of text) memory
   row_prints (op.PrintDecimal chain) =
       both (Prints memory) (locus memory chain) _
       (λ at. print_prints parameters (decimal (content memory at)) memory)
   row_prints (op.PrintOctal chain) =
       both (Prints memory) (locus memory chain) _
       (λ at. print_prints parameters (octal12 (content memory at)) memory)
+  row_prints (op.PrintText text) = print_prints parameters (map char_of text) memory
   row_prints op.PrintLine = print_prints parameters (codes "\n") memory
 
   -- ---- actions

@@ -46,14 +46,14 @@ use Rattle.l6_steps.specs.Configuration.{Configuration, configuration_at, effect
 use Rattle.l6_steps.specs.Getting.{duplicate, get, keep, level_at, level_for, lies_in, new_block, read_or_0, refuse, with_place}
 use Rattle.l6_steps.specs.Laws.{BuddyRunsBySteps}
 use Rattle.l6_steps.specs.Locus.{assign, content, locus, put_into, read, width}
-use Rattle.l6_steps.specs.Row.{Action, condition, operation, exit, combine, action_result_of, define, done, fail, print, row}
+use Rattle.l6_steps.specs.Row.{Action, condition, operation, exit, combine, action_result_of, done, fail, print, row}
 use Rattle.l6_steps.specs.Run.{IsReached}
 use Rattle.l6_steps.specs.Stack.{has_room, pop, push}
 use Rattle.l6_steps.specs.State.{Memory, RunParameters, RunContext, State, is_last}
 use Rattle.l6_steps.specs.Step.{action_at, done_at, outcome}
-use Rattle.l6_steps.proofs.Bounds.{new_block_within, runs-stay_within_bounds, stands_removed}
+use Rattle.l6_steps.proofs.Bounds.{new_block_within, runs-stay_within_bounds, holds_removed}
 use Rattle.l6_steps.proofs.Levels.{HasLevel, level_at_fills, level_is_small}
-use Rattle.l6_steps.proofs.Loci.{StandsIn, after, locus_stands, stands_assigned, stands_insert, words_at}
+use Rattle.l6_steps.proofs.Loci.{StandsIn, after, locus_holds, holds_assigned, holds_insert}
 use Rattle.l6_steps.proofs.Rows.{both, chosen}
 use Rattle.l6_steps.proofs.Run.{reached_by, step_by_rule}
 
@@ -106,11 +106,11 @@ tiles_alike units blocks order place one other count tiles = record {
 assign_tiled : (units : ℕ) (order : Order) (memory : Memory) (at : Locus) (number : ℕ) →
     StandsIn memory.blocks at → Tiles units memory.blocks order →
     Tiles units (assign memory at number).blocks order
-assign_tiled units order memory (Bug bug) number stands tiles = tiles
-assign_tiled units order memory (Field place window) number stands tiles =
+assign_tiled units order memory (Bug bug) number holds_there tiles = tiles
+assign_tiled units order memory (Field place window) number holds_there tiles =
     let words = block_at memory.blocks place in
     written_tiles units memory.blocks order place words (put_into words window number)
-    (live_words memory.blocks place stands.1)
+    (live_words memory.blocks place holds_there.1)
     (length-set words window.word (put window (slice_index words window.word) number)) tiles
 
 module _ (units : ℕ) (memory : Memory) (order : Order) (within : IsWithinBounds units memory)
@@ -125,16 +125,16 @@ module _ (units : ℕ) (memory : Memory) (order : Order) (within : IsWithinBound
       IfOk (locus memory chain >>= second) Tiled
   located_tiled chain second each =
       after (StandsIn memory.blocks) Tiled (locus memory chain) second
-      (locus_stands units memory within chain) each
+      (locus_holds units memory within chain) each
 
   combine_tiled : (calculation : Calculation) (chain : List ℕ) (operand : Operand) →
       IfOk (combine calculation chain operand memory) Tiled
   unfolding Tiled
   combine_tiled calculation chain operand =
       located_tiled chain _
-      (λ at stands. both Tiled (read memory operand) _
+      (λ at holds_there. both Tiled (read memory operand) _
       (λ value. both Tiled (calculated calculation (width at) (content memory at) value) _
-      (λ number. assign_tiled units order memory at number stands tiles)))
+      (λ number. assign_tiled units order memory at number holds_there tiles)))
 
   print_tiled : (parameters : RunParameters) (text : List ℕ) →
       IfOk (print parameters text memory) Tiled
@@ -192,19 +192,19 @@ module _ (units : ℕ) (memory : Memory) (order : Order) (within : IsWithinBound
       length words ≡ 2 ^ level → StandsIn memory.blocks at →
       Tiles units (new_block memory words at place).blocks
       (order_after buddy_rule units memory.blocks order (took level))
-  got_words level place words at is count stands =
+  got_words level place words at is count holds_there =
       let new = order_after buddy_rule units memory.blocks order (took level) in
       let later : Memory = record memory { blocks = finite.insert memory.blocks place words } in
       assign_tiled units new later at place
-      (stands_insert memory.blocks place words at stands)
+      (holds_insert memory.blocks place words at holds_there)
       (tiles_alike units memory.blocks new place (replicate (2 ^ level) 0) words
       (count ∙ sym (length-replicate {A = ℕ} (2 ^ level) 0)) (got level place is))
 
   -- what is done once the old content is kept in the memory that has the new block
-  kept_tiled : (other : Option (List ℕ)) (number level : ℕ) (later : Memory) →
+  kept_tiled : (old : Option (List ℕ)) (number level : ℕ) (later : Memory) →
       IsWithinBounds units later →
       Tiles units later.blocks (order_after buddy_rule units memory.blocks order (took level)) →
-      IfOk (keep other number later >>= λ kept.
+      IfOk (keep old number later >>= λ kept.
       Ok (record { memory = kept; jump = jumps.Onward; effect = took level })) Tiled
   unfolding Tiled
   kept_tiled None number level later later_within filled = filled
@@ -213,8 +213,8 @@ module _ (units : ℕ) (memory : Memory) (order : Order) (within : IsWithinBound
       after (λ (kept : Memory). Tiles units kept.blocks new) Tiled
       (keep (Some chain) number later) _
       (after (StandsIn later.blocks) (λ (kept : Memory). Tiles units kept.blocks new)
-      (locus later chain) _ (locus_stands units later later_within chain)
-      (λ at stands. assign_tiled units new later at number stands filled))
+      (locus later chain) _ (locus_holds units later later_within chain)
+      (λ at holds_there. assign_tiled units new later at number holds_there filled))
       (λ kept kept_filled. kept_filled)
 
   -- a block is freed, and a number is assigned to what does not lie in it
@@ -223,19 +223,19 @@ module _ (units : ℕ) (memory : Memory) (order : Order) (within : IsWithinBound
       Tiles units (finite.remove memory.blocks place) new →
       Tiles units (cond lies (record memory { blocks = finite.remove memory.blocks place })
       (assign (record memory { blocks = finite.remove memory.blocks place }) at number)).blocks new
-  free_tiled place at number new true is stands filled = filled
-  free_tiled place at number new false is stands filled =
+  free_tiled place at number new true is holds_there filled = filled
+  free_tiled place at number new false is holds_there filled =
       assign_tiled units new (record memory { blocks = finite.remove memory.blocks place }) at
-      number (stands_removed units memory within place at is stands) filled
+      number (holds_removed units memory within place at is holds_there) filled
 
   take_tiled : (parameters : RunParameters) (count : ℕ) (at : Locus) (label : Option ℕ) →
       StandsIn memory.blocks at → IfOk (take_characters parameters count at label memory) Tiled
   unfolding Tiled
-  take_tiled parameters count at label stands =
+  take_tiled parameters count at label holds_there =
       let left = left_of parameters memory in
       let later : Memory = record memory { taken = memory.taken + count } in
       chosen Tiled (nat_le count (length left)) _ _
-      (assign_tiled units order later at (number_of (take count left)) stands tiles)
+      (assign_tiled units order later at (number_of (take count left)) holds_there tiles)
       (refuse_tiled InputEnded label)
 
   row_tiled : (parameters : RunParameters) (operation : Op ℕ) →
@@ -255,12 +255,12 @@ module _ (units : ℕ) (memory : Memory) (order : Order) (within : IsWithinBound
   row_tiled parameters (op.ShiftRight chain operand) = combine_tiled ShiftRight chain operand
   row_tiled parameters (op.Exchange one other) =
       located_tiled one _
-      (λ here stands. located_tiled other _
-      (λ there stands_too.
+      (λ here holds_there. located_tiled other _
+      (λ there holds_too.
       assign_tiled units order (assign memory here (content memory there)) there
       (content memory here)
-      (stands_assigned memory here (content memory there) there stands_too)
-      (assign_tiled units order memory here (content memory there) stands tiles)))
+      (holds_assigned memory here (content memory there) there holds_too)
+      (assign_tiled units order memory here (content memory there) holds_there tiles)))
   row_tiled parameters (op.Define field word first last) =
       both Tiled (read memory word) _
       (λ index. both Tiled (read memory first) _
@@ -273,71 +273,71 @@ module _ (units : ℕ) (memory : Memory) (order : Order) (within : IsWithinBound
       (λ content. both Tiled (push content memory.saved_contents) _ (λ saved. tiles))
   row_tiled parameters (op.RestoreContent chain) =
       located_tiled chain _
-      (λ at stands. both Tiled (pop memory.saved_contents) _
+      (λ at holds_there. both Tiled (pop memory.saved_contents) _
       (λ saved.
       assign_tiled units order (record memory { saved_contents = saved.rest }) at saved.latest
-      stands tiles))
+      holds_there tiles))
   row_tiled parameters (op.SaveDefinition field) =
       both Tiled (push (slice_index_or memory.definitions field None) memory.saved_definitions) _
       (λ saved. tiles)
   row_tiled parameters (op.RestoreDefinition field) =
       both Tiled (pop memory.saved_definitions) _ (λ saved. tiles)
-  row_tiled parameters (op.Call called fail) = chosen Tiled (has_room memory.returns) _ _ tiles tt
-  row_tiled parameters (op.Get chain size other label) =
+  row_tiled parameters (op.Get chain size old label) =
       located_tiled chain _
-      (λ at stands. both Tiled (read memory size) _
+      (λ at holds_there. both Tiled (read memory size) _
       (λ wanted.
       after (λ level. level ≤ largest_level) Tiled (level_for wanted) _ (level_is_small wanted)
       (λ level small.
-      place_tiled (choice level) label (get level at other memory)
+      place_tiled (choice level) label (get level at old memory)
       (λ place is.
       let zeros : List ℕ = replicate (2 ^ level) 0 in
       let count = length-replicate {A = ℕ} (2 ^ level) 0 in
-      kept_tiled other (content memory at) level (new_block memory zeros at place)
+      kept_tiled old (content memory at) level (new_block memory zeros at place)
       (new_block_within units memory within level place zeros at small
       (open_at level place small is) count
-      (All-replicate IsWord (2 ^ level) 0 (pow_pos word_bits)) stands)
-      (got_words level place zeros at is count stands)))))
+      (All-replicate IsWord (2 ^ level) 0 (pow_pos word_bits)) holds_there)
+      (got_words level place zeros at is count holds_there)))))
   row_tiled parameters (op.Duplicate chain block label) =
       located_tiled chain _
-      (λ at stands. both Tiled (read memory block) _
+      (λ at holds_there. both Tiled (read memory block) _
       (λ from.
       after (HasLevel memory from) Tiled (level_at memory from) _
       (level_at_fills units memory from within.blocks)
       (λ level has_level.
       place_tiled (choice level) label (duplicate level from at memory)
       (λ place is.
-      got_words level place (block_at memory.blocks from) at is has_level.size stands))))
+      got_words level place (block_at memory.blocks from) at is has_level.size holds_there))))
   row_tiled parameters (op.Free chain value) =
       located_tiled chain _
-      (λ at stands.
+      (λ at holds_there.
       after (HasLevel memory (content memory at)) Tiled (level_at memory (content memory at)) _
       (level_at_fills units memory (content memory at) within.blocks)
       (λ level has_level. both Tiled (read_or_0 memory value) _
       (λ number.
       let place = content memory at in
       free_tiled place at number (order_after buddy_rule units memory.blocks order (freed place))
-      (lies_in place at) refl stands
+      (lies_in place at) refl holds_there
       (freed_tiles units memory.blocks order place (block_at memory.blocks place) within.blocks
       tiles has_level.is))))
+  row_tiled parameters (op.Call called fail) = chosen Tiled (has_room memory.returns) _ _ tiles tt
   row_tiled parameters (op.Input chain count label) =
       located_tiled chain _
-      (λ at stands. both Tiled (read memory count) _
+      (λ at holds_there. both Tiled (read memory count) _
       (λ wanted. both Tiled (count_of wanted) _
-      (λ characters. take_tiled parameters characters at label stands)))
+      (λ characters. take_tiled parameters characters at label holds_there)))
   row_tiled parameters (op.PrintCharacters chain count) =
       both Tiled (locus memory chain) _
       (λ at. both Tiled (read memory count) _
       (λ wanted. both Tiled (count_of wanted) _
       (λ characters.
       print_tiled parameters (last_characters characters (content memory at)))))
-  row_tiled parameters (op.PrintText text) = print_tiled parameters (map char_of text)
   row_tiled parameters (op.PrintDecimal chain) =
       both Tiled (locus memory chain) _
       (λ at. print_tiled parameters (decimal (content memory at)))
   row_tiled parameters (op.PrintOctal chain) =
       both Tiled (locus memory chain) _
       (λ at. print_tiled parameters (octal12 (content memory at)))
+  row_tiled parameters (op.PrintText text) = print_tiled parameters (map char_of text)
   row_tiled parameters op.PrintLine = print_tiled parameters (codes "\n")
 
   done_tiled : (waiting : List Return) → IfOk (done waiting memory) Tiled
@@ -372,7 +372,7 @@ module _ (units : ℕ) (memory : Memory) (order : Order) (within : IsWithinBound
       subst (λ (m : Memory). Tiles units m.blocks order) (sym same) tiles
 
 -- ---- the configurations of a run
--- at a configuration of the run the store is filled, and steps come to its state
+-- at a configuration of the run the store is filled, and steps lead to its state
 record IsFilled (context : RunContext) (configuration : Configuration) : Type 0 where
   reached : IsReached context configuration.state
   tiles : Tiles context.parameters.units configuration.state.memory.blocks configuration.order

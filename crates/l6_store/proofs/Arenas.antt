@@ -1,11 +1,10 @@
 -- What each change of an arena does to its layout.
 use Rattle.std.proofs.Common.{◌≡◌, ◌≢◌, ℕ, ◌+◌, ◌^◌, ◌<◌, ◌≤◌, false, List, length, get_or, set, refl, ap, sym, ◌∙◌, subst, arith, inl, inr, ◌⊎◌}
-use Rattle.std.specs.List.{slice_range}
+use Rattle.std.specs.List.{slice_range, All}
 use Rattle.std.proofs.lemmas.Bool.{cases_lt, cases_eq, cases_Bool}
 use Rattle.std.proofs.lemmas.Nat.{pow_pos}
 use Rattle.std.proofs.lemmas.List.{get_or-set_same, get_or-set_other, get_or_past, length-set}
 use Rattle.std.proofs.lemmas.List.Elements.{All-set, All-get_or}
-use Rattle.std.specs.List.{All}
 use Rattle.l6_word.specs.Numerals.{largest_level, word_bits}
 use Rattle.l6_store.specs.Numerals.{place_bits, most_units}
 use Rattle.l6_store.specs.Blocks.{Blocks, Fits, LiesIn, IsAlignedPlace, end_of}
@@ -17,10 +16,12 @@ use Rattle.l6_store.specs.inner.ArenaLayout.{AreBeside, AreLists, IsArena, IsSou
 use Rattle.l6_store.specs.declared.place_tag.PlaceTag.{PlaceTag}
 use Rattle.l6_store.specs.declared.place_tag.PlaceTag.TheVariants.{Inner, Block, Listed}
 use Rattle.l6_store.specs.declared.tag.Tag.TheVariants.{Free}
-use Rattle.l6_store.proofs.Detached.{the_one, another, in_front-listed, taken_out-listed}
-use Rattle.l6_store.proofs.Chains.{with_before-at, with_before-none, with_after-at, with_after-none, linked_along, length-words_linked, length-words_unlinked, linked_others, unlinked_others, around, around_within, first_or-within, AreWithin}
-use Rattle.l6_store.proofs.Linking.{lists_within, lists_tell, lists-linked, lists-unlinked}
-use Rattle.l6_store.proofs.Marked.{block_here, marked_lies, same_blocks}
+use Rattle.l6_store.proofs.ListedPieces.{the_one, another, in_front-listed, taken_out-listed}
+use Rattle.l6_store.proofs.Chains.{with_before-at, with_before-none, with_after-at, with_after-none, linked_along, length-words_linked, linked_others}
+use Rattle.l6_store.proofs.Unlinking.{length-words_unlinked, unlinked_others, around, around_within}
+use Rattle.l6_store.proofs.PlaceLists.{first_or-within, AreWithin}
+use Rattle.l6_store.proofs.Linking.{lists_within, lists_show, lists-linked, lists-unlinked}
+use Rattle.l6_store.proofs.Tagged.{block_here, tagged_lies, same_blocks}
 
 -- ---- words
 abbrev pub AreWords : List ℕ → Type 0
@@ -92,8 +93,8 @@ module _ (units : ℕ) (words heads : List ℕ) (place_tags : List PlaceTag) (or
     (is_aligned : (level place : ℕ) → place_tag_at place_tags place ≡ Block level →
     IsAlignedPlace units level place)
     (fits : Fits units blocks) (are_words : AreWords words) (beside : AreBeside blocks order) where
-  pub order_told : order_of words heads ≡ order
-  order_told = lists_tell words heads place_tags order lists (count ∙ sym filled)
+  pub order_known : order_of words heads ≡ order
+  order_known = lists_show words heads place_tags order lists (count ∙ sym filled)
       (omega (arith, filled, places_small units most))
 
   pub laid : IsArena units words place_tags heads
@@ -102,14 +103,14 @@ module _ (units : ℕ) (words heads : List ℕ) (place_tags : List PlaceTag) (or
     most = most;
     filled = filled;
     count = count;
-    are_lists = subst (λ (o : Order). AreLists words heads place_tags o) (sym order_told) lists;
+    are_lists = subst (λ (o : Order). AreLists words heads place_tags o) (sym order_known) lists;
     are_blocks = record {
       is_aligned = is_aligned;
       fits = subst (λ (b : Blocks). Fits units b) (sym is) fits;
       are_words = are_words;
     };
     beside = subst (λ (b : Blocks). AreBeside b (order_of words heads)) (sym is)
-        (subst (λ (o : Order). AreBeside blocks o) (sym order_told) beside);
+        (subst (λ (o : Order). AreBeside blocks o) (sym order_known) beside);
   }
 
 pub sound : (units : ℕ) (words heads : List ℕ) (place_tags : List PlaceTag) →
@@ -191,7 +192,7 @@ module _ (units : ℕ) (words heads : List ℕ) (place_tags : List PlaceTag)
 
     not_block : (k : ℕ) → place_tag_at place_tags place ≡ Block k → ⊥
     not_block k is = beside
-        (marked_lies units place_tags words were.filled were.are_blocks.is_aligned k place
+        (tagged_lies units place_tags words were.filled were.are_blocks.is_aligned k place
         place is (omega arith) (omega (arith, pow_pos k)))
 
     linked_tags : (q : ℕ) → tag_of (place_tag_at (set place_tags place (Listed level)) q)
@@ -219,9 +220,9 @@ module _ (units : ℕ) (words heads : List ℕ) (place_tags : List PlaceTag)
         (λ same. beside (subst (λ (p : ℕ). LiesIn (blocks_of place_tags words) p) same lies))
         (unlisted level at lies))
 
-    linked_stands : (k q : ℕ) → place_tag_at (set place_tags place (Listed level)) q ≡ Block k
+    linked_holds : (k q : ℕ) → place_tag_at (set place_tags place (Listed level)) q ≡ Block k
         → IsAlignedPlace units k q
-    linked_stands k q is =
+    linked_holds k q is =
         elim (cases_eq q place) as (λ _. IsAlignedPlace units k q) [
           | inl same ↦
               let new = get_or-set_same place_tags place (Listed level) Inner
@@ -249,10 +250,10 @@ module _ (units : ℕ) (words heads : List ℕ) (place_tags : List PlaceTag)
 
     pub linked_order : order_of (words_linked words place (get_or heads level 0))
         (set heads level place) ≡ in_front (order_of words heads) level place
-    linked_order = order_told units (words_linked words place (get_or heads level 0))
+    linked_order = order_known units (words_linked words place (get_or heads level 0))
         (set heads level place) (set place_tags place (Listed level))
         (in_front (order_of words heads) level place) (blocks_of place_tags words) were.some were.most
-        (linked_count ∙ were.filled) place_tags_count linked_lists linked_blocks linked_stands
+        (linked_count ∙ were.filled) place_tags_count linked_lists linked_blocks linked_holds
         were.are_blocks.fits linked_words linked_beside
 
     pub linked_laid : IsArena units (words_linked words place (get_or heads level 0))
@@ -260,7 +261,7 @@ module _ (units : ℕ) (words heads : List ℕ) (place_tags : List PlaceTag)
     linked_laid = laid units (words_linked words place (get_or heads level 0))
         (set heads level place) (set place_tags place (Listed level))
         (in_front (order_of words heads) level place) (blocks_of place_tags words) were.some were.most
-        (linked_count ∙ were.filled) place_tags_count linked_lists linked_blocks linked_stands
+        (linked_count ∙ were.filled) place_tags_count linked_lists linked_blocks linked_holds
         were.are_blocks.fits linked_words linked_beside
 
   -- ---- a piece is taken out of its list
@@ -292,7 +293,7 @@ module _ (units : ℕ) (words heads : List ℕ) (place_tags : List PlaceTag)
               ∙ ap tag_of (get_or-set_same place_tags place Inner Inner
               (omega (arith, counts, place_within)))
               ∙ sym (ap (λ (p : ℕ). tag_of (place_tag_at place_tags p)) same
-              ∙ ap tag_of (were.are_lists.marked level place there))
+              ∙ ap tag_of (were.are_lists.with_tag level place there))
           | inr other ↦ ap tag_of (place_tag_same place_tags place q Inner other)
         ]
 
@@ -304,9 +305,9 @@ module _ (units : ℕ) (words heads : List ℕ) (place_tags : List PlaceTag)
         (λ at lies. unlinked_others words (listed (order_of words heads) level) place at there
         (within level) small (were.are_lists.links.linked level) (unlisted level at lies))
 
-    out_stands : (k q : ℕ) → place_tag_at (set place_tags place Inner) q ≡ Block k →
+    out_holds : (k q : ℕ) → place_tag_at (set place_tags place Inner) q ≡ Block k →
         IsAlignedPlace units k q
-    out_stands k q is =
+    out_holds k q is =
         elim (cases_eq q place) as (λ _. IsAlignedPlace units k q) [
           | inl same ↦
               let new = get_or-set_same place_tags place Inner Inner
@@ -325,12 +326,12 @@ module _ (units : ℕ) (words heads : List ℕ) (place_tags : List PlaceTag)
     pub out_order : order_of (words_unlinked words place)
         (with_head heads level (before_in (get_or words place 0)) (after_in (get_or words place 0)))
         ≡ taken_out (order_of words heads) level place
-    out_order = order_told units (words_unlinked words place)
+    out_order = order_known units (words_unlinked words place)
         (with_head heads level (before_in (get_or words place 0)) (after_in (get_or words place 0)))
         (set place_tags place Inner) (taken_out (order_of words heads) level place)
         (blocks_of place_tags words)
         were.some were.most (out_count ∙ were.filled) out_place_tags_count out_lists out_blocks
-        out_stands
+        out_holds
         were.are_blocks.fits (words-words_unlinked words place were.are_blocks.are_words) out_beside
 
     pub out_laid : IsArena units (words_unlinked words place) (set place_tags place Inner)
@@ -340,7 +341,7 @@ module _ (units : ℕ) (words heads : List ℕ) (place_tags : List PlaceTag)
         (set place_tags place Inner) (taken_out (order_of words heads) level place)
         (blocks_of place_tags words)
         were.some were.most (out_count ∙ were.filled) out_place_tags_count out_lists out_blocks
-        out_stands
+        out_holds
         were.are_blocks.fits (words-words_unlinked words place were.are_blocks.are_words) out_beside
 
     -- the places around it are among the words
@@ -375,22 +376,22 @@ module _ (units : ℕ) (words heads : List ℕ) (place_tags : List PlaceTag)
             (λ at there. same level at there) (were.are_lists.links.linked level);
       };
       distinct = were.are_lists.distinct;
-      marked = λ level place there.
-          let was = were.are_lists.marked level place there in
+      with_tag = λ level place there.
+          let was = were.are_lists.with_tag level place there in
           elim (listed_same place) as (λ _. place_tag_at after place ≡ Listed level) [
             | inl alike ↦ alike ∙ was
             | inr (_, not) ↦ absurd (not level was)
           ];
-      told = λ level place place_tag.
+      determined = λ level place place_tag.
           elim (listed_same place) as (λ _. IsListed (order_of words heads) level place) [
-            | inl alike ↦ were.are_lists.told level place (sym alike ∙ place_tag)
+            | inl alike ↦ were.are_lists.determined level place (sym alike ∙ place_tag)
             | inr (not, _) ↦ absurd (not level place_tag)
           ];
       none = none_same;
     }
 
     pub kept_order : order_of new heads ≡ order_of words heads
-    kept_order = order_told units new heads after (order_of words heads) blocks were.some were.most
+    kept_order = order_known units new heads after (order_of words heads) blocks were.some were.most
         (new_count ∙ were.filled) (after_count ∙ were.count) kept_lists is is_aligned fits are_words
         beside
 

@@ -1,5 +1,5 @@
 -- What each call of a plain store does to its meaning.
-use Rattle.std.proofs.Common.{◌≡◌, ℕ, ◌+◌, ◌-◌, ◌*◌, ◌^◌, ◌<◌, ◌≤◌, List, [], length, get_or, set, slice_range, replicate, Option, Some, refl, ap, sym, ◌∙◌, subst, arith, inl, inr, ◌⊎◌}
+use Rattle.std.proofs.Common.{◌≡◌, ℕ, ◌+◌, ◌-◌, ◌^◌, ◌<◌, ◌≤◌, List, [], length, get_or, set, slice_range, replicate, Option, Some, refl, ap, sym, ◌∙◌, subst, arith, inl, inr, ◌⊎◌}
 use Rattle.std.proofs.lemmas.Bool.{cases_lt}
 use Rattle.std.proofs.lemmas.Nat.{pow_pos, pow_below}
 use Rattle.std.proofs.lemmas.Grind.{get_or_default_zero}
@@ -8,19 +8,19 @@ use Rattle.std.proofs.lemmas.List.Elements.{All-from_get_or, All-set, All-get_or
 use Rattle.std.specs.List.{All}
 use Rattle.std.specs.Option.{IsSome, IfSome, option_map, unwrap_or}
 use Rattle.std.specs.FinMap as map
-use Rattle.l6_word.specs.Numerals.{word_bits, largest_level, unit_size}
+use Rattle.l6_word.specs.Numerals.{word_bits, largest_level}
 use Rattle.l6_store.specs.Numerals.{most_units}
 use Rattle.l6_store.specs.Blocks.{Blocks, LiesIn, IsLive, block_at, index_in, word_at, end_of}
 use Rattle.l6_store.specs.Scan.{scan_rule}
 use Rattle.l6_store.specs.Store.{Store, after_get, after_free, with_block, fresh}
 use Rattle.l6_store.specs.inner.Tags.{tag_at, level_of, tagged, gathered, store_of, AreTags, IsKept}
-use Rattle.l6_store.specs.inner.PlaceTags.{IsVacantRun, IsMarked, IsFilled, IsCleared, IsCopied}
+use Rattle.l6_store.specs.inner.PlaceTags.{IsVacantRun, IsTagged, IsFilled, IsCleared, IsCopied}
 use Rattle.l6_store.specs.declared.tag.Tag.{Tag}
 use Rattle.l6_store.specs.declared.tag.Tag.TheVariants.{Free, First, Inside}
 use Rattle.l6_store.proofs.Ranges.{index-range, same_range, set_range}
-use Rattle.l6_store.proofs.Gathered.{told, tells, get-gathered}
+use Rattle.l6_store.proofs.Gathered.{determined, determines, get-gathered}
 use Rattle.l6_store.proofs.Kept.{length_of}
-use Rattle.l6_store.proofs.Changes.{marked-are_tags, unmarked-are_tags}
+use Rattle.l6_store.proofs.Changes.{tagged-are_tags, untagged-are_tags}
 use Rattle.l6_store.proofs.Contents.{changed_block, got_block, freed_block, no_blocks, no_tags, InRun, ChangedAt}
 
 -- the same units with these blocks
@@ -37,9 +37,14 @@ level_is Free level is = cc
 pub first_at : (tags now : List Tag) (place : ℕ) (answer : Option ℕ) (level : ℕ) → now ≡ tags
     → answer ≡ level_of (tag_at now place) → answer ≡ Some level
     → tag_at tags place ≡ First level
-first_at tags now place answer level same tells some =
+first_at tags now place answer level same determines some =
     level_is (tag_at tags place) level
-    (ap (λ (ts : List Tag). level_of (tag_at ts place)) (sym same) ∙ sym tells ∙ some)
+    (ap (λ (ts : List Tag). level_of (tag_at ts place)) (sym same) ∙ sym determines ∙ some)
+
+pub first_same : (tags now : List Tag) (place level : ℕ) → now ≡ tags
+    → tag_at now place ≡ First level → tag_at tags place ≡ First level
+first_same tags now place level same first =
+    ap (λ (ts : List Tag). tag_at ts place) (sym same) ∙ first
 
 live_by : (words : List ℕ) (place : ℕ) (tag : Tag) → IsSome (tagged words place tag)
     → IsSome (level_of tag)
@@ -47,33 +52,33 @@ live_by words place (First level) live = refl
 live_by words place Inside live = live
 live_by words place Free live = live
 
--- where a block begins, its tag tells a level
+-- where a block begins, its tag gives a level
 pub live_level : (tags : List Tag) (words : List ℕ) (place : ℕ)
     → IsLive (gathered tags words (length tags)) place → IsSome (level_of (tag_at tags place))
 live_level tags words place live =
     live_by words place (tag_at tags place)
     (subst (λ (b : Option (List ℕ)). IsSome b) (get-gathered tags words place) live)
 
-told_live_by : (words : List ℕ) (place : ℕ) (tag : Tag) → IsSome (level_of tag)
+known_live_by : (words : List ℕ) (place : ℕ) (tag : Tag) → IsSome (level_of tag)
     → IsSome (tagged words place tag)
-told_live_by words place (First level) live = refl
-told_live_by words place Inside live = live
-told_live_by words place Free live = live
+known_live_by words place (First level) live = refl
+known_live_by words place Inside live = live
+known_live_by words place Free live = live
 
--- and where it tells one a block begins
-pub told_live : (tags : List Tag) (words : List ℕ) (place : ℕ)
+-- and where it gives one, a block begins
+pub known_live : (tags : List Tag) (words : List ℕ) (place : ℕ)
     → IsSome (level_of (tag_at tags place)) → IsLive (gathered tags words (length tags)) place
-told_live tags words place told =
+known_live tags words place determined =
     subst (λ (b : Option (List ℕ)). IsSome b) (sym (get-gathered tags words place))
-    (told_live_by words place (tag_at tags place) told)
+    (known_live_by words place (tag_at tags place) determined)
 
 pub live_at : (units : ℕ) (tags : List Tag) (words : List ℕ) (store : Store)
     → store_of units tags words ≡ store
     → (now : List Tag) (place : ℕ) (answer : Option ℕ) → now ≡ tags
     → answer ≡ level_of (tag_at now place) → IsLive store.blocks place → IsSome answer
-live_at units tags words store view now place answer same tells live =
+live_at units tags words store view now place answer same determines live =
     subst (λ (o : Option ℕ). IsSome o)
-    (sym (tells ∙ ap (λ (ts : List Tag). level_of (tag_at ts place)) same))
+    (sym (determines ∙ ap (λ (ts : List Tag). level_of (tag_at ts place)) same))
     (live_level tags words place (subst (λ (s : Store). IsLive s.blocks place) (sym view) live))
 
 size_by : (units : ℕ) (tags : List Tag) (words : List ℕ) → IsKept units tags words
@@ -85,12 +90,12 @@ size_by units tags words kept place (First level) is =
 size_by units tags words kept place Inside is = refl
 size_by units tags words kept place Free is = refl
 
-pub size_told : (units : ℕ) (tags : List Tag) (words : List ℕ) → IsKept units tags words
+pub size_known : (units : ℕ) (tags : List Tag) (words : List ℕ) → IsKept units tags words
     → (place : ℕ)
     → option_map (λ (level : ℕ). 2 ^ level) (level_of (tag_at tags place))
     ≡ option_map (λ (block : List ℕ). length block)
     (map.get (gathered tags words (length tags)) place)
-size_told units tags words kept place =
+size_known units tags words kept place =
     size_by units tags words kept place (tag_at tags place) refl
     ∙ ap (option_map (λ (block : List ℕ). length block)) (sym (get-gathered tags words place))
 
@@ -101,9 +106,9 @@ small_by units tags were place (First level) is = (were.first place level is).sm
 small_by units tags were place Inside is = tt
 small_by units tags were place Free is = tt
 
-pub small_told : (units : ℕ) (tags : List Tag) → AreTags units tags → (place : ℕ)
+pub small_known : (units : ℕ) (tags : List Tag) → AreTags units tags → (place : ℕ)
     → IfSome (level_of (tag_at tags place)) (λ level. level ≤ largest_level)
-small_told units tags were place = small_by units tags were place (tag_at tags place) refl
+small_known units tags were place = small_by units tags were place (tag_at tags place) refl
 
 -- a block lies among the words
 pub block_within : (units : ℕ) (tags : List Tag) (words : List ℕ) → IsKept units tags words
@@ -112,19 +117,19 @@ pub block_within : (units : ℕ) (tags : List Tag) (words : List ℕ) → IsKept
 block_within units tags words kept place level first =
     omega (arith, (kept.are_tags.first place level first).within, kept.count)
 
-pub block_told : (tags : List Tag) (words : List ℕ) (place level : ℕ)
+pub block_known : (tags : List Tag) (words : List ℕ) (place level : ℕ)
     → tag_at tags place ≡ First level
     → slice_range words place (place + 2 ^ level) ≡ block_at (gathered tags words (length tags))
     place
-block_told tags words place level first =
-    sym (ap (λ (b : Option (List ℕ)). unwrap_or b []) (tells tags words place level first))
+block_known tags words place level first =
+    sym (ap (λ (b : Option (List ℕ)). unwrap_or b []) (determines tags words place level first))
 
 -- ---- one word
 pub found_within : (units : ℕ) (tags : List Tag) (words : List ℕ) → IsKept units tags words
     → (place : ℕ)
     → LiesIn (gathered tags words (length tags)) place → place < length words
 found_within units tags words kept place found =
-    let by = told tags words found.start found.words found.is in
+    let by = determined tags words found.start found.words found.is in
     let counts : length found.words ≡ 2 ^ by.level = ap length by.is
     ∙ length_of units tags words kept found.start by.level by.tag in
     omega (
@@ -139,7 +144,7 @@ pub found_word : (units : ℕ) (tags : List Tag) (words : List ℕ) → IsKept u
     → (found : LiesIn (gathered tags words (length tags)) place)
     → get_or words place 0 ≡ word_at place found
 found_word units tags words kept place found =
-    let by = told tags words found.start found.words found.is in
+    let by = determined tags words found.start found.words found.is in
     let counts : length found.words ≡ 2 ^ by.level = ap length by.is
     ∙ length_of units tags words kept found.start by.level by.tag in
     let inner : place - found.start < 2 ^ by.level
@@ -188,7 +193,7 @@ pub written_store : (units : ℕ) (tags : List Tag) (words : List ℕ) → IsKep
     found.start (set found.words (index_in place found) value)
 unfolding with_blocks
 written_store units tags words kept place value found =
-    let by = told tags words found.start found.words found.is in
+    let by = determined tags words found.start found.words found.is in
     let counts : length found.words ≡ 2 ^ by.level = ap length by.is
     ∙ length_of units tags words kept found.start by.level by.tag in
     let inner : place - found.start < 2 ^ by.level
@@ -226,18 +231,18 @@ words_by bits old new count fits each =
 
 pub got_kept : (units : ℕ) (old new : List Tag) (words cleared : List ℕ) → IsKept units old words
     → (place level : ℕ) → level ≤ largest_level
-    → IsVacantRun old (2 ^ level) place → IsMarked old new place level
+    → IsVacantRun old (2 ^ level) place → IsTagged old new place level
     → IsCleared words cleared place (2 ^ level) → IsKept units new cleared
-got_kept units old new words cleared kept place level small run marked clear = record {
+got_kept units old new words cleared kept place level small run with_tag clear = record {
   some = kept.some;
   most = kept.most;
-  are_tags = marked-are_tags units old new place level kept.are_tags
+  are_tags = tagged-are_tags units old new place level kept.are_tags
       (record {
         small = small;
         aligned = run.aligned;
         above = run.above;
         within = omega (arith, run.within, kept.are_tags.count);
-      }) run marked;
+      }) run with_tag;
   count = clear.count ∙ kept.count;
   are_words = words_by word_bits words cleared clear.count kept.are_words (λ at below.
       elim (cases_lt at place)
@@ -258,13 +263,13 @@ got_kept units old new words cleared kept place level small run marked clear = r
 
 pub got_store : (units : ℕ) (old new : List Tag) (words cleared : List ℕ) → IsKept units old words
     → (place level : ℕ)
-    → IsVacantRun old (2 ^ level) place → IsMarked old new place level
+    → IsVacantRun old (2 ^ level) place → IsTagged old new place level
     → IsCleared words cleared place (2 ^ level)
     → store_of units new cleared ≡ after_get scan_rule (store_of units old words) level (Some place)
 unfolding with_blocks
-got_store units old new words cleared kept place level run marked clear =
+got_store units old new words cleared kept place level run with_tag clear =
     ap (with_blocks units)
-    (got_block units old new words cleared kept.are_tags kept.count place level run marked
+    (got_block units old new words cleared kept.are_tags kept.count place level run with_tag
     clear)
 
 pub freed_kept : (units : ℕ) (old new : List Tag) (words : List ℕ) → IsKept units old words
@@ -273,7 +278,7 @@ pub freed_kept : (units : ℕ) (old new : List Tag) (words : List ℕ) → IsKep
 freed_kept units old new words kept place level first filled = record {
   some = kept.some;
   most = kept.most;
-  are_tags = unmarked-are_tags units old new place level kept.are_tags first filled;
+  are_tags = untagged-are_tags units old new place level kept.are_tags first filled;
   count = kept.count;
   are_words = kept.are_words;
 }
@@ -303,7 +308,7 @@ level_by : (units : ℕ) (tags : List Tag) (words : List ℕ) → IsKept units t
     → length (block_at (gathered tags words (length tags)) to) ≡ 2 ^ level → tag ≡ First level
 level_by units tags words kept to level (First k) is live size =
     let sizes : 2 ^ k ≡ 2 ^ level = sym (length_of units tags words kept to k is)
-    ∙ ap length (block_told tags words to k is) ∙ size in
+    ∙ ap length (block_known tags words to k is) ∙ size in
     ap (λ (l : ℕ). First l) (same_power k level sizes)
 level_by units tags words kept to level Inside is live size = cc
 level_by units tags words kept to level Free is live size = cc
@@ -319,7 +324,7 @@ same_level units tags words store view kept from to level first live same =
     = subst (λ (s : Store). length (block_at s.blocks from) ≡ length (block_at s.blocks to))
     (sym view) same in
     let size : length (block_at (gathered tags words (length tags)) to) ≡ 2 ^ level
-    = sym here ∙ sym (ap length (block_told tags words from level first))
+    = sym here ∙ sym (ap length (block_known tags words from level first))
     ∙ length_of units tags words kept from level first in
     let there : IsSome (map.get (gathered tags words (length tags)) to)
     = subst (λ (s : Store). IsLive s.blocks to) (sym view) live in
@@ -377,7 +382,7 @@ copied_store units tags words new kept from to level first second copied =
     let block : slice_range new to (to + 2 ^ level) ≡ block_at (gathered tags words (length tags))
     from
     = same_range new words to from (2 ^ level) (omega (arith, within_to, copied.count)) within
-    copied.copied ∙ block_told tags words from level first in
+    copied.copied ∙ block_known tags words from level first in
     ap (with_blocks units)
     (changed_block units tags words new kept.are_tags kept.count copied.count to level second
     changed
@@ -419,7 +424,3 @@ pub empty_store : (units n : ℕ) (tags : List Tag) (words : List ℕ) → tags 
 unfolding with_blocks
 empty_store units n tags words is =
     ap (with_blocks units) (no_blocks tags words (all_free tags n is))
-
--- the places of a new store
-pub made_count : (units unit : ℕ) → unit ≡ unit_size → (units + 1) * unit ≡ end_of units
-made_count units unit is = ap (λ (u : ℕ). (units + 1) * u) is ∙ omega arith

@@ -4,7 +4,7 @@ use Rattle.std.proofs.lemmas.Bool.{cases_lt, cases_eq}
 use Rattle.std.proofs.lemmas.Nat.{pow_pos}
 use Rattle.l6_store.specs.Blocks.{IsAlignedPlace}
 use Rattle.l6_store.specs.inner.Tags.{tag_at, AreTags, IsInside}
-use Rattle.l6_store.specs.inner.PlaceTags.{IsVacantRun, IsMarked, IsFilled}
+use Rattle.l6_store.specs.inner.PlaceTags.{IsVacantRun, IsTagged, IsFilled}
 use Rattle.l6_store.specs.declared.tag.Tag.{Tag}
 use Rattle.l6_store.specs.declared.tag.Tag.TheVariants.{Free, First, Inside}
 use Rattle.l6_store.proofs.Kept.{block_apart}
@@ -14,75 +14,75 @@ pub data Change (old new : List Tag) (place size at : ℕ) : Type 0 where
   as_before : tag_at new at ≡ tag_at old at → Change old new place size at
   in_run : place ≤ at → at < place + size → Change old new place size at
 
-pub marked_change : (old new : List Tag) (place level : ℕ) → IsMarked old new place level → (at : ℕ)
+pub tagged_change : (old new : List Tag) (place level : ℕ) → IsTagged old new place level → (at : ℕ)
     → Change old new place (2 ^ level) at
-marked_change old new place level marked at =
+tagged_change old new place level with_tag at =
     elim (cases_lt at place) as (λ _. Change old new place (2 ^ level) at) [
-      | inl less ↦ as_before (marked.before at less)
+      | inl less ↦ as_before (with_tag.before at less)
       | inr from ↦ elim (cases_lt at (place + 2 ^ level))
           as (λ _. Change old new place (2 ^ level) at) [
             | inl less ↦ in_run from less
-            | inr past ↦ as_before (marked.following at past)
+            | inr past ↦ as_before (with_tag.following at past)
           ]
     ]
 
-pub unmarked_change : (old new : List Tag) (place size : ℕ) → IsFilled old new place size Free
+pub untagged_change : (old new : List Tag) (place size : ℕ) → IsFilled old new place size Free
     → (at : ℕ) → Change old new place size at
-unmarked_change old new place size unmarked at =
+untagged_change old new place size untagged at =
     elim (cases_lt at place) as (λ _. Change old new place size at) [
-      | inl less ↦ as_before (unmarked.before at less)
+      | inl less ↦ as_before (untagged.before at less)
       | inr from ↦ elim (cases_lt at (place + size)) as (λ _. Change old new place size at) [
         | inl less ↦ in_run from less
-        | inr past ↦ as_before (unmarked.following at past)
+        | inr past ↦ as_before (untagged.following at past)
       ]
     ]
 
 -- the one first place of a new block
-marked_first : (old new : List Tag) (place level : ℕ) → IsMarked old new place level → (q k : ℕ)
+tagged_first : (old new : List Tag) (place level : ℕ) → IsTagged old new place level → (q k : ℕ)
     → place ≤ q → q < place + 2 ^ level
     → tag_at new q ≡ First k → (place ≡ q) × (level ≡ k)
-marked_first old new place level marked q k from before is =
+tagged_first old new place level with_tag q k from before is =
     elim (cases_eq place q) as (λ _. (place ≡ q) × (level ≡ k)) [
-      | inl same ↦ let first : First level ≡ First k = sym marked.first ∙ ap (tag_at new) same
+      | inl same ↦ let first : First level ≡ First k = sym with_tag.first ∙ ap (tag_at new) same
           ∙ is in (same, (cc))
-      | inr other ↦ let inside = marked.rest q (omega arith) before in cc
+      | inr other ↦ let inside = with_tag.rest q (omega arith) before in cc
     ]
 
 module _ (units : ℕ) (old new : List Tag) (place level : ℕ) (were : AreTags units old)
     (is_aligned : IsAlignedPlace units level place)
-    (run : IsVacantRun old (2 ^ level) place) (marked : IsMarked old new place level) where
-  marked-is_aligned : (q k : ℕ) → tag_at new q ≡ First k → IsAlignedPlace units k q
-  marked-is_aligned q k is =
-      elim (marked_change old new place level marked q) as (λ _. IsAlignedPlace units k q) [
+    (run : IsVacantRun old (2 ^ level) place) (with_tag : IsTagged old new place level) where
+  tagged-is_aligned : (q k : ℕ) → tag_at new q ≡ First k → IsAlignedPlace units k q
+  tagged-is_aligned q k is =
+      elim (tagged_change old new place level with_tag q) as (λ _. IsAlignedPlace units k q) [
         | as_before same ↦ were.first q k (sym same ∙ is)
         | in_run from before ↦
-            let first = marked_first old new place level marked q k from before is in
+            let first = tagged_first old new place level with_tag q k from before is in
             subst (λ (p : ℕ). IsAlignedPlace units k p) first.0
             (subst (λ (l : ℕ). IsAlignedPlace units l place) first.1 is_aligned)
       ]
 
-  marked-rest_of : (q k at : ℕ) → tag_at new q ≡ First k → q < at → at < q + 2 ^ k
+  tagged-rest_of : (q k at : ℕ) → tag_at new q ≡ First k → q < at → at < q + 2 ^ k
       → tag_at new at ≡ Inside
-  marked-rest_of q k at is after before =
-      elim (marked_change old new place level marked q) as (λ _. tag_at new at ≡ Inside) [
+  tagged-rest_of q k at is after before =
+      elim (tagged_change old new place level with_tag q) as (λ _. tag_at new at ≡ Inside) [
         | as_before same ↦
             let inside : tag_at old at ≡ Inside = were.rest q k at (sym same ∙ is) after before in
-            elim (marked_change old new place level marked at) as (λ _. tag_at new at ≡ Inside) [
+            elim (tagged_change old new place level with_tag at) as (λ _. tag_at new at ≡ Inside) [
               | as_before same_at ↦ same_at ∙ inside
               | in_run from less ↦ let free = run.free at from less in cc
             ]
         | in_run from less ↦
-            let first = marked_first old new place level marked q k from less is in
+            let first = tagged_first old new place level with_tag q k from less is in
             let power : 2 ^ level ≡ 2 ^ k = ap (λ (l : ℕ). 2 ^ l) first.1 in
-            marked.rest at (omega (arith, first.0)) (omega (arith, first.0, power))
+            with_tag.rest at (omega (arith, first.0)) (omega (arith, first.0, power))
       ]
 
-  marked-inside_of : (at : ℕ) → tag_at new at ≡ Inside → IsInside new at
-  marked-inside_of at is =
-      elim (marked_change old new place level marked at) as (λ _. IsInside new at) [
+  tagged-inside_of : (at : ℕ) → tag_at new at ≡ Inside → IsInside new at
+  tagged-inside_of at is =
+      elim (tagged_change old new place level with_tag at) as (λ _. IsInside new at) [
         | as_before same ↦
             let was = were.inside at (sym same ∙ is) in
-            elim (marked_change old new place level marked was.place) as (λ _. IsInside new at) [
+            elim (tagged_change old new place level with_tag was.place) as (λ _. IsInside new at) [
               | as_before same_place ↦
                   record {
                     place = was.place;
@@ -96,35 +96,35 @@ module _ (units : ℕ) (old new : List Tag) (place level : ℕ) (were : AreTags 
             ]
         | in_run from less ↦
             elim (cases_eq place at) as (λ _. IsInside new at) [
-              | inl same ↦ let first = sym (ap (tag_at new) same) ∙ marked.first in cc
+              | inl same ↦ let first = sym (ap (tag_at new) same) ∙ with_tag.first in cc
               | inr other ↦
                   record {
                     place = place;
                     level = level;
-                    is = marked.first;
+                    is = with_tag.first;
                     after = omega arith;
                     before = less;
                   }
             ]
       ]
 
-  pub marked-are_tags : AreTags units new
-  marked-are_tags
+  pub tagged-are_tags : AreTags units new
+  tagged-are_tags
       = record {
-        count = marked.count ∙ were.count;
-        first = marked-is_aligned;
-        rest = marked-rest_of;
-        inside = marked-inside_of;
+        count = with_tag.count ∙ were.count;
+        first = tagged-is_aligned;
+        rest = tagged-rest_of;
+        inside = tagged-inside_of;
       }
 
 module _ (units : ℕ) (old new : List Tag) (place level : ℕ) (were : AreTags units old)
     (was_first : tag_at old place ≡ First level)
-    (unmarked : IsFilled old new place (2 ^ level) Free) where
-  unmarked-is_aligned : (q k : ℕ) → tag_at new q ≡ First k → IsAlignedPlace units k q
-  unmarked-is_aligned q k is =
-      elim (unmarked_change old new place (2 ^ level) unmarked q) as (λ _. IsAlignedPlace units k q) [
+    (untagged : IsFilled old new place (2 ^ level) Free) where
+  untagged-is_aligned : (q k : ℕ) → tag_at new q ≡ First k → IsAlignedPlace units k q
+  untagged-is_aligned q k is =
+      elim (untagged_change old new place (2 ^ level) untagged q) as (λ _. IsAlignedPlace units k q) [
         | as_before same ↦ were.first q k (sym same ∙ is)
-        | in_run from before ↦ let free = unmarked.filled q from before in cc
+        | in_run from before ↦ let free = untagged.filled q from before in cc
       ]
 
   -- another block has no place of the block that was freed
@@ -135,7 +135,7 @@ module _ (units : ℕ) (old new : List Tag) (place level : ℕ) (were : AreTags 
         | inl lower ↦
             absurd (omega (arith, block_apart units old were q place k level was was_first lower))
         | inr upper ↦ elim (cases_eq place q) as (λ _. ⊥) [
-          | inl same ↦ let free = unmarked.filled q (omega arith) (omega (arith, pow_pos level)) in
+          | inl same ↦ let free = untagged.filled q (omega arith) (omega (arith, pow_pos level)) in
               cc
           | inr other ↦
               absurd
@@ -147,27 +147,27 @@ module _ (units : ℕ) (old new : List Tag) (place level : ℕ) (were : AreTags 
         ]
       ]
 
-  unmarked-rest_of : (q k at : ℕ) → tag_at new q ≡ First k → q < at → at < q + 2 ^ k
+  untagged-rest_of : (q k at : ℕ) → tag_at new q ≡ First k → q < at → at < q + 2 ^ k
       → tag_at new at ≡ Inside
-  unmarked-rest_of q k at is after before =
-      elim (unmarked_change old new place (2 ^ level) unmarked q) as (λ _. tag_at new at ≡ Inside) [
+  untagged-rest_of q k at is after before =
+      elim (untagged_change old new place (2 ^ level) untagged q) as (λ _. tag_at new at ≡ Inside) [
         | as_before same ↦
             let was : tag_at old q ≡ First k = sym same ∙ is in
             let inside : tag_at old at ≡ Inside = were.rest q k at was after before in
-            elim (unmarked_change old new place (2 ^ level) unmarked at)
+            elim (untagged_change old new place (2 ^ level) untagged at)
             as (λ _. tag_at new at ≡ Inside) [
               | as_before same_at ↦ same_at ∙ inside
               | in_run from less ↦ absurd (apart_from q k at was is after before from less)
             ]
-        | in_run from less ↦ let free = unmarked.filled q from less in cc
+        | in_run from less ↦ let free = untagged.filled q from less in cc
       ]
 
-  unmarked-inside_of : (at : ℕ) → tag_at new at ≡ Inside → IsInside new at
-  unmarked-inside_of at is =
-      elim (unmarked_change old new place (2 ^ level) unmarked at) as (λ _. IsInside new at) [
+  untagged-inside_of : (at : ℕ) → tag_at new at ≡ Inside → IsInside new at
+  untagged-inside_of at is =
+      elim (untagged_change old new place (2 ^ level) untagged at) as (λ _. IsInside new at) [
         | as_before same ↦
             let was = were.inside at (sym same ∙ is) in
-            elim (unmarked_change old new place (2 ^ level) unmarked was.place)
+            elim (untagged_change old new place (2 ^ level) untagged was.place)
             as (λ _. IsInside new at) [
               | as_before same_place ↦
                   record {
@@ -185,7 +185,7 @@ module _ (units : ℕ) (old new : List Tag) (place level : ℕ) (were : AreTags 
                         let levels : level ≡ was.level = cc in
                         let power : 2 ^ level ≡ 2 ^ was.level = ap (λ (l : ℕ). 2 ^ l) levels in
                         let free
-                        = unmarked.filled at (omega (arith, was.after))
+                        = untagged.filled at (omega (arith, was.after))
                         (omega (arith, was.before, power, there)) in
                         cc
                     | inr other ↦
@@ -193,14 +193,14 @@ module _ (units : ℕ) (old new : List Tag) (place level : ℕ) (were : AreTags 
                         let first = was.is in cc
                   ]
             ]
-        | in_run from less ↦ let free = unmarked.filled at from less in cc
+        | in_run from less ↦ let free = untagged.filled at from less in cc
       ]
 
-  pub unmarked-are_tags : AreTags units new
-  unmarked-are_tags
+  pub untagged-are_tags : AreTags units new
+  untagged-are_tags
       = record {
-        count = unmarked.count ∙ were.count;
-        first = unmarked-is_aligned;
-        rest = unmarked-rest_of;
-        inside = unmarked-inside_of;
+        count = untagged.count ∙ were.count;
+        first = untagged-is_aligned;
+        rest = untagged-rest_of;
+        inside = untagged-inside_of;
       }

@@ -6,21 +6,21 @@ use Rattle.std.specs.Ordering.{nat_cmp}
 use Rattle.std.specs.FinMap as map
 use Rattle.l6_store.specs.Blocks.{Blocks, end_of}
 use Rattle.l6_store.specs.inner.Tags.{tag_at, tagged, gathered, AreTags}
-use Rattle.l6_store.specs.inner.PlaceTags.{IsVacantRun, IsMarked, IsFilled, IsCleared}
+use Rattle.l6_store.specs.inner.PlaceTags.{IsVacantRun, IsTagged, IsFilled, IsCleared}
 use Rattle.l6_store.specs.declared.tag.Tag.{Tag}
 use Rattle.l6_store.specs.declared.tag.Tag.TheVariants.{Free, First, Inside}
 use Rattle.l6_store.proofs.Ranges.{same_range, zero_range}
 use Rattle.l6_store.proofs.Gathered.{gathered_is, get-gathered, get-insert_same, get-insert_other, get-remove_same, get-remove_other}
 use Rattle.l6_store.proofs.Kept.{block_apart}
-use Rattle.l6_store.proofs.Changes.{as_before, in_run, marked_change, unmarked_change}
+use Rattle.l6_store.proofs.Changes.{as_before, in_run, tagged_change, untagged_change}
 
--- a block whose words are as they were is told alike
-pub told_alike : (old new : List ℕ) (q : ℕ) (tag : Tag)
+-- a block whose words are as they were is known by the same tag
+pub known_alike : (old new : List ℕ) (q : ℕ) (tag : Tag)
     → ((k : ℕ) → tag ≡ First k → slice_range new q (q + 2 ^ k) ≡ slice_range old q (q + 2 ^ k))
     → tagged new q tag ≡ tagged old q tag
-told_alike old new q Free same = refl
-told_alike old new q Inside same = refl
-told_alike old new q (First k) same = ap (λ (block : List ℕ). Some block) (same k refl)
+known_alike old new q Free same = refl
+known_alike old new q Inside same = refl
+known_alike old new q (First k) same = ap (λ (block : List ℕ). Some block) (same k refl)
 
 -- words have changed at some places alone
 abbrev pub ChangedAt : List ℕ → List ℕ → (ℕ → Type 0) → Type 0
@@ -82,7 +82,7 @@ changed_block units tags words new were count new_count place level first change
           ∙ sym (ap (map.get (map.insert blocks place block)) same
           ∙ get-insert_same blocks place block)
       | inr other ↦
-          told_alike words new q (tag_at tags q) (λ k is.
+          known_alike words new q (tag_at tags q) (λ k is.
           beside units tags were words new count new_count place (2 ^ level) changed q k is
           (λ j below run. another units tags were place level q k j first is other below run))
           ∙ sym (get-insert_other blocks place block q other ∙ get-gathered tags words q)
@@ -113,11 +113,11 @@ not_free units tags were q k j first below free =
 -- a block is got
 pub got_block : (units : ℕ) (old new : List Tag) (words cleared : List ℕ) → AreTags units old
     → length words ≡ end_of units
-    → (place level : ℕ) → IsVacantRun old (2 ^ level) place → IsMarked old new place level
+    → (place level : ℕ) → IsVacantRun old (2 ^ level) place → IsTagged old new place level
     → IsCleared words cleared place (2 ^ level)
     → gathered new cleared (length new) ≡ map.insert (gathered old words (length old)) place
     (replicate (2 ^ level) 0)
-got_block units old new words cleared were count place level run marked clear =
+got_block units old new words cleared were count place level run with_tag clear =
     let block : List ℕ = replicate (2 ^ level) 0 in
     let blocks : Blocks = gathered old words (length old) in
     gathered_is new cleared (map.insert blocks place block) (λ q.
@@ -125,25 +125,25 @@ got_block units old new words cleared were count place level run marked clear =
     as (λ _. tagged cleared q (tag_at new q) ≡ map.get (map.insert blocks place block) q) [
       | inl same ↦
           ap (λ (p : ℕ). tagged cleared p (tag_at new p)) same
-          ∙ ap (tagged cleared place) marked.first
+          ∙ ap (tagged cleared place) with_tag.first
           ∙ ap (λ (b : List ℕ). Some b)
           (zero_range cleared place (2 ^ level)
           (omega (arith, run.within, clear.count, were.count, count)) clear.zeros)
           ∙ sym (ap (map.get (map.insert blocks place block)) same
           ∙ get-insert_same blocks place block)
       | inr other ↦
-          elim (marked_change old new place level marked q)
+          elim (tagged_change old new place level with_tag q)
           as (λ _. tagged cleared q (tag_at new q) ≡ map.get (map.insert blocks place block) q) [
             | as_before is ↦
                 ap (tagged cleared q) is
-                ∙ told_alike words cleared q (tag_at old q) (λ k first.
+                ∙ known_alike words cleared q (tag_at old q) (λ k first.
                 beside units old were words cleared count clear.count place (2 ^ level)
                 (changed_of words cleared place (2 ^ level) clear) q k first
                 (λ j below in_run. not_free units old were q k j first below
                 (run.free (q + j) in_run.0 in_run.1)))
                 ∙ sym (get-insert_other blocks place block q other ∙ get-gathered old words q)
             | in_run from below ↦
-                ap (tagged cleared q) (marked.rest q (omega (arith, other)) below)
+                ap (tagged cleared q) (with_tag.rest q (omega (arith, other)) below)
                 ∙ sym (get-insert_other blocks place block q other ∙ get-gathered old words q
                 ∙ ap (tagged words q) (run.free q from below))
           ]
@@ -154,22 +154,22 @@ pub freed_block : (units : ℕ) (old new : List Tag) (words : List ℕ) → AreT
     → (place level : ℕ) → tag_at old place ≡ First level
     → IsFilled old new place (2 ^ level) Free
     → gathered new words (length new) ≡ map.remove (gathered old words (length old)) place
-freed_block units old new words were place level first unmarked =
+freed_block units old new words were place level first untagged =
     let blocks : Blocks = gathered old words (length old) in
     gathered_is new words (map.remove blocks place) (λ q.
     elim (cases_eq q place)
     as (λ _. tagged words q (tag_at new q) ≡ map.get (map.remove blocks place) q) [
       | inl same ↦
           ap (tagged words q)
-          (unmarked.filled q (omega (arith, same)) (omega (arith, same, pow_pos level)))
+          (untagged.filled q (omega (arith, same)) (omega (arith, same, pow_pos level)))
           ∙ sym (ap (map.get (map.remove blocks place)) same ∙ get-remove_same blocks place)
       | inr other ↦
-          elim (unmarked_change old new place (2 ^ level) unmarked q)
+          elim (untagged_change old new place (2 ^ level) untagged q)
           as (λ _. tagged words q (tag_at new q) ≡ map.get (map.remove blocks place) q) [
             | as_before is ↦ ap (tagged words q) is
                 ∙ sym (get-remove_other blocks place q other ∙ get-gathered old words q)
             | in_run from below ↦
-                ap (tagged words q) (unmarked.filled q from below)
+                ap (tagged words q) (untagged.filled q from below)
                 ∙ sym (get-remove_other blocks place q other ∙ get-gathered old words q
                 ∙ ap (tagged words q) (were.rest place level q first (omega (arith, other)) below))
           ]

@@ -11,7 +11,7 @@ use Rattle.l6_store.specs.Buddy.{has, listed, IsListed, first_order, units_from}
 use Rattle.l6_store.specs.Tiles.{held_in, held_below, held, Tiles}
 use Rattle.l6_store.proofs.Multiples.{times_size}
 use Rattle.l6_store.proofs.Counts.{holds-within, holds-before, holds-following}
-use Rattle.l6_store.proofs.Detached.{has_cases}
+use Rattle.l6_store.proofs.ListedPieces.{has_cases}
 
 -- lists of which only that of the largest level may have a place
 abbrev pub only_top : List ℕ → Order

@@ -7,7 +7,7 @@ use Rattle.std.specs.FinMap as map
 use Rattle.l6_word.specs.Numerals.{largest_level, word_bits}
 use Rattle.l6_store.specs.Blocks.{Blocks, Fits}
 use Rattle.l6_store.specs.Open.{IsOpen}
-use Rattle.l6_store.proofs.Marked.{fits-insert}
+use Rattle.l6_store.proofs.Tagged.{fits-insert}
 
 -- a block has new words, as many as before
 pub fits-changed : (units : ℕ) (blocks : Blocks) (place : ℕ) (old new : List ℕ) → Fits units blocks

@@ -16,8 +16,8 @@ use Rattle.l6_store.specs.inner.Tags.{tagged}
 use Rattle.l6_store.specs.declared.place_tag.PlaceTag.{PlaceTag}
 use Rattle.l6_store.specs.declared.place_tag.PlaceTag.TheVariants.{Inner, Block}
 use Rattle.l6_store.proofs.First.{has_none, listed_largest, numbered, only_top, top_only}
-use Rattle.l6_store.proofs.Marked.{blocks_are}
-use Rattle.l6_store.proofs.Arenas.{AreWords, laid, order_told}
+use Rattle.l6_store.proofs.Tagged.{blocks_are}
+use Rattle.l6_store.proofs.Arenas.{AreWords, laid, order_known}
 
 -- ---- no list has a place
 none_listed : (level : ℕ) → listed (replicate (suc largest_level) []) level ≡ []
@@ -58,14 +58,14 @@ module _ (units : ℕ) (words heads : List ℕ) (place_tags : List PlaceTag) (so
       linked = λ level. subst (λ (ps : List ℕ). AreLinked words 0 ps 0) (sym (none_listed level)) tt;
     };
     distinct = λ level. subst AreDistinct (sym (none_listed level)) tt;
-    marked = λ level place is. absurd (none_is_listed level place is);
-    told = λ level place is. absurd (let not = inner place in (cc));
+    with_tag = λ level place is. absurd (none_is_listed level place is);
+    determined = λ level place is. absurd (let not = inner place in (cc));
     none = inner 0;
   }
 
-  cleared_stands : (level place : ℕ) → place_tag_at place_tags place ≡ Block level →
+  cleared_holds : (level place : ℕ) → place_tag_at place_tags place ≡ Block level →
       IsAlignedPlace units level place
-  cleared_stands level place is = absurd (let not = inner place in (cc))
+  cleared_holds level place is = absurd (let not = inner place in (cc))
 
   cleared_beside : AreBeside map.empty (replicate (suc largest_level) [])
   cleared_beside level place is lies = none_is_listed level place is
@@ -73,12 +73,12 @@ module _ (units : ℕ) (words heads : List ℕ) (place_tags : List PlaceTag) (so
   pub cleared_laid : IsArena units words place_tags heads
   cleared_laid = laid units words heads place_tags
       (replicate (suc largest_level) []) map.empty some most
-      filled count cleared_lists cleared_blocks cleared_stands (no_fits units) are_words
+      filled count cleared_lists cleared_blocks cleared_holds (no_fits units) are_words
       cleared_beside
 
   pub cleared_order : order_of words heads ≡ replicate (suc largest_level) []
-  cleared_order = order_told units words heads place_tags (replicate (suc largest_level) []) map.empty
-      some most filled count cleared_lists cleared_blocks cleared_stands (no_fits units) are_words
+  cleared_order = order_known units words heads place_tags (replicate (suc largest_level) []) map.empty
+      some most filled count cleared_lists cleared_blocks cleared_holds (no_fits units) are_words
       cleared_beside
 
 -- ---- units are listed one by one

@@ -86,7 +86,7 @@ get-gathered_below tags words (suc bound) q below =
           ∙ ap (λ (p : ℕ). tagged words p (tag_at tags p)) (sym same)
     ]
 
--- the block that begins at a place is the one that its tag tells
+-- the block that begins at a place is the one that its tag gives
 pub get-gathered : (tags : List Tag) (words : List ℕ) (q : ℕ)
     → map.get (gathered tags words (length tags)) q ≡ tagged words q (tag_at tags q)
 get-gathered tags words q =
@@ -105,29 +105,29 @@ gathered_is tags words blocks each =
     map.same_map nat_cmp_total map.nat_cmp-IsAntisymmetric (gathered tags words (length tags))
     blocks (λ q. get-gathered tags words q ∙ each q)
 
--- what a block that is told comes from
+-- where a block that is found comes from
 pub record Told (tags : List Tag) (words : List ℕ) (q : ℕ) (block : List ℕ) : Type 0 where
   pub level : ℕ
   pub tag : tag_at tags q ≡ First level
   pub is : block ≡ slice_range words q (q + 2 ^ level)
 
-told_by : (tags : List Tag) (words : List ℕ) (q : ℕ) (block : List ℕ) (tag : Tag)
+known_by : (tags : List Tag) (words : List ℕ) (q : ℕ) (block : List ℕ) (tag : Tag)
     → tag_at tags q ≡ tag → tagged words q tag ≡ Some block → Told tags words q block
-told_by tags words q block (First level) is told =
+known_by tags words q block (First level) is determined =
     record {
       level = level;
       tag = is;
-      is = (let same : Some (slice_range words q (q + 2 ^ level)) ≡ Some block = told in cc);
+      is = (let same : Some (slice_range words q (q + 2 ^ level)) ≡ Some block = determined in cc);
     }
-told_by tags words q block Free is told = cc
-told_by tags words q block Inside is told = cc
+known_by tags words q block Free is determined = cc
+known_by tags words q block Inside is determined = cc
 
-pub told : (tags : List Tag) (words : List ℕ) (q : ℕ) (block : List ℕ)
+pub determined : (tags : List Tag) (words : List ℕ) (q : ℕ) (block : List ℕ)
     → map.get (gathered tags words (length tags)) q ≡ Some block → Told tags words q block
-told tags words q block is =
-    told_by tags words q block (tag_at tags q) refl (sym (get-gathered tags words q) ∙ is)
+determined tags words q block is =
+    known_by tags words q block (tag_at tags q) refl (sym (get-gathered tags words q) ∙ is)
 
 -- and the other way round
-pub tells : (tags : List Tag) (words : List ℕ) (q level : ℕ) → tag_at tags q ≡ First level
+pub determines : (tags : List Tag) (words : List ℕ) (q level : ℕ) → tag_at tags q ≡ First level
     → map.get (gathered tags words (length tags)) q ≡ Some (slice_range words q (q + 2 ^ level))
-tells tags words q level tag = get-gathered tags words q ∙ ap (tagged words q) tag
+determines tags words q level tag = get-gathered tags words q ∙ ap (tagged words q) tag

@@ -15,7 +15,7 @@ use Rattle.l6_store.specs.declared.tag.Tag.{Tag}
 use Rattle.l6_store.specs.declared.tag.Tag.TheVariants.{Free, First, Inside}
 use Rattle.l6_store.proofs.Least.{Answers, least-answers, answers-alone}
 use Rattle.l6_store.proofs.Ranges.{length-range}
-use Rattle.l6_store.proofs.Gathered.{told, tells}
+use Rattle.l6_store.proofs.Gathered.{determined, determines}
 use Rattle.l6_store.proofs.Scan.{is_open-holds, is_open-made, scan-chooses}
 
 -- two blocks share no place
@@ -40,7 +40,7 @@ pub fits_of : (units : ℕ) (tags : List Tag) (words : List ℕ) → IsKept unit
     → Fits units (gathered tags words (length tags))
 fits_of units tags words kept = record {
   each = λ place block is.
-      let from = told tags words place block is in
+      let from = determined tags words place block is in
       record {
         level = from.level;
         size = ap length from.is ∙ length_of units tags words kept place from.level from.tag;
@@ -52,8 +52,8 @@ fits_of units tags words kept = record {
             (All-drop (λ word. word < 2 ^ word_bits) place words kept.are_words));
       };
   apart = λ one other block others is is_other less.
-      let first = told tags words one block is in
-      let second = told tags words other others is_other in
+      let first = determined tags words one block is in
+      let second = determined tags words other others is_other in
       let size : length block ≡ 2 ^ first.level = ap length first.is
       ∙ length_of units tags words kept one first.level first.tag in
       let apart = block_apart units tags kept.are_tags one other first.level second.level first.tag
@@ -79,7 +79,7 @@ open_of_run units tags words kept size place run = record {
   above = run.above;
   within = omega (arith, run.within, kept.are_tags.count);
   free = λ start block at is from before after.
-      let by = told tags words start block is in
+      let by = determined tags words start block is in
       let counts : length block ≡ 2 ^ by.level = ap length by.is
       ∙ length_of units tags words kept start by.level by.tag in
       let free = run.free at from before in
@@ -102,7 +102,7 @@ free_by units tags words kept size place clear at from before Free is = refl
 free_by units tags words kept size place clear at from before (First level) is =
     let size_is = length_of units tags words kept at level is in
     let ends
-    = clear.free at (slice_range words at (at + 2 ^ level)) at (tells tags words at level is)
+    = clear.free at (slice_range words at (at + 2 ^ level)) at (determines tags words at level is)
     from before (omega arith) in
     absurd (omega (arith, pow_pos level, size_is, ends))
 free_by units tags words kept size place clear at from before Inside is =
@@ -110,7 +110,7 @@ free_by units tags words kept size place clear at from before Inside is =
     let size_is = length_of units tags words kept inside.place inside.level inside.is in
     let ends
     = clear.free inside.place (slice_range words inside.place (inside.place + 2 ^ inside.level)) at
-    (tells tags words inside.place inside.level inside.is) from before
+    (determines tags words inside.place inside.level inside.is) from before
     (omega (arith, inside.after)) in
     absurd (omega (arith, size_is, ends, inside.before))
 

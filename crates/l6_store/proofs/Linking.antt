@@ -12,8 +12,10 @@ use Rattle.l6_store.specs.inner.ArenaLayout.{AreDistinct, AreLists, place_tag_at
 use Rattle.l6_store.specs.declared.place_tag.PlaceTag.{PlaceTag}
 use Rattle.l6_store.specs.declared.place_tag.PlaceTag.TheVariants.{Inner, Listed}
 use Rattle.l6_store.proofs.Counts.{has-first, has-more, listed-same, listed-other}
-use Rattle.l6_store.proofs.Detached.{the_one, another, in_front-listed, taken_out-listed}
-use Rattle.l6_store.proofs.Chains.{AreWithin, linked_along, linked_front, linked_others, unlinked, unlinked_others, head_unlinked, distinct-without, without-gone, without-other}
+use Rattle.l6_store.proofs.ListedPieces.{the_one, another, in_front-listed, taken_out-listed}
+use Rattle.l6_store.proofs.PlaceLists.{AreWithin, distinct-without, without-gone, without-other}
+use Rattle.l6_store.proofs.Chains.{linked_along, linked_front, linked_others}
+use Rattle.l6_store.proofs.Unlinking.{unlinked, unlinked_others, head_unlinked}
 use Rattle.l6_store.proofs.Lists.{order_is}
 
 -- ---- what the tags tell of lists
@@ -22,7 +24,7 @@ pub lists_within : (words heads : List ℕ) (place_tags : List PlaceTag) (order 
     → AreLists words heads place_tags order → length place_tags ≡ length words → (level : ℕ)
     → AreWithin (length words) (listed order level)
 lists_within words heads place_tags order are count level place is =
-    let place_tag = are.marked level place is in (
+    let place_tag = are.with_tag level place is in (
       elim (cases_lt place 1) as (λ _. 1 ≤ place) [
         | inl none ↦
             let zero_is : place ≡ 0 = omega arith in
@@ -42,14 +44,14 @@ pub one_level : (words heads : List ℕ) (place_tags : List PlaceTag) (order : O
     → AreLists words heads place_tags order → (level k place : ℕ) → IsListed order level place
     → IsListed order k place → level ≡ k
 one_level words heads place_tags order are level k place one other =
-    let first = are.marked level place one in let second = are.marked k place other in
+    let first = are.with_tag level place one in let second = are.with_tag k place other in
     let both : Listed level ≡ Listed k = sym first ∙ second in
     cc
 
-pub lists_tell : (words heads : List ℕ) (place_tags : List PlaceTag) (order : Order)
+pub lists_show : (words heads : List ℕ) (place_tags : List PlaceTag) (order : Order)
     → AreLists words heads place_tags order → length place_tags ≡ length words
     → length words ≤ 2 ^ place_bits → order_of words heads ≡ order
-lists_tell words heads place_tags order are count small =
+lists_show words heads place_tags order are count small =
     order_is words heads order are.links small are.distinct
     (lists_within words heads place_tags order are count)
 
@@ -151,30 +153,30 @@ module _ (words heads : List ℕ) (place_tags : List PlaceTag) (order : Order)
             (sym (listed-other order level k (place ∷ listed order level) other)) (are.distinct k)
       ]
 
-  marked_new : place_tag_at (set place_tags place (Listed level)) place ≡ Listed level
-  marked_new = get_or-set_same place_tags place (Listed level) Inner (omega (arith, count))
+  tagged_new : place_tag_at (set place_tags place (Listed level)) place ≡ Listed level
+  tagged_new = get_or-set_same place_tags place (Listed level) Inner (omega (arith, count))
 
-  link_marked : (k p : ℕ) → IsListed (in_front order level place) k p
+  link_tagged : (k p : ℕ) → IsListed (in_front order level place) k p
       → place_tag_at (set place_tags place (Listed level)) p ≡ Listed k
-  link_marked k p is =
+  link_tagged k p is =
       elim (in_front-listed order level place k p room is)
       as (λ _. place_tag_at (set place_tags place (Listed level)) p ≡ Listed k) [
         | the_one same here ↦
             ap (place_tag_at (set place_tags place (Listed level))) here
-            ∙ marked_new ∙ ap (λ (j : ℕ). Listed j) (sym same)
+            ∙ tagged_new ∙ ap (λ (j : ℕ). Listed j) (sym same)
         | another was ↦
             get_or-set_other place_tags place p (Listed level) Inner
             (λ same. fresh k (ap (λ (q : ℕ). has q (listed order k)) (sym same) ∙ was))
-            ∙ are.marked k p was
+            ∙ are.with_tag k p was
       ]
 
-  link_told : (k p : ℕ) → place_tag_at (set place_tags place (Listed level)) p ≡ Listed k
+  link_known : (k p : ℕ) → place_tag_at (set place_tags place (Listed level)) p ≡ Listed k
       → IsListed (in_front order level place) k p
-  link_told k p is =
+  link_known k p is =
       elim (cases_eq p place) as (λ _. IsListed (in_front order level place) k p) [
         | inl same ↦
             let here : Listed level ≡ Listed k
-            = sym marked_new ∙ ap (place_tag_at (set place_tags place (Listed level))) (sym same)
+            = sym tagged_new ∙ ap (place_tag_at (set place_tags place (Listed level))) (sym same)
             ∙ is in
             let levels : level ≡ k = cc in
             subst (λ (j : ℕ). IsListed (in_front order level place) j p) levels
@@ -182,7 +184,7 @@ module _ (words heads : List ℕ) (place_tags : List PlaceTag) (order : Order)
             ∙ in_front-first order level place room)
         | inr other ↦
             in_front-keeps order level place k p room
-            (are.told k p (sym (get_or-set_other place_tags place p (Listed level) Inner other) ∙ is))
+            (are.determined k p (sym (get_or-set_other place_tags place p (Listed level) Inner other) ∙ is))
       ]
 
   pub lists-linked : AreLists (words_linked words place head) (set heads level place)
@@ -196,8 +198,8 @@ module _ (words heads : List ℕ) (place_tags : List PlaceTag) (order : Order)
       linked = link_linked;
     };
     distinct = link_distinct;
-    marked = link_marked;
-    told = link_told;
+    with_tag = link_tagged;
+    determined = link_known;
     none = get_or-set_other place_tags place 0 (Listed level) Inner (λ same. absurd (omega arith))
         ∙ are.none;
   }
@@ -218,9 +220,6 @@ module _ (words heads : List ℕ) (place_tags : List PlaceTag) (order : Order)
 
   word : ℕ
   word = get_or words place 0
-
-  heads_out : List ℕ
-  heads_out = with_head heads level (before_in (get_or words place 0)) (after_in (get_or words place 0))
 
   with_head-other : (k before after : ℕ) → k ≢ level
       → get_or (with_head heads level before after) k 0 ≡ get_or heads k 0
@@ -319,17 +318,17 @@ module _ (words heads : List ℕ) (place_tags : List PlaceTag) (order : Order)
       = ap (has place) (sym lists) ∙ is in
       cc
 
-  out_marked : (k p : ℕ) → IsListed (taken_out order level place) k p
+  out_tagged : (k p : ℕ) → IsListed (taken_out order level place) k p
       → place_tag_at (set place_tags place Inner) p ≡ Listed k
-  out_marked k p is =
+  out_tagged k p is =
       get_or-set_other place_tags place p Inner Inner
       (λ same. out_gone k
       (ap (λ (q : ℕ). has q (listed (taken_out order level place) k)) (sym same) ∙ is))
-      ∙ are.marked k p (taken_out-listed order level place k p out_room is)
+      ∙ are.with_tag k p (taken_out-listed order level place k p out_room is)
 
-  out_told : (k p : ℕ) → place_tag_at (set place_tags place Inner) p ≡ Listed k
+  out_known : (k p : ℕ) → place_tag_at (set place_tags place Inner) p ≡ Listed k
       → IsListed (taken_out order level place) k p
-  out_told k p is =
+  out_known k p is =
       elim (cases_eq p place) as (λ _. IsListed (taken_out order level place) k p) [
         | inl same ↦
             let inner : place_tag_at (set place_tags place Inner) place ≡ Inner
@@ -338,7 +337,7 @@ module _ (words heads : List ℕ) (place_tags : List PlaceTag) (order : Order)
             let here = ap (place_tag_at (set place_tags place Inner)) same in
             cc
         | inr other ↦
-            let was = are.told k p (sym (get_or-set_other place_tags place p Inner Inner other) ∙ is) in
+            let was = are.determined k p (sym (get_or-set_other place_tags place p Inner Inner other) ∙ is) in
             elim (cases_eq k level) as (λ _. IsListed (taken_out order level place) k p) [
               | inl levels ↦
                   ap (λ (j : ℕ). has p (listed (taken_out order level place) j)) levels
@@ -365,8 +364,8 @@ module _ (words heads : List ℕ) (place_tags : List PlaceTag) (order : Order)
       linked = out_linked;
     };
     distinct = out_distinct;
-    marked = out_marked;
-    told = out_told;
+    with_tag = out_tagged;
+    determined = out_known;
     none = get_or-set_other place_tags place 0 Inner Inner
         (λ same. absurd (omega (arith, (within_level place there).0)))
         ∙ are.none;

@@ -11,7 +11,8 @@ use Rattle.l6_store.specs.Links.{AreLinked, Links}
 use Rattle.l6_store.specs.inner.Chains.{after_in, followed, list_of, order_of}
 use Rattle.l6_store.specs.inner.ArenaLayout.{AreDistinct}
 use Rattle.l6_store.proofs.Counts.{has-first}
-use Rattle.l6_store.proofs.Chains.{AreWithin, within-rest, first_or-within, has_not, after_of}
+use Rattle.l6_store.proofs.PlaceLists.{AreWithin, within-rest, first_or-within, has_not}
+use Rattle.l6_store.proofs.Chains.{after_of}
 
 has_any : (place : ℕ) (places : List ℕ) → has place places ≡ list_any (nat_eq place) places
 unfolding has

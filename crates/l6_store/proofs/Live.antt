@@ -23,7 +23,7 @@ pub live_size : (blocks : Blocks) (place level : ℕ) → IsLive blocks place
     (map.get blocks place)
     → length (block_at blocks place) ≡ 2 ^ level
 live_size blocks place level live size =
-    let told : Some (2 ^ level) ≡ Some (length (block_at blocks place))
+    let determined : Some (2 ^ level) ≡ Some (length (block_at blocks place))
     = size ∙ ap (option_map (λ (words : List ℕ). length words)) (live_words blocks place live) in
     cc
 

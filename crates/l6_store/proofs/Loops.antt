@@ -9,6 +9,7 @@ use Rattle.l6_store.specs.Rule.{Order}
 use Rattle.l6_store.specs.Buddy.{DetachedPiece, has, listed, IsListed, buddy_of, first_of, halved, halved_often, joined, joined_often, level_found, whole_of}
 use Rattle.l6_store.specs.Least.{least}
 use Rattle.l6_store.specs.inner.Detached.{HalvesPiece, IsDetached, JoinsPiece}
+use Rattle.l6_store.proofs.Inclusive.{IsFirst}
 use Rattle.l6_store.proofs.Least.{Answers, least-answers, answers-alone}
 use Rattle.l6_store.proofs.Multiples.{is_lower, is_upper, which_half, same_multiple, multiple_down, multiple_next, times_size, double, buddy_of-lower, buddy_of-upper, whole_of-lower, whole_of-upper}
 use Rattle.l6_store.proofs.Detached.{holds_halved, holds_joined}
@@ -35,9 +36,9 @@ whole_start level small =
     multiple_down level largest_level unit_size small
     (ap (λ (p : ℕ). p % 2 ^ largest_level) product ∙ times_size 1 largest_level)
 
-pub buddy_stands : (units level place : ℕ) → level < largest_level → IsAlignedPlace units level place
+pub buddy_holds : (units level place : ℕ) → level < largest_level → IsAlignedPlace units level place
     → IsAlignedPlace units level (buddy_of level place)
-buddy_stands units level place less is_aligned =
+buddy_holds units level place less is_aligned =
     elim (which_half level place is_aligned.aligned) as
     (λ _. IsAlignedPlace units level (buddy_of level place)) [
       | is_lower lower ↦
@@ -184,7 +185,7 @@ not_yet order level k none =
           ∙ ap (λ (o : Option ℕ). is_some o) (none from)
     ]
 
-pub found_at : (order : Order) (level found : ℕ) → level ≤ found → found ≤ largest_level
+found_at : (order : Order) (level found : ℕ) → level ≤ found → found ≤ largest_level
     → is_some (first_of (listed order found)) ≡ true
     → ((k : ℕ) → level ≤ k → k < found → first_of (listed order k) ≡ None)
     → Some found ≡ level_found order level
@@ -200,7 +201,7 @@ found_at order level found from most some none =
     answers-alone (suc largest_level) test (Some found) (least (suc largest_level) test) answer
     (least-answers (suc largest_level) test)
 
-pub found_none : (order : Order) (level : ℕ)
+found_none : (order : Order) (level : ℕ)
     → ((k : ℕ) → level ≤ k → k ≤ largest_level → first_of (listed order k) ≡ None)
     → None ≡ level_found order level
 unfolding level_found Answers
@@ -212,7 +213,16 @@ found_none order level none =
     answers-alone (suc largest_level) test None (least (suc largest_level) test) answer
     (least-answers (suc largest_level) test)
 
--- the piece joined, as the code tells it
+-- so it is the first one with a free piece
+pub found_first : (order : Order) (level : ℕ) (found : Option ℕ)
+    → IsFirst (λ k. is_some (first_of (listed order k)) ≡ true)
+    (λ k. first_of (listed order k) ≡ None) level largest_level found
+    → found ≡ level_found order level
+found_first order level None none = found_none order level none
+found_first order level (Some found) first =
+    found_at order level found first.0 first.1 first.2 first.3
+
+-- the piece joined, as the code has it
 pub joins_to : (units : ℕ) (blocks : Blocks) (level : ℕ) (first now : DetachedPiece) (moves : ℕ)
     (order : Order) (to place : ℕ) → order ≡ now.order → to ≡ now.level → place ≡ now.place
     → JoinsPiece units blocks level first now moves

@@ -1,5 +1,5 @@
 -- Parts of a list of words: so many from a place on.
-use Rattle.std.proofs.Common.{◌≡◌, ◌≢◌, ℕ, ◌+◌, ◌-◌, ◌<◌, ◌≤◌, List, length, get_or, set, drop, slice_range, replicate, ap, sym, ◌∙◌, arith, inl, inr}
+use Rattle.std.proofs.Common.{◌≡◌, ℕ, ◌+◌, ◌-◌, ◌<◌, ◌≤◌, List, length, get_or, set, drop, slice_range, replicate, ap, sym, ◌∙◌, arith, inl, inr}
 use Rattle.std.proofs.lemmas.List.{get_or-take, get_or-drop, get_or-replicate, length-replicate, get_or-set_same, get_or-set_other, length-set}
 use Rattle.std.proofs.lemmas.Bool.{cases_eq}
 use Rattle.std.proofs.lemmas.Grind.{same_number_lists}
@@ -67,12 +67,3 @@ set_range words place size k value within below =
           ∙ sym (get_or-set_other (slice_range words place (place + size)) k j value 0 other
           ∙ index-range words place size j (omega arith))
     ])
-
--- a word written beside a part
-pub set_beside : (words : List ℕ) (place size at value : ℕ) → place + size ≤ length words
-    → ((k : ℕ) → k < size → place + k ≢ at)
-    → slice_range (set words at value) place (place + size) ≡ slice_range words place (place + size)
-set_beside words place size at value within apart =
-    same_range (set words at value) words place place size
-    (omega (arith, length-set words at value)) within
-    (λ k below. get_or-set_other words at (place + k) value 0 (apart k below))

@@ -5,16 +5,16 @@ use Rattle.std.proofs.lemmas.Nat.{pow_pos, pow-add, shl-shr, div_below, le-div, 
 use Rattle.std.proofs.lemmas.List.{length-take-le, length-drop, get_or-take, get_or-drop, get_or-set_same, get_or-set_other, length-set}
 use Rattle.l6_word.specs.Numerals.{largest_level, unit_size}
 use Rattle.l6_store.specs.inner.Tags.{tag_at}
-use Rattle.l6_store.proofs.Changes.{as_before, in_run, marked_change}
-use Rattle.l6_store.specs.inner.PlaceTags.{IsVacantRun, IsLowest, IsFull, IsRaised, IsMarked, IsFilled}
+use Rattle.l6_store.proofs.Changes.{as_before, in_run, tagged_change}
+use Rattle.l6_store.specs.inner.PlaceTags.{IsVacantRun, IsLowest, IsFull, IsRaised, IsTagged, IsFilled}
 use Rattle.l6_store.specs.declared.tag.Tag.{Tag}
 use Rattle.l6_store.specs.declared.tag.Tag.TheVariants.{Free, First, Inside}
 
 -- the first place of a new block is tagged after the others
-pub marked_of_filled : (old filled : List Tag) (place level : ℕ) → place + 2 ^ level ≤ length old
+pub tagged_of_filled : (old filled : List Tag) (place level : ℕ) → place + 2 ^ level ≤ length old
     → IsFilled old filled place (2 ^ level) Inside
-    → IsMarked old (set filled place (First level)) place level
-marked_of_filled old filled place level within is = record {
+    → IsTagged old (set filled place (First level)) place level
+tagged_of_filled old filled place level within is = record {
   count = length-set filled place (First level) ∙ is.count;
   first = get_or-set_same filled place (First level) Free (omega (arith, is.count, pow_pos level));
   rest = λ at after before. get_or-set_other filled place at (First level) Free
@@ -136,35 +136,35 @@ one_free tags at above below free = record {
   free = λ other from before. (let same : other ≡ at = omega arith in ap (tag_at tags) same ∙ free);
 }
 
-not_free_kept : (old new : List Tag) (place level at : ℕ) → IsMarked old new place level
+not_free_kept : (old new : List Tag) (place level at : ℕ) → IsTagged old new place level
     → tag_at new at ≡ Free
     → (at < place + 2 ^ level) → (at < place) × (tag_at old at ≡ Free)
-not_free_kept old new place level at marked free before =
+not_free_kept old new place level at with_tag free before =
     elim (cases_lt at place) as (λ _. (at < place) × (tag_at old at ≡ Free)) [
-      | inl less ↦ (less, sym (marked.before at less) ∙ free)
+      | inl less ↦ (less, sym (with_tag.before at less) ∙ free)
       | inr from ↦ elim (cases_eq at place) as (λ _. (at < place) × (tag_at old at ≡ Free)) [
-        | inl same ↦ let first = sym (ap (tag_at new) same) ∙ free in let is = marked.first in cc
-        | inr other ↦ let inside = marked.rest at (omega (arith, other)) before in cc
+        | inl same ↦ let first = sym (ap (tag_at new) same) ∙ free in let is = with_tag.first in cc
+        | inr other ↦ let inside = with_tag.rest at (omega (arith, other)) before in cc
       ]
     ]
 
 pub raised_full : (old new : List Tag) (low place level result : ℕ) → IsFull old low
     → IsLowest old (2 ^ level) (Some place)
-    → IsMarked old new place level → IsRaised low place level result → IsFull new result
-raised_full old new low place level result full lowest marked (inl same) = record {
+    → IsTagged old new place level → IsRaised low place level result → IsFull new result
+raised_full old new low place level result full lowest with_tag (inl same) = record {
   above = omega (arith, same, full.above);
   taken = λ at from below free.
-      elim (marked_change old new place level marked at) as (λ _. ⊥) [
+      elim (tagged_change old new place level with_tag at) as (λ _. ⊥) [
         | as_before was ↦ full.taken at from (omega (arith, same)) (sym was ∙ free)
         | in_run after before ↦
-            let less = (not_free_kept old new place level at marked free before).0 in
+            let less = (not_free_kept old new place level at with_tag free before).0 in
             absurd (omega (arith, less))
       ];
 }
-raised_full old new low place level result full lowest marked (inr (is, why)) = record {
+raised_full old new low place level result full lowest with_tag (inr (is, why)) = record {
   above = omega (arith, is, lowest.0.above);
   taken = λ at from below free.
-      let was = not_free_kept old new place level at marked free (omega (arith, is)) in
+      let was = not_free_kept old new place level at with_tag free (omega (arith, is)) in
       elim why as (λ _. ⊥) [
         | inl single ↦
             lowest.1 at was.0

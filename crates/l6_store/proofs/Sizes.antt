@@ -12,21 +12,21 @@ use Rattle.l6_word.specs.Numerals.{largest_level, unit_size, word_bits}
 use Rattle.l6_store.specs.Numerals.{most_units}
 use Rattle.l6_store.specs.Blocks.{block_at, end_of}
 use Rattle.l6_store.specs.inner.Tags.{gathered, level_of, size_by, tag_at, IsKept}
-use Rattle.l6_store.specs.inner.PlaceTags.{AreSizes, IsFilled, IsVacantRun, IsMarked}
+use Rattle.l6_store.specs.inner.PlaceTags.{AreSizes, IsFilled, IsVacantRun, IsTagged}
 use Rattle.l6_store.specs.declared.tag.Tag.{Tag}
 use Rattle.l6_store.specs.declared.tag.Tag.TheVariants.{Free, First, Inside}
 use Rattle.l6_store.proofs.Kept.{length_of}
 use Rattle.l6_store.proofs.Ranges.{index-range}
-use Rattle.l6_store.proofs.Calls.{block_told, block_within, size_told}
+use Rattle.l6_store.proofs.Calls.{block_known, block_within, size_known}
 
 -- ---- a new block
 module _ (old new : List Tag) (sizes : List ℕ) (place level : ℕ) (sized : AreSizes old sizes)
-    (run : IsVacantRun old (2 ^ level) place) (marked : IsMarked old new place level) where
+    (run : IsVacantRun old (2 ^ level) place) (with_tag : IsTagged old new place level) where
   -- each other place has the size that it had
   same_size : (at : ℕ) → (at ≡ place → ⊥) → size_by (tag_at old at) ≡ size_by (tag_at new at)
   same_size at other =
       elim (cases_lt at place) as (λ _. size_by (tag_at old at) ≡ size_by (tag_at new at)) [
-        | inl less ↦ ap size_by (sym (marked.before at less))
+        | inl less ↦ ap size_by (sym (with_tag.before at less))
         | inr from ↦ elim (cases_lt at (place + 2 ^ level))
             as (λ _. size_by (tag_at old at) ≡ size_by (tag_at new at)) [
               | inl below ↦
@@ -36,8 +36,8 @@ module _ (old new : List Tag) (sizes : List ℕ) (place level : ℕ) (sized : Ar
                     | inr not ↦ absurd (other (omega (arith, from, not)))
                   ] in
                   ap size_by (run.free at (omega (arith, after)) below)
-                  ∙ ap size_by (sym (marked.rest at after below))
-              | inr past ↦ ap size_by (sym (marked.following at (omega (arith, past))))
+                  ∙ ap size_by (sym (with_tag.rest at after below))
+              | inr past ↦ ap size_by (sym (with_tag.following at (omega (arith, past))))
             ]
       ]
 
@@ -46,14 +46,14 @@ module _ (old new : List Tag) (sizes : List ℕ) (place level : ℕ) (sized : Ar
       let within : place < length sizes =
       omega (arith, run.within, sized.count, pow_pos level) in
       record {
-        count = length-set sizes place size ∙ sized.count ∙ sym marked.count;
+        count = length-set sizes place size ∙ sized.count ∙ sym with_tag.count;
         each = λ at.
             elim (cases_eq at place)
             as (λ _. get_or (set sizes place size) at 0 ≡ size_by (tag_at new at)) [
               | inl same ↦
                   ap (λ i. get_or (set sizes place size) i 0) same
                   ∙ get_or-set_same sizes place size 0 within ∙ is
-                  ∙ ap size_by (sym (ap (tag_at new) same ∙ marked.first))
+                  ∙ ap size_by (sym (ap (tag_at new) same ∙ with_tag.first))
               | inr other ↦
                   get_or-set_other sizes place at size 0 (λ same. absurd (other same))
                   ∙ sized.each at ∙ same_size at other
@@ -109,7 +109,7 @@ module _ (units : ℕ) (old new : List Tag) (words sizes : List ℕ) (place leve
             ];
       }
 
--- ---- what a size tells
+-- ---- what follows from a size
 size_of_level : (tag : Tag) →
     size_by tag ≡ unwrap_or (option_map (λ (k : ℕ). 2 ^ k) (level_of tag)) 0
 size_of_level (First level) = refl
@@ -127,7 +127,7 @@ pub size_is : (units : ℕ) (tags : List Tag) (words sizes : List ℕ) → IsKep
     get_or sizes place 0 ≡ length (block_at (gathered tags words (length tags)) place)
 size_is units tags words sizes kept sized place =
     sized.each place ∙ size_of_level (tag_at tags place)
-    ∙ ap (λ found. unwrap_or found 0) (size_told units tags words kept place)
+    ∙ ap (λ found. unwrap_or found 0) (size_known units tags words kept place)
     ∙ size_of_words (map.get (gathered tags words (length tags)) place)
 
 -- ---- a word by its index
@@ -167,7 +167,7 @@ module _ (units : ℕ) (tags : List Tag) (words sizes : List ℕ) (kept : IsKept
       let whole = block_within units tags words kept place first.0 first.1 in
       let block = slice_range words place (place + 2 ^ first.0) in
       let long = length_of units tags words kept place first.0 first.1 in
-      ap (λ b. slice_get b index) (sym (block_told tags words place first.0 first.1))
+      ap (λ b. slice_get b index) (sym (block_known tags words place first.0 first.1))
       ∙ slice_get-get_or block index 0 (omega (arith, small, long))
       ∙ ap Some (index-range words place (2 ^ first.0) index small ∙ sym is)
 

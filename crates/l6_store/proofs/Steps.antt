@@ -16,7 +16,8 @@ use Rattle.l6_store.specs.inner.Detached.{Holding}
 use Rattle.l6_store.proofs.Least.{Answers, least-answers, answers-alone}
 use Rattle.l6_store.proofs.Multiples.{same_multiple, times_size}
 use Rattle.l6_store.proofs.Finding.{Found, level_is_found, large_piece}
-use Rattle.l6_store.proofs.Detached.{holds_taken, holds_halved, holds_joined, holds_released, detached_is_block, block_is_detached}
+use Rattle.l6_store.proofs.Detached.{holds_taken, holds_halved, holds_joined, holds_released}
+use Rattle.l6_store.proofs.DetachedBlocks.{detached_is_block, block_is_detached}
 
 -- ---- halving often
 pub halved_often-level : (times : ℕ) (detached : DetachedPiece) → times ≤ detached.level

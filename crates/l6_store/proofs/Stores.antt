@@ -13,7 +13,8 @@ use Rattle.l6_store.specs.inner.Detached.{Holding, IsDetached}
 use Rattle.l6_store.specs.inner.ArenaLayout.{IsSoundLayout, ArenaLayout}
 use Rattle.l6_store.proofs.Live.{live_words}
 use Rattle.l6_store.proofs.Gathered.{get-insert_same, get-insert_other}
-use Rattle.l6_store.proofs.Detached.{block_is_detached, holds_taken, insert-lies}
+use Rattle.l6_store.proofs.DetachedBlocks.{block_is_detached, insert-lies}
+use Rattle.l6_store.proofs.Detached.{holds_taken}
 use Rattle.l6_store.proofs.Finding.{Found, chooses, level_is_found}
 use Rattle.l6_store.proofs.Steps.{got_holds, got_tiles, freed_tiles, level_at-is, moves_few_freed, moves_few_got}
 
@@ -174,18 +175,18 @@ module _ (was : ArenaLayout) (sound : IsSoundLayout was) (tiles : Tiles was.unit
     (closed_units : closed.units ≡ was.units)
     (closed_blocks : closed.blocks ≡ map.remove was.blocks place)
     (closed_order : closed.order ≡ was.order) where
-  pub level_told : level_at was.blocks place ≡ level
-  level_told = level_at-is was.blocks place level (block_at was.blocks place) small
+  pub level_known : level_at was.blocks place ≡ level
+  level_known = level_at-is was.blocks place level (block_at was.blocks place) small
       (live_words was.blocks place live) (sym size)
 
-  freed_stands : IsAlignedPlace was.units level place
-  freed_stands =
+  freed_holds : IsAlignedPlace was.units level place
+  freed_holds =
       let block = sound.fits.each place (block_at was.blocks place) (live_words was.blocks place live)
       in
       let its : level_at was.blocks place ≡ block.level
       = level_at-is was.blocks place block.level (block_at was.blocks place) block.is_aligned.small
       (live_words was.blocks place live) block.size in
-      subst (λ (k : ℕ). IsAlignedPlace was.units k place) (sym its ∙ level_told) block.is_aligned
+      subst (λ (k : ℕ). IsAlignedPlace was.units k place) (sym its ∙ level_known) block.is_aligned
 
   pub closed_detached : IsDetached closed.units closed.blocks
       (record { order = closed.order; level = level; place = place })
@@ -194,7 +195,7 @@ module _ (was : ArenaLayout) (sound : IsSoundLayout was) (tiles : Tiles was.unit
     holds = detached_along closed.units was.units closed.blocks (map.remove was.blocks place) level
         closed.order was.order place place closed_units closed_blocks closed_order refl
         (block_is_detached was.units was.blocks was.order level place (block_at was.blocks place)
-        sound.fits tiles (live_words was.blocks place live) (sym size) freed_stands);
+        sound.fits tiles (live_words was.blocks place live) (sym size) freed_holds);
   }
 
   module _ (new : ArenaLayout) (units : new.units ≡ closed.units) (blocks : new.blocks ≡ closed.blocks)
@@ -203,7 +204,7 @@ module _ (was : ArenaLayout) (sound : IsSoundLayout was) (tiles : Tiles was.unit
         ≡ put_back (piece_freed was.order (level_at was.blocks place) place)
     freed_order =
         order ∙ ap (λ (o : Order). put_back (piece_freed o level place)) closed_order
-        ∙ ap (λ (k : ℕ). put_back (piece_freed was.order k place)) (sym level_told)
+        ∙ ap (λ (k : ℕ). put_back (piece_freed was.order k place)) (sym level_known)
 
     pub freed_filled : Tiles new.units new.blocks new.order
     freed_filled = tiles_along new.units was.units new.blocks (map.remove was.blocks place) new.order
@@ -219,10 +220,10 @@ module _ (was : ArenaLayout) (sound : IsSoundLayout was) (tiles : Tiles was.unit
         let piece : (piece_freed closed.order level place).level
         ≡ (piece_freed was.order level place).level
         = ap (λ (o : Order). (piece_freed o level place).level) closed_order in
-        let told : (piece_freed was.order (level_at was.blocks place) place).level
+        let determined : (piece_freed was.order (level_at was.blocks place) place).level
         ≡ (piece_freed was.order level place).level
-        = ap (λ (k : ℕ). (piece_freed was.order k place).level) level_told in
-        omega (arith, counted, piece, told, level_told)
+        = ap (λ (k : ℕ). (piece_freed was.order k place).level) level_known in
+        omega (arith, counted, piece, determined, level_known)
 
 -- records of a store are equal where their fields are
 pub store_is : (units one : ℕ) (blocks two : Blocks) (order three : Order) (moves four : ℕ)

@@ -1,30 +1,13 @@
 -- The sizes that are beside tags are those of the blocks.
-use Rattle.std.proofs.Common.{◌≡◌, ℕ, ◌^◌, ◌<◌, ◌≤◌, List, length, get_or, set, replicate, slice_get, None, refl, ap, sym, ◌∙◌, arith, inl, inr}
-use Rattle.std.proofs.lemmas.Bool.{cases_eq, cases_lt}
-use Rattle.std.proofs.lemmas.List.{get_or-replicate, get_or_past, get_or-set_same, get_or-set_other, length-replicate, length-set}
+use Rattle.std.proofs.Common.{◌≡◌, ℕ, ◌^◌, ◌<◌, ◌≤◌, List, length, get_or, set, slice_get, None, refl, ap, sym, ◌∙◌, arith, inl, inr}
+use Rattle.std.proofs.lemmas.Bool.{cases_eq}
+use Rattle.std.proofs.lemmas.List.{get_or-set_same, get_or-set_other, length-set}
 use Rattle.l6_store.specs.Blocks.{block_at}
 use Rattle.l6_store.specs.inner.ArenaLayout.{AreTagSizes, IsArena, blocks_of, place_tag_at, tag_of}
 use Rattle.l6_store.specs.inner.Tags.{level_of, size_by}
 use Rattle.l6_store.specs.declared.place_tag.PlaceTag.{PlaceTag}
 use Rattle.l6_store.specs.declared.place_tag.PlaceTag.TheVariants.{Inner, Block, Listed}
-use Rattle.l6_store.proofs.Fresh.{all_alike}
-use Rattle.l6_store.proofs.Marked.{no_word, past_block}
-
--- the sizes of a new store
-zero_at : (count at : ℕ) → get_or {A = ℕ} (replicate count 0) at 0 ≡ 0
-zero_at count at =
-    elim (cases_lt at count) as (λ _. get_or {A = ℕ} (replicate count 0) at 0 ≡ 0) [
-      | inl below ↦ get_or-replicate count at 0 0 below
-      | inr past ↦ get_or_past (replicate count 0) at 0
-          (omega (arith, length-replicate {A = ℕ} count 0))
-    ]
-
-pub fresh_sizes : (places : ℕ) → AreTagSizes (replicate places Inner) (replicate places 0)
-fresh_sizes places = record {
-  count = length-replicate {A = ℕ} places 0 ∙ sym (length-replicate {A = PlaceTag} places Inner);
-  each = λ at.
-      zero_at places at ∙ ap (λ (m : PlaceTag). size_by (tag_of m)) (sym (all_alike places at));
-}
+use Rattle.l6_store.proofs.Tagged.{no_word, past_block}
 
 -- and once a place is tagged
 pub set_sizes : (place_tags : List PlaceTag) (sizes : List ℕ) (place : ℕ) (place_tag : PlaceTag)
@@ -33,22 +16,22 @@ pub set_sizes : (place_tags : List PlaceTag) (sizes : List ℕ) (place : ℕ) (p
     → AreTagSizes (set place_tags place place_tag) (set sizes place size)
 set_sizes place_tags sizes place place_tag size sized within is =
     let inside : place < length sizes = omega (arith, within, sized.count) in
-    let told : PlaceTag → ℕ = λ m. size_by (tag_of m) in
+    let determined : PlaceTag → ℕ = λ m. size_by (tag_of m) in
     record {
       count = length-set sizes place size ∙ sized.count ∙ sym (length-set place_tags place place_tag);
       each = λ at.
           elim (cases_eq at place)
           as (λ _. get_or (set sizes place size) at 0
-          ≡ told (place_tag_at (set place_tags place place_tag) at)) [
+          ≡ determined (place_tag_at (set place_tags place place_tag) at)) [
             | inl same ↦
                 ap (λ i. get_or (set sizes place size) i 0) same
                 ∙ get_or-set_same sizes place size 0 inside ∙ is
-                ∙ ap told (sym (ap (place_tag_at (set place_tags place place_tag)) same
+                ∙ ap determined (sym (ap (place_tag_at (set place_tags place place_tag)) same
                 ∙ get_or-set_same place_tags place place_tag Inner within))
             | inr other ↦
                 get_or-set_other sizes place at size 0 (λ same. absurd (other same))
                 ∙ sized.each at
-                ∙ ap told
+                ∙ ap determined
                 (sym (get_or-set_other place_tags place at place_tag Inner
                 (λ same. absurd (other same))))
           ];

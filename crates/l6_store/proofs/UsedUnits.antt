@@ -1,15 +1,14 @@
 -- Units of which some are used.
-use Rattle.std.proofs.Common.{◌≡◌, ℕ, ◌/◌, ◌%◌, ◌<◌, ◌≤◌, Bool, true, false, List, length, get_or, set, replicate, Some, refl, ap, sym, ◌∙◌, arith, inl, inr}
+use Rattle.std.proofs.Common.{◌≡◌, ℕ, ◌/◌, ◌%◌, ◌<◌, ◌≤◌, Bool, true, false, List, length, get_or, set, refl, ap, sym, ◌∙◌, arith, inl, inr}
 use Rattle.std.specs.Prelude.{◌==◌, ◌||◌, not, slice_get, unwrap_or}
-use Rattle.std.proofs.lemmas.Bool.{cases_eq, cases_lt, ne_eqb}
+use Rattle.std.proofs.lemmas.Bool.{cases_eq, ne_eqb}
 use Rattle.std.proofs.lemmas.List.{get_or-set_other, get_or-set_same, same_lists}
-use Rattle.std.proofs.lemmas.Option.{slice_get-get_or, slice_get_past, unwrap_or-slice_get}
+use Rattle.std.proofs.lemmas.Option.{slice_get_past, unwrap_or-slice_get}
 use Rattle.l6_store.specs.declared.place_tag.PlaceTag.{PlaceTag}
 use Rattle.l6_store.specs.declared.place_tag.PlaceTag.TheVariants.{Inner}
-use Rattle.l6_store.specs.inner.ArenaLayout.{AreTagSizes, place_tag_at, tag_of}
+use Rattle.l6_store.specs.inner.ArenaLayout.{place_tag_at, tag_of}
 use Rattle.l6_store.specs.inner.Tags.{size_by}
-use Rattle.l6_store.specs.inner.Units.{AreAlike, AreUnitsUnused}
-use Rattle.l6_store.proofs.Fresh.{all_alike}
+use Rattle.l6_store.specs.inner.Units.{AreUnitsUnused}
 
 -- ---- lists that are taken over
 -- so far the entries are the others, and after they are as they were
@@ -32,14 +31,6 @@ pub same_past : {A : Type 0} (was others : List A) (at : ℕ) → length was ≡
     length others ≤ at → slice_get was at ≡ slice_get others at
 same_past was others at long past =
     slice_get_past was at (omega (arith, long, past)) ∙ sym (slice_get_past others at past)
-
--- ---- units of tags
--- of a new store
-pub fresh_unused : (places : ℕ) (used : List Bool) → AreUnitsUnused (replicate places Inner) used
-fresh_unused places used = record {
-  inner = λ place _ _. all_alike places place;
-  none = λ place _. ap (λ (m : PlaceTag). size_by (tag_of m)) (all_alike places place);
-}
 
 -- and once a place is tagged: its unit is used from then on, unless nothing but a first place is tagged
 -- with no block
@@ -112,44 +103,3 @@ pub flag_here : (used : List Bool) (unit : ℕ) (flag : Bool) → unit < length 
 flag_here used unit flag within is =
     or_right (get_or used unit false) flag
     (sym (get_or-set_same used unit (get_or used unit false || flag) false within) ∙ is)
-
--- so the tags of two stores are alike after the first place of each unit that neither has used, ..
-pub alike_place_tags : (one other : List PlaceTag) (used other_used : List Bool) →
-    length one ≡ length other → AreUnitsUnused one used → AreUnitsUnused other other_used →
-    AreAlike one other used other_used true
-alike_place_tags one other used other_used long unused also = record {
-  same = λ place following is is_other.
-      elim (cases_lt place (length one)) as (λ _. slice_get one place ≡ slice_get other place) [
-        | inl below ↦
-            slice_get-get_or one place Inner below
-            ∙ ap (λ (m : PlaceTag). Some m)
-            (unused.inner place (following refl) is ∙ sym (also.inner place (following refl) is_other))
-            ∙ sym (slice_get-get_or other place Inner (omega (arith, below, long)))
-        | inr past ↦ same_past one other place long (omega (arith, past, long))
-      ];
-}
-
--- .. and their sizes are alike in all of it
-pub alike_sizes : (place_tags other_place_tags : List PlaceTag) (sizes other_sizes : List ℕ)
-    (used other_used : List Bool) → length place_tags ≡ length other_place_tags →
-    AreTagSizes place_tags sizes → AreTagSizes other_place_tags other_sizes →
-    AreUnitsUnused place_tags used → AreUnitsUnused other_place_tags other_used →
-    AreAlike sizes other_sizes used other_used false
-alike_sizes place_tags other_place_tags sizes other_sizes used other_used long sized also_sized
-    unused also =
-    let sizes_long : length sizes ≡ length other_sizes =
-    sized.count ∙ long ∙ sym also_sized.count in
-    record {
-      same = λ place _ is is_other.
-          elim (cases_lt place (length sizes))
-          as (λ _. slice_get sizes place ≡ slice_get other_sizes place) [
-            | inl below ↦
-                slice_get-get_or sizes place 0 below
-                ∙ ap (λ (n : ℕ). Some n)
-                (sized.each place ∙ unused.none place is
-                ∙ sym (also_sized.each place ∙ also.none place is_other))
-                ∙ sym (slice_get-get_or other_sizes place 0 (omega (arith, below, sizes_long)))
-            | inr past ↦
-                same_past sizes other_sizes place sizes_long (omega (arith, past, sizes_long))
-          ];
-    }

@@ -9,10 +9,11 @@ ghost use Rattle.l6_store.specs.Blocks.{IsLive, LiesIn, IsAlignedPlace, block_at
 ghost use Rattle.l6_store.specs.Buddy.{IsListed, first_of, first_or, has, in_front, first_order, level_at, listed, taken_out};
 ghost use Rattle.l6_store.specs.inner.ArenaLayout.{IsSoundLayout};
 
+use crate::level::size_of;
 use crate::link::{link, pop, unlink};
 use crate::place_tag::{PlaceTag, PlaceTags};
 use crate::places::{Level, Place};
-use crate::tag::size_of;
+use crate::units::end_of;
 use l6_raw::Region;
 use l6_word::{LARGEST_LEVEL, UNIT_SIZE, Word};
 use std::alloc::{AllocError, Global};
@@ -57,7 +58,7 @@ impl Arena {
         ensures order { IfOk result (λ arena. arena.order ≡ first_order units) }
         ensures sound { IfOk result IsSoundLayout }
     {
-        let places = (units + 1) as usize * usize::from(UNIT_SIZE);
+        let places = end_of(units) as usize;
         let mut arena = Arena {
             units,
             words: Region::new(alloc, places)?,
@@ -77,10 +78,8 @@ impl Arena {
         ensures order { self.new.order ≡ first_order self.old.units }
         ensures sound { IsSoundLayout self.new }
     {
-        let mut unit = self.units;
-        while 0 < unit {
+        for unit in (1..=self.units).rev() {
             self.link(LARGEST_LEVEL, unit * u32::from(UNIT_SIZE));
-            unit -= 1;
         }
     }
 
@@ -174,6 +173,15 @@ impl Arena {
         self.place_tags.level(place)
     }
 
+    /// The level of the block that begins at a place.
+    fn block_level(&self, place: Place) -> Level
+        requires { IsLive self.now.blocks place }
+        ensures small { result ≤ largest_level }
+        ensures size { 2 ^ result ≡ length (block_at self.now.blocks place) }
+    {
+        self.level_at(place as usize).unwrap()
+    }
+
     /// The word of this index in the block that begins at a place, or `None` where none begins or the
     /// block has no such word.
     pub(crate) fn word(&self, start: usize, index: u16) -> Option<Word>
@@ -216,7 +224,7 @@ impl Arena {
         ensures order { self.new.order ≡ self.old.order }
         ensures sound { IsSoundLayout self.new }
     {
-        let level = self.level_at(place as usize).unwrap();
+        let level = self.block_level(place);
         self.place_tags.set(place, PlaceTag::Inner);
         level
     }
@@ -248,7 +256,7 @@ impl Arena {
         ensures value { result.now ≡ block_at self.now.blocks place }
         ensures words { All (λ word. word < 2 ^ word_bits) result.now }
     {
-        let level = self.level_at(place as usize).unwrap();
+        let level = self.block_level(place);
         self.words.words(place as usize, size_of(level))
     }
 
@@ -265,7 +273,7 @@ impl Arena {
         ensures order { self.new.order ≡ self.old.order }
         ensures sound { IsSoundLayout self.new }
     {
-        let level = self.level_at(from as usize).unwrap();
+        let level = self.block_level(from);
         self.words.copy(from as usize, to as usize, size_of(level));
     }
 

@@ -13,7 +13,7 @@ use crate::arena::Arena;
 use crate::fault::StoreFault;
 use crate::piece::{halve, join, least_level};
 use crate::places::{Level, Place, Places};
-use crate::scan_store::MAX_UNITS;
+use crate::units::MAX_UNITS;
 use l6_word::Word;
 use std::alloc::{AllocError, Global};
 use std::marker::Model;
@@ -76,6 +76,21 @@ impl Buddy {
         if units < 1 || MAX_UNITS < units {
             return Err(StoreFault::BadUnits);
         }
+        Ok(Self::with_units(alloc, units)?)
+    }
+
+    /// Like `new`, for a number of units that is known to be in range. The caller owes 1 to
+    /// `MAX_UNITS` units.
+    ///
+    /// # Errors
+    ///
+    /// Memory ran out.
+    pub fn with_units(alloc: Global, units: u32) -> Result<Self, AllocError>
+        requires some { 1 ≤ units }
+        requires most { units ≤ most_units }
+        ensures fresh { IfOk result (λ buddy. buddy.store ≡ fresh buddy_rule units) }
+        ensures sound { IfOk result (λ buddy. IsSound buddy_rule buddy.store) }
+    {
         Ok(Buddy {
             arena: Arena::new(alloc, units)?,
             moves: 0,

@@ -7,7 +7,7 @@ ghost use Rattle.l6_store.specs.Laws.{ScanChooses, ScanPicksTheLowest};
 ghost use Rattle.l6_store.specs.BuddyLaws.{BuddyChooses, FreesKeepTiles, GetsKeepTiles, MovesAreFew, NewStoresAreTiled, UnitsAreWhole};
 
 use crate::link::PLACE_BITS;
-use crate::scan_store::MAX_UNITS;
+use crate::units::MAX_UNITS;
 
 /// A store has as many units as the language says.
 pub fn stores_have_their_limit()

@@ -1,10 +1,18 @@
-//! The level of a block that has room for so many words.
+//! How many words a block of a level has, and the level of one that has room for so many.
 
-ghost use Rattle.std.specs.Prelude.{ℕ, ◌^◌, ◌<◌, ◌≤◌, IfNone, IfSome};
+ghost use Rattle.std.specs.Prelude.{◌≡◌, ℕ, ◌^◌, ◌<◌, ◌≤◌, IfNone, IfSome};
 ghost use Rattle.l6_word.specs.Numerals.{largest_level};
 
 use crate::places::Level;
 use l6_word::LARGEST_LEVEL;
+
+/// How many words a block of a level has.
+pub(crate) fn size_of(level: Level) -> usize
+    requires { level ≤ largest_level }
+    ensures { result ≡ 2 ^ level }
+{
+    1 << level
+}
 
 /// The level of the least block that has at least so many words, or `None` where the largest block has
 /// fewer: the level to ask `Places::get` for.
@@ -14,10 +22,5 @@ pub fn level_for(words: u32) -> Option<Level>
     ensures least { IfSome result (λ level. (lower : ℕ) → lower < level → 2 ^ lower < words) }
     ensures none { IfNone result (2 ^ largest_level < words) }
 {
-    for level in 0..LARGEST_LEVEL + 1 {
-        if words <= 1 << level {
-            return Some(level);
-        }
-    }
-    None
+    (0..=LARGEST_LEVEL).find(|level| words as usize <= size_of(*level))
 }

@@ -22,4 +22,5 @@ pub use laws::{
 };
 pub use level::level_for;
 pub use places::{Level, Place, Places};
-pub use scan_store::{MAX_UNITS, ScanStore};
+pub use scan_store::ScanStore;
+pub use units::{MAX_UNITS, end_of};

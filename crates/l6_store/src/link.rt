@@ -1,9 +1,11 @@
 //! The links of the free lists, which are in the words of a store.
 
-ghost use Rattle.std.specs.Prelude.{◌≡◌, ◌<◌, ◌≤◌, ◌^◌, length, slice_index, slice_set};
+ghost use Rattle.std.specs.Prelude.{◌≡◌, ℕ, ◌<◌, ◌≤◌, ◌^◌, true, false, List, ◌∷◌, length, slice_index, slice_set};
 ghost use Rattle.l6_store.specs.Numerals.{place_bits};
+ghost use Rattle.l6_store.specs.Buddy.{has, without};
 ghost use Rattle.l6_store.specs.Links.{link_word};
 ghost use Rattle.l6_store.specs.inner.Chains.{after_in, before_in, with_after, with_before, with_head, words_linked, words_unlinked};
+ghost use Rattle.l6_store.specs.inner.FreeLists.{IsFreeList};
 
 use crate::places::{Level, Place};
 use l6_raw::Region;
@@ -79,12 +81,17 @@ fn set_after(words: &mut Region, heads: &mut [Place], level: Level, place: Place
     }
 }
 
-/// Puts a free piece in front of the list of its level.
+/// Puts a free piece in front of the list of its level: the list after it is the one before it, with
+/// the piece as its first.
 pub(crate) fn link(words: &mut Region, heads: &mut [Place], level: Level, place: Place)
     requires level { level < length heads.old }
+    requires some { 1 ≤ place }
     requires place { place < length words.old }
     requires head { slice_index heads.old level < length words.old }
     requires small { length words.old ≤ 2 ^ place_bits }
+    ensures list { (places : List ℕ) → IsFreeList words.old heads.old level places
+        → has place places ≡ false → IsFreeList words.new heads.new level (place ∷ places) }
+    // The words at the places of other lists stay the same.
     ensures words { words.new ≡ words_linked words.old place (slice_index heads.old level) }
     ensures heads { heads.new ≡ slice_set heads.old level place }
 {
@@ -94,12 +101,17 @@ pub(crate) fn link(words: &mut Region, heads: &mut [Place], level: Level, place:
     heads[usize::from(level)] = place;
 }
 
-/// Takes a free piece out of the list of its level.
+/// Takes a free piece out of the list of its level: the list after it is the one before it, without
+/// the piece.
 pub(crate) fn unlink(words: &mut Region, heads: &mut [Place], level: Level, place: Place)
     requires level { level < length heads.old }
     requires place { place < length words.old }
     requires before { before_in (slice_index words.old place) < length words.old }
     requires after { after_in (slice_index words.old place) < length words.old }
+    requires small { length words.old ≤ 2 ^ place_bits }
+    ensures list { (places : List ℕ) → IsFreeList words.old heads.old level places
+        → has place places ≡ true → IsFreeList words.new heads.new level (without place places) }
+    // The words at the places of other lists stay the same.
     ensures words { words.new ≡ words_unlinked words.old place }
     ensures heads { heads.new
         ≡ with_head heads.old level (before_in (slice_index words.old place))
@@ -110,7 +122,8 @@ pub(crate) fn unlink(words: &mut Region, heads: &mut [Place], level: Level, plac
     set_before(words, neighbors.after, neighbors.before);
 }
 
-/// Takes the first free piece out of the list of a level.
+/// Takes the first free piece out of the list of a level: the list after it is the rest of the one
+/// before it.
 pub(crate) fn pop(words: &mut Region, heads: &mut [Place], level: Level) -> Place
     requires level { level < length heads.old }
     requires place { slice_index heads.old level < length words.old }
@@ -118,6 +131,9 @@ pub(crate) fn pop(words: &mut Region, heads: &mut [Place], level: Level) -> Plac
         before_in (slice_index words.old place) < length words.old }
     requires after { let place = slice_index heads.old level in
         after_in (slice_index words.old place) < length words.old }
+    requires small { length words.old ≤ 2 ^ place_bits }
+    ensures list { (first : ℕ) (rest : List ℕ) → IsFreeList words.old heads.old level (first ∷ rest)
+        → (result ≡ first) × IsFreeList words.new heads.new level rest }
     ensures place { result ≡ slice_index heads.old level }
     ensures words { words.new ≡ words_unlinked words.old result }
     ensures heads { heads.new

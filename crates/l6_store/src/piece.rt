@@ -16,12 +16,7 @@ use l6_word::LARGEST_LEVEL;
 pub(crate) fn least_level(arena: &Arena, level: Level) -> Option<Level>
     ensures { result ≡ level_found arena.now.order level }
 {
-    for found in level..LARGEST_LEVEL + 1 {
-        if arena.first(found).is_some() {
-            return Some(found);
-        }
-    }
-    None
+    (level..=LARGEST_LEVEL).find(|found| arena.first(*found).is_some())
 }
 
 /// Halves a detached piece until it has the level asked for, and answers how often. Each upper half

@@ -8,8 +8,8 @@ ghost use Rattle.l6_store.specs.Numerals.{most_units};
 ghost use Rattle.l6_store.specs.inner.Tags.{level_of, size_by};
 ghost use Rattle.l6_store.specs.inner.ArenaLayout.{place_tag_at, tag_of, IsPlaceTag};
 
+use crate::level::size_of;
 use crate::places::{Level, Place};
-use crate::tag::size_of;
 use crate::units::{UNIT_PLACES, UNITS, take_units};
 use std::alloc::{AllocError, Global};
 use std::marker::Model;

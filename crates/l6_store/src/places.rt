@@ -10,7 +10,8 @@ ghost use Rattle.l6_store.specs.Open.{IsAnswer};
 ghost use Rattle.l6_store.specs.Rule.{Rule};
 ghost use Rattle.l6_store.specs.Store.{Store, IsSound, fresh, picked, with_block, after_get, after_free};
 
-use l6_word::{UNIT_SIZE, Word};
+use crate::units::end_of;
+use l6_word::Word;
 use std::alloc::{AllocError, Global};
 
 /// The place of a word in a store. The first unit begins at the place `UNIT_SIZE`, so place 0 is no
@@ -52,7 +53,7 @@ pub trait Places: Sized {
             (λ _. (start < end_of most_units) × (index < unit_size)) }
     {
         // there is no block past the last unit
-        let end = u64::from(self.units() + 1) * u64::from(UNIT_SIZE);
+        let end = u64::from(end_of(self.units()));
         if end <= start.get() {
             return None;
         }

@@ -7,14 +7,13 @@ ghost use Rattle.l6_store.specs.Store.{fresh, IsSound};
 ghost use Rattle.l6_store.specs.inner.PlaceTags.{IsCleared};
 
 use crate::fault::StoreFault;
+use crate::level::size_of;
 use crate::places::{Level, Place, Places};
-use crate::tag::{Tag, fill, level_at, lowest_open, place_tag, raised, size_of};
+use crate::tag::{Tag, block_level, fill, level_at, lowest_open, place_tag, raised};
+use crate::units::{MAX_UNITS, end_of};
 use l6_word::{UNIT_SIZE, Word};
 use std::alloc::{AllocError, Global};
 use std::marker::Model;
-
-/// The most units that a store may have.
-pub const MAX_UNITS: u32 = 255;
 
 /// A store that looks through its places for the lowest open one. Each other call but `reset` and
 /// `duplicate` goes straight to its block.
@@ -64,7 +63,7 @@ impl ScanStore {
         if units < 1 || MAX_UNITS < units {
             return Err(StoreFault::BadUnits);
         }
-        let places = (units + 1) as usize * usize::from(UNIT_SIZE);
+        let places = end_of(units) as usize;
         Ok(ScanStore {
             units,
             tags: vec![in alloc; Tag::Free; places]?,
@@ -111,7 +110,7 @@ impl Places for ScanStore {
     }
 
     fn free(&mut self, place: Place) {
-        let level = level_at(&self.tags, place as usize).unwrap();
+        let level = block_level(&self.tags, place as usize);
         fill(&mut self.tags, place as usize, size_of(level), Tag::Free);
         self.sizes[place as usize] = 0;
         self.low = self.low.min(place as usize);
@@ -119,7 +118,7 @@ impl Places for ScanStore {
 
     fn copy(&mut self, from: Place, to: Place) {
         let from = from as usize;
-        let level = level_at(&self.tags, from).unwrap();
+        let level = block_level(&self.tags, from);
         self.words
             .copy_within(from..from + size_of(level), to as usize);
     }
@@ -134,7 +133,7 @@ impl Places for ScanStore {
 
     fn block(&self, place: Place) -> &[u64] {
         let place = place as usize;
-        let level = level_at(&self.tags, place).unwrap();
+        let level = block_level(&self.tags, place);
         &self.words[place..place + size_of(level)]
     }
 

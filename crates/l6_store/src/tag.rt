@@ -1,12 +1,13 @@
 //! The tags of a plain store: what is at each of its places.
 
-ghost use Rattle.std.specs.Prelude.{◌≡◌, ℕ, ◌+◌, ◌<◌, ◌≤◌, ◌^◌, ◌↔◌, length, IsTrue};
+ghost use Rattle.std.specs.Prelude.{◌≡◌, ℕ, ◌+◌, ◌<◌, ◌≤◌, ◌^◌, ◌↔◌, length, IsSome, IsTrue};
 ghost use Rattle.l6_word.specs.Numerals.{largest_level};
 ghost use Rattle.l6_store.specs.Numerals.{most_units};
 ghost use Rattle.l6_store.specs.Blocks.{end_of};
 ghost use Rattle.l6_store.specs.inner.Tags.{tag_at, level_of};
-ghost use Rattle.l6_store.specs.inner.PlaceTags.{IsLowest, IsFull, IsRaised, IsMarked, IsFilled};
+ghost use Rattle.l6_store.specs.inner.PlaceTags.{IsLowest, IsFull, IsRaised, IsTagged, IsFilled};
 
+use crate::level::size_of;
 use crate::places::{Level, Place};
 
 /// What is at a place.
@@ -20,14 +21,6 @@ pub(crate) enum Tag {
     Inside,
 }
 
-/// How many words a block of a level has.
-pub(crate) fn size_of(level: Level) -> usize
-    requires { level ≤ largest_level }
-    ensures { result ≡ 2 ^ level }
-{
-    1 << level
-}
-
 /// The level of the block that begins at a place, if one does.
 pub(crate) fn level_at(tags: &[Tag], place: usize) -> Option<Level>
     ensures { result ≡ level_of (tag_at tags.now place) }
@@ -38,16 +31,19 @@ pub(crate) fn level_at(tags: &[Tag], place: usize) -> Option<Level>
     }
 }
 
+/// The level of the block that begins at a place. The caller owes that one does.
+pub(crate) fn block_level(tags: &[Tag], place: usize) -> Level
+    requires { IsSome (level_of (tag_at tags.now place)) }
+    ensures { tag_at tags.now place ≡ Tag.First result }
+{
+    level_at(tags, place).unwrap()
+}
+
 /// Whether none of these places is in a block.
 fn are_free(tags: &[Tag]) -> bool
     ensures { IsTrue result ↔ ((k : ℕ) → k < length tags.now → tag_at tags.now k ≡ Tag.Free) }
 {
-    for tag in tags {
-        if *tag != Tag::Free {
-            return false;
-        }
-    }
-    true
+    tags.iter().all(|tag| *tag == Tag::Free)
 }
 
 /// The lowest place where a block of a level may be, where no place below `low` is free.
@@ -84,7 +80,7 @@ pub(crate) fn raised(low: usize, place: usize, level: Level) -> usize
 pub(crate) fn place_tag(tags: &mut [Tag], place: usize, level: Level)
     requires small { level ≤ largest_level }
     requires within { place + 2 ^ level ≤ length tags.old }
-    ensures { IsMarked tags.old tags.new place level }
+    ensures { IsTagged tags.old tags.new place level }
 {
     fill(tags, place, size_of(level), Tag::Inside);
     tags[place] = Tag::First(level);

@@ -1,18 +1,29 @@
-//! Lists with an entry for each place of a store, unit by unit.
+//! Units: how many a store may have, where they end, and lists with an entry for each of their places.
 
 ghost use Rattle.std.specs.Prelude.{◌≡◌, ◌+◌, ◌≤◌, length};
 ghost use Rattle.l6_store.specs.Blocks.{end_of};
 ghost use Rattle.l6_store.specs.Numerals.{most_units};
 ghost use Rattle.l6_store.specs.inner.Units.{AreAlike, AreCopied};
 
-use crate::scan_store::MAX_UNITS;
+use crate::places::Place;
 use l6_word::UNIT_SIZE;
+
+/// The most units that a store may have.
+pub const MAX_UNITS: u32 = 255;
 
 /// How many places a unit has.
 pub(crate) const UNIT_PLACES: usize = UNIT_SIZE as usize;
 
 /// How many units the places of the largest store make, with those below the first unit.
 pub(crate) const UNITS: usize = MAX_UNITS as usize + 1;
+
+/// The place after a store of so many units, of which the caller owes that a store may have them.
+pub fn end_of(units: u32) -> Place
+    requires { units ≤ most_units }
+    ensures { result ≡ end_of units }
+{
+    (units + 1) * Place::from(UNIT_SIZE)
+}
 
 /// Overwrites all entries with as many others. Of a unit that is used in neither only the first
 /// entry is copied, or none: the others are the same already.

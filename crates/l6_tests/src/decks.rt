@@ -1,6 +1,7 @@
-//! Decks with the spans of their groups, worked out by hand.
+//! Decks with the parts of their statements and the spans of their groups, worked out by hand.
 
-use l6_card::{Parts, read_deck};
+use l6_card::{Label, Parts, read_deck};
+use l6_prog::{Cond, Exit, Op};
 use std::test::Fail;
 
 #[test]
@@ -37,5 +38,40 @@ fn groups_have_their_spans(rt: HostRuntime) -> Result<(), Fail> {
         }
         assert_eq!(rt; found.as_slice(), *spans);
     }
+    Ok(())
+}
+
+#[test]
+fn cards_lend_their_statements(rt: HostRuntime) -> Result<(), Fail> {
+    let deck = b" IF (A,E,1)\n+THEN (B,PD) LOOP\nLOOP (L,PD)\n";
+    let mut conditions = Vec::new(rt.alloc());
+    let mut groups = Vec::new(rt.alloc());
+    let mut printed = Vec::new(rt.alloc());
+    let mut exits = Vec::new(rt.alloc());
+    let cards = read_deck(rt.alloc(), deck)?;
+    for statement in cards.statements() {
+        conditions.push(statement.condition())?;
+        for test in statement.tests() {
+            groups.push((test.card, test.span.offset, test.span.length))?;
+        }
+        for operation in statement.operations() {
+            groups.push((operation.card, operation.span.offset, operation.span.length))?;
+            if let Op::PrintDecimal(chain) = &operation.reading {
+                printed.push(chain.bug().number())?;
+            }
+        }
+        if let Exit::Label(given) = statement.exit() {
+            let label: &Label = &given.label;
+            assert_eq!(rt; label.characters(), b"LOOP".as_slice());
+            exits.push(given.card)?;
+        }
+    }
+    assert_eq!(rt; conditions.as_slice(), [Cond::If, Cond::Always].as_slice());
+    assert_eq!(rt;
+        groups.as_slice(),
+        [(1, 4, 7), (2, 18, 6), (3, 35, 6)].as_slice()
+    );
+    assert_eq!(rt; printed.as_slice(), [11, 21].as_slice());
+    assert_eq!(rt; exits.as_slice(), [2].as_slice());
     Ok(())
 }

@@ -29,34 +29,27 @@ const LISTING: &[u8] = b"      1     0   (A,E,5)(A,PD)\
     \n               000002000000\
     \nLABELS\n";
 
-#[test]
-fn a_deck_is_run_from_its_reader(rt: HostRuntime) -> Result<(), Fail> {
-    let (mut deck, mut input) = (Host::new(DECK), Host::new(&b""[..]));
-    let mut writer = Host::new(Vec::new(rt.alloc()));
-    let answer = run(
-        rt.alloc(),
-        &mut deck,
-        &mut input,
-        &mut writer,
-        Options::default(),
-    );
-    assert_eq!(rt; answer, Ok(Ending::Done));
-    assert_eq!(rt; writer.into_inner().as_slice(), PRINTOUT);
-    Ok(())
+/// What a text is that is run from its reader.
+#[derive(Clone, Copy)]
+enum Form {
+    Deck,
+    Image,
 }
 
 #[test]
-fn an_image_is_run_from_its_reader(rt: HostRuntime) -> Result<(), Fail> {
-    for text in [IMAGE, IMAGE_ONE] {
-        let (mut image, mut input) = (Host::new(text), Host::new(&b""[..]));
+fn decks_and_images_are_run_from_their_readers(rt: HostRuntime) -> Result<(), Fail> {
+    for (form, text) in [
+        (Form::Deck, DECK),
+        (Form::Image, IMAGE),
+        (Form::Image, IMAGE_ONE),
+    ] {
+        let (mut head, mut input) = (Host::new(text), Host::new(&b""[..]));
         let mut writer = Host::new(Vec::new(rt.alloc()));
-        let answer = run_image(
-            rt.alloc(),
-            &mut image,
-            &mut input,
-            &mut writer,
-            Options::default(),
-        );
+        let (alloc, options) = (rt.alloc(), Options::default());
+        let answer = match form {
+            Form::Deck => run(alloc, &mut head, &mut input, &mut writer, options),
+            Form::Image => run_image(alloc, &mut head, &mut input, &mut writer, options),
+        };
         assert_eq!(rt; answer, Ok(Ending::Done));
         assert_eq!(rt; writer.into_inner().as_slice(), PRINTOUT);
     }

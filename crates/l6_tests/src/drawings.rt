@@ -8,7 +8,7 @@ use l6_steps::Limits;
 use l6_store::ScanStore;
 use std::test::Fail;
 
-/// Limits that the run of the test does not come to.
+/// Limits that the run of the test does not reach.
 const LIMITS: Limits = Limits {
     steps: 100,
     output: 0,

@@ -7,7 +7,7 @@ use l6_store::StoreFault;
 use std::test::Fail;
 
 #[test]
-fn faults_of_programs_are_told(rt: HostRuntime) -> Result<(), Fail> {
+fn faults_of_programs_have_texts(rt: HostRuntime) -> Result<(), Fail> {
     for (fault, text) in [
         (ProgFault::Limit, "past a limit"),
         (ProgFault::Target, "a target is no statement"),
@@ -20,7 +20,7 @@ fn faults_of_programs_are_told(rt: HostRuntime) -> Result<(), Fail> {
 }
 
 #[test]
-fn faults_of_cards_are_told(rt: HostRuntime) -> Result<(), Fail> {
+fn faults_of_cards_have_texts(rt: HostRuntime) -> Result<(), Fail> {
     for (fault, text) in [
         (CardFault::Form(1), "card 1: no reading"),
         (CardFault::Limit(4095), "card 4095: past a limit"),
@@ -33,7 +33,7 @@ fn faults_of_cards_are_told(rt: HostRuntime) -> Result<(), Fail> {
 }
 
 #[test]
-fn faults_of_images_are_told(rt: HostRuntime) -> Result<(), Fail> {
+fn faults_of_images_have_texts(rt: HostRuntime) -> Result<(), Fail> {
     for (fault, text) in [
         (LoadFault::NotWords(10), "line 10: not a word"),
         (LoadFault::NotAnImage, "not an image"),
@@ -46,7 +46,7 @@ fn faults_of_images_are_told(rt: HostRuntime) -> Result<(), Fail> {
 }
 
 #[test]
-fn faults_of_stores_are_told(rt: HostRuntime) -> Result<(), Fail> {
+fn faults_of_stores_have_texts(rt: HostRuntime) -> Result<(), Fail> {
     for (fault, text) in [
         (StoreFault::BadUnits, "units out of range"),
         (StoreFault::NoMemory, "out of memory"),

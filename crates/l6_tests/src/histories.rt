@@ -61,6 +61,35 @@ fn a_state_is_kept_once(rt: HostRuntime) -> Result<(), Fail> {
     Ok(())
 }
 
+/// The same where a step at a time leads there, as the debugger goes to a breakpoint.
+#[test]
+fn a_step_keeps_its_state_once(rt: HostRuntime) -> Result<(), Fail> {
+    let mut history = history(rt.alloc())?;
+    for (before, number) in [
+        (4_095, 4_096),
+        (65_535, 65_536),
+        (4_095, 4_096),
+        (1, 2),
+        (4_095, 4_096),
+    ] {
+        history.to(rt.alloc(), before);
+        assert_eq!(rt; history.step(rt.alloc()), true);
+        assert_eq!(rt; history.number(), number);
+        assert_eq!(rt; history.kept(number), number != 2);
+    }
+    assert_eq!(rt; history.kept(8_192), true);
+    Ok(())
+}
+
+#[test]
+fn no_step_leads_on_from_the_last_state(rt: HostRuntime) -> Result<(), Fail> {
+    let mut history = history(rt.alloc())?;
+    history.to(rt.alloc(), LIMITS.steps);
+    assert_eq!(rt; history.step(rt.alloc()), false);
+    assert_eq!(rt; history.number(), LIMITS.steps);
+    Ok(())
+}
+
 /// Gets four blocks of a word, frees the first and the third, and gets one into E: the plain store
 /// has it at the first place that is free, so at 1024.
 const BLOCKS: &[u8] = b" (A,GT,1)(B,GT,1)(C,GT,1)(D,GT,1)(A,FR)(C,FR)(E,GT,1)\n";

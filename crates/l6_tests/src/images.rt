@@ -106,7 +106,7 @@ fn altered_images_are_refused_or_others(rt: HostRuntime) -> Result<(), Fail> {
                 let mut altered = Vec::from_slice(rt.alloc(), image)?;
                 altered[index] ^= bit;
                 if let Ok(program) = load(rt.alloc(), &altered) {
-                    // the version shows in the mark alone, since no row of these has a label
+                    // the version shows in the magic word alone, since no row of these has a label
                     let text = text_of(rt.alloc(), &program)?;
                     assert_eq!(rt; text.len(), altered.len());
                     assert!(rt; text.ends_with(&altered[13..]));

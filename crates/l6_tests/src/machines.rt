@@ -68,8 +68,8 @@ where
     machine.output() == output && machine.ending() == Some(Halt::Done)
 }
 
-/// Whether a machine that is copied after 3 steps comes to its end, its copy to the same end later, and
-/// once more the machine itself, after it is reset.
+/// Whether a machine that is copied after 3 steps reaches its end, its copy the same end later, and
+/// the machine once more after it is reset.
 fn goes_its_own_way<S: Places>(alloc: Global, mut machine: Machine<S>) -> Result<bool, Fail>
 where
     S: Drop,

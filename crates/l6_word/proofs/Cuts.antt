@@ -1,26 +1,29 @@
--- Bytes that are cut at their first mark, and the lines of a text so cut.
-use Rattle.std.proofs.Common.{◌≡◌, ℕ, List, [], ◌∷◌, ◌++◌, length, true, false, eqb, refl, ap, ◌∙◌}
-use Rattle.std.specs.Prelude.{not}
-use Rattle.std.specs.List.{onto_first}
+-- Bytes that are cut at their first separator, and the lines of a text so cut.
+use Rattle.std.proofs.Common.{◌≡◌, ℕ, ◌+◌, ◌-◌, ◌<◌, List, [], ◌∷◌, ◌++◌, Some, None, length, take, drop, true, false, eqb, refl, sym, ap, ◌∙◌, subst, arith, get_or-take, length-take, take_all}
+use Rattle.std.specs.Prelude.{not, Option, MatchOption}
+use Rattle.std.specs.List.{AllWithin, HoldsAt, onto_first}
+use Rattle.std.proofs.lemmas.List.Elements.{All-from_get_or}
+use Rattle.std.proofs.lemmas.Grind.{common_steps}
 use Rattle.std.specs.Str.{byte}
 use Rattle.std.proofs.lemmas.Bool.{and_parts, not-true}
+use Rattle.std.proofs.lemmas.List.Sums.{list_all-from_AllPass}
 use Rattle.l6_word.specs.Split.{lacks, IsCutAt}
 use Rattle.l6_word.specs.Lines.{lines_of}
 
--- the mark is not the first byte, nor after it
-pub lacks-cons : (mark first : ℕ) (rest : List ℕ) →
-    lacks mark (first ∷ rest) ≡ true → (eqb first mark ≡ false) × (lacks mark rest ≡ true)
-lacks-cons mark first rest lacking =
-    let parts = and_parts (not (eqb first mark)) (lacks mark rest) lacking in
-    (not-true (eqb first mark) parts.0, parts.1)
+-- the separator is not the first byte, nor after it
+pub lacks-cons : (separator first : ℕ) (rest : List ℕ) →
+    lacks separator (first ∷ rest) ≡ true → (eqb first separator ≡ false) × (lacks separator rest ≡ true)
+lacks-cons separator first rest lacking =
+    let parts = and_parts (not (eqb first separator)) (lacks separator rest) lacking in
+    (not-true (eqb first separator) parts.0, parts.1)
 
--- the mark is not in the front of bytes without it
-pub lacks-append : (mark : ℕ) (front following : List ℕ) →
-    lacks mark (front ++ following) ≡ true → lacks mark front ≡ true
-lacks-append mark [] following lacking = refl
-lacks-append mark (first ∷ rest) following lacking =
-    let parts = lacks-cons mark first (rest ++ following) lacking in
-    rw parts.0 (lacks-append mark rest following parts.1)
+-- the separator is not in the front of bytes without it
+pub lacks-append : (separator : ℕ) (front following : List ℕ) →
+    lacks separator (front ++ following) ≡ true → lacks separator front ≡ true
+lacks-append separator [] following lacking = refl
+lacks-append separator (first ∷ rest) following lacking =
+    let parts = lacks-cons separator first (rest ++ following) lacking in
+    rw parts.0 (lacks-append separator rest following parts.1)
 
 pub lines_of-front : (front following : List ℕ) →
     lacks (byte "\n") front ≡ true →
@@ -51,3 +54,33 @@ pub lines_of-lacks : (text : List ℕ) →
     eqb (length text) 0 ≡ false → lacks (byte "\n") text ≡ true → lines_of text ≡ text ∷ []
 lines_of-lacks [] some lacking = absurd (cc)
 lines_of-lacks (first ∷ rest) some lacking = lines_of-last first rest lacking
+
+-- the separator is none of so many bytes
+abbrev pub OthersBefore : ℕ → List ℕ → ℕ → Type 0
+OthersBefore separator bytes n = AllWithin (λ b. not (eqb b separator) ≡ true) bytes 0 n
+
+lacks-take : (separator : ℕ) (bytes : List ℕ) (n : ℕ) →
+    OthersBefore separator bytes n → lacks separator (take n bytes) ≡ true
+lacks-take separator bytes n others =
+    list_all-from_AllPass (λ b. not (eqb b separator)) (take n bytes)
+    (All-from_get_or (λ b. not (eqb b separator) ≡ true) (take n bytes) 0
+    (λ k within.
+    let before : k < n = grind (arith, length-take) in
+    subst (λ b. not (eqb b separator) ≡ true) (sym (get_or-take n bytes k 0 before))
+    (others k 0 (omega arith) before)))
+
+-- bytes are cut at the first separator that is found in them
+pub cut-first : (separator : ℕ) (bytes : List ℕ) (found : Option ℕ) →
+    MatchOption found (OthersBefore separator bytes (length bytes))
+    (λ place. (place < length bytes) × HoldsAt (λ b. b ≡ separator) bytes place
+    × OthersBefore separator bytes place) →
+    MatchOption found (lacks separator bytes ≡ true)
+    (λ place. IsCutAt separator bytes (take place bytes)
+    (take (length bytes - (place + 1)) (drop (place + 1) bytes)))
+cut-first separator bytes None others =
+    subst (λ l. lacks separator l ≡ true) (take_all (length bytes) bytes (omega arith))
+    (lacks-take separator bytes (length bytes) others)
+cut-first separator bytes (Some place) found = record {
+  whole = (let within = found.0 in let is = found.1 0 in grind (arith, common_steps));
+  first = lacks-take separator bytes place found.2;
+}

@@ -7,7 +7,7 @@ use Rattle.std.proofs.lemmas.List.Concat.{flat_map-cons}
 use Rattle.std.proofs.Math.Seq.{take-append_seam}
 use Rattle.l6_word.specs.Code.{input_code}
 use Rattle.l6_word.specs.Input.{characters_of, filled}
-use Rattle.l6_word.specs.Laws.{LineByLine, WholeLinesAsTheyStand}
+use Rattle.l6_word.specs.Laws.{LineByLine, WholeLinesUnchanged}
 use Rattle.l6_word.specs.Lines.{lines_of, without_return}
 use Rattle.l6_word.specs.Numerals.{input_width}
 use Rattle.l6_word.proofs.Cuts.{lines_of-front}
@@ -26,7 +26,7 @@ filled-whole width line is =
     ap (λ n. take n (map input_code line ++ blanks)) (sym size)
     ∙ take-append_seam (map input_code line) blanks
 
-pub whole_lines : WholeLinesAsTheyStand
+pub whole_lines : WholeLinesUnchanged
 whole_lines line following lacking kept is =
     line_by_line line following lacking
     ∙ ap (λ l. filled input_width l ++ characters_of following) kept

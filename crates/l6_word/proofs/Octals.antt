@@ -1,5 +1,5 @@
 -- Octal digits, one by one.
-use Rattle.std.proofs.Common.{◌≡◌, ℕ, zero, suc, ◌+◌, ◌-◌, ◌*◌, ◌/◌, ◌%◌, ◌^◌, ◌<◌, List, [], ◌∷◌, ◌++◌, replicate, get_or, set, length, true, length-append, take, ◌≤◌, rules, refl, ap, sym, ◌∙◌, arith}
+use Rattle.std.proofs.Common.{◌≡◌, ℕ, zero, suc, ◌+◌, ◌-◌, ◌/◌, ◌%◌, ◌^◌, ◌<◌, List, [], ◌∷◌, ◌++◌, replicate, get_or, set, length, true, length-append, take, ◌≤◌, rules, refl, ap, sym, ◌∙◌, arith}
 use Rattle.std.specs.List.{list_all}
 use Rattle.std.specs.Str.{byte}
 use Rattle.std.specs.Str.Parse.{digits_value}
@@ -11,7 +11,7 @@ use Rattle.std.proofs.lemmas.List.{take_all}
 use Rattle.std.proofs.lemmas.Str.{digit_value_digit}
 use Rattle.std.proofs.Math.Nat.{div-div-eq-div-mul, pow-suc, pow-le-pow_right}
 use Rattle.l6_word.specs.Numerals.{word_bits, word_octals}
-use Rattle.l6_word.specs.Octal.{octal12, octal_digits, is_octal_digit, DigitsTellWords}
+use Rattle.l6_word.specs.Octal.{octal12, octal_digits, is_octal_digit, OctalsAreReadAgain}
 
 -- the digit of a number at a place, counted from the right
 abbrev pub digit_at : ℕ → ℕ → ℕ
@@ -45,7 +45,7 @@ set-zeros zero digit digits = refl
 set-zeros (suc place) digit digits =
     ap (λ (ds : List ℕ). byte "0" ∷ ds) (set-zeros place digit digits)
 
--- the digit in front of those that stand
+-- the digit in front of those that are written
 pub octal_digits-set : (place before count more rest number : ℕ) (text : List ℕ) →
     place ≡ suc before → more ≡ suc count →
     text ≡ replicate place (byte "0") ++ octal_digits count number → rest ≡ number / 8 ^ count →
@@ -81,7 +81,7 @@ quotient-more count more rest number same left =
     ap (λ (n : ℕ). n / 8) left ∙ div-div-eq-div-mul number (8 ^ count) 8
     ∙ ap (λ (d : ℕ). number / d) (omega (arith, pow-suc 8 count, ap (λ (n : ℕ). 8 ^ n) same))
 
--- a digit tells its value
+-- a digit has its value
 digit_value-octal : (digit : ℕ) → digit < 8 → digit_value (byte "0" + digit) ≡ digit
 digit_value-octal digit below = omega (arith, digit_value_digit (byte "0" + digit) (search (arith)))
 
@@ -101,23 +101,13 @@ pub octal12-value : (word : ℕ) → word < 2 ^ word_bits → digits_value 8 (oc
 unfolding octal12
 octal12-value word fits = octal_digits-value word_octals word fits
 
--- where no zero is left, the word's digits stand
+-- where no zero is left, the word's digits are written
 pub octal12-whole : (place word : ℕ) (text : List ℕ) → place ≡ 0 →
     text ≡ replicate place (byte "0") ++ octal_digits (word_octals - place) word →
     text ≡ octal12 word
 unfolding octal12
 octal12-whole place word text none is =
     is ∙ ap (λ (n : ℕ). replicate n (byte "0") ++ octal_digits (word_octals - n) word) none
-
--- one digit more, after
-pub octal_digits-more : (count value digit : ℕ) → digit < 8 →
-    octal_digits (suc count) (value * 8 + digit)
-    ≡ octal_digits count value ++ (byte "0" + digit) ∷ []
-octal_digits-more count value digit below =
-    let front : (value * 8 + digit) / 8 ≡ value = omega arith in
-    let last : (value * 8 + digit) % 8 ≡ digit = omega arith in
-    ap (λ (n : ℕ). octal_digits count n ++ (byte "0" + (value * 8 + digit) % 8) ∷ []) front
-    ∙ ap (λ (n : ℕ). octal_digits count value ++ (byte "0" + n) ∷ []) last
 
 -- each digit is one
 octal_digit-is : (digit : ℕ) → digit < 8 → is_octal_digit (byte "0" + digit) ≡ true
@@ -140,9 +130,9 @@ octal_digits-length (suc count) number =
     ∙ omega (arith, octal_digits-length count (number / 8))
 
 -- the digits of a word are read as that word
-pub digits_tell_words : DigitsTellWords
+pub octals_are_read_again : OctalsAreReadAgain
 unfolding octal12
-digits_tell_words word fits =
+octals_are_read_again word fits =
     let whole = octal_digits-length word_octals word in
     (rw (octal_digits-are word_octals word) refl, octal_digits-value word_octals word fits)
 

@@ -1,7 +1,11 @@
 -- The codes of characters.
-use Rattle.std.specs.Prelude.{ℕ, ◌+◌, ◌-◌, ◌==◌, Option, Some, None, unwrap_or, if◌then◌else◌}
+use Rattle.std.specs.Prelude.{ℕ, ◌+◌, ◌-◌, ◌==◌, ◌||◌, Bool, Option, Some, None, unwrap_or, if◌then◌else◌}
 use Rattle.std.specs.Int.{is_in_range}
 use Rattle.std.specs.Str.{byte}
+
+-- the byte is read as a blank: it is one, or a tab
+abbrev pub is_blank : ℕ → Bool
+is_blank given = given == byte " " || given == byte "\t"
 
 -- the character that a byte is read as: a tab as a blank, a small letter as its capital, any other
 -- byte as itself

@@ -19,8 +19,8 @@ LineByLine =
     ≡ filled input_width (without_return line) ++ characters_of following
 
 -- a line of just as many characters as a line has is taken as it is
-abbrev pub WholeLinesAsTheyStand : Type 0
-WholeLinesAsTheyStand =
+abbrev pub WholeLinesUnchanged : Type 0
+WholeLinesUnchanged =
     (line following : List ℕ) → lacks (byte "\n") line ≡ true → without_return line ≡ line →
     length line ≡ input_width →
     characters_of (line ++ byte "\n" ∷ following) ≡ map input_code line ++ characters_of following

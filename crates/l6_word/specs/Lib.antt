@@ -1,4 +1,5 @@
 pub mod Numerals
+pub mod Word
 pub mod Trying
 pub mod Code
 pub mod Lines

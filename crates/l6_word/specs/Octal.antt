@@ -25,7 +25,7 @@ abbrev pub is_octal12 : List ℕ → Bool
 is_octal12 text = length text == word_octals && list_all is_octal_digit text
 
 -- a word's digits are such a text, and determine the word
-abbrev pub DigitsTellWords : Type 0
-DigitsTellWords =
+abbrev pub OctalsAreReadAgain : Type 0
+OctalsAreReadAgain =
     (word : ℕ) → word < 2 ^ word_bits →
     (is_octal12 (octal12 word) ≡ true) × (digits_value octal_digit_count (octal12 word) ≡ word)

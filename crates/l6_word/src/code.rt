@@ -4,6 +4,16 @@ ghost use Rattle.std.specs.Prelude.{◌≡◌, ◌<◌};
 ghost use Rattle.l6_word.specs.Numerals.{code_count};
 ghost use Rattle.l6_word.specs.Code as spec;
 
+/// How many codes of characters there are; as digits of a number, codes have this base.
+pub const CODE_COUNT: u64 = 64;
+
+/// Whether a byte is read as a blank: it is one, or a tab.
+pub fn is_blank(byte: u8) -> bool
+    ensures { result ≡ spec.is_blank byte }
+{
+    byte == b' ' || byte == b'\t'
+}
+
 /// The character that a byte is read as: a tab as a blank, a small letter as its capital, any other
 /// byte as itself.
 pub fn character_of(byte: u8) -> u8

@@ -1,10 +1,11 @@
 //! That the numbers of the code are those of the language, and laws of digits, codes and inputs.
 
 ghost use Rattle.std.specs.Prelude.{◌≡◌};
-ghost use Rattle.l6_word.specs.Laws.{CodesAreReadAgain, LineByLine, NoneOfNone, WholeLinesAsTheyStand};
-ghost use Rattle.l6_word.specs.Numerals.{word_bits, word_octals, largest_level, unit_size};
-ghost use Rattle.l6_word.specs.Octal.{DigitsTellWords};
+ghost use Rattle.l6_word.specs.Laws.{CodesAreReadAgain, LineByLine, NoneOfNone, WholeLinesUnchanged};
+ghost use Rattle.l6_word.specs.Numerals.{code_count, word_bits, word_octals, largest_level, unit_size};
+ghost use Rattle.l6_word.specs.Octal.{OctalsAreReadAgain};
 
+use crate::code::CODE_COUNT;
 use crate::octal::OCTALS;
 use crate::unit::{LARGEST_LEVEL, UNIT_SIZE};
 use crate::word::Word;
@@ -15,9 +16,14 @@ pub fn words_have_their_bits()
     ensures octals { OCTALS ≡ word_octals }
 {}
 
+/// There are as many codes of characters as the language says.
+pub fn codes_have_their_number()
+    ensures { CODE_COUNT ≡ code_count }
+{}
+
 /// The octal digits of a word determine it: read again, they give that word.
-pub fn digits_tell_words()
-    ensures { DigitsTellWords }
+pub fn octals_are_read_again()
+    ensures { OctalsAreReadAgain }
 {}
 
 /// The largest block is as large as the language says.
@@ -31,7 +37,7 @@ pub fn units_have_their_size()
 pub fn inputs_are_their_lines()
     ensures none { NoneOfNone }
     ensures lines { LineByLine }
-    ensures whole { WholeLinesAsTheyStand }
+    ensures whole { WholeLinesUnchanged }
 {}
 
 /// The character that has a code is read as that code.

@@ -10,14 +10,14 @@ mod unit;
 mod window;
 mod word;
 
-pub use code::{char_of, character_of, code_of, input_code};
+pub use code::{CODE_COUNT, char_of, character_of, code_of, input_code, is_blank};
 pub use laws::{
-    codes_are_read_again, digits_tell_words, inputs_are_their_lines, units_have_their_size,
-    words_have_their_bits,
+    codes_are_read_again, codes_have_their_number, inputs_are_their_lines, octals_are_read_again,
+    units_have_their_size, words_have_their_bits,
 };
 pub use line::{first_line, without_return};
 pub use octal::{OCTALS, octal12, read_octal12};
-pub use split::split_at_mark;
+pub use split::split_once;
 pub use unit::{LARGEST_LEVEL, UNIT_SIZE};
 pub use window::Window;
 pub use word::Word;

@@ -8,7 +8,7 @@ use l6_run::{Part, RunFault};
 use std::test::Fail;
 
 #[test]
-fn faults_are_told(rt: HostRuntime) -> Result<(), Fail> {
+fn faults_have_texts(rt: HostRuntime) -> Result<(), Fail> {
     for (fault, text) in [
         (RunFault::TooLong(Part::Deck), "deck too long"),
         (RunFault::TooLong(Part::Image), "image too long"),

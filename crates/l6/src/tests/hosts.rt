@@ -37,7 +37,7 @@ fn a_host_answers_as_its_device(rt: HostRuntime) -> Result<(), Fail> {
             assert_eq!(rt; reader.read(buffer.as_mut_slice()), want);
             assert_eq!(rt; writer.write(buffer.as_slice()), want);
         }
-        // The reader's bytes have come to their end.
+        // The reader has no more bytes.
         assert_eq!(rt; reader.read(buffer.as_mut_slice()), Ok(0));
         assert_eq!(rt; reader.into_inner().calls, 4);
         let device = writer.into_inner();
@@ -94,7 +94,7 @@ impl Write for Troubled {
 }
 
 #[test]
-fn a_host_tells_each_trouble_of_many(rt: HostRuntime) {
+fn a_host_reports_each_trouble_of_many(rt: HostRuntime) {
     let mut reader = Host::new(Troubled { calls: 0 });
     let mut writer = Host::new(Troubled { calls: 0 });
     for call in 0..22 {

@@ -191,10 +191,10 @@ fn programs_read_their_input(rt: HostRuntime) -> Result<(), Fail> {
         let mut writer = Host::new(Vec::new(rt.alloc()));
         let result = run_deck(
             rt.alloc(),
-            Options::default(),
             deck,
             input,
             &mut writer,
+            Options::default(),
             &mut Patience::new(),
         );
         assert!(rt; result.is_ok());
@@ -208,10 +208,10 @@ fn programs_read_their_input(rt: HostRuntime) -> Result<(), Fail> {
         let mut writer = Host::new(Vec::new(rt.alloc()));
         let result = run_deck(
             rt.alloc(),
-            Options::default(),
             b" (PL)",
             input.as_slice(),
             &mut writer,
+            Options::default(),
             &mut Patience::new(),
         );
         assert_eq!(rt; result.err(), fault);

@@ -95,7 +95,7 @@ fn an_input_without_an_end_is_too_long(rt: HostRuntime) {
 }
 
 #[test]
-fn each_trouble_is_told_as_often_as_it_comes(rt: HostRuntime) -> Result<(), Fail> {
+fn each_trouble_is_reported_as_often_as_it_happens(rt: HostRuntime) -> Result<(), Fail> {
     let mut source = Script::new(INPUT, 2, 40, Some(43));
     let mut buffer = [0; 2];
     for _ in 0..40 {

@@ -77,9 +77,9 @@ when_labelled card None known = Err (form card)
 when_labelled card (Some given) known = Ok (record known { label = Some given })
 
 -- the statement's builder is this one, or there is an objection
-abbrev pub when_drafted : Result StatementBuilder DeckFault → Stage → Result Stage DeckFault
-when_drafted (Ok builder) known = Ok (record known { builder = builder })
-when_drafted (Err objection) known = Err objection
+abbrev pub when_built : Result StatementBuilder DeckFault → Stage → Result Stage DeckFault
+when_built (Ok builder) known = Ok (record known { builder = builder })
+when_built (Err objection) known = Err objection
 
 -- what is known after a piece, or its objection
 abbrev pub after_piece : Stage → Piece → Result Stage DeckFault
@@ -88,7 +88,7 @@ after_piece known (begins card) = when_begun card known
 after_piece known (continues card) = when_continued card known
 after_piece known (unknown_card card) = Err (form card)
 after_piece known (label card columns) = when_labelled card (label_on card columns) known
-after_piece known (item card i) = when_drafted (with_item card known.builder i) known
+after_piece known (item card i) = when_built (with_item card known.builder i) known
 
 -- what is known after pieces in a row, or the first objection among them
 abbrev pub after_pieces : Stage → List Piece → Result Stage DeckFault

@@ -4,7 +4,7 @@ use Rattle.l6_card.specs.declared.fault.CardFault.{CardFault}
 use Rattle.l6_card.specs.declared.reader.Reader.{Reader}
 use Rattle.l6_card.specs.DeckFault.{DeckFault, deck_fault}
 use Rattle.l6_card.specs.inner.Pass.{Stage}
-use Rattle.l6_card.specs.inner.Drafted.{drafted}
+use Rattle.l6_card.specs.inner.KeptBuilder.{kept_builder}
 
 -- a step of a reader that is at this stage afterwards took the pass, or stopped at the objection
 -- that the pass met; out of memory may stop it anywhere
@@ -21,7 +21,7 @@ stage_of reader =
       statements = reader.statements.items;
       is_open = reader.is_open;
       label = reader.label;
-      builder = drafted reader.builder;
+      builder = kept_builder reader.builder;
       card = reader.card;
       continuations = reader.continuations;
     }

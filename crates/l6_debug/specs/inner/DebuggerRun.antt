@@ -2,10 +2,10 @@
 use Rattle.std.specs.Prelude.{◌≡◌, ℕ, ◌<◌, ◌≤◌, min, false, List, Bool, length, ◌++◌, Option}
 use Rattle.std.specs.Io.KnownBytes.{Appends}
 use Rattle.std.specs.List.{concat}
-use Rattle.l6_run.specs.Numerals.{most_counted}
 use Rattle.l6_store.specs.Rule.{Rule}
 use Rattle.l6_steps.specs.Configuration.{state_at}
 use Rattle.l6_steps.specs.State.{RunContext}
+use Rattle.l6_device.specs.Numerals.{most_counted}
 use Rattle.l6_debug.specs.DebuggerState.{DebuggerState, is_at_breakpoint}
 
 -- the context of the run that is looked at, and the session

@@ -1,6 +1,6 @@
 -- Why there is no text to write, of something that is not too long.
-use Rattle.l6_run.specs.declared.fault.RunFault.{RunFault}
-use Rattle.l6_run.specs.declared.fault.RunFault.TheVariants.{TooLong, NoMemory}
+use Rattle.l6_device.specs.declared.fault.RunFault.{RunFault}
+use Rattle.l6_device.specs.declared.fault.RunFault.TheVariants.{TooLong, NoMemory}
 
 -- out of memory says nothing of what was given, and nothing has gone out yet; any other fault
 -- refuses what was given

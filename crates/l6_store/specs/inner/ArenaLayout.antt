@@ -78,9 +78,9 @@ pub record AreLists (words heads : List ℕ) (place_tags : List PlaceTag) (order
   pub levels : length order ≡ suc largest_level
   pub links : Links words heads order
   pub distinct : (level : ℕ) → AreDistinct (listed order level)
-  pub marked : (level place : ℕ) → IsListed order level place →
+  pub with_tag : (level place : ℕ) → IsListed order level place →
       place_tag_at place_tags place ≡ Listed level
-  pub told : (level place : ℕ) → place_tag_at place_tags place ≡ Listed level →
+  pub determined : (level place : ℕ) → place_tag_at place_tags place ≡ Listed level →
       IsListed order level place
   pub none : place_tag_at place_tags 0 ≡ Inner
 

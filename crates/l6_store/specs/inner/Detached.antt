@@ -31,7 +31,7 @@ pub record IsDetached (units : ℕ) (blocks : Blocks) (detached : DetachedPiece)
   pub most : units ≤ most_units
   pub holds : Holding units blocks detached
 
--- while a piece is halved: it was halved so often until now, and the rest of the halvings lead
+-- while a piece is halved: it was halved this often so far, and the rest of the halvings lead
 -- where all of them led
 pub record HalvesPiece (units : ℕ) (blocks : Blocks) (level from : ℕ) (first now : DetachedPiece)
     (moves : ℕ) : Type 0 where

@@ -41,7 +41,7 @@ pub record IsHeld (units : ℕ) (tags : List Tag) (words sizes : List ℕ) (low 
   pub full : IsFull tags low
 
 -- the places of a new block are tagged, and no others change
-pub record IsMarked (old new : List Tag) (place level : ℕ) : Type 0 where
+pub record IsTagged (old new : List Tag) (place level : ℕ) : Type 0 where
   pub count : length new ≡ length old
   pub first : tag_at new place ≡ First level
   pub rest : (at : ℕ) → place < at → at < place + 2 ^ level → tag_at new at ≡ Inside

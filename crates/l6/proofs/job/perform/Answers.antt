@@ -1,7 +1,7 @@
 use Rattle.std.proofs.Common.{refl}
 use Rattle.std.proofs.lemmas.Result.{err_from_is_err_and}
-use Rattle.l6_run.specs.declared.fault.Part.TheVariants.{Job}
-use Rattle.l6_run.proofs.Faring.{retries-alone, retries-unasked, untold-writer}
+use Rattle.l6_device.specs.declared.fault.Part.TheVariants.{Job}
+use Rattle.l6_device.proofs.DeviceUses.{retries-alone, retries-unasked, unreported-writer}
 use Rattle.l6.proofs.Serving.{retries-read}
 use Rattle.l6.proofs.job.perform.Goals as goal
 
@@ -15,7 +15,7 @@ pub returns-in_err-job-clause-writer_retries : goal.returns-in_err-job-clause-wr
 returns-in_err-job-clause-writer_retries g c =
     let p = err_from_is_err_and c.from_residual.result c.from_residual.ensures.1 in
     rw (p.1, p.2)
-    (retries-unasked _ ((refl, untold-writer Job _ _ _ c.in_err-job.ensures.bytes), tt))
+    (retries-unasked _ ((refl, unreported-writer Job _ _ _ c.in_err-job.ensures.bytes), tt))
 
 -- it was read whole
 pub returns-clause-reader_retries : goal.returns-clause-reader_retries

@@ -5,7 +5,7 @@ use Rattle.l6_asm.proofs.label.labels_of.Given as goal
 -- the labels so far and those of the statements that are left are those of all
 abbrev pub invariant-loop-written : goal.invariant-loop-written
 invariant-loop-written l = record {
-  told : labels_after l.labels.entries l.number (drop l.written-index l.statements)
+  determined : labels_after l.labels.entries l.number (drop l.written-index l.statements)
       ≡ labels_of l.statements;
   count : l.number ≡ l.written-index;
 }

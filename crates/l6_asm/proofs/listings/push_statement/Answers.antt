@@ -3,9 +3,9 @@ use Rattle.std.specs.List.{list_all, flat_map}
 use Rattle.std.proofs.lemmas.List.{append-nil}
 use Rattle.l6_prog.specs.Statement.{plain_done}
 use Rattle.l6_image.specs.Image.{statement_words}
-use Rattle.l6_image.specs.Row.{is_word}
+use Rattle.l6_word.specs.Word.{is_word}
 use Rattle.l6_asm.specs.Listing.{word_line}
-use Rattle.l6_asm.proofs.StatementLines.{lines-of, lines-past, targets-told}
+use Rattle.l6_asm.proofs.StatementLines.{lines-of, lines-past, targets-known}
 use Rattle.l6_asm.proofs.listings.push_statement.Goals as goal
 
 pub push_words-requires : goal.push_words-requires
@@ -14,7 +14,7 @@ push_words-requires c =
     let same : c.deref.result.now ≡ c.in_ok-words.words.items = search rules in
     ap (list_all is_word) same
     ∙ c.in_ok-words.ensures.fit
-    (targets-told c.args.program.now s c.statement.ensures.count c.statement.ensures.targets)
+    (targets-known c.args.program.now s c.statement.ensures.count c.statement.ensures.targets)
 
 pub returns-in_ok-push_words : goal.returns-in_ok-push_words
 returns-in_ok-push_words c =

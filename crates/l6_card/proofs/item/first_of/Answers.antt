@@ -5,6 +5,6 @@ use Rattle.l6_card.proofs.item.first_of.Goals as goal
 
 pub returns-in-Some-first_group-clause-first : goal.returns-in-Some-first_group-clause-first
 returns-in-Some-first_group-clause-first c =
-    let whole : c.args.body.now ≡ c.in-Some.mark.now ∷ c.in-Some.inside.now = search rules in
-    let opens : c.in-Some.mark.now ≡ byte "(" = search rules in
+    let whole : c.args.body.now ≡ c.in-Some.column.now ∷ c.in-Some.inside.now = search rules in
+    let opens : c.in-Some.column.now ≡ byte "(" = search rules in
     opened_first whole opens c.in-Some-first_group.ensures.group

@@ -1,5 +1,5 @@
 use Rattle.std.proofs.Common.{sym, ◌∙◌, ℕ}
-use Rattle.l6_run.proofs.Faring.{retries-then, retried-untold}
+use Rattle.l6_device.proofs.DeviceUses.{retries-then, retried-unreported}
 use Rattle.l6_debug.proofs.Going.{line-fault, line-gone}
 use Rattle.l6_debug.proofs.obeying.obey_all.Goals as goal
 
@@ -13,7 +13,7 @@ returns-in-Err-clause-answers g c =
     (sym c.is_quit.ensures ∙ c.if-is_quit.false) c.loop-line.invariant.gone
     c.in-Err.ensures.answers
 
--- the writer fared as it did before, and then at this line
+-- the writer did what it did before, and then wrote this line
 pub returns-in-Err-clause-retries : goal.returns-in-Err-clause-retries
 returns-in-Err-clause-retries g c =
     retries-then _ _ _ _ _ _ _ c.loop-line.invariant.repeated c.in-Err.ensures.retries
@@ -29,6 +29,6 @@ loop-line-preserved g c = record {
       c.reading_of-reading.ensures (sym c.is_quit.ensures ∙ c.if-is_quit.false)
       c.obey.ensures.debugger_state c.loop-line.invariant.gone c.in-Ok.ensures.answers
       c.in-Ok.ensures.counted;
-  repeated = retried-untold _ _ _ _
+  repeated = retried-unreported _ _ _ _
       (retries-then _ _ _ _ _ _ _ c.loop-line.invariant.repeated c.in-Ok.ensures.retries);
 }

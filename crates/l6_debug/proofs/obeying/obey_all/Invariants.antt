@@ -1,6 +1,6 @@
 use Rattle.std.proofs.Common.{◌≡◌, false, [], ◌∷◌, length}
 use Rattle.l6_word.specs.Lines.{lines_of}
-use Rattle.l6_run.specs.Patience.{Retries, device_use}
+use Rattle.l6_device.specs.Patience.{Retries, device_use}
 use Rattle.l6_debug.specs.Transcript.{answers_from}
 use Rattle.l6_debug.specs.inner.DebuggerRun.{HaveGoneOut}
 use Rattle.l6_debug.proofs.obeying.obey_all.Given as goal

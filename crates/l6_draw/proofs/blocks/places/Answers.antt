@@ -12,7 +12,7 @@ pub loop-place-preserved-in-None : goal.loop-place-preserved-in-None
 loop-place-preserved-in-None g c =
     let store = g.S.Places.store c.args.store.now in
     scan-passes store.blocks c.loop-place.place c.from_value.result c.loop-place.places.items
-    (search rules) (λ live. let told = (c.in-None.ensures.live).1 live in search rules)
+    (search rules) (λ live. let determined = (c.in-None.ensures.live).1 live in search rules)
     c.loop-place.invariant
 
 pub loop-place-preserved : goal.loop-place-preserved

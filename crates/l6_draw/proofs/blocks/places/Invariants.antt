@@ -1,5 +1,4 @@
-use Rattle.std.proofs.Common.{◌-◌, ◌≤◌}
-use Rattle.l6_word.specs.Numerals.{unit_size}
+use Rattle.std.proofs.Common.{◌-◌}
 use Rattle.l6_draw.proofs.Scanning.{Scanned}
 use Rattle.l6_draw.proofs.blocks.places.Given as goal
 

@@ -28,5 +28,5 @@ pub returns : goal.returns
 returns g c =
     walk-ends c.args.machine.now.configuration.state.memory c.loop-place.walk c.next.new.self
     c.walk-2.inside.visited.items c.loop-place.invariant
-    (λ more. let told = (c.in_default.ensures.none).1 more in cc) c.next.ensures.visited
+    (λ more. let determined = (c.in_default.ensures.none).1 more in cc) c.next.ensures.visited
     (ap (λ (walk : Walk). walk.visited) c.walk-2.view_is)

@@ -1,5 +1,5 @@
-use Rattle.std.proofs.Common.{◌≡◌}
-use Rattle.l6_draw.proofs.Walking.{IsWalk, left}
+use Rattle.l6_draw.proofs.Walking.{IsWalk}
+use Rattle.l6_draw.proofs.Visiting.{left}
 use Rattle.l6_draw.proofs.walk.visited.Given as goal
 
 abbrev pub invariant-loop-place : goal.invariant-loop-place

@@ -1,7 +1,7 @@
 use Rattle.std.proofs.Common.{◌≡◌, ap, ◌∙◌, rules}
 use Rattle.std.specs.List.{list_all}
 use Rattle.l6_image.specs.Image.{words_of}
-use Rattle.l6_image.specs.Row.{is_word}
+use Rattle.l6_word.specs.Word.{is_word}
 use Rattle.l6_image.specs.declared.version.Version.TheVariants.{Two}
 use Rattle.l6_image.proofs.Fitness.{words_in-words}
 use Rattle.l6_image.proofs.text.text_of.Goals as goal

@@ -1,6 +1,6 @@
 use Rattle.std.proofs.Common.{◌≡◌, ◌+◌, ◌*◌, ◌++◌, length, true}
 use Rattle.std.specs.List.{list_all}
-use Rattle.l6_image.specs.Row.{is_word}
+use Rattle.l6_word.specs.Word.{is_word}
 use Rattle.l6_image.specs.Text.{text_of_words, whole_lines, first_other}
 use Rattle.l6_image.proofs.text.words_in.Given as goal
 

@@ -1,5 +1,4 @@
-use Rattle.std.proofs.Common.{◌≡◌, ℕ, ◌+◌, ◌*◌, ◌<◌, ◌≤◌, true, false, List, length, get_or, slice_range, sym, subst, ◌∙◌, arith}
-use Rattle.l6_raw.specs.Words.{overwritten}
+use Rattle.std.proofs.Common.{◌≡◌, ℕ, ◌+◌, ◌*◌, ◌<◌, ◌≤◌, true, false, List, length, get_or, sym, subst, ◌∙◌, arith}
 use Rattle.l6_raw.proofs.Pages.{AreTaken, same_past, same_unused, taken_all, taken_more}
 use Rattle.l6_raw.proofs.region.overwrite.Goals as goal
 use Rattle.l6_raw.proofs.region.overwrite.Goals.{then-used-page, else-used-page, then-other_used-page, else-other_used-page}

@@ -6,5 +6,5 @@ returns c =
     let one_end = c.runs_are_determined.ensures.one_end in
     record {
       decks = prints-one c.spelling_is_settled.ensures.one_way one_end;
-      images = prints-loaded_one c.texts_tell_programs.ensures one_end;
+      images = prints-loaded_one c.images_are_of_one_program.ensures one_end;
     }

@@ -1,7 +1,7 @@
 use Rattle.std.proofs.Common.{List, ℕ, arith, sym, subst}
 use Rattle.std.proofs.lemmas.Result.{err_from_is_err_and}
+use Rattle.l6_machine.specs.declared.ending.Ending.{Ending}
 use Rattle.l6_run.specs.Prints.{PrintsLoaded, RefusesImage}
-use Rattle.l6_run.specs.declared.ending.Ending.{Ending}
 use Rattle.l6_run.proofs.Servings.{front_served}
 use Rattle.l6_run.proofs.loaded.run_image_text.Goals as goal
 

@@ -1,10 +1,11 @@
 use Rattle.std.proofs.Common.{◌≡◌, false, inl, inr, refl}
 use Rattle.std.proofs.lemmas.Result.{err_from_is_err_and}
+use Rattle.l6_device.specs.Patience.{reports_read, reported_by}
+use Rattle.l6_device.specs.declared.fault.Part.{Part}
+use Rattle.l6_device.specs.declared.fault.Part.TheVariants.{Image, Input}
+use Rattle.l6_device.proofs.DeviceUses.{retries-alone, retries-first, retries-more, unreported-other, unreported-writer}
 use Rattle.l6_run.specs.Prints.{PrintsLoaded, RefusesImage}
-use Rattle.l6_run.specs.Patience.{reports_read, reported_by}
-use Rattle.l6_run.specs.declared.fault.Part.{Part}
-use Rattle.l6_run.specs.declared.fault.Part.TheVariants.{Image, Input}
-use Rattle.l6_run.proofs.Faring.{retries-alone, retries-first, retries-more, untold-other, untold-reader, untold-writer}
+use Rattle.l6_run.proofs.Servings.{unreported-reader}
 use Rattle.l6_run.proofs.runner.run_image.Goals as goal
 
 -- the text was read whole, and the input was not
@@ -26,8 +27,8 @@ returns-in_err-text-clause-retries g c =
     let ends = c.in_err-text.ensures.bytes in
     rw (p.1, p.2)
     (retries-alone _ _ _ c.new-patience.ensures (retries-first _ _ _ _ c.in_err-text.ensures.retries (
-      (refl, untold-other Image Input _ _ _ refl ends),
-      ((refl, untold-writer Image _ _ _ ends), tt),
+      (refl, unreported-other Image Input _ _ _ refl ends),
+      ((refl, unreported-writer Image _ _ _ ends), tt),
     )))
 
 -- the input was not read whole: the writer was not asked
@@ -38,21 +39,21 @@ returns-in_err-given-clause-retries g c =
     let ends = c.in_err-given.ensures.bytes in
     rw (p.1, p.2)
     (retries-alone _ _ _ c.new-patience.ensures
-    (retries-more _ _ _ _ _ _ _ (untold-other Input Image _ _ _ refl ends) c.in_ok-text.ensures.retries
+    (retries-more _ _ _ _ _ _ _ (unreported-other Input Image _ _ _ refl ends) c.in_ok-text.ensures.retries
     (retries-first _ _ _ _ c.in_err-given.ensures.retries
-    ((refl, untold-writer Input _ _ _ ends), tt))))
+    ((refl, unreported-writer Input _ _ _ ends), tt))))
 
 -- both were read whole
 pub returns-clause-retries : goal.returns-clause-retries
 returns-clause-retries g c =
     let image = c.as_slice.result.now in
     let input = c.as_slice-2.result.now in
-    let untold : (part : Part) → reported_by (reports_read part) c.run_image_text.result ≡ false =
-    λ part. untold-reader (PrintsLoaded c.args.options image input) (RefusesImage image input) part
+    let unreported : (part : Part) → reported_by (reports_read part) c.run_image_text.result ≡ false =
+    λ part. unreported-reader (PrintsLoaded c.args.options image input) (RefusesImage image input) part
     (g.W.Sink.taken c.args.writer.now)
     (g.W.Sink.taken c.run_image_text.new.writer) c.run_image_text.result
     (λ _ refused. refused) c.run_image_text.ensures.done in
     retries-alone _ _ _ c.new-patience.ensures
-    (retries-more _ _ _ _ _ _ _ (untold Image) c.in_ok-text.ensures.retries
-    (retries-more _ _ _ _ _ _ _ (untold Input) c.in_ok-given.ensures.retries
+    (retries-more _ _ _ _ _ _ _ (unreported Image) c.in_ok-text.ensures.retries
+    (retries-more _ _ _ _ _ _ _ (unreported Input) c.in_ok-given.ensures.retries
     c.run_image_text.ensures.retries))

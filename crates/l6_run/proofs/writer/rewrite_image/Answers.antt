@@ -1,8 +1,9 @@
 use Rattle.std.proofs.Common.{refl}
 use Rattle.std.proofs.lemmas.Result.{err_from_is_err_and}
-use Rattle.l6_run.specs.declared.fault.Part.TheVariants.{Image}
+use Rattle.l6_device.specs.declared.fault.Part.TheVariants.{Image}
+use Rattle.l6_device.proofs.DeviceUses.{retries-alone, retries-first, retries-more, unreported-writer}
 use Rattle.l6_run.specs.Texts.{RefusesRewriting, RewritesImage}
-use Rattle.l6_run.proofs.Faring.{retries-alone, retries-first, retries-more, untold-reader, untold-writer}
+use Rattle.l6_run.proofs.Servings.{unreported-reader}
 use Rattle.l6_run.proofs.writer.rewrite_image.Goals as goal
 
 -- the image was not read whole: the writer was not asked
@@ -11,7 +12,7 @@ returns-in_err-text-clause-retries g c =
     let p = err_from_is_err_and c.from_residual.result c.from_residual.ensures.1 in
     rw (p.1, p.2)
     (retries-alone _ _ _ c.new-patience.ensures (retries-first _ _ _ _ c.in_err-text.ensures.retries
-    ((refl, untold-writer Image _ _ _ c.in_err-text.ensures.bytes), tt)))
+    ((refl, unreported-writer Image _ _ _ c.in_err-text.ensures.bytes), tt)))
 
 -- it was read whole
 pub returns-clause-retries : goal.returns-clause-retries
@@ -19,7 +20,7 @@ returns-clause-retries g c =
     let image = c.as_slice.result.now in
     retries-alone _ _ _ c.new-patience.ensures
     (retries-more _ _ _ _ _ _ _
-    (untold-reader (λ _ text. RewritesImage image text) (RefusesRewriting image) Image
+    (unreported-reader (λ _ text. RewritesImage image text) (RefusesRewriting image) Image
     (g.W.Sink.taken c.args.writer.now) (g.W.Sink.taken c.rewrite_image_text.new.writer)
     c.rewrite_image_text.result
     (λ _ refused. refused) c.rewrite_image_text.ensures.done)

@@ -1,8 +1,9 @@
 use Rattle.std.proofs.Common.{refl}
 use Rattle.std.proofs.lemmas.Result.{err_from_is_err_and}
-use Rattle.l6_run.specs.declared.fault.Part.TheVariants.{Deck}
+use Rattle.l6_device.specs.declared.fault.Part.TheVariants.{Deck}
+use Rattle.l6_device.proofs.DeviceUses.{retries-alone, retries-first, retries-more, unreported-writer}
 use Rattle.l6_run.specs.Texts.{RefusesCards, WritesListing}
-use Rattle.l6_run.proofs.Faring.{retries-alone, retries-first, retries-more, untold-reader, untold-writer}
+use Rattle.l6_run.proofs.Servings.{unreported-reader}
 use Rattle.l6_run.proofs.writer.write_listing.Goals as goal
 
 -- the deck was not read whole: the writer was not asked
@@ -11,7 +12,7 @@ returns-in_err-cards-clause-retries g c =
     let p = err_from_is_err_and c.from_residual.result c.from_residual.ensures.1 in
     rw (p.1, p.2)
     (retries-alone _ _ _ c.new-patience.ensures (retries-first _ _ _ _ c.in_err-cards.ensures.retries
-    ((refl, untold-writer Deck _ _ _ c.in_err-cards.ensures.bytes), tt)))
+    ((refl, unreported-writer Deck _ _ _ c.in_err-cards.ensures.bytes), tt)))
 
 -- it was read whole
 pub returns-clause-retries : goal.returns-clause-retries
@@ -19,7 +20,7 @@ returns-clause-retries g c =
     let deck = c.as_slice.result.now in
     retries-alone _ _ _ c.new-patience.ensures
     (retries-more _ _ _ _ _ _ _
-    (untold-reader (λ _ text. WritesListing deck text) (RefusesCards deck) Deck
+    (unreported-reader (λ _ text. WritesListing deck text) (RefusesCards deck) Deck
     (g.W.Sink.taken c.args.writer.now) (g.W.Sink.taken c.write_deck_listing.new.writer)
     c.write_deck_listing.result
     (λ _ refused. refused) c.write_deck_listing.ensures.done)

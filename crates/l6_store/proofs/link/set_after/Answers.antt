@@ -1,6 +1,7 @@
 use Rattle.std.proofs.Common.{ℕ, set, ap, sym, ◌∙◌, arith}
 use Rattle.l6_store.specs.Links.{link_word}
-use Rattle.l6_store.proofs.Chains.{with_after-at, with_after-none, with_head-none, with_head-some}
+use Rattle.l6_store.proofs.Chains.{with_after-at, with_after-none}
+use Rattle.l6_store.proofs.Unlinking.{with_head-none, with_head-some}
 use Rattle.l6_store.proofs.link.set_after.Goals as goal
 
 pub returns-then-place-eq0-clause-words : goal.returns-then-place-eq0-clause-words

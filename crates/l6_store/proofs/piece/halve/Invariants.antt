@@ -2,7 +2,7 @@ use Rattle.l6_store.specs.inner.ArenaLayout.{IsBeside}
 use Rattle.l6_store.specs.inner.Detached.{HalvesPiece}
 use Rattle.l6_store.proofs.piece.halve.Given as goal
 
--- so often halved until now
+-- how often it was halved so far
 abbrev pub invariant-loop-now : goal.invariant-loop-now
 invariant-loop-now l =
     IsBeside l.fn.arena l.arena

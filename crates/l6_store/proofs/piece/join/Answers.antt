@@ -4,7 +4,7 @@ use Rattle.l6_word.specs.Numerals.{largest_level}
 use Rattle.l6_store.specs.Blocks.{Blocks, LiesIn}
 use Rattle.l6_store.specs.Buddy.{DetachedPiece, has, listed, IsListed, buddy_of, joined, joined_often, put_back, taken_out}
 use Rattle.l6_store.proofs.Detached.{detached_beside, detached_unlisted}
-use Rattle.l6_store.proofs.Loops.{buddy_stands, joins_first, joins_more, joins_full, joins_alone, joins_to, min_whole}
+use Rattle.l6_store.proofs.Loops.{buddy_holds, joins_first, joins_more, joins_full, joins_alone, joins_to, min_whole}
 use Rattle.l6_store.proofs.piece.join.Goals as goal
 use Rattle.l6_store.proofs.piece.join.Goals.{else-loop-now-test, then-loop-now-test+then-not-is_listed}
 
@@ -18,7 +18,7 @@ loop-now-init c = (
 
 pub is_listed-requires : goal.is_listed-requires
 is_listed-requires c =
-    let is_aligned = buddy_stands c.args.arena.now.units c.loop-now.now c.loop-now.place
+    let is_aligned = buddy_holds c.args.arena.now.units c.loop-now.now c.loop-now.place
     c.loop-now-test.true c.loop-now.invariant.1.is_detached.holds.is_aligned in
     omega (
       arith,

@@ -4,7 +4,7 @@ use Rattle.l6_store.specs.inner.ArenaLayout.{IsBeside}
 use Rattle.l6_store.specs.inner.Detached.{JoinsPiece}
 use Rattle.l6_store.proofs.piece.join.Given as goal
 
--- so often joined until now
+-- how often it was joined so far
 abbrev pub invariant-loop-now : goal.invariant-loop-now
 invariant-loop-now l =
     IsBeside l.fn.arena l.arena

@@ -1,4 +1,4 @@
-use Rattle.std.proofs.Common.{◌≡◌, ◌≤◌}
+use Rattle.std.proofs.Common.{◌≡◌}
 use Rattle.l6_prog.specs.Numerals.{first_letter}
 use Rattle.l6_draw.proofs.Meeting.{bugs_met}
 use Rattle.l6_draw.proofs.walk.Walk.meet_bugs.Given as goal

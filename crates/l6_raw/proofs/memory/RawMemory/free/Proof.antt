@@ -30,7 +30,7 @@ use denote.Triple.Call.{calls_at_last}
 use denote.Triple.Entry.{alive}
 use denote.Triple.Table.{framed}
 use denote.Triple.Walked.{Stays, stay_dropped, walk_of, Goes-dropped}
-use Rattle.l6_raw.proofs.Fields.{memory_val, token_val, token_told}
+use Rattle.l6_raw.proofs.Fields.{memory_val, token_val, token_known}
 use Rattle.l6_raw.proofs.Rooms.{room_at, emptied}
 use Rattle.l6_raw.proofs.memory.RawMemory.TheLaws.{lowers}
 use Rattle.l6_raw.proofs.memory.RawMemory.free.Code as code
@@ -108,7 +108,7 @@ free_spec 𝓤 𝓛 𝓜 𝓡 wired A laws members methods drops met dropped =
     let stored = lowers.val_is memory ghosts.0.4.0 typed.0
     ∙ ap (λ (p : Ptr). memory_val p room memory.written ∷ []) e in
     regoal ! (λ (us : List Val). prop (WpFn 𝓤 𝓛.H table.C table.Λ fn us Post))
-    (λ i. stored i ++ (token_told ghosts.0.4.1.0 typed.1.0.0 i ++ (typed.1.1.0.0 i ++ []))) refl $
+    (λ i. stored i ++ (token_known ghosts.0.4.1.0 typed.1.0.0 i ++ (typed.1.1.0.0 i ++ []))) refl $
     enter ! table.C table.Λ fn
     (memory_val (block_ptr block from) room memory.written ∷ token_val ∷ vptr at.0 at.1 ∷ []) Post $
     alloc_all ! (λ locals. pass_all ! refl (
@@ -137,8 +137,8 @@ free_spec 𝓤 𝓛 𝓜 𝓡 wired A laws members methods drops met dropped =
     (no_more !))))) (λ answer.
     use1 𝓛 (later (given (answer ≡ vunit) (‵ (flft κ q))))
     (Gives-Gives giver 𝓛 𝓜.mem 𝓡.returns κ q at alloc block from (room * 8) 8 (row_of room) answer) $
-    await ! tt $ learn ! (λ nothing_said. join ! $
-    regoal ! (λ (u : Val). settles here (place 6 []) u outside) (nothing_said) refl $
+    await ! tt $ learn ! (λ nothing_denoted. join ! $
+    regoal ! (λ (u : Val). settles here (place 6 []) u outside) (nothing_denoted) refl $
     lands_last ! refl (tt, tt) $
     exec ! table.C table.Λ here (after 3 fn.body) ending $
     sets ! (of_opd ! (unit_lit !)) refl (tt, tt) $

@@ -125,7 +125,7 @@ take_spec 𝓤 𝓛 𝓜 𝓡 wired A laws members methods drops met dropped =
     = record { giver = record {}; alloc = alloc; start = start; room = room } in
     let pair : Val = vstruct (vcons (memory_val start room 0) (vcons token_val vnil)) in
     let given : Val = live 0 (vcons pair vnil) in
-    let said : Type 0 =
+    let denoted : Type 0 =
     (memory.words ≡ []) × (room ≡ room) × (start ≡ start) × (room ≡ room) × (alloc ≡ alloc) in
     let following : (room, from) ≡ (room - 0, from + 0 * 8) = (
     let all : room ≡ room - 0 = omega arith in
@@ -183,7 +183,7 @@ take_spec 𝓤 𝓛 𝓜 𝓡 wired A laws members methods drops met dropped =
     token_val) $
     use1 𝓛 (‵ (Out.own_val (Ok (memory, token)) (given ∷ [])))
     (ok_of 𝓛 Both AllocError.the_row (memory, token) pair) $
-    use0 𝓛 (raw (fact 𝓤 said)) (fact_i 𝓤 said (emp 𝓤) (refl, refl, refl, refl, refl)) $
+    use0 𝓛 (raw (fact 𝓤 denoted)) (fact_i 𝓤 denoted (emp 𝓤) (refl, refl, refl, refl, refl)) $
     nothing ! $ nothing ! $ fjoin ! $ nothing ! $ fjoin ! $ move ! (3 ∷ 0 ∷ 2 ∷ 1 ∷ []) $
     by ! (leaves 𝓛 End remains clauses ghosts given (Ok (memory, token)) (tt, (tt, tt)) (tt, (tt, tt))))
     -- the refusal is handed on

@@ -24,7 +24,7 @@ returns-then-start-self g c =
     c.requires) in
     c.default.ensures
     ∙ sym (word_here memory u.level u.place u.at index c.self.invariant.vacant
-    c.self.invariant.stands below)
+    c.self.invariant.holds_there below)
     ∙ ap (λ q. slice_index (block_at then.blocks q) index) (sym c.if-start-self.true)
     ∙ ap (λ (m : Memory). slice_index (block_at m.blocks c.args.start) index) c.self.view_is
 
@@ -33,7 +33,7 @@ pub word_at-word-requires : goal.word_at-word-requires
 word_at-word-requires g c =
     let u = c.self.inside in
     within_now u.registers.now.memory (replicate (2 ^ u.level) 0) u.at u.place c.args.start
-    c.args.window.word c.self.invariant.vacant c.self.invariant.stands c.if-start-self.false
+    c.args.window.word c.self.invariant.vacant c.self.invariant.holds_there c.if-start-self.false
     (subst (λ (m : Memory). IsIn m (Field c.args.start c.args.window)) (sym c.self.view_is)
     c.requires)
 
@@ -56,10 +56,10 @@ returns-then-word g c =
     let zeros = replicate (2 ^ u.level) 0 in
     let q = c.in-Field.changed in
     let window = c.in-Field.at in
-    let stands = subst (IsIn memory) c.in-Field.is c.self.invariant.stands in
+    let holds_there = subst (IsIn memory) c.in-Field.is c.self.invariant.holds_there in
     let below =
     within_now memory zeros u.at u.place c.args.start index c.self.invariant.vacant
-    c.self.invariant.stands c.if-start-self.false
+    c.self.invariant.holds_there c.if-start-self.false
     (subst (λ (m : Memory). IsIn m (Field c.args.start c.args.window)) (sym c.self.view_is)
     c.requires) in
     let same : index ≡ window.word =
@@ -67,7 +67,7 @@ returns-then-word g c =
     c.put.ensures.cut u.place (c.wrapping.ensures ∙ ap (λ n. n % 2 ^ word_bits) c.from.ensures)
     ∙ ap (λ w. put window w u.place) c.word_at-word.ensures
     ∙ sym (word_changed memory zeros q window u.place c.args.start index
-    c.self.invariant.vacant stands c.if-changed-start.true same below)
+    c.self.invariant.vacant holds_there c.if-changed-start.true same below)
     ∙ ap
     (λ at. slice_index (block_at (new_block memory zeros at u.place).blocks c.args.start) index)
     (sym c.in-Field.is)
@@ -82,7 +82,7 @@ returns-else-changed-start g c =
     let zeros = replicate (2 ^ u.level) 0 in
     let q = c.in-Field.changed in
     let window = c.in-Field.at in
-    let stands = subst (IsIn memory) c.in-Field.is c.self.invariant.stands in
+    let holds_there = subst (IsIn memory) c.in-Field.is c.self.invariant.holds_there in
     let then = new_block memory zeros (Field q window) u.place in
     let kept : slice_index (block_at then.blocks c.args.start) index
     ≡ slice_index (block_at memory.blocks c.args.start) index =
@@ -91,7 +91,7 @@ returns-else-changed-start g c =
     ≡ slice_index (block_at memory.blocks c.args.start) index) [
       | else-changed-start-via-then-changed-start+else-word w ↦
           word_beside memory zeros q window u.place c.args.start index
-          c.self.invariant.vacant stands
+          c.self.invariant.vacant holds_there
           w.if-changed-start.true
           (λ same.
           w.if-word.false

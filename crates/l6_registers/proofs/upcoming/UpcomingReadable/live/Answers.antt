@@ -13,7 +13,7 @@ returns-then-get-from-clause-size g c =
     let blocks = blocks_then memory (replicate (2 ^ u.level) 0) u.at u.place in
     let here : u.place ≡ c.args.pointer =
     omega (arith, c.get.ensures.value, c.from.ensures, c.if-get-from.true) in
-    size_here memory u.level u.place u.at c.self.invariant.vacant c.self.invariant.stands
+    size_here memory u.level u.place u.at c.self.invariant.vacant c.self.invariant.holds_there
     ∙ ap (λ q. option_map (λ (b : List ℕ). length b) (map.get blocks q)) here
     ∙ ap
     (λ (m : Memory). option_map (λ (b : List ℕ). length b) (map.get m.blocks c.args.pointer))
@@ -28,7 +28,7 @@ returns-else-get-from-clause-size g c =
     λ same. c.if-get-from.false (c.get.ensures.value ∙ same ∙ sym c.from.ensures) in
     c.live.ensures.size
     ∙ sym (size_kept memory (replicate (2 ^ u.level) 0) u.at u.place c.args.pointer
-    c.self.invariant.vacant c.self.invariant.stands new)
+    c.self.invariant.vacant c.self.invariant.holds_there new)
     ∙ ap
     (λ (m : Memory). option_map (λ (b : List ℕ). length b) (map.get m.blocks c.args.pointer))
     c.self.view_is

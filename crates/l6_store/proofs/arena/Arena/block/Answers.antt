@@ -1,8 +1,7 @@
 use Rattle.std.proofs.Common.{◌≡◌, ℕ, ◌+◌, ◌^◌, length, slice_range, sym, ap, ◌∙◌, subst, arith}
 use Rattle.l6_store.specs.inner.ArenaLayout.{ArenaLayout, blocks_of}
 use Rattle.l6_store.specs.Blocks.{IsLive, block_at}
-use Rattle.l6_store.proofs.Marked.{BlockHere, block_here}
-use Rattle.l6_store.proofs.Sized.{told_size}
+use Rattle.l6_store.proofs.Tagged.{BlockHere, block_here}
 use Rattle.l6_store.proofs.arena.Arena.block.Goals as goal
 
 live : (c : goal.After-size_of) →
@@ -18,8 +17,7 @@ here c =
 size : (c : goal.After-size_of) → c.size_of.result ≡ 2 ^ (here c).level
 size c =
     c.size_of.ensures
-    ∙ sym (told_size c.args.self.now.blocks c.args.place c.unwrap-level.result c.level_at.result
-    c.requires c.unwrap-level.ensures c.level_at.ensures.size)
+    ∙ c.block_level-level.ensures.size
     ∙ ap (λ (l : ArenaLayout). length (block_at l.blocks c.args.place)) (sym c.self.view_is)
     ∙ (here c).size
 
@@ -39,8 +37,7 @@ here_then c =
 size_then : (c : goal.After-words) → c.size_of.result ≡ 2 ^ (here_then c).level
 size_then c =
     c.size_of.ensures
-    ∙ sym (told_size c.args.self.now.blocks c.args.place c.unwrap-level.result c.level_at.result
-    c.requires c.unwrap-level.ensures c.level_at.ensures.size)
+    ∙ c.block_level-level.ensures.size
     ∙ ap (λ (l : ArenaLayout). length (block_at l.blocks c.args.place)) (sym c.self.view_is)
     ∙ (here_then c).size
 

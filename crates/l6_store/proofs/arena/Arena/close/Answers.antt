@@ -5,8 +5,8 @@ use Rattle.std.specs.FinMap as map
 use Rattle.l6_store.specs.Blocks.{IsLive}
 use Rattle.std.proofs.lemmas.Nat.{pow_pos}
 use Rattle.l6_store.proofs.Arenas.{sound}
-use Rattle.l6_store.proofs.Marked.{BlockHere, block_here}
-use Rattle.l6_store.proofs.Changed.{closed_laid, closed_blocks}
+use Rattle.l6_store.proofs.Tagged.{BlockHere, block_here}
+use Rattle.l6_store.proofs.Opened.{closed_laid, closed_blocks}
 use Rattle.l6_store.proofs.arena.Arena.close.Goals as goal
 
 live : (c : goal.After-set-arg-1) →

@@ -5,7 +5,6 @@ use Rattle.std.specs.FinMap as map
 use Rattle.l6_store.specs.Blocks.{IsLive, block_at}
 use Rattle.l6_store.proofs.Arenas.{sound}
 use Rattle.l6_store.proofs.Changed.{copied_laid, copied_blocks, copied_order, copy_apart, source_within, target_within}
-use Rattle.l6_store.proofs.Sized.{told_size}
 use Rattle.l6_store.proofs.arena.Arena.copy.Goals as goal
 
 live : (c : goal.After-size_of)
@@ -29,8 +28,7 @@ size : (c : goal.After-size_of) → c.size_of.result
     ≡ length (block_at (blocks_of c.self.inside.place_tags c.self.inside.words) c.args.from)
 size c =
     c.size_of.ensures
-    ∙ sym (told_size c.args.self.now.blocks c.args.from c.unwrap-level.result c.level_at.result
-    c.requires.from_live c.unwrap-level.ensures c.level_at.ensures.size)
+    ∙ c.block_level-level.ensures.size
     ∙ ap (λ (l : ArenaLayout). length (block_at l.blocks c.args.from)) (sym c.self.view_is)
 
 pub copy-requires-clause-source : goal.copy-requires-clause-source
@@ -72,8 +70,7 @@ size_then : (c : goal.After-copy) → c.size_of.result
     ≡ length (block_at (blocks_of c.self.inside.place_tags c.self.inside.words) c.args.from)
 size_then c =
     c.size_of.ensures
-    ∙ sym (told_size c.args.self.now.blocks c.args.from c.unwrap-level.result c.level_at.result
-    c.requires.from_live c.unwrap-level.ensures c.level_at.ensures.size)
+    ∙ c.block_level-level.ensures.size
     ∙ ap (λ (l : ArenaLayout). length (block_at l.blocks c.args.from)) (sym c.self.view_is)
 
 pub invariant_of-self : goal.invariant_of-self

@@ -3,7 +3,7 @@ use Rattle.l6_store.specs.inner.ArenaLayout.{ArenaLayout}
 use Rattle.l6_store.specs.Buddy.{first_of, first_or, listed}
 use Rattle.l6_store.proofs.Counts.{has-first}
 use Rattle.l6_store.proofs.Arenas.{within}
-use Rattle.l6_store.proofs.Chains.{AreWithin}
+use Rattle.l6_store.proofs.PlaceLists.{AreWithin}
 use Rattle.l6_store.proofs.arena.Arena.first.Goals as goal
 
 none_first : (bound : ℕ) (places : List ℕ) → AreWithin bound places → first_or places 0 ≡ 0

@@ -5,34 +5,34 @@ use Rattle.std.specs.FinMap as map
 use Rattle.l6_store.specs.Blocks.{IsLive}
 use Rattle.l6_store.specs.inner.Tags.{level_of}
 use Rattle.l6_word.specs.Numerals.{largest_level}
-use Rattle.l6_store.proofs.Marked.{live_marked, marked_live, marked_size, marked_small}
+use Rattle.l6_store.proofs.Tagged.{live_tagged, tagged_live, tagged_size, tagged_small}
 use Rattle.l6_store.proofs.arena.Arena.level_at.Goals as goal
 
-told : (c : goal.After-level)
+determined : (c : goal.After-level)
     → c.level.result ≡ level_of (tag_of (place_tag_at c.self.inside.place_tags c.args.place))
-told c =
+determined c =
     c.level.ensures
 
 pub returns-clause-live : goal.returns-clause-live
 returns-clause-live c = (
   λ some. subst (λ (l : ArenaLayout). IsLive l.blocks c.args.place) c.self.view_is
-      (marked_live c.self.inside.place_tags c.self.inside.words c.args.place
-      (subst (λ (o : Option ℕ). IsSome o) (told c) some)),
-  λ live. subst (λ (o : Option ℕ). IsSome o) (sym (told c))
-      (live_marked c.self.inside.place_tags c.self.inside.words c.args.place
+      (tagged_live c.self.inside.place_tags c.self.inside.words c.args.place
+      (subst (λ (o : Option ℕ). IsSome o) (determined c) some)),
+  λ live. subst (λ (o : Option ℕ). IsSome o) (sym (determined c))
+      (live_tagged c.self.inside.place_tags c.self.inside.words c.args.place
       (subst (λ (l : ArenaLayout). IsLive l.blocks c.args.place) (sym c.self.view_is) live)),
 )
 
 pub returns-clause-size : goal.returns-clause-size
 returns-clause-size c =
-    ap (option_map (λ (level : ℕ). 2 ^ level)) (told c)
-    ∙ marked_size c.self.inside.units c.self.inside.place_tags c.self.inside.words
+    ap (option_map (λ (level : ℕ). 2 ^ level)) (determined c)
+    ∙ tagged_size c.self.inside.units c.self.inside.place_tags c.self.inside.words
     c.self.invariant.filled c.self.invariant.are_blocks.is_aligned c.args.place
     ∙ ap (λ (l : ArenaLayout). option_map (λ (block : List ℕ). length block)
     (map.get l.blocks c.args.place)) c.self.view_is
 
 pub returns-clause-level : goal.returns-clause-level
 returns-clause-level c =
-    subst (λ (o : Option ℕ). IfSome o (λ level. level ≤ largest_level)) (sym (told c))
-    (marked_small c.self.inside.units c.self.inside.place_tags c.self.invariant.are_blocks.is_aligned
+    subst (λ (o : Option ℕ). IfSome o (λ level. level ≤ largest_level)) (sym (determined c))
+    (tagged_small c.self.inside.units c.self.inside.place_tags c.self.invariant.are_blocks.is_aligned
     c.args.place)

@@ -8,7 +8,7 @@ use Rattle.std.specs.FinMap as map
 use Rattle.l6_store.specs.Blocks.{LiesIn, IsAlignedPlace}
 use Rattle.l6_store.specs.Buddy.{IsListed}
 use Rattle.l6_store.proofs.Arenas.{sound}
-use Rattle.l6_store.proofs.Changed.{opened_laid, opened_blocks, opened_order}
+use Rattle.l6_store.proofs.Opened.{opened_laid, opened_blocks, opened_order}
 use Rattle.l6_store.proofs.arena.Arena.open.Goals as goal
 
 cleared : (c : goal.After-set) → c.fill.new.self

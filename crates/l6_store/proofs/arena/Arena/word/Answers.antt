@@ -5,7 +5,7 @@ use Rattle.l6_word.specs.Numerals.{largest_level}
 use Rattle.l6_store.specs.Blocks.{block_at}
 use Rattle.l6_store.specs.inner.ArenaLayout.{ArenaLayout}
 use Rattle.l6_store.proofs.Multiples.{size_le}
-use Rattle.l6_store.proofs.Marked.{block_word}
+use Rattle.l6_store.proofs.Tagged.{block_word}
 use Rattle.l6_store.proofs.TagSizes.{past_size, sized_block}
 use Rattle.l6_store.proofs.arena.Arena.word.Goals as goal
 

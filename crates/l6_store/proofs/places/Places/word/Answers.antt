@@ -1,7 +1,6 @@
-use Rattle.std.proofs.Common.{◌≡◌, ℕ, ◌*◌, ◌≤◌, List, length, get_or, Some, refl, sym, ap, ◌∙◌, arith}
+use Rattle.std.proofs.Common.{◌≡◌, ℕ, ◌≤◌, List, length, get_or, Some, refl, sym, ap, ◌∙◌, arith}
 use Rattle.std.proofs.lemmas.Option.{slice_get_past, slice_get_read}
 use Rattle.std.specs.List.{slice_get}
-use Rattle.l6_word.specs.Numerals.{unit_size}
 use Rattle.l6_store.specs.Blocks.{block_at, end_of}
 use Rattle.l6_store.proofs.Live.{few_words, no_word_past}
 use Rattle.l6_store.proofs.places.Places.word.Goals as goal
@@ -9,10 +8,8 @@ use Rattle.l6_store.proofs.places.Places.word.Goals as goal
 pub returns-then-end-get-clause-value : goal.returns-then-end-get-clause-value
 returns-then-end-get-clause-value g c =
     let store = g.Self.Places.store c.args.self.now in
-    let product : c.from.result * c.from-2.result ≡ c.from.result * unit_size
-    = ap (λ (n : ℕ). c.from.result * n) c.from-2.ensures in
     let past : end_of store.units ≤ c.args.start
-    = omega (arith, c.units.ensures.value, c.get.ensures.value) in
+    = omega (arith, c.units.ensures.value, c.get.ensures.value, c.end_of.ensures, c.from-end.ensures) in
     sym (no_word_past store.units store.blocks c.units.ensures.sound.fits c.args.start c.args.index
     past)
 
@@ -23,7 +20,7 @@ returns-in_err-word-clause-value g c =
     (sym (c.block.ensures.value
     ∙ ap (block_at (g.Self.Places.store c.args.self.now).blocks) c.get-2.ensures.value))
     ∙ slice_get_past c.block.result.now c.args.index
-    (omega (arith, c.in_err-word.ensures.lookup, c.from-3.ensures)))
+    (omega (arith, c.in_err-word.ensures.lookup, c.from.ensures)))
 
 pub returns-clause-value : goal.returns-clause-value
 returns-clause-value g c =
@@ -32,24 +29,22 @@ returns-clause-value g c =
     (sym (c.block.ensures.value
     ∙ ap (block_at (g.Self.Places.store c.args.self.now).blocks) c.get-2.ensures.value))
     ∙ slice_get_read c.block.result.now (length c.block.result.now) c.args.index
-    c.in_ok-word.word.now refl (omega (arith, c.in_ok-word.ensures.lookup, c.from-3.ensures))
+    c.in_ok-word.word.now refl (omega (arith, c.in_ok-word.ensures.lookup, c.from.ensures))
     (c.in_ok-word.ensures.lookup.3.1 c.in_ok-word.word.now
-    ∙ ap (λ (i : ℕ). get_or c.block.result.now i c.in_ok-word.word.now) c.from-3.ensures))
+    ∙ ap (λ (i : ℕ). get_or c.block.result.now i c.in_ok-word.word.now) c.from.ensures))
 
 pub returns-clause-near : goal.returns-clause-near
 returns-clause-near g c =
     let store = g.Self.Places.store c.args.self.now in
-    let product : c.from.result * c.from-2.result ≡ c.from.result * unit_size
-    = ap (λ (n : ℕ). c.from.result * n) c.from-2.ensures in
     let words : length c.block.result.now ≡ length (block_at store.blocks c.args.start)
     = ap (λ (ws : List ℕ). length ws)
     (c.block.ensures.value ∙ ap (block_at store.blocks) c.get-2.ensures.value) in (
-      omega (arith, product, c.units.ensures.value, c.units.ensures.sound.most, c.get.ensures.value),
+      omega (arith, c.end_of.ensures, c.from-end.ensures, c.units.ensures.value, c.units.ensures.sound.most, c.get.ensures.value),
       omega (
         arith,
         words,
         few_words store.units store.blocks c.units.ensures.sound.fits c.args.start,
         c.in_ok-word.ensures.lookup,
-        c.from-3.ensures,
+        c.from.ensures,
       ),
     )

@@ -7,7 +7,7 @@ use Rattle.l6_store.specs.Open.{IsAnswer}
 use Rattle.l6_store.specs.Scan.{scan_rule}
 use Rattle.l6_store.specs.Store.{Store, IsSound, picked, after_get}
 use Rattle.l6_store.specs.inner.Tags.{store_of, IsKept}
-use Rattle.l6_store.specs.inner.PlaceTags.{AreSizes, IsMarked, IsCleared, IsFull, IsLowest}
+use Rattle.l6_store.specs.inner.PlaceTags.{AreSizes, IsTagged, IsCleared, IsFull, IsLowest}
 use Rattle.l6_store.specs.declared.tag.Tag.{Tag}
 use Rattle.l6_store.proofs.Gathered.{get-insert_same}
 use Rattle.l6_store.proofs.Runs.{raised_full}
@@ -17,7 +17,7 @@ use Rattle.l6_store.proofs.Kept.{picked_of_lowest, answer_of_lowest}
 use Rattle.l6_store.proofs.Calls.{got_kept, got_store}
 use Rattle.l6_store.proofs.scan_store.ScanStorePlaces.get.Goals as goal
 
--- what the scan found, told of the store's own tags
+-- what the scan found, in the store's own tags
 lowest_none : (c : goal.After-from_residual)
     → IsLowest c.self.inside.tags.items (2 ^ c.args.level) c.lowest_open.result
 lowest_none c =
@@ -55,10 +55,10 @@ lowest c =
     (subst (λ (tags : List Tag). IsLowest tags (2 ^ c.args.level) c.lowest_open.result)
     c.deref.ensures.value c.lowest_open.ensures)
 
-marked : (c : goal.After-self-4-1)
-    → IsMarked c.self.inside.tags.items c.place_tag.new.tags c.in_ok-place.place c.args.level
-marked c =
-    subst (λ (old : List Tag). IsMarked old c.place_tag.new.tags c.in_ok-place.place c.args.level)
+with_tag : (c : goal.After-self-4-1)
+    → IsTagged c.self.inside.tags.items c.place_tag.new.tags c.in_ok-place.place c.args.level
+with_tag c =
+    subst (λ (old : List Tag). IsTagged old c.place_tag.new.tags c.in_ok-place.place c.args.level)
     c.deref_mut.ensures.value c.place_tag.ensures
 
 cleared : (c : goal.After-self-4-1)
@@ -73,7 +73,7 @@ tags_are : (c : goal.After-self-4-1)
     → (with_items c.self.inside.tags c.place_tag.new.tags).items ≡ c.place_tag.new.tags
 tags_are c =
     with_items_is c.self.inside.tags c.place_tag.new.tags
-    ((marked c).count ∙ sym c.self.inside.tags.ok.0)
+    ((with_tag c).count ∙ sym c.self.inside.tags.ok.0)
 
 words_are : (c : goal.After-self-4-1)
     → (with_items c.self.inside.words c.clear.new.words).items ≡ c.clear.new.words
@@ -91,7 +91,7 @@ kept c =
     (got_kept c.self.inside.units c.self.inside.tags.items c.place_tag.new.tags
     c.self.inside.words.items
     c.clear.new.words c.self.invariant.kept
-    c.in_ok-place.place c.args.level c.requires (lowest c).0 (marked c) (cleared c)))
+    c.in_ok-place.place c.args.level c.requires (lowest c).0 (with_tag c) (cleared c)))
 
 pub invariant_of-self : goal.invariant_of-self
 invariant_of-self c = record {
@@ -100,13 +100,13 @@ invariant_of-self c = record {
       (set c.self.inside.sizes.items c.in_ok-place.place (1 * 2 ^ c.args.level % 2 ^ 16)))
       (sym (tags_are c))
       (got_sizes c.self.inside.tags.items c.place_tag.new.tags c.self.inside.sizes.items
-      c.in_ok-place.place c.args.level c.self.invariant.sized (lowest c).0 (marked c)
+      c.in_ok-place.place c.args.level c.self.invariant.sized (lowest c).0 (with_tag c)
       (1 * 2 ^ c.args.level % 2 ^ 16)
       (one_shl c.args.level 16 (omega (arith, c.requires))));
   full = subst (λ (ts : List Tag). IsFull ts c.raised-self-inside.result) (sym (tags_are c))
       (raised_full c.self.inside.tags.items c.place_tag.new.tags c.self.inside.low c.in_ok-place.place
       c.args.level c.raised-self-inside.result
-      c.self.invariant.full (lowest c) (marked c) c.raised-self-inside.ensures);
+      c.self.invariant.full (lowest c) (with_tag c) c.raised-self-inside.ensures);
 }
 
 pub returns-clause-pick : goal.returns-clause-pick
@@ -130,7 +130,7 @@ returns-clause-after c =
     ∙ ap (λ (ws : List ℕ). store_of c.self.inside.units c.place_tag.new.tags ws) (words_are c)
     ∙ got_store c.self.inside.units c.self.inside.tags.items c.place_tag.new.tags
     c.self.inside.words.items c.clear.new.words c.self.invariant.kept
-    c.in_ok-place.place c.args.level (lowest c).0 (marked c) (cleared c)
+    c.in_ok-place.place c.args.level (lowest c).0 (with_tag c) (cleared c)
     ∙ ap (λ (s : Store). after_get scan_rule s c.args.level (Some c.in_ok-place.place))
     c.self.view_is
 

@@ -6,12 +6,12 @@ use Rattle.l6_store.specs.Blocks.{IsLive}
 use Rattle.l6_store.specs.Store.{Store}
 use Rattle.l6_store.specs.inner.Tags.{tag_at, level_of}
 use Rattle.l6_store.specs.declared.tag.Tag.{Tag}
-use Rattle.l6_store.proofs.Calls.{size_told, small_told, told_live, live_level}
+use Rattle.l6_store.proofs.Calls.{size_known, small_known, known_live, live_level}
 use Rattle.l6_store.proofs.scan_store.ScanStorePlaces.live.Goals as goal
 
-told : (c : goal.After-level_at) →
+determined : (c : goal.After-level_at) →
     c.level_at.result ≡ level_of (tag_at c.self.inside.tags.items c.args.word)
-told c =
+determined c =
     c.level_at.ensures
     ∙ ap (λ (tags : List Tag). level_of (tag_at tags c.get.result)) c.deref.ensures.value
     ∙ ap (λ (place : ℕ). level_of (tag_at c.self.inside.tags.items place)) c.get.ensures.value
@@ -19,23 +19,23 @@ told c =
 pub returns-clause-live : goal.returns-clause-live
 returns-clause-live c = (
   λ some. subst (λ (s : Store). IsLive s.blocks c.args.word) c.self.view_is
-      (told_live c.self.inside.tags.items c.self.inside.words.items c.args.word
-      (subst (λ (answer : Option ℕ). IsSome answer) (told c) some)),
-  λ live. subst (λ (answer : Option ℕ). IsSome answer) (sym (told c))
+      (known_live c.self.inside.tags.items c.self.inside.words.items c.args.word
+      (subst (λ (answer : Option ℕ). IsSome answer) (determined c) some)),
+  λ live. subst (λ (answer : Option ℕ). IsSome answer) (sym (determined c))
       (live_level c.self.inside.tags.items c.self.inside.words.items c.args.word
       (subst (λ (s : Store). IsLive s.blocks c.args.word) (sym c.self.view_is) live)),
 )
 
 pub returns-clause-size : goal.returns-clause-size
 returns-clause-size c =
-    ap (λ (answer : Option ℕ). option_map (λ (level : ℕ). 2 ^ level) answer) (told c)
-    ∙ size_told c.self.inside.units c.self.inside.tags.items c.self.inside.words.items
+    ap (λ (answer : Option ℕ). option_map (λ (level : ℕ). 2 ^ level) answer) (determined c)
+    ∙ size_known c.self.inside.units c.self.inside.tags.items c.self.inside.words.items
     c.self.invariant.kept c.args.word
     ∙ ap (λ (s : Store). option_map (λ (block : List ℕ). length block)
     (map.get s.blocks c.args.word)) c.self.view_is
 
 pub returns-clause-level : goal.returns-clause-level
 returns-clause-level c =
-    subst (λ (answer : Option ℕ). IfSome answer (λ level. level ≤ largest_level)) (sym (told c))
-    (small_told c.self.inside.units c.self.inside.tags.items c.self.invariant.kept.are_tags
+    subst (λ (answer : Option ℕ). IfSome answer (λ level. level ≤ largest_level)) (sym (determined c))
+    (small_known c.self.inside.units c.self.inside.tags.items c.self.invariant.kept.are_tags
     c.args.word)

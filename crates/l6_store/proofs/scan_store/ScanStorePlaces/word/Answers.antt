@@ -14,7 +14,7 @@ size_here c =
     ∙ ap (λ (sizes : List ℕ). get_or sizes c.get-start.result 0) c.deref.ensures.value
     ∙ ap (λ (place : ℕ). get_or c.self.inside.sizes.items place 0) c.get-start.ensures.value
 
--- .. so it tells whether the block has the word
+-- .. so it says whether the block has the word
 below_size : (c : Then-index-size_at) →
     c.args.index < get_or c.self.inside.sizes.items c.args.start 0
 below_size c = omega (arith, c.if-index-size_at.true, size_here c.before)

@@ -1,0 +1,2 @@
+pub mod DeviceUses
+pub mod Transfers

@@ -1,0 +1,7 @@
+pub mod Numerals
+pub mod Device
+pub mod Host
+pub mod Fault
+pub mod Patience
+pub mod Transfer
+pub mod inner

@@ -43,7 +43,7 @@ pub(crate) fn chain_of(element: &[u8]) -> Option<Chain>
             names.push(name);
         }
     }
-    Chain::from_names(names)
+    Chain::new(names.as_slice())
 }
 
 /// The operand that an element spells: a chain or a decimal number.

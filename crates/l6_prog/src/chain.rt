@@ -6,7 +6,6 @@ ghost use Rattle.l6_prog.specs.Chain.{is_chain, is_name};
 ghost use Rattle.l6_prog.specs.Numerals.{first_letter};
 
 use crate::name::Name;
-use arrayvec::ArrayVec;
 use std::alloc::AllocError;
 use std::marker::Model;
 
@@ -15,22 +14,27 @@ pub const MAX_NAMES: usize = 6;
 
 /// A path to a word: 1 to 6 names, the first a letter. One name is a bug itself; each further name
 /// is a field of the block that the names before it lead to.
+// A program keeps up to three for each operation, so it is as small as can be.
 #[derive(Debug, Drop)]
 pub struct Chain {
-    names: ArrayVec<Name, MAX_NAMES>,
+    /// The names, and places that are not used.
+    names: [Name; MAX_NAMES],
+    /// How many names there are.
+    count: u8,
 }
 
 impl Model for Chain {
-    ghost use Rattle.std.specs.Prelude.{◌≡◌, ℕ, List, true};
+    ghost use Rattle.std.specs.Prelude.{◌≡◌, ◌≤◌, ℕ, List, length, take, true};
     ghost use Rattle.l6_prog.specs.Chain.{is_chain};
+    ghost use Rattle.l6_prog.specs.Numerals.{most_names};
 
     ghost Value = { List ℕ };
 
-    ghost view = { λ chain. chain.names.items };
+    ghost view = { λ chain. take chain.count chain.names };
 
-    ghost invariant = { λ chain. is_chain chain.names.items ≡ true };
-
-    ghost inverse = { λ names. record { names = record { items = names } } };
+    ghost invariant = { λ chain. (chain.count ≤ most_names)
+        × (length chain.names ≡ most_names)
+        × (is_chain (take chain.count chain.names) ≡ true) };
 }
 
 impl Chain {
@@ -40,21 +44,16 @@ impl Chain {
         ensures valid { IsSome result ↔ IsTrue (is_chain names.now) }
         ensures value { IfSome result (λ chain. chain ≡ names.now) }
     {
-        Self::from_names(ArrayVec::try_from(names).ok()?)
-    }
-
-    /// The chain of these names, or `None` where they are no chain: where there is none, or where
-    /// the first is no letter.
-    pub fn from_names(names: ArrayVec<Name, MAX_NAMES>) -> Option<Self>
-        ensures valid { IsSome result ↔ IsTrue (is_chain names.items) }
-        ensures value { IfSome result (λ chain. chain ≡ names.items) }
-    {
-        reveal_names(&names);
-        if names.first()?.is_letter() {
-            Some(Chain { names })
-        } else {
-            None
+        reveal_names(names);
+        if names.len() > MAX_NAMES || !names.first()?.is_letter() {
+            return None;
         }
+        let mut kept = [Name::default(); MAX_NAMES];
+        kept[..names.len()].copy_from_slice(names);
+        Some(Chain {
+            names: kept,
+            count: names.len() as u8,
+        })
     }
 
     /// The names, the bug first.
@@ -62,7 +61,7 @@ impl Chain {
         ensures value { result.now ≡ self.now }
         ensures chain { IsTrue (is_chain result.now) }
     {
-        self.names.as_slice()
+        &self.names[..usize::from(self.count)]
     }
 
     /// The first name, the letter of a bug.
@@ -100,8 +99,9 @@ impl Clone for Chain {
     ghost is_infallible = { λ _. ⊤ };
 
     fn clone(&self) -> Result<Self, AllocError> {
-        let mut names = ArrayVec::new();
-        names.try_extend_from_slice(self.names.as_slice()).unwrap();
-        Ok(Chain { names })
+        Ok(Chain {
+            names: self.names,
+            count: self.count,
+        })
     }
 }

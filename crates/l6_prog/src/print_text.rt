@@ -4,7 +4,6 @@ ghost use Rattle.std.specs.Prelude.{⊤, ◌≡◌, ◌↔◌, true, IsTrue, IsS
 ghost use Rattle.std.specs.List.{list_all};
 ghost use Rattle.l6_prog.specs.PrintText.{is_print_text, may_print};
 
-use arrayvec::ArrayVec;
 use l6_word::CODE_COUNT;
 use std::alloc::AllocError;
 use std::marker::Model;
@@ -14,22 +13,27 @@ pub const MAX_CHARACTERS: usize = 60;
 
 /// The text of an operation that prints it: 1 to 60 characters as their codes, none of them a comma
 /// or a parenthesis, since a card could not spell those.
+// The longest operand of an operation, so it has no byte more than it needs.
 #[derive(Debug, Drop)]
 pub struct PrintText {
-    codes: ArrayVec<u8, MAX_CHARACTERS>,
+    /// The codes, and places that are not used.
+    codes: [u8; MAX_CHARACTERS],
+    /// How many codes there are.
+    count: u8,
 }
 
 impl Model for PrintText {
-    ghost use Rattle.std.specs.Prelude.{◌≡◌, ℕ, List, true};
+    ghost use Rattle.std.specs.Prelude.{◌≡◌, ◌≤◌, ℕ, List, length, take, true};
+    ghost use Rattle.l6_prog.specs.Numerals.{most_characters};
     ghost use Rattle.l6_prog.specs.PrintText.{is_print_text};
 
     ghost Value = { List ℕ };
 
-    ghost view = { λ text. text.codes.items };
+    ghost view = { λ text. take text.count text.codes };
 
-    ghost invariant = { λ text. is_print_text text.codes.items ≡ true };
-
-    ghost inverse = { λ codes. record { codes = record { items = codes } } };
+    ghost invariant = { λ text. (text.count ≤ most_characters)
+        × (length text.codes ≡ most_characters)
+        × (is_print_text (take text.count text.codes) ≡ true) };
 }
 
 impl PrintText {
@@ -39,11 +43,15 @@ impl PrintText {
         ensures valid { IsSome result ↔ IsTrue (is_print_text codes.now) }
         ensures value { IfSome result (λ text. text ≡ codes.now) }
     {
-        if codes.is_empty() || !each_may_print(codes) {
+        if codes.is_empty() || codes.len() > MAX_CHARACTERS || !each_may_print(codes) {
             return None;
         }
-        let codes = ArrayVec::try_from(codes).ok()?;
-        Some(PrintText { codes })
+        let mut kept = [0; MAX_CHARACTERS];
+        kept[..codes.len()].copy_from_slice(codes);
+        Some(PrintText {
+            codes: kept,
+            count: codes.len() as u8,
+        })
     }
 
     /// The codes of the characters, in order.
@@ -51,7 +59,7 @@ impl PrintText {
         ensures value { result.now ≡ self.now }
         ensures text { IsTrue (is_print_text result.now) }
     {
-        self.codes.as_slice()
+        &self.codes[..usize::from(self.count)]
     }
 
     /// Does nothing. Its clause gives the prover what is true of every text.
@@ -88,8 +96,9 @@ impl Clone for PrintText {
     ghost is_infallible = { λ _. ⊤ };
 
     fn clone(&self) -> Result<Self, AllocError> {
-        let mut codes = ArrayVec::new();
-        codes.try_extend_from_slice(self.codes.as_slice()).unwrap();
-        Ok(PrintText { codes })
+        Ok(PrintText {
+            codes: self.codes,
+            count: self.count,
+        })
     }
 }

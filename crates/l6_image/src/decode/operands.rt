@@ -10,7 +10,7 @@ ghost use Rattle.l6_image.specs.inner.decode.Seen.{slot_seen};
 
 use crate::decode::reader::Slot;
 use arrayvec::ArrayVec;
-use l6_prog::{Chain, MAX_CHARACTERS, Name, Operand, PrintText};
+use l6_prog::{Chain, MAX_CHARACTERS, MAX_NAMES, Name, Operand, PrintText};
 use l6_word::Word;
 
 impl<'a> Slot<'a> {
@@ -87,14 +87,14 @@ impl<'a> Slot<'a> {
 fn chain_in(word: u64) -> Option<Chain>
     ensures { result ≡ spec.chain_from (names_in word) }
 {
-    let mut names = ArrayVec::new();
+    let mut names: ArrayVec<Name, MAX_NAMES> = ArrayVec::new();
     for item in items_in(word) {
         match Name::new(item) {
             Some(name) => names.push(name),
-            None => return Chain::from_names(names),
+            None => return Chain::new(names.as_slice()),
         }
     }
-    Chain::from_names(names)
+    Chain::new(names.as_slice())
 }
 
 /// The text of the first so many codes in words.

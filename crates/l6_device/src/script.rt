@@ -29,6 +29,11 @@ impl<T> Script<T> {
         ensures device { device_of result.host ≡ device }
         ensures health { health_of result.host
             ≡ record { interruptions = 0; has_failed = false } }
+        // Its troubles are those that were asked for.
+        ensures most { result.most ≡ most }
+        ensures interruptions { result.interruptions ≡ interruptions }
+        ensures failing { result.failing ≡ failing }
+        ensures calls { result.calls ≡ 0 }
     {
         Script {
             host: Host::new(device),
@@ -40,7 +45,9 @@ impl<T> Script<T> {
     }
 
     /// How often it was asked. The count stops at `u64::MAX`.
-    pub fn calls(&self) -> u64 {
+    pub fn calls(&self) -> u64
+        ensures { result ≡ self.now.calls }
+    {
         self.calls
     }
 

@@ -58,7 +58,7 @@ unfolding words_in
 program-length version program = omega arith
 
 -- so the text of an image has a line for each word of the statements, and three more
-image-length : (version : Version) (program : List Parts) →
+pub image-length : (version : Version) (program : List Parts) →
     length (text_in version program) ≡ (word_octals + 1) * (length (body version program) + 3)
 unfolding text_in
 image-length version program =

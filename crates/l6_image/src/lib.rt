@@ -13,5 +13,5 @@ pub use decode::loading::{MAX_BYTES, load};
 pub use encode::writing::{statement_words, words_of};
 pub use fault::LoadFault;
 pub use laws::{images_are_of_one_program, images_have_their_numbers};
-pub use text::text_of;
+pub use text::{LINE_BYTES, push_lines, text_of};
 pub use version::Version;

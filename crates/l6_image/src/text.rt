@@ -1,6 +1,6 @@
 //! Words as lines of octal digits.
 
-ghost use Rattle.std.specs.Prelude.{◌≡◌, ◌<◌, ◌≤◌, ◌+◌, ◌^◌, ◌++◌, length, true, false, IfOk, IfErr, IfSome, IfNone};
+ghost use Rattle.std.specs.Prelude.{◌≡◌, ◌<◌, ◌≤◌, ◌+◌, ◌^◌, ◌++◌, ◌*◌, length, vec_capacity, true, false, IsOk, OnOk, IfOk, IfErr, IfSome, IfNone};
 ghost use Rattle.std.specs.List.{list_all};
 ghost use Rattle.l6_word.specs.Numerals.{word_bits};
 ghost use Rattle.l6_word.specs.Word.{is_word};
@@ -18,7 +18,7 @@ use l6_word::{OCTALS, Word, octal12, read_octal12};
 use std::alloc::{AllocError, Global};
 
 /// How many bytes the line of a word has: its octal digits and a line feed.
-const LINE_BYTES: usize = OCTALS + 1;
+pub const LINE_BYTES: usize = OCTALS + 1;
 
 /// The text of a program's image: a line for each of its words.
 ///
@@ -41,11 +41,27 @@ fn text_of_words(alloc: Global, words: &[u64]) -> Result<Vec<u8>, AllocError>
     ensures { IfOk result (λ text. text.items ≡ spec.text_of_words words.now) }
 {
     let mut text = Vec::with_capacity(alloc, words.len().saturating_mul(LINE_BYTES))?;
-    for word in words {
-        text.extend_from_slice(&octal12(Word::from_value(*word)))?;
-        text.push(b'\n')?;
-    }
+    push_lines(&mut text, words)?;
     Ok(text)
+}
+
+/// Appends the lines of words. The caller owes that each word is below 2^36.
+///
+/// # Errors
+///
+/// Memory ran out, which it can't if there is room for all lines, `LINE_BYTES` each.
+pub fn push_lines(lines: &mut Vec<u8>, words: &[u64]) -> Result<(), AllocError>
+    requires { list_all is_word words.now ≡ true }
+    ensures lines { OnOk result (lines.new.items ≡ lines.old.items ++ spec.text_of_words words.now) }
+    ensures capacity { vec_capacity lines.old ≤ vec_capacity lines.new }
+    ensures succeeds { length lines.old.items + length words.now * LINE_BYTES ≤ vec_capacity lines.old
+        → IsOk result }
+{
+    for word in words {
+        lines.extend_from_slice(&octal12(Word::from_value(*word)))?;
+        lines.push(b'\n')?;
+    }
+    Ok(())
 }
 
 /// The words of a text's lines, or the first line that is not one of a word.

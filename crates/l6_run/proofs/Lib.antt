@@ -1,2 +1,3 @@
 pub mod Printouts
 pub mod Servings
+pub mod WordLines

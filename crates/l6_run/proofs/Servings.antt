@@ -1,5 +1,5 @@
 -- What a writer took of an answer is what the call has served, and that is no trouble of a reader.
-use Rattle.std.proofs.Common.{◌≡◌, ◌<◌, ◌≤◌, ℕ, false, List, length, take, Option, Result, Ok, Err, arith, refl, subst}
+use Rattle.std.proofs.Common.{◌≡◌, ◌<◌, ◌≤◌, ℕ, false, List, length, take, Option, Result, Ok, Err, OnOk, IfErr, arith, refl, subst}
 use Rattle.std.specs.Io.KnownBytes.{Appends}
 use Rattle.l6_device.specs.Numerals.{most_counted}
 use Rattle.l6_device.specs.Patience.{reports_read, reported_by}
@@ -28,6 +28,16 @@ front_served Outcome Answers Refuses outcome text old new (Write n) few answers 
       short = subst (λ (k : ℕ). k < length text) same ends.short;
       out = subst (λ (k : ℕ). Appends old new (take k text)) same ends.front;
     }
+
+-- a call that writes a text, and answers as the writing does, has served it
+pub text_served : (Answers : Unit {0} → List ℕ → Type 0) (Refuses : RunFault → Type 0)
+    (text : List ℕ) (old new : Option (List ℕ)) (result : Result (Unit {0}) RunFault) →
+    length text ≤ most_counted → Answers tt text → OnOk result (Appends old new text) →
+    IfErr result (EndsWriting text 0 old new) → Serves Answers Refuses old new result
+text_served Answers Refuses text old new (Ok _) few answers ok err =
+    record { text = text; answers = answers; out = ok }
+text_served Answers Refuses text old new (Err fault) few answers ok err =
+    front_served (Unit {0}) Answers Refuses tt text old new fault few answers err
 
 -- what serves a text reports no trouble of a reader
 pub unreported-reader : {Outcome : Type 0} (Answers : Outcome → List ℕ → Type 0)

@@ -1,17 +1,21 @@
 //! What is written of a deck that is not run, its image or its listing, and of an image that is
 //! rewritten.
 
-ghost use Rattle.std.specs.Prelude.{◌≡◌, ◌≤◌, length, IfOk, IfErr};
+ghost use Rattle.std.specs.Prelude.{◌≡◌, ◌≤◌, length, true, IfOk, IfErr};
+ghost use Rattle.std.specs.List.{list_all};
+ghost use Rattle.l6_word.specs.Word.{is_word};
 ghost use Rattle.l6_image.specs.Numerals.{most_bytes};
+ghost use Rattle.l6_image.specs.Text.{text_of_words};
 ghost use Rattle.l6_card.specs.Numerals.{most_deck_bytes};
 ghost use Rattle.l6_device.specs.Patience.{WriterRetries};
 ghost use Rattle.l6_run.specs.Serves.{IsUnwritten, Serves};
 ghost use Rattle.l6_run.specs.Texts.{RefusesCards, RefusesRewriting, RewritesImage, WritesImage, WritesListing};
 ghost use Rattle.l6_run.specs.inner.Running.{HasNoText};
 
+use crate::lines::{room_for_lines, write_words};
 use l6_asm::{assemble, listing};
 use l6_device::{Part, Patience, RunFault, Sink, write_text};
-use l6_image::{load, text_of};
+use l6_image::{load, words_of};
 use std::alloc::Global;
 
 /// Writes the text of a deck's image.
@@ -32,19 +36,21 @@ pub fn write_deck_image<W: Sink>(
         patience.old patience.new result }
 {
     Part::Deck.check(deck)?;
-    let text = image_of(alloc, deck)?;
-    write_text(writer, text.as_slice(), 0, patience)
+    let words = image_of(alloc, deck)?;
+    let mut lines = room_for_lines(alloc)?;
+    write_words(writer, &words, &mut lines, patience)
 }
 
-/// The text of a deck's image.
-fn image_of(alloc: Global, deck: &[u8]) -> Result<Vec<u8>, RunFault>
+/// The words of a deck's image.
+fn image_of(alloc: Global, deck: &[u8]) -> Result<Vec<u64>, RunFault>
     requires { length deck.now ≤ most_deck_bytes }
-    ensures image { IfOk result (λ text. WritesImage deck.now text.items) }
+    ensures image { IfOk result (λ words. WritesImage deck.now (text_of_words words.items)) }
+    ensures known { IfOk result (λ words. list_all is_word words.items ≡ true) }
     ensures refuses { IfErr result (HasNoText (RefusesCards deck.now)) }
 {
     let assembly = assemble(alloc, deck)?;
-    let text = text_of(alloc, assembly.program())?;
-    Ok(text)
+    let words = words_of(alloc, assembly.program())?;
+    Ok(words)
 }
 
 /// Writes the listing of a deck.
@@ -98,17 +104,19 @@ pub fn rewrite_image_text<W: Sink>(
         patience.old patience.new result }
 {
     Part::Image.check(image)?;
-    let text = renewed(alloc, image)?;
-    write_text(writer, text.as_slice(), 0, patience)
+    let words = renewed(alloc, image)?;
+    let mut lines = room_for_lines(alloc)?;
+    write_words(writer, &words, &mut lines, patience)
 }
 
-/// The text of an image, rewritten in the current version.
-fn renewed(alloc: Global, image: &[u8]) -> Result<Vec<u8>, RunFault>
+/// The words of an image, in the current version.
+fn renewed(alloc: Global, image: &[u8]) -> Result<Vec<u64>, RunFault>
     requires { length image.now ≤ most_bytes }
-    ensures image { IfOk result (λ text. RewritesImage image.now text.items) }
+    ensures image { IfOk result (λ words. RewritesImage image.now (text_of_words words.items)) }
+    ensures known { IfOk result (λ words. list_all is_word words.items ≡ true) }
     ensures refuses { IfErr result (HasNoText (RefusesRewriting image.now)) }
 {
     let program = load(alloc, image)?;
-    let text = text_of(alloc, &program)?;
-    Ok(text)
+    let words = words_of(alloc, &program)?;
+    Ok(words)
 }

@@ -1,6 +1,6 @@
 //! From texts to programs.
 
-ghost use Rattle.std.specs.Prelude.{◌≡◌, ◌≤◌, ◌↔◌, List, length, IfOk, IfErr, IsTrue};
+ghost use Rattle.std.specs.Prelude.{◌≡◌, ◌≤◌, List, length, IfOk, IfErr};
 ghost use Rattle.l6_prog.specs.Statement.{Parts};
 ghost use Rattle.l6_image.specs.Load.{Loads, TextHasFault};
 ghost use Rattle.l6_image.specs.Numerals.{most_bytes};
@@ -10,7 +10,7 @@ ghost use Rattle.l6_image.specs.inner.decode.Loading as spec;
 ghost use Rattle.l6_image.specs.inner.decode.Seen.{Gives};
 
 use crate::decode::statements::statements_of;
-use crate::encode::writing::words_in as words_in_version;
+use crate::encode::comparing::are_words_of;
 use crate::fault::{LoadFault, ReadFault};
 use crate::text::words_in;
 use crate::version::Version;
@@ -28,7 +28,7 @@ pub const MAX_BYTES: usize = 1 << 23;
 /// of the first such line, counted from 1. If there is none, and the text is no image, it is
 /// `NotAnImage`.
 // The words are read without regard to bits that must be zero, to counts and to words after the
-// last statement. What was read is then written again, and must give the same words.
+// last statement. What was read must then give the same words.
 pub fn load(alloc: Global, text: &[u8]) -> Result<Program, LoadFault>
     requires { length text.now ≤ most_bytes }
 
@@ -39,8 +39,7 @@ pub fn load(alloc: Global, text: &[u8]) -> Result<Program, LoadFault>
 {
     let words = words_in(alloc, text)?;
     let (version, program) = program_in(alloc, &words)?;
-    let written = words_in_version(alloc, version, &program)?;
-    if !are_same(&written, &words) {
+    if !are_words_of(alloc, &words, version, &program)? {
         return Err(LoadFault::NotAnImage);
     }
     Ok(program)
@@ -62,11 +61,4 @@ fn program_in(alloc: Global, words: &[u64]) -> Result<(Version, Program), ReadFa
         return Err(ReadFault::NotAnImage);
     }
     Ok((version, program))
-}
-
-/// Whether two lists of words are equal.
-fn are_same(one: &[u64], other: &[u64]) -> bool
-    ensures { IsTrue result ↔ (one.now ≡ other.now) }
-{
-    one == other
 }

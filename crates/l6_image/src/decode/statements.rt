@@ -75,7 +75,7 @@ fn tests_at(
     ensures { Gives (λ found. (found.0.items, found.1.now)) result
         (spec.many (spec.test_at version) count words.now) }
 {
-    let mut tests = Vec::new(alloc);
+    let mut tests = Vec::with_capacity(alloc, count as usize)?;
     let mut rest = words;
     for _ in 0..count {
         let (test, following) = test_at(version, rest)?;
@@ -95,7 +95,7 @@ fn operations_at(
     ensures { Gives (λ found. (found.0.items, found.1.now)) result
         (spec.many (spec.operation_at version) count words.now) }
 {
-    let mut operations = Vec::new(alloc);
+    let mut operations = Vec::with_capacity(alloc, count as usize)?;
     let mut rest = words;
     for _ in 0..count {
         let (operation, following) = operation_at(version, rest)?;

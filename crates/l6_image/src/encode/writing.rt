@@ -22,31 +22,20 @@ use std::alloc::{AllocError, Global};
 /// # Errors
 ///
 /// Memory ran out.
+#[tactic(auto, unfolding(crate::specs::Image::words_in))]
 pub fn words_of(alloc: Global, program: &Program) -> Result<Vec<u64>, AllocError>
     ensures words { IfOk result (λ words. words.items ≡ spec.words_of program.now) }
+    // Each is below 2^36.
+    ensures fit { IfOk result (λ words. list_all is_word words.items ≡ true) }
     // Every program has an image.
     ensures known { spec.HasImage Two program.now }
 {
-    words_in(alloc, Version::Two, program)
-}
-
-/// The words of a program's image in a version, which the first one has for short programs alone.
-#[tactic(auto, unfolding(crate::specs::Image::words_in))]
-pub(crate) fn words_in(
-    alloc: Global,
-    version: Version,
-    program: &Program,
-) -> Result<Vec<u64>, AllocError>
-    ensures words { IfOk result (λ words. words.items ≡ spec.words_in version program.now) }
-    ensures known { length program.now ≤ most_in version → spec.HasImage version program.now }
-    ensures count { length program.now ≤ most_statements }
-{
     let statements = program.statements();
     let mut words = Vec::new(alloc);
-    words.push(version.magic())?;
+    words.push(Version::Two.magic())?;
     words.push(statements.len() as u64)?;
     words.push(0)?;
-    push_statements(version, &mut words, statements)?;
+    push_statements(Version::Two, &mut words, statements)?;
     words[2] = (words.len() - 3) as u64;
     Ok(words)
 }
@@ -88,7 +77,7 @@ fn push_statements(
 }
 
 /// Writes the words of a statement.
-fn push_statement(
+pub(crate) fn push_statement(
     version: Version,
     words: &mut Vec<u64>,
     statement: &Statement,

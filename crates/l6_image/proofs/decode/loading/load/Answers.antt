@@ -1,5 +1,4 @@
-use Rattle.std.proofs.Common.{false, refl, ◌≡◌, ℕ, List, Some, ap, sym, ◌∙◌, subst}
-use Rattle.std.proofs.lemmas.Bool.{both_ways}
+use Rattle.std.proofs.Common.{◌≡◌, ℕ, List, Some, ap, sym, ◌∙◌, subst}
 use Rattle.std.proofs.lemmas.Result.{err_from_is_err_and}
 use Rattle.l6_image.specs.Image.{words_in}
 use Rattle.l6_image.specs.Text.{text_in, text_of_words}
@@ -36,39 +35,37 @@ returns-in_err-version-clause-fault c =
     (words_show c.args.text.now words c.in_ok-words.ensures.known c.in_ok-words.ensures.words
     c.in_err-version.field-0.0 fails)
 
-pub returns-then-not-are_same-clause-complete : goal.returns-then-not-are_same-clause-complete
-returns-then-not-are_same-clause-complete c program image =
+pub returns-then-not-branch-clause-complete : goal.returns-then-not-branch-clause-complete
+returns-then-not-branch-clause-complete c program image =
     let words = c.in_ok-words.words.items in
     let is : program_in words ≡ Some (c.in_ok-version.version, c.in_ok-version.program) =
     ap program_in (sym c.deref.ensures.value) ∙ c.in_ok-version.ensures.found in
     let differ : words_in c.in_ok-version.version c.in_ok-version.program ≡ words → ⊥ =
-    λ equal. both_ways false refl (c.if-not-are_same.ensures.1
-    (c.deref-2.ensures.value ∙ c.in_ok-written.ensures.words ∙ equal
-    ∙ sym c.deref-3.ensures.value)) in
+    λ equal. let no = c.if-not-branch.true in
+    let yes = c.in_ok-are_words_of.ensures.same.1 (c.deref-2.ensures.value ∙ sym equal) in
+    absurd (cc) in
     others_load c.args.text.now words c.in_ok-words.ensures.known c.in_ok-words.ensures.words
     (c.in_ok-version.version, c.in_ok-version.program) program is differ image
 
-pub returns-then-not-are_same-clause-fault : goal.returns-then-not-are_same-clause-fault
-returns-then-not-are_same-clause-fault c =
+pub returns-then-not-branch-clause-fault : goal.returns-then-not-branch-clause-fault
+returns-then-not-branch-clause-fault c =
     let words = c.in_ok-words.words.items in
     let is : program_in words ≡ Some (c.in_ok-version.version, c.in_ok-version.program) =
     ap program_in (sym c.deref.ensures.value) ∙ c.in_ok-version.ensures.found in
     let differ : words_in c.in_ok-version.version c.in_ok-version.program ≡ words → ⊥ =
-    λ equal. both_ways false refl (c.if-not-are_same.ensures.1
-    (c.deref-2.ensures.value ∙ c.in_ok-written.ensures.words ∙ equal
-    ∙ sym c.deref-3.ensures.value)) in
+    λ equal. let no = c.if-not-branch.true in
+    let yes = c.in_ok-are_words_of.ensures.same.1 (c.deref-2.ensures.value ∙ sym equal) in
+    absurd (cc) in
     others_show c.args.text.now words c.in_ok-words.ensures.known c.in_ok-words.ensures.words
     (c.in_ok-version.version, c.in_ok-version.program) is differ
 
 pub returns-clause-sound : goal.returns-clause-sound
 unfolding text_in
 returns-clause-sound c =
-    let same = c.if-not-are_same.ensures.0 refl in (
+    let same = c.in_ok-are_words_of.ensures.same.0 c.if-not-branch.false in (
       c.in_ok-version.version,
-      c.in_ok-written.ensures.known c.in_ok-version.ensures.few,
-      c.in_ok-words.ensures.words
-          ∙ ap text_of_words (sym c.deref-3.ensures.value ∙ sym same ∙ c.deref-2.ensures.value
-          ∙ c.in_ok-written.ensures.words),
+      c.in_ok-are_words_of.ensures.known c.in_ok-version.ensures.few,
+      c.in_ok-words.ensures.words ∙ ap text_of_words (sym c.deref-2.ensures.value ∙ same),
     )
 
 pub returns-clause-complete : goal.returns-clause-complete

@@ -7,7 +7,8 @@ use Rattle.l6_image.proofs.decode.statements.operations_at.Goals as goal
 pub returns-in_err-operation : goal.returns-in_err-operation
 returns-in_err-operation c =
     let now = c.loop in
-    let p = err_from_is_err_and c.from_residual.result c.from_residual.ensures.1 in
+    let p = err_from_is_err_and c.from_residual-in_err-operation.result
+    c.from_residual-in_err-operation.ensures.1 in
     rw (p.1, p.2)
     (fails (operation_at c.args.version) now.operations.items c.args.count now.counter now.rest.now
     c.args.words.now

@@ -7,7 +7,8 @@ use Rattle.l6_image.proofs.decode.statements.tests_at.Goals as goal
 pub returns-in_err-test : goal.returns-in_err-test
 returns-in_err-test c =
     let now = c.loop in
-    let p = err_from_is_err_and c.from_residual.result c.from_residual.ensures.1 in
+    let p = err_from_is_err_and c.from_residual-in_err-test.result
+    c.from_residual-in_err-test.ensures.1 in
     rw (p.1, p.2)
     (fails (test_at c.args.version) now.tests.items c.args.count now.counter now.rest.now
     c.args.words.now

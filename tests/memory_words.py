@@ -12,7 +12,8 @@ tests, AllocError is found only in types, and the variant NoMemory of an enum on
   that is given an allocator.
 
 No code leaks memory either: the words forget, leak, ManuallyDrop and into_raw, by which a value is given up
-without its drop, are found nowhere. And the capacity of a new list is a length or a limit of what goes into it.
+without its drop, are found nowhere. And the capacity of a new list is a length or a limit of what goes into it,
+or the number of entries that the first word of a statement announces, which is 63 at most.
 
 Each place of these words is a trial. The last line is 'N passed, M failed'.
 """
@@ -34,8 +35,8 @@ KEEPING = re.compile(r"\b(?:forget|leak|ManuallyDrop|into_raw)\b")
 # A new list with a capacity, and what the capacity may be: a length, a limit, or how many are counted.
 CAPACITY = re.compile(r"\bwith_capacity\(\s*alloc,\s*([^()]*(?:\([^()]*\)[^()]*)*)\)")
 COUNTED = re.compile(
-    r"(?:[\w.]+(?:\(\))?\.len\(\)(?:\.saturating_mul\(\w+\))?|[A-Z_]+|(?:self\.)?limits\.output|count|blocks"
-    r"|end as usize)"
+    r"(?:[\w.]+(?:\(\))?\.len\(\)(?:\.saturating_mul\(\w+\))?|[A-Z_]+(?: \* [A-Z_]+)?"
+    r"|(?:self\.)?limits\.output|count|blocks|(?:end|count) as usize)"
     r"(?: [+/] (?:[\w.]+\.len\(\)|\d|[A-Z_]+))*,?\s*"
 )
 # What is not run, in the order in which it begins: comments, texts, ghost items and clauses.

@@ -3,3 +3,5 @@ pub mod JobResult
 pub mod Status
 pub mod Worked
 pub mod inner
+pub mod Exit
+pub mod Words

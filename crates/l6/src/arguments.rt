@@ -1,5 +1,9 @@
 //! The words of the command line, read with `clap`. What they mean is tested, and not proved.
 
+ghost use Rattle.std.specs.Prelude.{◌≡◌, IfSome};
+ghost use Rattle.l6_machine.specs.Options.{default_options};
+ghost use Rattle.l6.specs.Words.{fault_of, unread_words};
+
 use crate::help::{self, Help};
 use crate::job::Verb;
 use clap::error::ErrorKind;
@@ -40,6 +44,8 @@ pub enum WordsFault {
 }
 
 impl From<clap::Error> for WordsFault {
+    ghost from_gives = { λ error fault. fault ≡ fault_of error };
+
     fn from(error: clap::Error) -> Self {
         match error.kind() {
             ErrorKind::OutOfMemory => WordsFault::NoMemory,
@@ -50,6 +56,8 @@ impl From<clap::Error> for WordsFault {
 }
 
 impl From<AllocError> for WordsFault {
+    ghost from_gives = { λ _ fault. fault ≡ WordsFault.NoMemory };
+
     fn from(_error: AllocError) -> Self {
         WordsFault::NoMemory
     }
@@ -57,6 +65,8 @@ impl From<AllocError> for WordsFault {
 
 /// The fault if the words could not be read.
 impl From<io::Error> for WordsFault {
+    ghost from_gives = { λ error fault. fault ≡ unread_words error };
+
     fn from(error: io::Error) -> Self {
         match error.kind() {
             io::ErrorKind::OutOfMemory => WordsFault::NoMemory,
@@ -137,7 +147,9 @@ fn with_options<'a>(command: Command<'a>, alloc: Global) -> Result<Command<'a>, 
 }
 
 /// The request for a verb for which nothing can be chosen.
-fn without_options(verb: Verb) -> Request {
+fn without_options(verb: Verb) -> Request
+    ensures { result ≡ record { verb = verb; options = default_options } }
+{
     Request {
         verb,
         options: Options::default(),
@@ -145,7 +157,9 @@ fn without_options(verb: Verb) -> Request {
 }
 
 /// The request for the verb with what was chosen for it, if that is in range.
-fn requested(verb: Verb, chosen: &ArgMatches<'_>) -> Option<Request> {
+fn requested(verb: Verb, chosen: &ArgMatches<'_>) -> Option<Request>
+    ensures { IfSome result (λ asked. asked.verb ≡ verb) }
+{
     let units = chosen.get_one::<u32>("store")?;
     let steps = chosen.get_one::<u64>("steps")?;
     let output = chosen.get_one::<usize>("output")?;

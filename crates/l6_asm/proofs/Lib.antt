@@ -12,3 +12,6 @@ pub mod RowLengths
 pub mod GroupLengths
 pub mod StatementLengths
 pub mod ImageLengths
+pub mod ElementValues
+pub mod GroupValues
+pub mod StatementValues

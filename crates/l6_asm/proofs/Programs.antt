@@ -228,7 +228,7 @@ slice_get-last front last =
     ∙ ap Some (get_or-append_seam front last [] last)
 
 -- each statement is good, and the one after them
-each_good : (test : Parts → Bool) (made : List Parts) → list_all test made ≡ true →
+pub each_good : (test : Parts → Bool) (made : List Parts) → list_all test made ≡ true →
     test plain_done ≡ true →
     list_all test (made ++ plain_done ∷ []) ≡ true
 each_good test made all last =

@@ -1,6 +1,6 @@
 //! The laws of spelling, of images and of listings.
 
-ghost use Rattle.l6_asm.specs.Laws.{ImagesOfDecksFit};
+ghost use Rattle.l6_asm.specs.Laws.{DecksHaveImages, ImagesOfDecksFit};
 ghost use Rattle.l6_asm.specs.Listing.{EachIsListed};
 ghost use Rattle.l6_asm.specs.Spells.{SpellsOrFails, NeverBoth, SpellsInOneWay};
 
@@ -9,6 +9,13 @@ pub fn spelling_is_settled()
     ensures either { SpellsOrFails }
     ensures never_both { NeverBoth }
     ensures one_way { SpellsInOneWay }
+{}
+
+/// What a deck spells is a program: it is within the limits, each target is the number of one of its
+/// statements, its names are names and its numbers words, and its last statement is the plain DONE. So
+/// it has an image, of the version that is written.
+pub fn decks_have_images()
+    ensures { DecksHaveImages }
 {}
 
 /// The image of the program that a deck spells, of either version, is no longer than an image may be,

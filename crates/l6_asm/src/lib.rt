@@ -15,6 +15,8 @@ pub use assembler::assemble;
 pub use assembly::{Assembly, Labels};
 pub use fault::AsmFault;
 pub use l6_group::Label;
-pub use laws::{each_statement_is_listed, images_of_decks_fit, spelling_is_settled};
+pub use laws::{
+    decks_have_images, each_statement_is_listed, images_of_decks_fit, spelling_is_settled,
+};
 pub use listings::listing;
 pub use worked::{missing_is_refused, twice_is_refused};

@@ -78,12 +78,14 @@ impl<S: Places> NumberedMachine<S> {
 
     /// Becomes another numbered machine of the same run, in the memory that it has. Of the output
     /// only what one of the two has more is copied. If that is refused, nothing changes.
-    pub(crate) fn take_from(&mut self, other: &Self) -> Result<(), AllocError>
+    pub(crate) fn take_from(&mut self, alloc: Global, other: &Self) -> Result<(), AllocError>
+    where
+        S: Drop,
         requires { self.old.context ≡ other.now.context }
         ensures ok { OnOk result (self.new ≡ other.now) }
         ensures err { OnErr result (self.new ≡ self.old) }
     {
-        self.machine.take_from(&other.machine)?;
+        self.machine.take_from(alloc, &other.machine)?;
         self.number = other.number;
         Ok(())
     }

@@ -82,7 +82,7 @@ impl<S: Places> Ring<S> {
                     numbered_machines.push_back(copy);
                 }
             } else if let Some(mut oldest) = numbered_machines.pop_front() {
-                if oldest.take_from(numbered_machine).is_ok() {
+                if oldest.take_from(alloc, numbered_machine).is_ok() {
                     numbered_machines.push_back(oldest);
                 } else {
                     numbered_machines.push_front(oldest);

@@ -1,5 +1,6 @@
 pub mod Numerals
 pub mod Device
+pub mod Script
 pub mod Host
 pub mod Fault
 pub mod Patience

@@ -1,9 +1,10 @@
 //! Devices for tests: a device of the host that moves few bytes a call, is interrupted at first, and
 //! fails from some call on.
 
-ghost use Rattle.std.specs.Prelude.{◌≡◌, ◌<◌, ◌≤◌, ⊤, false, MatchResult};
+ghost use Rattle.std.specs.Prelude.{◌≡◌, ◌+◌, ◌<◌, ◌≤◌, ⊤, false, min, MatchResult};
 ghost use Rattle.l6_device.specs.Device.{after_trouble};
 ghost use Rattle.l6_device.specs.Host.{device_of, health_of};
+ghost use Rattle.l6_device.specs.Script.{room_for, trouble_at};
 
 use crate::device::{Host, Sink, Source, Trouble};
 use std::io;
@@ -65,8 +66,16 @@ impl<T> Script<T> {
             (λ _. health_of self.new.host ≡ health_of self.old.host)
             (λ trouble. health_of self.new.host
             ≡ after_trouble (health_of self.old.host) trouble) }
+        // The trouble of its call, or its room; interruptions that the count has no room for apart.
+        ensures answer { (health_of self.old.host).interruptions < u64.MAX →
+            result ≡ room_for asked self.old.most
+            (trouble_at self.old.interruptions self.old.failing self.old.calls) }
         ensures room { MatchResult result (λ room. room ≤ asked) (λ _. ⊤) }
         ensures some { MatchResult result (λ room. 0 < asked → 0 < room) (λ _. ⊤) }
+        ensures calls { self.new.calls ≡ min (self.old.calls + 1) u64.MAX }
+        ensures most { self.new.most ≡ self.old.most }
+        ensures interruptions { self.new.interruptions ≡ self.old.interruptions }
+        ensures failing { self.new.failing ≡ self.old.failing }
     {
         let call = self.calls;
         self.calls = call.saturating_add(1);

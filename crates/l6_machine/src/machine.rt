@@ -250,8 +250,11 @@ impl<S: Places> Machine<S> {
     ///
     /// # Errors
     ///
-    /// The program or the input could not be shared once more. Then nothing has changed.
-    pub fn take_from(&mut self, other: &Self) -> Result<(), AllocError>
+    /// The program or the input could not be shared once more, or the store was refused memory. Then
+    /// nothing has changed.
+    pub fn take_from(&mut self, alloc: Global, other: &Self) -> Result<(), AllocError>
+    where
+        S: Drop,
         requires context { self.old.context ≡ other.now.context }
         requires output { BeginAlike self.old.configuration.state.memory.output
             other.now.configuration.state.memory.output }
@@ -259,7 +262,7 @@ impl<S: Places> Machine<S> {
         ensures err { OnErr result (self.new ≡ self.old) }
     {
         let code = other.code.clone()?;
-        self.registers.take_from(&other.registers)?;
+        self.registers.take_from(alloc, &other.registers)?;
         self.code = code;
         self.progress = other.progress;
         Ok(())

@@ -1,7 +1,8 @@
 -- A deck has one printout, which is that of its image, too.
-use Rattle.std.proofs.Common.{◌≡◌, ℕ, List, ap, sym, subst, ◌∙◌}
+use Rattle.std.proofs.Common.{◌≡◌, ℕ, List, refl, ap, sym, subst, ◌∙◌}
 use Rattle.l6_prog.specs.Statement.{Parts}
 use Rattle.l6_image.specs.Load.{ImagesAreOfOneProgram}
+use Rattle.l6_image.specs.Text.{text_of}
 use Rattle.l6_image.specs.declared.version.Version.TheVariants.{Two}
 use Rattle.l6_steps.specs.Laws.{EndsInOneState}
 use Rattle.l6_steps.specs.Configuration.{EndsBy}
@@ -10,9 +11,9 @@ use Rattle.l6_machine.specs.Printout.{ending_of, printout}
 use Rattle.l6_machine.specs.Options.{OptionValues, context_under, store_rule}
 use Rattle.l6_machine.specs.declared.ending.Ending.{Ending}
 use Rattle.l6_asm.specs.Assembled.{Assembled}
-use Rattle.l6_asm.specs.Laws.{ImagesOfDecksFit}
+use Rattle.l6_asm.specs.Laws.{DecksHaveImages, ImagesOfDecksFit}
 use Rattle.l6_asm.specs.Spells.{SpellsInOneWay}
-use Rattle.l6_run.specs.Laws.{ImagesPrintAsDecks, PrintsInOneWay, PrintsLoadedInOneWay, WrittenImagesPrintAsDecks}
+use Rattle.l6_run.specs.Laws.{DecksPrintAsImages, ImagesPrintAsDecks, PrintsInOneWay, PrintsLoadedInOneWay, WrittenImagesPrintAsDecks}
 use Rattle.l6_run.specs.Prints.{Prints, PrintsLoaded, RunPrints}
 
 pub prints-one : SpellsInOneWay → EndsInOneState → PrintsInOneWay
@@ -78,3 +79,10 @@ pub written-prints_as_deck : SpellsInOneWay → ImagesAreOfOneProgram → Images
 written-prints_as_deck one_way one_program images_fit options deck image input ending text written =
     prints-as_deck one_way one_program images_fit options deck image input written.assembly ending text
     written.fits written.spelled (Two, written.known, written.written)
+
+pub prints-as_image : SpellsInOneWay → ImagesAreOfOneProgram → ImagesOfDecksFit → DecksHaveImages →
+    DecksPrintAsImages
+prints-as_image one_way one_program images_fit have options deck input assembly ending text fits
+    spelled =
+    prints-as_deck one_way one_program images_fit options deck (text_of assembly.program) input
+    assembly ending text fits spelled (Two, have deck assembly spelled, refl)

@@ -181,9 +181,10 @@ impl Places for Buddy {
         })
     }
 
-    fn take_from(&mut self, other: &Self) {
+    fn take_from(&mut self, _alloc: Global, other: &Self) -> Result<(), AllocError> {
         self.arena.take_from(&other.arena);
         self.moves = other.moves;
+        Ok(())
     }
 
     fn reset(&mut self) {

@@ -1,6 +1,6 @@
 //! What every store of blocks does.
 
-ghost use Rattle.std.specs.Prelude.{◌≡◌, ◌≢◌, ◌<◌, ◌≤◌, ◌^◌, length, replicate, slice_get, slice_set, option_map, ◌↔◌, IsSome, IfSome, IfOk, Some};
+ghost use Rattle.std.specs.Prelude.{◌≡◌, ◌≢◌, ◌<◌, ◌≤◌, ◌^◌, length, replicate, slice_get, slice_set, option_map, ◌↔◌, IsSome, IfSome, IfOk, OnErr, OnOk, Some};
 ghost use Rattle.std.specs.List.{All};
 ghost use Rattle.std.specs.FinMap as map;
 ghost use Rattle.l6_word.specs.Numerals.{largest_level, unit_size, word_bits};
@@ -128,11 +128,23 @@ pub trait Places: Sized {
         ensures sound { IfOk result (λ copy. IsSound rule (store copy)) };
 
     /// Becomes the same as another store, its order and moves included. The caller owes that it has as
-    /// many units. No memory is taken.
-    fn take_from(&mut self, other: &Self)
+    /// many units. Unless a store does better, it becomes a copy. The stores of this crate keep their
+    /// memory, and take none.
+    ///
+    /// # Errors
+    ///
+    /// Memory ran out. Then nothing has changed.
+    fn take_from(&mut self, alloc: Global, other: &Self) -> Result<(), AllocError>
+    where
+        Self: Drop,
         requires { (store self.old).units ≡ (store other.now).units }
-        ensures same { store self.new ≡ store other.now }
-        ensures sound { IsSound rule (store self.new) };
+        ensures ok { OnOk result (store self.new ≡ store other.now) }
+        ensures err { OnErr result (store self.new ≡ store self.old) }
+        ensures sound { OnOk result (IsSound rule (store self.new)) }
+    {
+        *self = other.duplicate(alloc)?;
+        Ok(())
+    }
 
     /// Takes out all blocks. The store is then as it was made.
     fn reset(&mut self)

@@ -152,11 +152,12 @@ impl Places for ScanStore {
         })
     }
 
-    fn take_from(&mut self, other: &Self) {
+    fn take_from(&mut self, _alloc: Global, other: &Self) -> Result<(), AllocError> {
         self.tags.copy_from_slice(&other.tags);
         self.words.copy_from_slice(&other.words);
         self.sizes.copy_from_slice(&other.sizes);
         self.low = other.low;
+        Ok(())
     }
 
     fn reset(&mut self) {

@@ -39,6 +39,32 @@ fn states_are_reached_from_the_nearest_checkpoint(rt: HostRuntime) -> Result<(),
     Ok(())
 }
 
+/// A way forward is cut at each state that is kept, wherever it begins.
+#[test]
+fn a_long_way_keeps_each_checkpoint(rt: HostRuntime) -> Result<(), Fail> {
+    let mut history = history(rt.alloc())?;
+    history.to(rt.alloc(), 5);
+    history.to(rt.alloc(), 10_000);
+    for (number, kept) in [(0, false), (5, false), (4_096, true), (8_192, true), (10_000, false)] {
+        assert_eq!(rt; history.kept(number), kept);
+    }
+    Ok(())
+}
+
+/// Where there is memory for a copy, a checkpoint to which the history goes back stays.
+#[test]
+fn a_checkpoint_stays_when_it_is_used(rt: HostRuntime) -> Result<(), Fail> {
+    let mut history = history(rt.alloc())?;
+    history.to(rt.alloc(), 10_000);
+    assert_eq!(rt; history.to(rt.alloc(), 4_097), 1);
+    assert_eq!(rt; history.kept(4_096), true);
+    assert_eq!(rt; history.kept(8_192), true);
+    assert_eq!(rt; history.to(rt.alloc(), 4_096), 0);
+    assert_eq!(rt; history.to(rt.alloc(), 4_098), 2);
+    assert_eq!(rt; history.to(rt.alloc(), 4_097), 1);
+    Ok(())
+}
+
 #[test]
 fn the_oldest_checkpoint_gives_way(rt: HostRuntime) -> Result<(), Fail> {
     let mut history = history(rt.alloc())?;

@@ -25,6 +25,8 @@ mod listings;
 #[cfg(test)]
 mod machines;
 #[cfg(test)]
+mod own_stores;
+#[cfg(test)]
 mod regions;
 #[cfg(test)]
 mod scan_stores;

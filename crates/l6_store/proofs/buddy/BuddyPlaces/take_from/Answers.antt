@@ -6,7 +6,7 @@ use Rattle.l6_store.proofs.Stores.{sound_store}
 use Rattle.l6_store.proofs.buddy.BuddyPlaces.take_from.Goals as goal
 
 pub returns-clause-sound : goal.returns-clause-sound
-returns-clause-sound c =
+returns-clause-sound g c =
     subst (λ (l : ArenaLayout). IsSound buddy_rule (record {
       units = l.units;
       blocks = l.blocks;

@@ -7,7 +7,7 @@ use Rattle.l6_store.proofs.Kept.{sound_of}
 use Rattle.l6_store.proofs.scan_store.ScanStorePlaces.take_from.Goals as goal
 
 pub returns-clause-sound : goal.returns-clause-sound
-returns-clause-sound c =
+returns-clause-sound g c =
     let units : c.self.inside.units ≡ c.other.inside.units =
     ap (λ (s : Store). s.units) c.self.view_is ∙ c.requires
     ∙ sym (ap (λ (s : Store). s.units) c.other.view_is) in

@@ -1,0 +1,41 @@
+//! The whole program, but for what the system gives it: the words of the command line, standard input,
+//! and where what it writes goes.
+
+ghost use Rattle.std.specs.Process.{exit_status};
+ghost use Rattle.l6.specs.Exit.{Exits};
+
+use crate::arguments::{Request, WordsFault};
+use crate::job::perform;
+use crate::status::{status, status_of_words};
+use l6_run::{Sink, Source};
+use std::alloc::Global;
+use std::io::Write;
+use std::process::ExitCode;
+
+/// Does what was asked for with the job that the reader gives, and says on `errors` why it was not done,
+/// or why nothing could be asked for. Answers how the process is to end. A text that `errors` does not
+/// take is lost.
+pub fn exit_code<R: Source, W: Sink, E: Write>(
+    alloc: Global,
+    asked: Result<Request, WordsFault>,
+    reader: &mut R,
+    writer: &mut W,
+    errors: &mut E,
+) -> ExitCode
+    ensures { Exits asked (R.left reader.old) (R.left reader.new)
+        (W.taken writer.old) (W.taken writer.new) (exit_status result) }
+{
+    match asked {
+        Ok(request) => {
+            let answer = perform(alloc, request.verb, request.options, reader, writer);
+            if let Err(fault) = &answer {
+                let _ = writeln!(errors, "l6: {fault}");
+            }
+            ExitCode::from(status(&answer))
+        }
+        Err(fault) => {
+            let _ = write!(errors, "{fault}");
+            ExitCode::from(status_of_words(&fault))
+        }
+    }
+}

@@ -1,7 +1,7 @@
 -- Which fault the words of the command line have.
-use Rattle.std.specs.declared.io.Error.{Error as IoError}
-use Rattle.std.specs.declared.io.ErrorKind.{ErrorKind as IoKind}
-use Rattle.std.specs.declared.io.ErrorKind.TheVariants as io
+use Rattle.std_io.specs.declared.io.error.Error.{Error as IoError}
+use Rattle.std_io.specs.declared.io.kind.ErrorKind.{ErrorKind as IoKind}
+use Rattle.std_io.specs.declared.io.kind.ErrorKind.TheVariants as io
 use Rattle.std.specs.IoError.{error_kind}
 use Rattle.clap.specs.Values.{kind_of}
 use Rattle.clap.specs.declared.error.Error.{Error}

@@ -10,9 +10,9 @@ use Rattle.l6_word.proofs.Cuts.{lacks-cons}
 use Rattle.l6_group.specs.Character.{is_blank}
 use Rattle.l6_card.specs.Items.{Item, group, word, unclosed, unopened, after_opening, after_blank, after_letter, after_column, items_of}
 use Rattle.l6_card.specs.Laws.{closes_first}
-use Rattle.l6_card.specs.declared.item.First.{First}
-use Rattle.l6_card.specs.declared.item.First.TheVariants.{End, Group, Word, Other}
-use Rattle.l6_card.specs.inner.First.{BeginsWith, GroupFirst, WordFirst, IsUnclosed, ClosesFirst, IsShorter, IsCutAtParenthesis, letters_of, begins_with_other, begins_with_none, begins_with_closing, begins_a_word}
+use Rattle.l6_card.specs.declared.item.Token.{Token}
+use Rattle.l6_card.specs.declared.item.Token.TheVariants.{End, Group, Word, Other}
+use Rattle.l6_card.specs.inner.Token.{BeginsWith, GroupFirst, WordFirst, IsUnclosed, ClosesFirst, IsShorter, IsCutAtParenthesis, letters_of, begins_with_other, begins_with_none, begins_with_closing, begins_a_word}
 
 closes_first-opening : (offset : ℕ) (items : List Item) →
     closes_first (after_opening offset items) ≡ false
@@ -211,7 +211,7 @@ other-blanks offset (blank ∷ blanks) columns all_blank other =
     (other-blank blank (items_of (offset + 1) (blanks ++ columns)) following)
 
 -- the body begins as what follows its blanks does
-pub begins_following_blanks : (first : First) (blanks body rest : List ℕ) →
+pub begins_following_blanks : (first : Token) (blanks body rest : List ℕ) →
     body ≡ blanks ++ rest → list_all is_blank blanks ≡ true → BeginsWith first rest →
     BeginsWith first body
 begins_following_blanks End blanks body rest whole all_blank begins = λ offset.
@@ -239,7 +239,7 @@ begins_following_blanks Other blanks body rest whole all_blank begins = λ offse
     ∙ other-blanks offset blanks rest all_blank (begins (offset + length blanks))
 
 -- what follows the first item is shorter than the body, too
-pub shorter_following_blanks : (first : First) (body rest : List ℕ) →
+pub shorter_following_blanks : (first : Token) (body rest : List ℕ) →
     length rest ≤ length body → IsShorter first rest → IsShorter first body
 shorter_following_blanks End body rest few shorter = tt
 shorter_following_blanks (Group columns following) body rest few shorter = omega (arith, shorter)

@@ -10,7 +10,7 @@ use Rattle.l6_group.specs.Spelling.{find_spelled}
 use Rattle.l6_group.specs.Word.{exit_from, label_exit, plain_exits, condition_from}
 use Rattle.l6_card.specs.DeckFault.{form}
 use Rattle.l6_card.specs.inner.StatementBuilder.{StatementBuilder, Phase, New, Worded, Tested, Open, Closed, with_rest, with_word_in, with_placed, phase_of}
-use Rattle.l6_card.specs.inner.First.{letters_of}
+use Rattle.l6_card.specs.inner.Token.{letters_of}
 
 -- what passes a test once passes it again
 kept_step : (p : ℕ → Bool) (x : ℕ) (xs : List ℕ) (passes : Bool) → p x ≡ passes →

@@ -5,7 +5,7 @@ use Rattle.std.specs.Str.{byte}
 use Rattle.l6_word.specs.Lines.{lines_of}
 use Rattle.l6_card.specs.Card.{card_of, cards_from, columns_of}
 use Rattle.l6_card.specs.Items.{Item, group, word, items_of}
-use Rattle.l6_card.specs.inner.First.{GroupFirst, WordFirst, letters_of}
+use Rattle.l6_card.specs.inner.Token.{GroupFirst, WordFirst, letters_of}
 use Rattle.l6_card.specs.Pieces.{Piece, ends, item, pieces_of_card, pieces_of_cards}
 use Rattle.l6_card.specs.DeckFault.{DeckFault}
 use Rattle.l6_card.specs.inner.Pass.{Stage, after_piece, after_pieces, pass_of}

@@ -1,5 +1,5 @@
 pub mod Kinds
-pub mod First
+pub mod Token
 pub mod StatementBuilder
 pub mod Pass
 pub mod KeptBuilder

@@ -8,7 +8,7 @@ ghost use Rattle.l6_card.specs.Numerals.{most_deck_bytes};
 ghost use Rattle.l6_card.specs.inner.StatementBuilder as spec;
 ghost use Rattle.l6_card.specs.Items.{group, word};
 ghost use Rattle.l6_card.specs.Statement.{placed_exit};
-ghost use Rattle.l6_card.specs.inner.First.{letters_of};
+ghost use Rattle.l6_card.specs.inner.Token.{letters_of};
 ghost use Rattle.l6_card.specs.inner.KeptBuilder.{phase_of_kept, kept_builder, statement_of_parts, Takes};
 
 use crate::cards::{Parts, Placed, PlacedLabel};
@@ -111,7 +111,7 @@ impl StatementBuilder {
         }
     }
 
-    /// A group on this card, whose `(` has this offset in the deck, with these columns between its
+    /// Takes a group on this card, whose `(` has this offset in the deck, with these columns between its
     /// parentheses.
     pub(crate) fn take_group(
         &mut self,

@@ -3,12 +3,12 @@
 ghost use Rattle.std.specs.Prelude.{◌≡◌, ◌≤◌, ◌<◌, ◌++◌, List, ℕ, true, false, length, MatchOption, IfSome};
 ghost use Rattle.std.specs.List.{list_all};
 ghost use Rattle.l6_group.specs.Character as spec;
-ghost use Rattle.l6_card.specs.inner.First.{BeginsWith, IsUnclosed, ClosesFirst, IsShorter, begins_with_blank, begins_a_word, begins_with_closing, IsCutAtParenthesis};
+ghost use Rattle.l6_card.specs.inner.Token.{BeginsWith, IsUnclosed, ClosesFirst, IsShorter, begins_with_blank, begins_a_word, begins_with_closing, IsCutAtParenthesis};
 
 use l6_group::is_blank;
 
 /// What a body begins with.
-pub(crate) enum First<'a> {
+pub(crate) enum Token<'a> {
     /// Nothing: no item is left.
     End,
     /// A group with these columns between its parentheses, and what follows it.
@@ -20,7 +20,7 @@ pub(crate) enum First<'a> {
 }
 
 /// What a body begins with, blanks aside.
-pub(crate) fn first_item(body: &[u8]) -> First<'_>
+pub(crate) fn first_item(body: &[u8]) -> Token<'_>
     ensures first { BeginsWith result body.now }
     ensures shorter { IsShorter result body.now }
 {
@@ -28,18 +28,18 @@ pub(crate) fn first_item(body: &[u8]) -> First<'_>
 }
 
 /// What a body begins with that begins with no blank.
-fn first_of(body: &[u8]) -> First<'_>
+fn first_of(body: &[u8]) -> Token<'_>
     requires { begins_with_blank body.now ≡ false }
     ensures first { BeginsWith result body.now }
     ensures shorter { IsShorter result body.now }
 {
     match body.split_first() {
-        None => First::End,
+        None => Token::End,
         Some((column, inside)) => {
             if *column == b'(' {
                 match first_group(inside) {
-                    Some((columns, following)) => First::Group(columns, following),
-                    None => First::Other,
+                    Some((columns, following)) => Token::Group(columns, following),
+                    None => Token::Other,
                 }
             } else {
                 first_word(body)
@@ -65,16 +65,16 @@ fn first_group(inside: &[u8]) -> Option<(&[u8], &[u8])>
 }
 
 /// The word that a body begins with, if no `)` follows it.
-fn first_word(body: &[u8]) -> First<'_>
+fn first_word(body: &[u8]) -> Token<'_>
     requires { begins_a_word body.now ≡ true }
     ensures first { BeginsWith result body.now }
     ensures shorter { IsShorter result body.now }
 {
     let (word, rest) = split_at_parenthesis(body);
     if begins_with_closing(rest) {
-        First::Other
+        Token::Other
     } else {
-        First::Word(word, rest)
+        Token::Word(word, rest)
     }
 }
 

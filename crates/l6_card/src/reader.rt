@@ -6,7 +6,7 @@ ghost use Rattle.l6_card.specs.Items.{group, word};
 ghost use Rattle.l6_card.specs.Card.{card_of};
 ghost use Rattle.l6_card.specs.Pieces.{ends, begins, continues, label, item, items_on, pieces_of_card};
 ghost use Rattle.l6_card.specs.inner.Pass.{first_stage, after_piece, after_pieces};
-ghost use Rattle.l6_card.specs.inner.First.{letters_of};
+ghost use Rattle.l6_card.specs.inner.Token.{letters_of};
 ghost use Rattle.l6_card.specs.inner.Kinds.{body_seen, EndsByOffset};
 ghost use Rattle.l6_card.specs.inner.Reader.{stage_of, Follows};
 
@@ -14,7 +14,7 @@ use crate::builder::StatementBuilder;
 use crate::card::{Body, Kind, kind_of};
 use crate::cards::{DeckStatement, PlacedLabel};
 use crate::fault::CardFault;
-use crate::item::{First, first_item};
+use crate::item::{Token, first_item};
 use crate::limits::{MAX_CONTINUATIONS, MAX_DECK_STATEMENTS};
 use l6_group::label_of;
 use std::alloc::Global;
@@ -56,7 +56,7 @@ impl Reader {
         self.statements
     }
 
-    /// The statement that has begun, if one has, is complete.
+    /// Ends the statement that has begun, if one has.
     pub(crate) fn end(&mut self) -> Result<(), CardFault>
         ensures { Follows result (stage_of self.new) (after_piece (stage_of self.old) ends) }
     {
@@ -77,7 +77,7 @@ impl Reader {
             .map_err(|_| CardFault::NoMemory)
     }
 
-    /// The card begins a statement.
+    /// Begins a statement with this card.
     fn begin(&mut self, card: u32) -> Result<(), CardFault>
         ensures { let pieces = ends ∷ begins card ∷ [] in
             Follows result (stage_of self.new) (after_pieces (stage_of self.old) pieces) }
@@ -92,7 +92,7 @@ impl Reader {
         Ok(())
     }
 
-    /// The card continues the statement that has begun.
+    /// Goes on with the statement that has begun, which this card continues.
     fn go_on(&mut self, card: u32) -> Result<(), CardFault>
         ensures { let piece = continues card in
             Follows result (stage_of self.new) (after_piece (stage_of self.old) piece) }
@@ -147,15 +147,15 @@ impl Reader {
         let mut rest = body.columns;
         loop {
             match first_item(rest) {
-                First::End => return Ok(()),
-                First::Other => return Err(CardFault::Form(card)),
-                First::Group(columns, following) => {
+                Token::End => return Ok(()),
+                Token::Other => return Err(CardFault::Form(card)),
+                Token::Group(columns, following) => {
                     // A `)` is between the columns and what is left.
                     let opening = end - following.len() - columns.len() - 2;
                     self.take_group(card, opening, columns)?;
                     rest = following;
                 }
-                First::Word(columns, following) => {
+                Token::Word(columns, following) => {
                     self.take_word(card, columns)?;
                     rest = following;
                 }

@@ -89,8 +89,8 @@ impl<T> Host<T> {
         self.device
     }
 
-    // Notes down the device's error, and answers which trouble it is. An interruption that the
-    // count has no room for is a failure.
+    /// Notes down the device's error, and answers which trouble it is. An interruption that the
+    /// count has no room for is a failure.
     pub(crate) fn note(&mut self, error: io::Error) -> Trouble
         ensures device { device_of self.new ≡ device_of self.old }
         ensures which { (result ≡ Trouble.Interrupted)

@@ -44,7 +44,7 @@ impl Patience {
         self.left
     }
 
-    // Takes a retry off, if one is left, and answers whether one was.
+    /// Takes a retry off, if one is left, and answers whether one was.
     pub(crate) fn retry(&mut self) -> bool
         ensures one { result ≡ nat_lt 0 self.old }
         ensures left { self.new ≡ self.old - 1 }

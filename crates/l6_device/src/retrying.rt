@@ -8,7 +8,7 @@ ghost use Rattle.l6_device.specs.Patience.{RetriesAccountedWith, device_use};
 use crate::device::{Sink, Source, Trouble};
 use crate::patience::Patience;
 
-// One read, retried after interruptions.
+/// One read, retried after interruptions.
 pub(crate) fn read_patiently<R: Source>(
     reader: &mut R,
     buffer: &mut [u8],
@@ -33,8 +33,8 @@ pub(crate) fn read_patiently<R: Source>(
     }
 }
 
-// One write of some bytes, retried after interruptions. A write that takes none of them is a
-// failure. The caller owes a byte.
+/// One write of some bytes, retried after interruptions. A write that takes none of them is a
+/// failure. The caller owes a byte.
 pub(crate) fn write_patiently<W: Sink>(
     writer: &mut W,
     bytes: &[u8],

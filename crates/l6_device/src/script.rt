@@ -59,7 +59,7 @@ impl<T> Script<T> {
         self.host.into_inner()
     }
 
-    // How many of the bytes that are asked for may be moved by this call, or the trouble that it has.
+    /// How many of the bytes that are asked for may be moved by this call, or the trouble that it has.
     fn room(&mut self, asked: usize) -> Result<usize, Trouble>
         ensures device { device_of self.new.host ≡ device_of self.old.host }
         ensures health { MatchResult result

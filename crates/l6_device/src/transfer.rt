@@ -50,8 +50,8 @@ pub fn read_part<R: Source>(
     Err(RunFault::TooLong(part))
 }
 
-// Appends what one read gives to the bytes, and answers how much came. The read asks for no more
-// than the part may still have and one byte more.
+/// Appends what one read gives to the bytes, and answers how much came. The read asks for no more
+/// than the part may still have and one byte more.
 fn read_more<R: Source>(
     reader: &mut R,
     part: Part,
@@ -113,7 +113,7 @@ pub fn write_text<W: Sink>(
     Ok(())
 }
 
-// The fault of a writer that took `count` bytes after the `before` that went out earlier.
+/// The fault of a writer that took `count` bytes after the `before` that went out earlier.
 fn write_fault(before: u64, count: usize) -> RunFault
     ensures { result ≡ RunFault.Write (min (before + count) most_counted) }
 {

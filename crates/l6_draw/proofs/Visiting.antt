@@ -52,7 +52,7 @@ one_visit_more (visit ∷ visited) number within is = one_less visit visited num
 
 -- how much is left to do: places to visit, and places to look at
 abbrev pub left : Walk → ℕ
-left walk = untagged walk.visited + length walk.waiting
+left walk = untagged walk.visited + length walk.worklist
 
 -- what numbers that are met leave as it is
 pub record Grows (old new : Walk) : Type 0 where
@@ -74,7 +74,7 @@ grows_on old new newer one two = record {
 abbrev pub visited_place_new : ℕ → Walk → Walk
 visited_place_new number walk = record {
   visited = set walk.visited number true;
-  waiting = walk.waiting ++ number ∷ [];
+  worklist = walk.worklist ++ number ∷ [];
 }
 
 pub record IsNew (blocks : Blocks) (visited : List Bool) (number : ℕ) : Type 0 where
@@ -114,7 +114,7 @@ met_grows blocks number walk =
       count = length-set walk.visited number true;
       to_do =
           let one = one_visit_more walk.visited number new.within new.untagged_yet in
-          let more = length-append walk.waiting (number ∷ []) in omega arith;
+          let more = length-append walk.worklist (number ∷ []) in omega arith;
     })
     (λ _. grows_same walk)
 

@@ -20,11 +20,11 @@ pub record LookedAt (memory : Memory) (visited : List Bool) (place : ℕ) : Type
 
 -- what is true all along: visited places are reached, places that wait are visited, and each visited
 -- place waits or was looked at
-pub record Walks (memory : Memory) (visited : List Bool) (waiting : List ℕ) : Type 0 where
+pub record Walks (memory : Memory) (visited : List Bool) (worklist : List ℕ) : Type 0 where
   pub sound : (place : ℕ) → is_visited visited place ≡ true → is_reached memory place ≡ true
-  pub waits : (place : ℕ) → Contains waiting place → is_visited visited place ≡ true
+  pub waits : (place : ℕ) → Contains worklist place → is_visited visited place ≡ true
   pub seen : (place : ℕ) → is_visited visited place ≡ true
-      → Contains waiting place ⊎ LookedAt memory visited place
+      → Contains worklist place ⊎ LookedAt memory visited place
 
 looked_stays : (memory : Memory) (visited : List Bool) (number place : ℕ) → number < length visited
     → LookedAt memory visited place → LookedAt memory (set visited number true) place
@@ -35,11 +35,11 @@ looked_stays memory visited number place within looked = record {
 -- one number that is new
 waits_after : (memory : Memory) (front : List ℕ) (number : ℕ) (walk : Walk) →
     number < length walk.visited
-    → Walks memory walk.visited (front ++ walk.waiting) → (place : ℕ)
-    → Contains ((front ++ walk.waiting) ++ number ∷ []) place
+    → Walks memory walk.visited (front ++ walk.worklist) → (place : ℕ)
+    → Contains ((front ++ walk.worklist) ++ number ∷ []) place
     → is_visited (set walk.visited number true) place ≡ true
 waits_after memory front number walk within walks place is =
-    elim (Contains-append_cases (front ++ walk.waiting) (number ∷ []) place is)
+    elim (Contains-append_cases (front ++ walk.worklist) (number ∷ []) place is)
     as (λ _. is_visited (set walk.visited number true) place ≡ true) [
       | inl before ↦ visited_place_stays walk.visited number place within (walks.waits place before)
       | inr last ↦ elim (first_or_later number place [] last)
@@ -53,21 +53,21 @@ waits_after memory front number walk within walks place is =
 
 seen_after : (memory : Memory) (front : List ℕ) (number : ℕ) (walk : Walk) →
     number < length walk.visited
-    → Walks memory walk.visited (front ++ walk.waiting) → (place : ℕ)
+    → Walks memory walk.visited (front ++ walk.worklist) → (place : ℕ)
     → is_visited (set walk.visited number true) place ≡ true
-    → Contains ((front ++ walk.waiting) ++ number ∷ []) place
+    → Contains ((front ++ walk.worklist) ++ number ∷ []) place
     ⊎ LookedAt memory (set walk.visited number true) place
 seen_after memory front number walk within walks place is =
     elim (visited_place_by walk.visited number place is)
-    as (λ _. Contains ((front ++ walk.waiting) ++ number ∷ []) place
+    as (λ _. Contains ((front ++ walk.worklist) ++ number ∷ []) place
     ⊎ LookedAt memory (set walk.visited number true) place) [
       | inl same ↦
-          inl (subst (λ (p : ℕ). Contains ((front ++ walk.waiting) ++ number ∷ []) p) (sym same)
-          (Contains-push (front ++ walk.waiting) number))
+          inl (subst (λ (p : ℕ). Contains ((front ++ walk.worklist) ++ number ∷ []) p) (sym same)
+          (Contains-push (front ++ walk.worklist) number))
       | inr before ↦ elim (walks.seen place before)
-          as (λ _. Contains ((front ++ walk.waiting) ++ number ∷ []) place
+          as (λ _. Contains ((front ++ walk.worklist) ++ number ∷ []) place
           ⊎ LookedAt memory (set walk.visited number true) place) [
-            | inl waits ↦ inl (Contains-append_left (front ++ walk.waiting) (number ∷ []) place waits)
+            | inl waits ↦ inl (Contains-append_left (front ++ walk.worklist) (number ∷ []) place waits)
             | inr looked ↦ inr (looked_stays memory walk.visited number place within looked)
           ]
     ]
@@ -83,15 +83,15 @@ sound_after memory visited number reached sound place is =
 
 met_walks : (memory : Memory) (front : List ℕ) (number : ℕ) (walk : Walk)
     → (IsLive memory.blocks number → is_reached memory number ≡ true)
-    → Walks memory walk.visited (front ++ walk.waiting)
+    → Walks memory walk.visited (front ++ walk.worklist)
     → Walks memory (met memory.blocks number walk).visited
-    (front ++ (met memory.blocks number walk).waiting)
+    (front ++ (met memory.blocks number walk).worklist)
 met_walks memory front number walk reached walks =
-    met_by (λ new. Walks memory new.visited (front ++ new.waiting)) memory.blocks number walk
+    met_by (λ new. Walks memory new.visited (front ++ new.worklist)) memory.blocks number walk
     (λ new.
-    subst (λ (waiting : List ℕ). Walks memory (set walk.visited number true) waiting)
-    (append_assoc front walk.waiting (number ∷ []))
-    (let after : Walks memory (set walk.visited number true) ((front ++ walk.waiting) ++ number ∷ [])
+    subst (λ (worklist : List ℕ). Walks memory (set walk.visited number true) worklist)
+    (append_assoc front walk.worklist (number ∷ []))
+    (let after : Walks memory (set walk.visited number true) ((front ++ walk.worklist) ++ number ∷ [])
     = record {
       sound = sound_after memory walk.visited number (reached new.live) walks.sound;
       waits = waits_after memory front number walk new.within walks;
@@ -102,9 +102,9 @@ met_walks memory front number walk reached walks =
 all_met-walks : (memory : Memory) (front numbers : List ℕ) (walk : Walk)
     → ((number : ℕ) → Contains numbers number → IsLive memory.blocks number
     → is_reached memory number ≡ true)
-    → Walks memory walk.visited (front ++ walk.waiting)
+    → Walks memory walk.visited (front ++ walk.worklist)
     → Walks memory (all_met memory.blocks numbers walk).visited
-    (front ++ (all_met memory.blocks numbers walk).waiting)
+    (front ++ (all_met memory.blocks numbers walk).worklist)
 all_met-walks memory front [] walk reached walks = walks
 all_met-walks memory front (number ∷ numbers) walk reached walks =
     all_met-walks memory front numbers (met memory.blocks number walk)
@@ -114,13 +114,13 @@ all_met-walks memory front (number ∷ numbers) walk reached walks =
 -- the whole invariant: there is room, and what the bugs hold is visited
 pub record IsWalk (memory : Memory) (walk : Walk) : Type 0 where
   pub room : Room memory.blocks walk.visited
-  pub walks : Walks memory walk.visited walk.waiting
+  pub walks : Walks memory walk.visited walk.worklist
   pub bugs : (number : ℕ) → Contains (held_by_bugs memory) number → IsLive memory.blocks number
       → is_visited walk.visited number ≡ true
 
 -- it holds after the bugs
-untagged_walks : (memory : Memory) (walk : Walk) → walk.waiting ≡ []
-    → ((place : ℕ) → is_visited walk.visited place ≡ false) → Walks memory walk.visited walk.waiting
+untagged_walks : (memory : Memory) (walk : Walk) → walk.worklist ≡ []
+    → ((place : ℕ) → is_visited walk.visited place ≡ false) → Walks memory walk.visited walk.worklist
 untagged_walks memory walk none untagged = record {
   sound = λ place is. absurd (both_ways (is_visited walk.visited place) (untagged place) is);
   waits = λ place is. absurd (none_in place (subst (λ (w : List ℕ). Contains w place) none is));
@@ -131,7 +131,7 @@ bug_reached : (memory : Memory) (number : ℕ) → Contains (held_by_bugs memory
     → IsLive memory.blocks number → is_reached memory number ≡ true
 bug_reached memory number held live = is-reached memory number ([], (held, live))
 
-pub bugs-walk : (memory : Memory) (walk : Walk) → Room memory.blocks walk.visited → walk.waiting ≡ []
+pub bugs-walk : (memory : Memory) (walk : Walk) → Room memory.blocks walk.visited → walk.worklist ≡ []
     → ((place : ℕ) → is_visited walk.visited place ≡ false)
     → IsWalk memory (all_met memory.blocks (held_by_bugs memory) walk)
 bugs-walk memory walk room none untagged = record {
@@ -197,27 +197,27 @@ looked_off memory visited place rest looked walks = record {
 }
 
 pub block-walk : (memory : Memory) (walk popped : Walk) (place : ℕ) → IsWalk memory walk
-    → walk.waiting ≡ popped.waiting ++ place ∷ [] → popped.visited ≡ walk.visited
+    → walk.worklist ≡ popped.worklist ++ place ∷ [] → popped.visited ≡ walk.visited
     → IsWalk memory (all_met memory.blocks (held_in memory place) popped)
 block-walk memory walk popped place is waited same =
     let room : Room memory.blocks popped.visited
     = subst (λ (m : List Bool). Room memory.blocks m) (sym same) is.room in
     let grows = all_met-grows memory.blocks (held_in memory place) popped in
-    let before : Walks memory popped.visited (popped.waiting ++ place ∷ [])
+    let before : Walks memory popped.visited (popped.worklist ++ place ∷ [])
     = subst (λ (w : List ℕ). Walks memory popped.visited w) waited
-    (subst (λ (m : List Bool). Walks memory m walk.waiting) (sym same) is.walks) in
+    (subst (λ (m : List Bool). Walks memory m walk.worklist) (sym same) is.walks) in
     let reached = before.sound place
-    (before.waits place (Contains-push popped.waiting place)) in
+    (before.waits place (Contains-push popped.worklist place)) in
     let after = all_met-walks memory (place ∷ []) (held_in memory place) popped
     (λ number held live. further_reached memory place number reached held live)
-    (first_waits memory popped.visited place popped.waiting before) in
+    (first_waits memory popped.visited place popped.worklist before) in
     let looked : LookedAt memory (all_met memory.blocks (held_in memory place) popped).visited place
     = record { each = all_met-visited memory.blocks (held_in memory place) popped room } in
     record {
       room = room_stays memory.blocks popped
           (all_met memory.blocks (held_in memory place) popped) grows room;
       walks = looked_off memory (all_met memory.blocks (held_in memory place) popped).visited place
-          (all_met memory.blocks (held_in memory place) popped).waiting looked after;
+          (all_met memory.blocks (held_in memory place) popped).worklist looked after;
       bugs = λ number held live. grows.stays number
           (subst (λ (m : List Bool). is_visited m number ≡ true) (sym same)
           (is.bugs number held live));
@@ -225,18 +225,18 @@ block-walk memory walk popped place is waited same =
 
 -- so there is less left to do
 pub block-less : (blocks : Blocks) (numbers : List ℕ) (walk popped : Walk) (place : ℕ)
-    → walk.waiting ≡ popped.waiting ++ place ∷ [] → popped.visited ≡ walk.visited
+    → walk.worklist ≡ popped.worklist ++ place ∷ [] → popped.visited ≡ walk.visited
     → left (all_met blocks numbers popped) < left walk
 block-less blocks numbers walk popped place waited same =
     let grows = all_met-grows blocks numbers popped in
     let done = grows.to_do in
     let visited = ap untagged same in
     let waits = ap length waited in
-    let one = length-append popped.waiting (place ∷ []) in
+    let one = length-append popped.worklist (place ∷ []) in
     omega arith
 
 -- in the end each path leads to a visit
-path_visited_place : (memory : Memory) (walk : Walk) → IsWalk memory walk → walk.waiting ≡ []
+path_visited_place : (memory : Memory) (walk : Walk) → IsWalk memory walk → walk.worklist ≡ []
     → (older : List ℕ) (place : ℕ) → IsPath memory (place ∷ older)
     → is_visited walk.visited place ≡ true
 path_visited_place memory walk is none [] place path = is.bugs place path.0 path.1
@@ -254,7 +254,7 @@ same_tests true other to from = sym (to refl)
 same_tests false true to from = from refl
 same_tests false false to from = refl
 
-pub walk-done : (memory : Memory) (walk : Walk) → IsWalk memory walk → walk.waiting ≡ []
+pub walk-done : (memory : Memory) (walk : Walk) → IsWalk memory walk → walk.worklist ≡ []
     → (place : ℕ) → is_visited walk.visited place ≡ is_reached memory place
 walk-done memory walk is none place =
     same_tests (is_visited walk.visited place) (is_reached memory place) (is.walks.sound place)
@@ -270,7 +270,7 @@ fresh_visited (suc end) (suc place) = fresh_visited end place
 
 pub walk-begun : (units end : ℕ) (memory : Memory) → Fits units memory.blocks
     → end ≡ end_of units → (old new : Walk)
-    → old ≡ record { visited = replicate end false; waiting = [] }
+    → old ≡ record { visited = replicate end false; worklist = [] }
     → new ≡ all_met memory.blocks (held_by_bugs memory) old → IsWalk memory new
 walk-begun units end memory fits is old new fresh met_all =
     let room : Room memory.blocks old.visited = record {
@@ -282,18 +282,18 @@ walk-begun units end memory fits is old new fresh met_all =
           omega arith);
     } in
     subst (λ (walk : Walk). IsWalk memory walk) (sym met_all)
-    (bugs-walk memory old room (ap (λ (walk : Walk). walk.waiting) fresh)
+    (bugs-walk memory old room (ap (λ (walk : Walk). walk.worklist) fresh)
     (λ place. ap (λ (walk : Walk). is_visited walk.visited place) fresh ∙ fresh_visited end place))
 
 pub walk-goes_on : (memory : Memory) (walk popped new : Walk) (place : ℕ) → IsWalk memory walk
-    → popped.visited ≡ walk.visited → walk.waiting ≡ popped.waiting ++ place ∷ []
+    → popped.visited ≡ walk.visited → walk.worklist ≡ popped.worklist ++ place ∷ []
     → new ≡ all_met memory.blocks (held_in memory place) popped → IsWalk memory new
 walk-goes_on memory walk popped new place is same waited met_all =
     subst (λ (w : Walk). IsWalk memory w) (sym met_all)
     (block-walk memory walk popped place is waited same)
 
 pub walk-less : (memory : Memory) (walk popped new : Walk) (place : ℕ)
-    → popped.visited ≡ walk.visited → walk.waiting ≡ popped.waiting ++ place ∷ []
+    → popped.visited ≡ walk.visited → walk.worklist ≡ popped.worklist ++ place ∷ []
     → new ≡ all_met memory.blocks (held_in memory place) popped → left new < left walk
 walk-less memory walk popped new place same waited met_all =
     let less = block-less memory.blocks (held_in memory place) walk popped place waited same in
@@ -301,13 +301,13 @@ walk-less memory walk popped new place same waited met_all =
     omega arith
 
 -- and ends where none waits
-none_left : (waiting : List ℕ) → (0 < length waiting → ⊥) → waiting ≡ []
+none_left : (worklist : List ℕ) → (0 < length worklist → ⊥) → worklist ≡ []
 none_left [] none = refl
-none_left (place ∷ waiting) none = absurd (none (omega arith))
+none_left (place ∷ worklist) none = absurd (none (omega arith))
 
 pub walk-ends : (memory : Memory) (walk after : Walk) (visited : List Bool) → IsWalk memory walk
-    → (0 < length walk.waiting → ⊥) → after.visited ≡ walk.visited → visited ≡ after.visited
+    → (0 < length walk.worklist → ⊥) → after.visited ≡ walk.visited → visited ≡ after.visited
     → (place : ℕ) → is_visited visited place ≡ is_reached memory place
 walk-ends memory walk after visited is none same determined place =
     ap (λ (m : List Bool). is_visited m place) (determined ∙ same)
-    ∙ walk-done memory walk is (none_left walk.waiting none) place
+    ∙ walk-done memory walk is (none_left walk.worklist none) place

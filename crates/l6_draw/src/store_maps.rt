@@ -77,6 +77,7 @@ fn used_in<S: Places>(store: &S, places: &[Place]) -> Place
         places.now }
     ensures within { result + unit_size ≤ blocks.end_of (S.store store.now).units }
 {
+    // a look at the store, by which its blocks are known to fit
     let _units = store.units();
     let mut used = 0;
     for place in places {

@@ -17,7 +17,7 @@ use std::marker::Model;
 struct Walk {
     // by the number of the place
     visited: Vec<bool>,
-    waiting: Vec<Place>,
+    worklist: Vec<Place>,
 }
 
 impl Model for Walk {
@@ -29,7 +29,7 @@ impl Model for Walk {
 
     ghost coded = { Prim.hlevel (codes) };
 
-    ghost view = { λ walk. record { visited = walk.visited.items; waiting = walk.waiting.items } };
+    ghost view = { λ walk. record { visited = walk.visited.items; worklist = walk.worklist.items } };
 
     ghost invariant = { λ walk. length walk.visited.items ≤ 2 ^ 32 };
 }
@@ -38,11 +38,11 @@ impl Walk {
     /// A walk over the places below this one, none of them visited yet, with room for so many
     /// blocks.
     fn new(alloc: Global, end: Place, blocks: usize) -> Result<Self, AllocError>
-        ensures { IfOk result (λ walk. walk ≡ record { visited = replicate end false; waiting = [] }) }
+        ensures { IfOk result (λ walk. walk ≡ record { visited = replicate end false; worklist = [] }) }
     {
         Ok(Walk {
             visited: vec![in alloc; false; end as usize]?,
-            waiting: Vec::with_capacity(alloc, blocks)?,
+            worklist: Vec::with_capacity(alloc, blocks)?,
         })
     }
 
@@ -63,7 +63,7 @@ impl Walk {
     {
         if self.is_new(store, number) {
             self.visited[number.get() as usize] = true;
-            self.waiting.push(number.get() as Place)?;
+            self.worklist.push(number.get() as Place)?;
         }
         Ok(())
     }
@@ -100,10 +100,10 @@ impl Walk {
     /// Takes a place that the walk has not looked at yet, if there is one.
     fn next(&mut self) -> Option<Place>
         ensures visited { self.new.visited ≡ self.old.visited }
-        ensures waiting { self.old.waiting ≡ self.new.waiting ++ option_to_list result }
-        ensures none { IsSome result ↔ (0 < length self.old.waiting) }
+        ensures worklist { self.old.worklist ≡ self.new.worklist ++ option_to_list result }
+        ensures none { IsSome result ↔ (0 < length self.old.worklist) }
     {
-        self.waiting.pop()
+        self.worklist.pop()
     }
 }
 

@@ -1,8 +1,8 @@
-//! How a run has ended.
+//! How a run is reported to have ended.
 
 use l6_steps::Trap;
 
-/// How a run has ended.
+/// How a run is reported to have ended: by what has ended it, or at its limit of steps.
 #[derive(Clone, Copy, Debug, PartialEq, Eq, Hash)]
 pub enum Ending {
     /// By an exit DONE.

@@ -94,33 +94,8 @@ impl<S: Places> Machine<S> {
         Ok(Self::start(alloc, program.duplicate(alloc)?, input, store, limits)?)
     }
 
-    /// Like `new`, but takes ownership of the program, and makes no copy of it.
-    ///
-    /// # Errors
-    ///
-    /// Those of `new`.
-    pub fn with_program(
-        alloc: Global,
-        program: Program,
-        input: &[u8],
-        store: S,
-        limits: Limits,
-    ) -> Result<Self, MachineFault>
-    where
-        S: Drop,
-        requires input { length input.now ≤ most_input }
-        requires fresh { S.store store ≡ fresh S.rule (S.store store).units }
-        ensures start { IfOk result (IsAtStart S.rule
-            (run_context program (S.store store).units limits input.now)) }
-        ensures bad_limits { IsErrOf result MachineFault.BadLimits ↔ (are_allowed limits ≡ false) }
-        ensures allowed { OnOk result (are_allowed limits ≡ true) }
-    {
-        check(limits)?;
-        Ok(Self::start(alloc, program, input, store, limits)?)
-    }
-
-    /// Like `with_program`, for limits that are known to be allowed. The caller owes that, too
-    /// (`Limits::are_allowed`).
+    /// Like `new`, but takes ownership of the program, makes no copy of it, and is for limits that are
+    /// known to be allowed. The caller owes that, too (`Limits::are_allowed`).
     ///
     /// # Errors
     ///
@@ -143,7 +118,7 @@ impl<S: Places> Machine<S> {
         let code = CompiledProgram::new(alloc, program)?;
         let registers = Registers::new(alloc, input, store, limits)?;
         let progress = Progress {
-            place: code.place(Position::start_of(0)),
+            pc: code.pc(Position::start_of(0)),
             count: 0,
             ending: None,
         };
@@ -219,7 +194,7 @@ impl<S: Places> Machine<S> {
     {
         self.registers.reset();
         self.progress = Progress {
-            place: self.code.place(Position::start_of(0)),
+            pc: self.code.pc(Position::start_of(0)),
             count: 0,
             ending: None,
         };
@@ -239,7 +214,7 @@ impl<S: Places> Machine<S> {
     {
         Ok(Machine {
             code: self.code.clone()?,
-            registers: self.registers.copy(alloc)?,
+            registers: self.registers.duplicate(alloc)?,
             progress: self.progress,
         })
     }
@@ -340,7 +315,7 @@ impl<S: Places> Machine<S> {
     pub fn at(&self) -> Position
         ensures { result ≡ self.now.configuration.state.at }
     {
-        self.code.position(self.progress.place)
+        self.code.position(self.progress.pc)
     }
 
     /// How many steps have been counted, at most as many as the run may count. Steps of the written

@@ -69,7 +69,7 @@ impl Name {
     }
 }
 
-/// The name `0`, which is in the unused places of an `ArrayVec`.
+/// The name `0`, which fills the unused part of a chain's array.
 impl Default for Name {
     ghost is_default = { λ name. name ≡ 0 };
 

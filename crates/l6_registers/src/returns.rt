@@ -7,7 +7,7 @@ ghost use Rattle.l6_steps.specs.declared.jump.Jump.TheVariants as jumps;
 ghost use Rattle.l6_steps.specs.Row.{leave_by, done, fail, row};
 ghost use Rattle.l6_steps.specs.Stack.{has_room};
 ghost use Rattle.l6_steps.specs.Step.{returns_after};
-ghost use Rattle.l6_steps.specs.inner.Places.{FindsRoom};
+ghost use Rattle.l6_steps.specs.inner.Positions.{FindsRoom};
 ghost use Rattle.l6_registers.specs.inner.Registers.{AreHeld, Executes};
 
 use crate::registers::Registers;

@@ -1,2 +1,2 @@
 pub mod Calculation
-pub mod Places
+pub mod Positions

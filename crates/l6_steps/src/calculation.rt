@@ -29,7 +29,7 @@ pub enum Calculation {
     Or,
     /// The bits that are one in just one of them.
     ExclusiveOr,
-    /// The value with each bit turned.
+    /// The value with each bit inverted.
     Complement,
     /// The content, shifted left by as many bits as the value says.
     ShiftLeft,

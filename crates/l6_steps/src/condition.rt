@@ -1,14 +1,14 @@
 //! What tests compare, and what decides a condition.
 
 ghost use Rattle.std.specs.Prelude.{◌≡◌};
-ghost use Rattle.l6_steps.specs.Condition.{compares, stop_of};
+ghost use Rattle.l6_steps.specs.Condition.{compares, short_circuit_of};
 
 use l6_prog::{Comparison, Cond};
 
 /// What decides a condition before all its tests are taken. Where no test does, the answer is the
 /// opposite one.
 #[derive(Clone, Copy, Debug, PartialEq, Eq)]
-pub struct Stop {
+pub struct ShortCircuit {
     /// The outcome of a test that decides the condition: whether the test holds.
     pub outcome: bool,
     /// The condition's answer then.
@@ -30,9 +30,9 @@ pub fn compares(comparison: Comparison, content: u64, value: u64) -> bool
     }
 }
 
-/// The stop of a condition. A statement without one needs none.
-pub fn stop_of(condition: Cond) -> Option<Stop>
-    ensures { result ≡ stop_of condition }
+/// The short circuit of a condition. A statement without a condition needs none.
+pub fn short_circuit_of(condition: Cond) -> Option<ShortCircuit>
+    ensures { result ≡ short_circuit_of condition }
 {
     let (outcome, answer) = match condition {
         Cond::Always => return None,
@@ -43,5 +43,5 @@ pub fn stop_of(condition: Cond) -> Option<Stop>
         Cond::IfNone => (true, false),
         Cond::IfNotAll => (false, true),
     };
-    Some(Stop { outcome, answer })
+    Some(ShortCircuit { outcome, answer })
 }

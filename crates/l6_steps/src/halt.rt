@@ -2,7 +2,7 @@
 
 use crate::trap::Trap;
 
-/// How a run has ended.
+/// What has ended a run.
 #[derive(Clone, Copy, Debug, PartialEq, Eq, Hash)]
 pub enum Halt {
     /// By an exit DONE.

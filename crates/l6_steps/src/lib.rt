@@ -17,7 +17,7 @@ mod trap;
 mod worked;
 
 pub use calculation::Calculation;
-pub use condition::{Stop, compares, stop_of};
+pub use condition::{ShortCircuit, compares, short_circuit_of};
 pub use halt::{Halt, StepResult};
 pub use jump::{Jump, ending_after, position_after};
 pub use laws::{

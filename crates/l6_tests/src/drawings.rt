@@ -21,7 +21,7 @@ const RING: &[u8] = b" (0,DN,18,35)(X,GT,2)(Y,GT,2)(XN,E,Y)(YN,E,X)\nB (A,A,1)\n
 fn places_are_reached(rt: HostRuntime) -> Result<(), Fail> {
     let program = assemble(rt.alloc(), RING)?.into_program();
     let store = ScanStore::new(rt.alloc(), 8)?;
-    let mut machine = Machine::with_program(rt.alloc(), program, &[], store, LIMITS)?;
+    let mut machine = Machine::new(rt.alloc(), &program, &[], store, LIMITS)?;
     machine.run();
     assert_eq!(rt;
         reachable(rt.alloc(), &machine)?.as_slice(),

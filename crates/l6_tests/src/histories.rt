@@ -22,7 +22,7 @@ const LIMITS: Limits = Limits {
 fn history(alloc: Global) -> Result<History<Buddy>, Fail> {
     let program = assemble(alloc, LOOP)?.into_program();
     let store = Buddy::new(alloc, 1)?;
-    let machine = Machine::with_program(alloc, program, &[], store, LIMITS)?;
+    let machine = Machine::new(alloc, &program, &[], store, LIMITS)?;
     Ok(History::new(alloc, machine))
 }
 
@@ -45,7 +45,13 @@ fn a_long_way_keeps_each_checkpoint(rt: HostRuntime) -> Result<(), Fail> {
     let mut history = history(rt.alloc())?;
     history.to(rt.alloc(), 5);
     history.to(rt.alloc(), 10_000);
-    for (number, kept) in [(0, false), (5, false), (4_096, true), (8_192, true), (10_000, false)] {
+    for (number, kept) in [
+        (0, false),
+        (5, false),
+        (4_096, true),
+        (8_192, true),
+        (10_000, false),
+    ] {
         assert_eq!(rt; history.kept(number), kept);
     }
     Ok(())
@@ -127,7 +133,7 @@ const E: usize = 4;
 fn a_history_over_the_plain_store_goes_back(rt: HostRuntime) -> Result<(), Fail> {
     let program = assemble(rt.alloc(), BLOCKS)?.into_program();
     let store = ScanStore::new(rt.alloc(), 1)?;
-    let machine = Machine::with_program(rt.alloc(), program, &[], store, LIMITS)?;
+    let machine = Machine::new(rt.alloc(), &program, &[], store, LIMITS)?;
     let mut history = History::new(rt.alloc(), machine);
     for (number, bug, level) in [
         (11, 1024, Some(0)),

@@ -27,7 +27,7 @@ const X: usize = 23;
 fn a_machine_over_the_buddy_system_goes_its_own_way(rt: HostRuntime) -> Result<(), Fail> {
     let program = assemble(rt.alloc(), DECK)?.into_program();
     let store = Buddy::new(rt.alloc(), 1)?;
-    let machine = Machine::with_program(rt.alloc(), program, &[], store, LIMITS)?;
+    let machine = Machine::new(rt.alloc(), &program, &[], store, LIMITS)?;
     assert!(rt; goes_its_own_way(rt.alloc(), machine)?);
     Ok(())
 }
@@ -36,7 +36,7 @@ fn a_machine_over_the_buddy_system_goes_its_own_way(rt: HostRuntime) -> Result<(
 fn a_machine_over_the_plain_store_goes_its_own_way(rt: HostRuntime) -> Result<(), Fail> {
     let program = assemble(rt.alloc(), DECK)?.into_program();
     let store = ScanStore::new(rt.alloc(), 1)?;
-    let machine = Machine::with_program(rt.alloc(), program, &[], store, LIMITS)?;
+    let machine = Machine::new(rt.alloc(), &program, &[], store, LIMITS)?;
     assert!(rt; goes_its_own_way(rt.alloc(), machine)?);
     Ok(())
 }
@@ -45,7 +45,7 @@ fn a_machine_over_the_plain_store_goes_its_own_way(rt: HostRuntime) -> Result<()
 fn the_buddy_system_gives_what_was_freed_last(rt: HostRuntime) -> Result<(), Fail> {
     let program = assemble(rt.alloc(), BLOCKS)?.into_program();
     let store = Buddy::new(rt.alloc(), 1)?;
-    let machine = Machine::with_program(rt.alloc(), program, &[], store, LIMITS)?;
+    let machine = Machine::new(rt.alloc(), &program, &[], store, LIMITS)?;
     assert!(rt; prints(machine, b"1026"));
     Ok(())
 }
@@ -54,7 +54,7 @@ fn the_buddy_system_gives_what_was_freed_last(rt: HostRuntime) -> Result<(), Fai
 fn the_plain_store_gives_the_first_free_place(rt: HostRuntime) -> Result<(), Fail> {
     let program = assemble(rt.alloc(), BLOCKS)?.into_program();
     let store = ScanStore::new(rt.alloc(), 1)?;
-    let machine = Machine::with_program(rt.alloc(), program, &[], store, LIMITS)?;
+    let machine = Machine::new(rt.alloc(), &program, &[], store, LIMITS)?;
     assert!(rt; prints(machine, b"1024"));
     Ok(())
 }

@@ -94,7 +94,7 @@ fn history<'a>(alloc: Global, gets: &'a Cell<u64>) -> Result<History<CountedStor
         places: ScanStore::new(alloc, 1)?,
         gets,
     };
-    let machine = Machine::with_program(alloc, program, &[], store, LIMITS)?;
+    let machine = Machine::new(alloc, &program, &[], store, LIMITS)?;
     Ok(History::new(alloc, machine))
 }
 
@@ -131,7 +131,10 @@ fn a_store_of_ones_own_takes_over_another(rt: HostRuntime) -> Result<(), Fail> {
     history.to(rt.alloc(), 69_634);
     assert_eq!(rt; history.kept(4_096), false);
     assert_eq!(rt; history.kept(69_632), true);
-    assert_eq!(rt; history.machine().store().live(Word::from(1_024_u32)), Some(0));
+    assert_eq!(rt;
+        history.machine().store().live(Word::from(1_024_u32)),
+        Some(0)
+    );
     history.to(rt.alloc(), 69_633);
     assert_eq!(rt; history.machine().store().live(Word::from(1_024_u32)), None);
     Ok(())

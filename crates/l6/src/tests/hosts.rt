@@ -12,38 +12,85 @@ use std::test::Fail;
 /// How many bytes are moved at a time: more than 1 MiB.
 const MANY: usize = 1_500_000;
 
-/// What a device does at its second call, and what its host then answers.
-const ROWS: [(Option<ErrorKind>, Result<usize, Trouble>); 10] = [
-    (None, Ok(0)),
-    (Some(ErrorKind::Interrupted), Err(Trouble::Interrupted)),
-    (Some(ErrorKind::WouldBlock), Err(Trouble::Failed)),
-    (Some(ErrorKind::TimedOut), Err(Trouble::Failed)),
-    (Some(ErrorKind::BrokenPipe), Err(Trouble::Failed)),
-    (Some(ErrorKind::ConnectionAborted), Err(Trouble::Failed)),
-    (Some(ErrorKind::UnexpectedEof), Err(Trouble::Failed)),
-    (Some(ErrorKind::WriteZero), Err(Trouble::Failed)),
-    (Some(ErrorKind::OutOfMemory), Err(Trouble::Failed)),
-    (Some(ErrorKind::Other), Err(Trouble::Failed)),
+/// The kinds of errors that devices may have, but for `Interrupted`: each of them is a failure.
+const FAILURES: [ErrorKind; 41] = [
+    ErrorKind::NotFound,
+    ErrorKind::PermissionDenied,
+    ErrorKind::ConnectionRefused,
+    ErrorKind::ConnectionReset,
+    ErrorKind::HostUnreachable,
+    ErrorKind::NetworkUnreachable,
+    ErrorKind::ConnectionAborted,
+    ErrorKind::NotConnected,
+    ErrorKind::AddrInUse,
+    ErrorKind::AddrNotAvailable,
+    ErrorKind::NetworkDown,
+    ErrorKind::BrokenPipe,
+    ErrorKind::AlreadyExists,
+    ErrorKind::WouldBlock,
+    ErrorKind::NotADirectory,
+    ErrorKind::IsADirectory,
+    ErrorKind::DirectoryNotEmpty,
+    ErrorKind::ReadOnlyFilesystem,
+    ErrorKind::FilesystemLoop,
+    ErrorKind::StaleNetworkFileHandle,
+    ErrorKind::InvalidInput,
+    ErrorKind::InvalidData,
+    ErrorKind::TimedOut,
+    ErrorKind::WriteZero,
+    ErrorKind::StorageFull,
+    ErrorKind::NotSeekable,
+    ErrorKind::QuotaExceeded,
+    ErrorKind::FileTooLarge,
+    ErrorKind::ResourceBusy,
+    ErrorKind::ExecutableFileBusy,
+    ErrorKind::Deadlock,
+    ErrorKind::CrossesDevices,
+    ErrorKind::TooManyLinks,
+    ErrorKind::InvalidFilename,
+    ErrorKind::ArgumentListTooLong,
+    ErrorKind::Unsupported,
+    ErrorKind::UnexpectedEof,
+    ErrorKind::OutOfMemory,
+    ErrorKind::InProgress,
+    ErrorKind::Other,
+    ErrorKind::Uncategorized,
 ];
+
+/// A reader and a writer that have this trouble at their second call are asked three times, and answer
+/// so then.
+fn second_call_answers(
+    rt: &HostRuntime,
+    text: &[u8],
+    error: Option<ErrorKind>,
+    answer: Result<usize, Trouble>,
+) -> Result<(), Fail> {
+    let mut buffer = vec![in rt.alloc(); 0; MANY]?;
+    let mut reader = Host::new(Device::new(text, MANY, 2, error));
+    let mut writer = Host::new(Device::new(Vec::new(rt.alloc()), MANY, 2, error));
+    for want in [Ok(MANY), answer, Ok(MANY)] {
+        assert_eq!(rt; reader.read(buffer.as_mut_slice()), want);
+        assert_eq!(rt; writer.write(buffer.as_slice()), want);
+    }
+    // The reader has no more bytes.
+    assert_eq!(rt; reader.read(buffer.as_mut_slice()), Ok(0));
+    assert_eq!(rt; reader.into_inner().calls, 4);
+    let device = writer.into_inner();
+    assert_eq!(rt; device.calls, 3);
+    assert_eq!(rt; device.flushes, 0);
+    assert_eq!(rt; device.bytes.len(), text.len());
+    Ok(())
+}
 
 #[test]
 fn a_host_answers_as_its_device(rt: HostRuntime) -> Result<(), Fail> {
     let text = vec![in rt.alloc(); 7; MANY * 2]?;
-    let mut buffer = vec![in rt.alloc(); 0; MANY]?;
-    for (error, answer) in ROWS {
-        let mut reader = Host::new(Device::new(text.as_slice(), MANY, 2, error));
-        let mut writer = Host::new(Device::new(Vec::new(rt.alloc()), MANY, 2, error));
-        for want in [Ok(MANY), answer, Ok(MANY)] {
-            assert_eq!(rt; reader.read(buffer.as_mut_slice()), want);
-            assert_eq!(rt; writer.write(buffer.as_slice()), want);
-        }
-        // The reader has no more bytes.
-        assert_eq!(rt; reader.read(buffer.as_mut_slice()), Ok(0));
-        assert_eq!(rt; reader.into_inner().calls, 4);
-        let device = writer.into_inner();
-        assert_eq!(rt; device.calls, 3);
-        assert_eq!(rt; device.flushes, 0);
-        assert_eq!(rt; device.bytes.len(), text.len());
+    let text = text.as_slice();
+    second_call_answers(&rt, text, None, Ok(0))?;
+    let interrupted = Err(Trouble::Interrupted);
+    second_call_answers(&rt, text, Some(ErrorKind::Interrupted), interrupted)?;
+    for kind in FAILURES {
+        second_call_answers(&rt, text, Some(kind), Err(Trouble::Failed))?;
     }
     Ok(())
 }

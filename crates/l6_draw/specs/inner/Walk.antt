@@ -6,7 +6,7 @@ use Rattle.l6_store.specs.Blocks.{Blocks}
 
 pub record Walk : Type 0 where
   pub visited : List Bool
-  pub waiting : List ℕ
+  pub worklist : List ℕ
 
 -- whether a place is visited
 abbrev pub is_visited : List Bool → ℕ → Bool
@@ -24,7 +24,7 @@ met blocks number walk =
     if is_new blocks walk.visited number
     then record {
       visited = slice_set walk.visited number true;
-      waiting = walk.waiting ++ number ∷ [];
+      worklist = walk.worklist ++ number ∷ [];
     }
     else walk
 

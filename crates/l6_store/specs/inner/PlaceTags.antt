@@ -1,4 +1,4 @@
--- What the helpers of a plain store do to its tags and words.
+-- What a plain store does to its tags and words.
 use Rattle.std.specs.Prelude.{◌≡◌, ℕ, ◌+◌, ◌%◌, ◌^◌, ◌<◌, ◌≤◌, List, length, slice_index, Option, Some, None, ◌⊎◌}
 use Rattle.l6_word.specs.Numerals.{unit_size}
 use Rattle.l6_store.specs.inner.Tags.{size_by, tag_at, IsKept}

@@ -1,7 +1,7 @@
 use Rattle.std.proofs.Common.{◌≡◌, [], ◌∷◌, false, ap, ◌∙◌, subst, rules}
 use Rattle.std.specs.Str.{byte}
 use Rattle.std.proofs.lemmas.Bool.{ne_eqb}
-use Rattle.l6_card.specs.inner.First.{begins_with_closing, IsCutAtParenthesis}
+use Rattle.l6_card.specs.inner.Token.{begins_with_closing, IsCutAtParenthesis}
 use Rattle.l6_card.proofs.Bodies.{unclosed-cut, closed-cut}
 use Rattle.l6_card.proofs.item.first_group.Goals as goal
 

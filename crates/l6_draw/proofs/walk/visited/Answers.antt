@@ -15,14 +15,14 @@ loop-place-init g c =
 pub loop-place-smaller : goal.loop-place-smaller
 loop-place-smaller g c =
     walk-less c.args.machine.now.configuration.state.memory c.loop-place.walk c.next.new.self
-    c.meet_fields.new.self c.in-Some.place c.next.ensures.visited c.in-Some.ensures.waiting
+    c.meet_fields.new.self c.in-Some.place c.next.ensures.visited c.in-Some.ensures.worklist
     c.in_ok-meet_fields.ensures
 
 pub loop-place-preserved : goal.loop-place-preserved
 loop-place-preserved g c =
     walk-goes_on c.args.machine.now.configuration.state.memory c.loop-place.walk c.next.new.self
     c.meet_fields.new.self c.in-Some.place c.loop-place.invariant c.next.ensures.visited
-    c.in-Some.ensures.waiting c.in_ok-meet_fields.ensures
+    c.in-Some.ensures.worklist c.in_ok-meet_fields.ensures
 
 pub returns : goal.returns
 returns g c =

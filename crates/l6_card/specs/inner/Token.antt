@@ -3,8 +3,8 @@ use Rattle.std.specs.Prelude.{◌≡◌, ℕ, ◌+◌, ◌<◌, ◌==◌, not, �
 use Rattle.std.specs.Str.{byte}
 use Rattle.l6_word.specs.Split.{lacks}
 use Rattle.l6_group.specs.Character.{is_blank}
-use Rattle.l6_card.specs.declared.item.First.{First}
-use Rattle.l6_card.specs.declared.item.First.TheVariants.{End, Group, Word, Other}
+use Rattle.l6_card.specs.declared.item.Token.{Token}
+use Rattle.l6_card.specs.declared.item.Token.TheVariants.{End, Group, Word, Other}
 use Rattle.l6_card.specs.Items.{Item, group, word, unopened, after_opening, items_of}
 
 -- there is a first item, and it is neither a group nor a word
@@ -35,7 +35,7 @@ pub record WordFirst (offset : ℕ) (body columns rest : List ℕ) : Type 0 wher
 
 -- the body begins so, at each offset: it has no item, or a group or a word with the items of the
 -- rest after it, or another item
-abbrev pub BeginsWith : First → List ℕ → Type 0
+abbrev pub BeginsWith : Token → List ℕ → Type 0
 BeginsWith End body = (offset : ℕ) → items_of offset body ≡ []
 BeginsWith (Group columns rest) body =
     (offset : ℕ) → GroupFirst offset body columns.now rest.now
@@ -55,7 +55,7 @@ pub record ClosesFirst (inside columns rest : List ℕ) : Type 0 where
   pub whole : length columns + 1 + length rest ≡ length inside
 
 -- what follows a group or a word in a body is shorter than the body
-abbrev pub IsShorter : First → List ℕ → Type 0
+abbrev pub IsShorter : Token → List ℕ → Type 0
 IsShorter (Group columns rest) body = length rest.now < length body
 IsShorter (Word columns rest) body = length rest.now < length body
 IsShorter _ body = Unit {0}

@@ -14,3 +14,4 @@ pub mod Loci
 pub mod Bounds
 pub mod Tiled
 pub mod Outputs
+pub mod RunLengths

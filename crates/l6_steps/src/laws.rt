@@ -2,7 +2,7 @@
 //! language.
 
 ghost use Rattle.std.specs.Prelude.{◌≡◌, ◌+◌, ◌%◌, min, max};
-ghost use Rattle.l6_steps.specs.Laws.{BuddyRunsBySteps, DifferencesAddUp, EndsInOneState, EndsUnderEachRule, GoesBitByBit, HasALastState, OnesBitByBit, OutputsGrow, RulesRunBySteps, RunsStayWithinBounds, TurnsEachBit, ZerosBitByBit};
+ghost use Rattle.l6_steps.specs.Laws.{BuddyRunsBySteps, DifferencesAddUp, EndsInOneState, EndsUnderEachRule, GoesBitByBit, HasALastState, OnesBitByBit, OutputsGrow, RulesRunBySteps, RunsEnd, RunsGoOn, RunsStayWithinBounds, TurnsEachBit, ZerosBitByBit};
 ghost use Rattle.l6_steps.specs.Numerals.{most_input, most_output, most_steps};
 
 use crate::calculation::Calculation;
@@ -36,6 +36,14 @@ pub fn runs_are_determined()
 /// limit of its steps.
 pub fn runs_have_a_last_state()
     ensures { HasALastState }
+{}
+
+/// Every run ends, whatever open places its blocks are given: it has at most one state for each step
+/// that it may count, besides its start. And it ends in a last state: from each other state a step
+/// leads on.
+pub fn runs_end()
+    ensures end { RunsEnd }
+    ensures go_on { RunsGoOn }
 {}
 
 /// Each state that a run reaches is within its bounds, whatever open places its blocks are given:

@@ -21,7 +21,7 @@ pub use condition::{ShortCircuit, compares, short_circuit_of};
 pub use halt::{Halt, StepResult};
 pub use jump::{Jump, ending_after, position_after};
 pub use laws::{
-    logic_goes_bit_by_bit, outputs_grow, runs_are_determined, runs_have_a_last_state,
+    logic_goes_bit_by_bit, outputs_grow, runs_are_determined, runs_end, runs_have_a_last_state,
     runs_have_their_limits, runs_stay_within_bounds, sums_undo_differences, tests_look_at_each_bit,
 };
 pub use limits::{Limits, MAX_INPUT, MAX_OUTPUT, MAX_STEPS};

@@ -39,7 +39,7 @@ pub(crate) trait Readable: Sized {
 
 /// The field of this name in the block at a pointer.
 #[inline(always)]
-fn field_at<M: Readable>(memory: &M, name: Name, pointer: Word) -> Result<Locus, Trap>
+pub(crate) fn field_at<M: Readable>(memory: &M, name: Name, pointer: Word) -> Result<Locus, Trap>
     ensures value { result ≡ field_at (M.memory memory.now) name pointer }
     ensures locus { IfOk result (IsIn (M.memory memory.now)) }
 {

@@ -15,3 +15,4 @@ pub mod Bounds
 pub mod Tiled
 pub mod Outputs
 pub mod RunLengths
+pub mod LevelsAsked

@@ -83,8 +83,7 @@ runs_end context state older run = (run_counted context state older run).few
 -- from each state that is not last a step leads on: the plain rule's picks are a choice
 pub runs_go_on : RunsGoOn
 runs_go_on context old goes_on =
-    let choice = scan_rule.pick context.parameters.units old.memory.blocks [] in
-    (
+    let choice = scan_rule.pick context.parameters.units old.memory.blocks [] in (
       next context choice old,
       record {
         goes_on = goes_on;

@@ -6,6 +6,7 @@
 
 mod calculation;
 mod condition;
+mod getting;
 mod halt;
 mod jump;
 mod laws;
@@ -18,6 +19,7 @@ mod worked;
 
 pub use calculation::Calculation;
 pub use condition::{ShortCircuit, compares, short_circuit_of};
+pub use getting::level_for;
 pub use halt::{Halt, StepResult};
 pub use jump::{Jump, ending_after, position_after};
 pub use laws::{

@@ -112,7 +112,7 @@ def owner_of(lines: list[str], line: int) -> tuple[str, bool]:
 
     The second value says whether they are a trait's.
     """
-    head = next(row for row in reversed(lines[:line]) if IMPL.match(row) or TRAIT.match(row))
-    found = IMPL.match(head) or TRAIT.match(head)
+    heads = ((IMPL.match(row) or TRAIT.match(row)) for row in reversed(lines[:line]))
+    found = next(filter(None, heads))
     of = found.groupdict().get("of") or ""
-    return found["type"] + "".join(re.findall(r"\b[A-Z]\w*", of)), bool(of or TRAIT.match(head))
+    return found["type"] + "".join(re.findall(r"\b[A-Z]\w*", of)), bool(of or found.re is TRAIT)

@@ -160,7 +160,7 @@ class Bench:
             return []
         check = self._check(batch)
         if not check.judged:
-            bad = [trial for trial in batch if check.cannot_read(trial.functions)]
+            bad = [trial for trial in batch if check.cannot_read(filter(None, trial.functions))]
             good = [trial for trial in batch if trial not in bad]
             return self._try_together(good) if bad and good else []
         blocked = []
@@ -227,9 +227,9 @@ def put_together(trials: list[EditTrial]) -> list[list[EditTrial]]:
     batches: list[list[EditTrial]] = []
     for trial in trials:
         apart = (it for it in batches if all(trial.functions.isdisjoint(o.functions) for o in it))
-        batch = next(apart, None)
-        if batch is None:
-            batches.append(batch := [])
+        batch: list[EditTrial] = next(apart, [])
+        if not batch:
+            batches.append(batch)
         batch.append(trial)
     return batches
 

@@ -13,7 +13,7 @@ from collections.abc import Iterator
 from pathlib import Path
 
 from answers import Answer
-from checkout import TOP, UNPROVED, Checkout
+from checkout import TOP, UNPROVED, Checkout, answers_of_checkouts
 from trials import Trial, report
 
 USAGE = "usage: ./install [PREFIX]\n"
@@ -94,9 +94,9 @@ def refusals(checkout: Checkout) -> Iterator[Trial]:
     page = checkout.top / "docs/l6.1"
     page.rename(checkout.folder / "page")
     actual = checkout.run("install", "no page", has_rt=False)
-    expected = "install: no page/share/man/man1/l6.1 can't be written; nothing is installed\n"
-    ending = actual.stderr[-len(expected):]
-    yield "a manual page that is missing", ("", expected, 1), (actual.stdout, ending, actual.status)
+    said = "install: no page/share/man/man1/l6.1 can't be written; nothing is installed\n"
+    ending = actual.stderr[-len(said):]
+    yield "a manual page that is missing", ("", said, 1), (actual.stdout, ending, actual.status)
     yield "what is installed then", [], names_in(checkout.folder / "no page")
     (checkout.folder / "page").rename(page)
 
@@ -131,4 +131,4 @@ def trials() -> Iterator[Trial]:
 
 
 if __name__ == "__main__":
-    sys.exit(report(trials()))
+    sys.exit(report(trials(), answers_of_checkouts()))

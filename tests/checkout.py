@@ -13,7 +13,6 @@ import sys
 import tempfile
 from collections.abc import Iterator
 from pathlib import Path
-from typing import Any
 
 from answers import Answer
 from trials import CANARY, Trial
@@ -180,9 +179,9 @@ def answers_of_checkouts() -> Iterator[Trial]:
         checkout.write("canary", f"#!/bin/sh\n{CANARY}\n")
         (checkout.top / "canary").chmod(0o755)
         actual = checkout.run("canary")
-        for part, other in (("stdout", "Out\n"), ("stderr", "Err\n"), ("status", 0)):
-            right: dict[str, Any] = {"stdout": "out\n", "stderr": "err\n", "status": 3}
-            yield f"a wrong {part} of a script", Answer(**{**right, part: other}), actual
+        yield "a wrong standard output of a script", Answer("Out\n", "err\n", 3), actual
+        yield "a wrong standard error of a script", Answer("out\n", "Err\n", 3), actual
+        yield "a wrong status of a script", Answer("out\n", "err\n", 0), actual
         before = checkout.made_of
         checkout.write("crates/l6/src/main.rt", "another main\n")
         yield "a program of other sources", before, checkout.made_of

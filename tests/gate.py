@@ -74,7 +74,7 @@ class Gate:
         return actual, log.read_text().splitlines() if log.exists() else []
 
 
-def last_line(actual: Answer[str]) -> tuple[str, int]:
+def last_line(actual: Answer[str]) -> tuple[str, int | str]:
     """The last line of an answer, and its status."""
     return (actual.stdout.splitlines() or [""])[-1], actual.status
 

@@ -304,7 +304,6 @@ def canaries() -> Iterator[Trial]:
         for group in groups:
             name, expected, actual = next(group)
             yield f"of a wrong program, {name}", expected, actual
-            group.close()
 
 
 if __name__ == "__main__":

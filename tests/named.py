@@ -40,6 +40,7 @@ LINK = re.compile(r"\]\((?!https?:)([^)#\s]*)(?:#([^)\s]*))?\)")
 # Words in quotation marks that name no trial, and a name that is made up.
 PROSE = {"out of memory", "Proved", "Tested", "Read in the source"}
 MADE_UP = {"module_what_it_breaks"}
+OF_TOOLCHAIN = "rattle_"  # the names of its own C begin so
 
 
 @functools.cache
@@ -102,7 +103,7 @@ def identifiers() -> Iterator[Trial]:
     """Each long name of code in a page is a word of the sources: of a function, a test, a definition, an edit."""
     for page in PAGES:
         for span in dict.fromkeys(it for span in spans_of(text_of(page)) for it in IDENTIFIER.findall(span)):
-            yield f"{page}: the name {span}", True, span in words() or span in MADE_UP
+            yield f"{page}: the name {span}", True, span in words() or span in MADE_UP or span.startswith(OF_TOOLCHAIN)
 
 
 def paths() -> Iterator[Trial]:

@@ -23,7 +23,7 @@ from trials import ONLY, Trial, report
 # The steps of ./test and of the gate, in their order: the words by which each is known.
 STEPS = [
     "tests/gate.py", "tests/static_checks.py", "tests/memory_words.py", "tests/check_report_trials.py",
-    "tests/picture_trials.py", "tests/program.py", "tests/model_jobs.py", "bench/run", "tests/documents.py",
+    "tests/verdict_trials.py", "tests/picture_trials.py", "tests/program.py", "tests/model_jobs.py", "bench/run", "tests/documents.py",
     "tests/facts.py", "tests/table_decks.py", "tests/named.py", "tests/launcher.py", "tests/install.py", "tests/bundled_page.py", "web/tests/all.py",
 ]
 GATE_STEPS = ["rt ci", *STEPS[:-1], "tests/edits.py", "web/tests/all.py"]

@@ -2,7 +2,8 @@
 
 An edit is a file of lines. 'file: src/lib.rt' names a file of the crate's code; 'old: TEXT' and
 'new: TEXT' after it replace a text that is there exactly once. Further pairs apply to what the
-earlier ones made. The lines of a file stay as many as they are.
+earlier ones made. The lines of a file stay as many as they are. A line 'refused by: CALL' says which
+public call refuses the edit; tools/tables.py lists the edits of each call by it.
 """
 from __future__ import annotations
 
@@ -60,7 +61,7 @@ class Edit:
             elif word == "new" and old and file:
                 pairs.append((file, old, text))
                 old = None
-            elif line.strip():
+            elif line.strip() and word != "refused by":
                 raise BadEdit(f"a line that is not understood: {line[:60]}")
         if not pairs or old is not None:
             raise BadEdit("it has no whole pair of an old and a new text")

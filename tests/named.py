@@ -22,6 +22,10 @@ from model.programs import OPERATIONS
 from page_tables import TOP, Table, canary, plain, spans_of, tables_of, text_of
 from trials import Trial, report
 
+sys.path.insert(0, str(TOP / "tools"))
+import tables
+
+MEASUREMENTS = "docs/measurements.md"
 CONTRACTS, PAGE, DEFINITIONS = "docs/contracts.md", "docs/page.md", "docs/definitions.md"
 OF_TRIALS = ("docs/proof.md", "docs/robustness.md", CONTRACTS)  # pages that name cases and trials in quotation marks
 MAKERS = ("program.py", "memory.py", "largest_jobs.py")  # scripts whose trials pages name
@@ -182,6 +186,15 @@ def counting_commands() -> Iterator[Trial]:
                 yield f"{page}: {command}", counts, [it.replace(",", "") for it in said][:len(counts)]
 
 
+def generated() -> Iterator[Trial]:
+    """The tables that tools/tables.py makes are as it makes them, and each edit has its row."""
+    page, wrong = tables.contracts(text_of(CONTRACTS))
+    yield f"{CONTRACTS} (tools/tables.py makes its lists of edits)", page, text_of(CONTRACTS)
+    yield "edits without a row", [], wrong
+    made = tables.measurements(text_of(MEASUREMENTS))
+    yield f"{MEASUREMENTS} (tools/tables.py makes its table of crates)", made, text_of(MEASUREMENTS)
+
+
 def numbers_of_operations() -> Iterator[Trial]:
     """How many operations and traps the pages say there are."""
     for page in PAGES:
@@ -231,6 +244,8 @@ def canaries(program: str) -> Iterator[Trial]:
     yield canary("bench/README.md", "measurements.md#how-fast-it-is", "measurements.md#how-fast", links)
     yield canary("README.md", "(docs/pictures/list.svg)", "(docs/pictures/lists.svg)", links)
     yield canary("docs/gallery.md", "(#a-tree)", "(#a-bush)", links)
+    yield canary(CONTRACTS, "`word_of_two_to_the_36`, ", "", generated)
+    yield canary(MEASUREMENTS, "| `l6_word` | ", "| `l6_word` | 1", generated)
     yield canary(DEFINITIONS, "in 91 files", "in 90 files", counting_commands)
     yield canary(PAGE, "click the 8 beside", "click the 7 beside", lambda: lessons(program))
     yield canary(PAGE, "step to state 13", "step to state 12", lambda: lessons(program))
@@ -244,6 +259,7 @@ def trials(program: str) -> Iterator[Trial]:
     yield from contracts()
     yield from links()
     yield from counting_commands()
+    yield from generated()
     yield from numbers_of_operations()
     yield from lessons(program)
 

@@ -24,7 +24,8 @@ from trials import ONLY, Trial, report
 STEPS = [
     "tests/gate.py", "tests/static_checks.py", "tests/memory_words.py", "tests/check_report_trials.py",
     "tests/verdict_trials.py", "tests/picture_trials.py", "tests/program.py", "tests/model_jobs.py", "bench/run", "tests/documents.py",
-    "tests/facts.py", "tests/table_decks.py", "tests/named.py", "tests/launcher.py", "tests/install.py", "tests/bundled_page.py", "web/tests/all.py",
+    "tests/facts.py", "tests/table_decks.py", "tests/named.py", "tests/launcher.py", "tests/install.py", "tests/scripts.py",
+    "tests/bundled_page.py", "web/tests/all.py",
 ]
 GATE_STEPS = ["rt ci", *STEPS[:-1], "tests/edits.py", "web/tests/all.py"]
 NOT_A_STEP = {"hostile.py"}  # scripts of tests/ that ./test does not call

@@ -20,8 +20,9 @@ from page_tables import canary, plain, spans_of, table_with, tables_of, text_of
 from trials import Trial, report
 
 LANGUAGE, SUMMARY, MANUAL = "docs/language.md", "docs/summary.md", "docs/l6.1"
-ROBUSTNESS, DEBUGGER = "docs/robustness.md", "docs/debugger.md"
+ROBUSTNESS, DEBUGGER, ALLOCATOR = "docs/robustness.md", "docs/debugger.md", "docs/allocator.md"
 RUNNING = ("run", "load", "debug")
+STRIDE, CHECKPOINTS = 4_096, 16  # states from one checkpoint of the debugger to the next, and how many are kept
 
 
 def number_of(text: str) -> int:
@@ -101,6 +102,24 @@ SENTENCES: list[tuple[str, str, int, int]] = [
     (ROBUSTNESS, "or was interrupted for the #st time", 1_001, 1),
     (ROBUSTNESS, "more than # interruptions in one call", 1_000, 1),
     (DEBUGGER, "A number is decimal, at most #.", 1_000_000_000, 1),
+    (DEBUGGER, "whose number is a multiple of #.", STRIDE, 1),
+    (DEBUGGER, "At most # are kept", CHECKPOINTS, 1),
+    (DEBUGGER, "by up to # states costs", (CHECKPOINTS - 1) * STRIDE, 1),
+    (DEBUGGER, "at most # steps, however", STRIDE - 1, 1),
+    (ALLOCATOR, "1,024 to # words, in units", 255 * store.UNIT, 1),
+    (ALLOCATOR, "m from 1 to #.", 255, 1),
+    (ALLOCATOR, "A store is made of 1 to # units", 255, 1),
+    (ALLOCATOR, "or None above #.", operations.SIZE_LIMIT, 1),
+    (ALLOCATOR, "A get of a level, at most #, gives", 10, 1),
+    (ALLOCATOR, "A get halves at most # times", 10, 1),
+    (ALLOCATOR, "a free joins at most # times", 10, 1),
+    (ALLOCATOR, "looks at no more than # heads", 11, 1),
+    ("docs/image.md", "has at most # statements", 4_095, 2),
+    ("docs/history.md", "1 to 128 | 2^k words, 1 to #", operations.SIZE_LIMIT, 1),
+    ("docs/history.md", "up to # calls wait", operations.ENTRIES_LIMIT, 1),
+    ("docs/history.md", "the same: # names", len(characters.NAMES), 1),
+    ("docs/history.md", "of up to # names", programs.NAMES_LIMIT, 1),
+    ("docs/history.md", "| #: arithmetic and logic", len(programs.OPERATIONS) - 3, 1),
 ]
 
 # The table of limits in docs/language.md: the numbers of each row.

@@ -24,7 +24,7 @@ from trials import ONLY, Trial, report
 STEPS = [
     "tests/gate.py", "tests/static_checks.py", "tests/memory_words.py", "tests/check_report_trials.py",
     "tests/verdict_trials.py", "tests/picture_trials.py", "tests/program.py", "tests/model_jobs.py", "bench/run", "tests/documents.py",
-    "tests/facts.py", "tests/table_decks.py", "tests/named.py", "tests/launcher.py", "tests/install.py", "tests/scripts.py",
+    "tests/facts.py", "tests/table_decks.py", "tests/format_pages.py", "tests/named.py", "tests/launcher.py", "tests/install.py", "tests/scripts.py",
     "tests/bundled_page.py", "web/tests/all.py",
 ]
 GATE_STEPS = ["rt ci", *STEPS[:-1], "tests/edits.py", "web/tests/all.py"]
@@ -32,7 +32,7 @@ NOT_A_STEP = {"hostile.py"}  # scripts of tests/ that ./test does not call
 
 STAND_IN = '''#!/bin/sh
 # A stand-in for python3 and rt: notes its words, and prints a count, which $FAILS and $HOW make a bad one.
-words="${0##*/} $*"
+words="${0##*/} $*${L6_ONLY+ of $L6_ONLY}"
 [ "$*" = version ] && exec cat "$STAND_IN/version"
 echo "$words" >> "$STAND_IN/steps"
 how=well
@@ -127,14 +127,16 @@ def words_of_the_command(gate: Gate) -> Iterator[Trial]:
         actual, calls = gate.test(*words)
         yield f"the words {words}", (64, "", []), (actual.status, actual.stdout, calls)
     actual, calls = gate.test("--list")
-    yield "--list", (0, len(STEPS), []), (actual.status, len(actual.stdout.splitlines()), calls)
-    for at, step in enumerate(actual.stdout.splitlines()):
-        actual, calls = gate.test("--only", step)
-        yield f"--only {step}", ([STEPS[at]], 0), (known_in(STEPS, calls), actual.status)
+    names = actual.stdout.splitlines()
+    yield "--list", (0, len(STEPS), len(STEPS), []), (actual.status, len(names), len(set(names)), calls)
+    for at in (0, 5, len(names) - 1):
+        actual, calls = gate.test("--only", names[at])
+        yield f"--only {names[at]}", ([STEPS[at]], 0), (known_in(STEPS, calls), actual.status)
     actual, _ = gate.test("--only", "install", fails="tests/", how="a-status")
     yield "--only a step that fails", ("99999 passed, 1 failed", 1), last_line(actual)
     actual, calls = gate.test("--only", "no word")
     yield "--only a trial", (STEPS[1:-1], 0), (known_in(STEPS, calls), actual.status)
+    yield "--only a trial, what is asked for", True, all(call.endswith(" of no word") for call in calls)
     actual, calls = gate.test("--only", "no word", fails="tests/", how="no-trial")
     yield "--only a trial of one step", 0, actual.status
     actual, _ = gate.test("--only", "no such trial", fails="", how="no-trial")

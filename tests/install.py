@@ -13,7 +13,7 @@ from collections.abc import Iterator
 from pathlib import Path
 
 from answers import Answer
-from checkout import TOP, UNPROVED, Checkout, answers_of_checkouts
+from checkout import TOP, UNPROVED, Checkout
 from trials import Trial, report
 
 USAGE = "usage: ./install [PREFIX]\n"
@@ -131,4 +131,4 @@ def trials() -> Iterator[Trial]:
 
 
 if __name__ == "__main__":
-    sys.exit(report(trials(), answers_of_checkouts()))
+    sys.exit(report(trials()))

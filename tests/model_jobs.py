@@ -29,6 +29,7 @@ from answers import Answer, answer, answer_of
 from cases import read_cases
 from further_jobs import Job
 from model.command import WRONG_WORDS
+from model.jobs import VERBS
 from model.command import answer_of as answer_of_model
 from trials import Trial, report
 
@@ -124,8 +125,12 @@ def trials(given: argparse.Namespace) -> Iterator[Trial]:
 def variety() -> Iterator[Trial]:
     """The trials that the random jobs are not all the same: a few are, since a job may be short."""
     for kind, make in KINDS:
-        jobs = {(tuple(job.words), job.stdin) for job in map(make, range(1, VARIED + 1))}
-        yield f"{kind} jobs that differ", True, len(jobs) >= VARIED * 95 // 100
+        jobs = list(map(make, range(1, VARIED + 1)))
+        different = {(tuple(job.words), job.stdin) for job in jobs}
+        yield f"{kind} jobs that differ", True, len(different) >= VARIED * 95 // 100
+        yield f"the verbs of {kind} jobs", set(), set(VERBS) - {job.words[0] for job in jobs if job.words}
+        statuses = {str(model_answer(job.words, job.stdin).status) for job in jobs[:VARIED // 2]}
+        yield f"the statuses of {kind} jobs", set(), set("01234") - statuses
 
 
 def canaries() -> Iterator[Trial]:

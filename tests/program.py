@@ -22,7 +22,7 @@ from answers import Answer, answer, answer_of, leave_little_room
 from cases import Case, read_cases
 from largest_jobs import debug_job, full_store, longest_image, run_job
 from memory import library_of, memory_trials
-from trials import Trial, is_asked_for, report
+from trials import Trial, at_least, is_asked_for, report
 
 HERE = Path(__file__).resolve().parent
 EXAMPLES = HERE.parent / "examples"
@@ -266,21 +266,22 @@ def trials(program: str) -> Iterator[Trial]:
     """All trials, or the one on a case that is asked for by its name."""
     cases = list(read_cases())
     named = [case for case in cases if is_asked_for(case.name)]
-    yield from case_trials(program, named or cases)
     if named:
+        yield from case_trials(program, named)
         return
-    yield from examples(program)
-    yield from sessions(program)
-    yield from large_stores(program)
-    yield from cut_images(program)
-    yield from largest(program)
-    yield from longest(program)
-    yield from failing_devices(program)
+    yield from at_least(597, "cases", case_trials(program, cases))
+    yield from at_least(72, "examples", examples(program))
+    yield from at_least(18, "sessions", sessions(program))
+    yield from at_least(2, "large stores", large_stores(program))
+    yield from at_least(130, "cut images", cut_images(program))
+    yield from at_least(2, "the largest jobs", largest(program))
+    yield from at_least(4, "the longest image", longest(program))
+    yield from at_least(6, "failing devices", failing_devices(program))
     with tempfile.TemporaryDirectory() as folder:
-        yield from helps(program, folder)
-        yield from limited_files(program, folder)
-        yield from interrupted_devices(program, folder)
-    yield from memory_trials(program, cases)
+        yield from at_least(30, "help", helps(program, folder))
+        yield from at_least(30, "limited files", limited_files(program, folder))
+        yield from at_least(5, "interrupted devices", interrupted_devices(program, folder))
+    yield from at_least(4500, "memory", memory_trials(program, cases))
 
 
 WRONG_PROGRAM = """#!/bin/sh

@@ -15,7 +15,7 @@ from collections.abc import Callable, Iterator
 from pathlib import Path
 
 from answers import Answer
-from checkout import TOP, UNPROVED, Checkout, answers_of_checkouts
+from checkout import TOP, UNPROVED, Checkout
 from trials import Trial, report
 
 # A stand-in for sort: another order than that of bytes, unless that is asked for.
@@ -171,4 +171,4 @@ def trials() -> Iterator[Trial]:
 
 
 if __name__ == "__main__":
-    sys.exit(report(trials(), answers_of_checkouts()))
+    sys.exit(report(trials()))

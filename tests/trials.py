@@ -66,6 +66,14 @@ def answer_canaries(actual: Answer[bytes]) -> Iterator[Trial]:
     yield "a wrong exit status", answer(b"out\n", b"err\n", 0), actual
 
 
+def at_least(least: int, what: str, trials: Iterable[Trial]) -> Iterator[Trial]:
+    """Trials, and then one that there were so many. The number is changed with the tests."""
+    count = 0
+    for count, trial in enumerate(trials, 1):
+        yield trial
+    yield f"at least {least} trials: {what}", f"{least} or more", f"{least} or more" if count >= least else f"{count}"
+
+
 def is_chosen(trial: Trial) -> bool:
     """Whether a trial counts: if only some are to be made, those with a text in their names do."""
     return os.environ.get(ONLY, "") in trial[0]

@@ -45,6 +45,7 @@ def repeated(text: str | list[Any], first: int, last: int | None = None) -> byte
     """A text so many times, or once for each number from the first to the last."""
     if last is None:
         return text_of(text) * first
+    assert isinstance(text, str)
     return b"".join(text_of(text.replace("#", f"{n:05}")) for n in range(first, last + 1))
 
 

@@ -86,7 +86,7 @@ def edits_alone() -> Iterator[Trial]:
     """What a check says of one edit, which is all that is edited."""
     of_get = "fn l6_store::buddy::BuddyPlaces::get: not proved\n"
     proved = f"{OF_TAKE}proved\n"
-    texts = [
+    texts: list[tuple[str, set[Function | None], str, Said]] = [
         ("a goal of the function", {TAKE}, BARE + GOAL, Said.REFUSED),
         ("a proof alone", {TAKE}, BARE + LEMMA_ERROR, Said.UNPROVED),
         ("a goal of another function alone", {TAKE}, proved + OTHER_GOAL, Said.SILENT),

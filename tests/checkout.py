@@ -10,9 +10,12 @@ import os
 import shutil
 import subprocess
 import sys
+import tempfile
+from collections.abc import Iterator
 from pathlib import Path
 
 from answers import Answer
+from trials import CANARY, Trial
 
 TOP = Path(__file__).resolve().parent.parent
 SCRIPTS = ("l6", "install", "tools", "docs/l6.1")
@@ -97,8 +100,10 @@ class Checkout:
         for name in SCRIPTS:
             source, target = TOP / name, self.top / name
             target.parent.mkdir(parents=True, exist_ok=True)
-            copy = shutil.copytree if source.is_dir() else shutil.copy
-            copy(source, target)
+            if source.is_dir():
+                shutil.copytree(source, target)
+            else:
+                shutil.copy(source, target)
         self.write("crates.txt", "# a comment\nl6_word:\nl6: l6_word\nl6_tests: l6_word\n")
         self.write("HANDLES", "Handles allowed: none.\n")
         for crate, root in (("l6_word", "lib.rt"), ("l6", "main.rt"), ("l6_tests", "lib.rt")):
@@ -115,7 +120,7 @@ class Checkout:
         plain.mkdir()
         whole.mkdir()
         for name in PLAIN:
-            (plain / name).symlink_to(shutil.which(name))
+            (plain / name).symlink_to(shutil.which(name) or name)
         (whole / "python3").symlink_to(sys.executable)
         (whole / "rt").write_text(RT)
         (whole / "rt").chmod(0o755)
@@ -165,3 +170,18 @@ class Checkout:
             env={"PATH": f"{first}:{path}" if first else path, "STAND_IN": str(self.state), **environment},
         )
         return Answer(ended.stdout, ended.stderr, ended.returncode)
+
+
+def answers_of_checkouts() -> Iterator[Trial]:
+    """Canaries: answers of a script in a checkout that are wrong in one part each, and an old program's sum."""
+    with tempfile.TemporaryDirectory() as folder:
+        checkout = Checkout(Path(folder) / "checkout")
+        checkout.write("canary", f"#!/bin/sh\n{CANARY}\n")
+        (checkout.top / "canary").chmod(0o755)
+        actual = checkout.run("canary")
+        yield "a wrong standard output of a script", Answer("Out\n", "err\n", 3), actual
+        yield "a wrong standard error of a script", Answer("out\n", "Err\n", 3), actual
+        yield "a wrong status of a script", Answer("out\n", "err\n", 0), actual
+        before = checkout.made_of
+        checkout.write("crates/l6/src/main.rt", "another main\n")
+        yield "a program of other sources", before, checkout.made_of

@@ -321,6 +321,69 @@ def read_help(page: Page) -> None:
                 page.compare(Block(0, "", ""), 0, answer.status, f"the status of {command!r}; {answer.stderr}")
 
 
+# A page on which nothing is right: each line of it that is tried must fail.
+BAD_PAGE = """\
+This deck prints 5.
+
+```text
+ (A,E,5)(A,PD)
+```
+
+It prints:
+
+```text
+6
+== DONE AFTER 6 STEPS
+```
+
+`./l6 run --store 0 < examples/first.deck` prints `5`, and its exit status is 0.
+
+`./l6 run < examples/first.deck` prints `6`.
+
+```sh
+./l6 run my.deck
+```
+
+It says:
+
+```text
+another fault
+```
+
+With `(A,PO)` in place of `(A,PD)` it prints `7`.
+
+```rust
+fn is_nowhere() {}
+```
+
+```other
+what nothing runs
+```
+
+```text
+ (A,PD)
+$COMMANDS
+step 1
+```
+
+[A heading](README.md#is-not-there), [a file](is-not-there.md), ![a picture](is-not-there.svg).
+"""
+BAD_TRIALS = 12  # at least, of that page
+
+
+def canaries(program: str) -> Iterator[Trial]:
+    """What is tried of a page on which nothing is right. None of it may pass, and nothing may be left out."""
+    with tempfile.TemporaryDirectory() as folder:
+        page = Page("README.md", folder, program)
+        for block in blocks_of(BAD_PAGE):
+            page.read(block)
+        page.settle()
+    wrong = [trial for trial in page.trials if trial[1] != trial[2]]
+    yield from wrong
+    if len(wrong) < BAD_TRIALS:
+        yield f"a bad page has {len(wrong)} trials that fail, and must have {BAD_TRIALS}", True, True
+
+
 def trials(program: str) -> Iterator[Trial]:
     """The trials on all that is shown."""
     names = ["README.md", *sorted(f"docs/{file.name}" for file in DOCS.glob("*.md"))]
@@ -335,4 +398,5 @@ def trials(program: str) -> Iterator[Trial]:
 if __name__ == "__main__":
     if len(sys.argv) != 2:
         sys.exit(__doc__)
-    sys.exit(report(trials(str(Path(sys.argv[1]).resolve()))))
+    named = str(Path(sys.argv[1]).resolve())
+    sys.exit(report(trials(named), canaries(named)))

@@ -2,7 +2,8 @@
 
 An edit is a file of lines. 'file: src/lib.rt' names a file of the crate's code; 'old: TEXT' and
 'new: TEXT' after it replace a text that is there exactly once. Further pairs apply to what the
-earlier ones made. The lines of a file stay as many as they are.
+earlier ones made. The lines of a file stay as many as they are. A line 'refused by: CALL' says which
+public call refuses the edit; tools/tables.py lists the edits of each call by it.
 """
 from __future__ import annotations
 
@@ -60,7 +61,7 @@ class Edit:
             elif word == "new" and old and file:
                 pairs.append((file, old, text))
                 old = None
-            elif line.strip():
+            elif line.strip() and word != "refused by":
                 raise BadEdit(f"a line that is not understood: {line[:60]}")
         if not pairs or old is not None:
             raise BadEdit("it has no whole pair of an old and a new text")
@@ -112,7 +113,7 @@ def owner_of(lines: list[str], line: int) -> tuple[str, bool]:
 
     The second value says whether they are a trait's.
     """
-    head = next(row for row in reversed(lines[:line]) if IMPL.match(row) or TRAIT.match(row))
-    found = IMPL.match(head) or TRAIT.match(head)
+    heads = ((IMPL.match(row) or TRAIT.match(row)) for row in reversed(lines[:line]))
+    found = next(filter(None, heads))
     of = found.groupdict().get("of") or ""
-    return found["type"] + "".join(re.findall(r"\b[A-Z]\w*", of)), bool(of or TRAIT.match(head))
+    return found["type"] + "".join(re.findall(r"\b[A-Z]\w*", of)), bool(of or found.re is TRAIT)

@@ -12,6 +12,9 @@ If only a proof breaks that was written by hand, the edit counts as refused, too
 each crate's line says how many there are: with another proof it might not be refused. An edit that is refused
 without either is a bad edit.
 
+What was refused is kept on this machine (edit_verdicts.py). An edit is tried again if anything has changed on
+which its verdict depends, or with --anew.
+
 Each edit that is not refused has a line that says why, and each crate one that says what its checks
 took. The last line is 'N passed, M failed'. Standard error reports each check as it ends.
 """
@@ -38,6 +41,7 @@ from commands import Commands, run_program
 from crates import Crate, read_crates
 from edit_copies import Copied, copy_functions
 from edit_files import BadEdit, Edit, Function
+from edit_verdicts import Verdicts
 from lanes import ALL_MEMORY, Lanes, processors
 from prove import prove
 from rooms import room_of
@@ -87,16 +91,46 @@ class Bench:
 
     def __init__(self, crate: Crate, trials: list[EditTrial], lanes: Lanes, commands: Commands) -> None:
         self.crate, self.trials = crate, trials
-        self.checks, self.processor_seconds = 0, 0.0
+        self.checks, self.processor_seconds, self.known = 0, 0.0, 0
         self._lanes, self._commands = lanes, commands
-        self._lock = threading.Lock()  # of the two counts
+        self._lock = threading.Lock()  # of the two counts of checks
+        self._verdicts: Verdicts | None = None
+
+    @property
+    def is_open(self) -> bool:
+        """Whether an edit is still to be tried."""
+        return any(trial.is_open for trial in self.trials)
+
+    def recall(self, is_anew: bool) -> None:
+        """Finds what each edit changes, and which edits that can be applied were refused before."""
+        self.read_all()
+        self._verdicts = Verdicts(self.crate, is_anew)
+        for trial in self.trials:
+            by_proof_alone = self._verdicts.refused(trial.edit) if trial.is_open else None
+            if by_proof_alone is not None:
+                trial.note(Said.UNPROVED if by_proof_alone else Said.REFUSED)
+                self.known += 1
 
     def try_all(self) -> str:
-        """Tries all edits; returns a line that says what that took."""
+        """Tries all edits that are open, and keeps what is refused; returns a line that says what that took."""
         start = time.monotonic()
-        self.read_all()
-        changed = Counter(trial.function for trial in self.trials)
-        copies = [trial for trial in self.trials if trial.function and changed[trial.function] > 1]
+        self._try_open()
+        if self._verdicts:
+            self._verdicts.keep((it.edit, it.by_proof_alone) for it in self.trials if it.is_refused)
+        refused = sum(trial.is_refused for trial in self.trials)
+        by_proof_alone = sum(trial.by_proof_alone for trial in self.trials)
+        return (
+            f"{self.crate.name}: {refused} of {len(self.trials)} edits refused, {by_proof_alone} of them"
+            f" only by a proof that was written by hand, {self.known} of them before, and the others in"
+            f" {self.checks} checks; {time.monotonic() - start:.0f} s, {self.processor_seconds:.0f} s of"
+            " processor time"
+        )
+
+    def _try_open(self) -> None:
+        """Tries the edits that are open: in copies, together, and alone."""
+        opened = [trial for trial in self.trials if trial.is_open]
+        changed = Counter(trial.function for trial in opened)
+        copies = [trial for trial in opened if trial.function and changed[trial.function] > 1]
         chunks = [copies[n:n + COPIES] for n in range(0, len(copies), COPIES)]
         self._side_by_side(self._try_copies, chunks)
         together = [trial for trial in self.trials if trial.is_open and trial.changes_functions]
@@ -106,13 +140,6 @@ class Bench:
             blocked = self._side_by_side(self._try_together, put_together(tried))
             together = [trial for batch in blocked for trial in batch]
         self._side_by_side(self._try_alone, [trial for trial in self.trials if trial.is_open])
-        refused = sum(trial.is_refused for trial in self.trials)
-        by_proof_alone = sum(trial.by_proof_alone for trial in self.trials)
-        return (
-            f"{self.crate.name}: {refused} of {len(self.trials)} edits refused, {by_proof_alone} of them"
-            f" only by a proof that was written by hand, in {self.checks} checks;"
-            f" {time.monotonic() - start:.0f} s, {self.processor_seconds:.0f} s of processor time"
-        )
 
     def read_all(self) -> None:
         """Finds what each edit changes, or why it cannot be applied."""
@@ -160,7 +187,7 @@ class Bench:
             return []
         check = self._check(batch)
         if not check.judged:
-            bad = [trial for trial in batch if check.cannot_read(trial.functions)]
+            bad = [trial for trial in batch if check.cannot_read(filter(None, trial.functions))]
             good = [trial for trial in batch if trial not in bad]
             return self._try_together(good) if bad and good else []
         blocked = []
@@ -227,9 +254,9 @@ def put_together(trials: list[EditTrial]) -> list[list[EditTrial]]:
     batches: list[list[EditTrial]] = []
     for trial in trials:
         apart = (it for it in batches if all(trial.functions.isdisjoint(o.functions) for o in it))
-        batch = next(apart, None)
-        if batch is None:
-            batches.append(batch := [])
+        batch: list[EditTrial] = next(apart, [])
+        if not batch:
+            batches.append(batch)
         batch.append(trial)
     return batches
 
@@ -246,6 +273,7 @@ def main() -> int:
     parser.add_argument("crates", nargs="*", metavar="CRATE", help="only the edits of these crates")
     parser.add_argument("--only", default="", metavar="WORD", help="only edits with this in their name")
     parser.add_argument("--texts", action="store_true", help="only see that each old text is there once")
+    parser.add_argument("--anew", action="store_true", help="try those that were refused before, too")
     parser.add_argument("--jobs", type=int, default=processors(), help="how many checks at a time")
     options = parser.parse_args()
     known = read_crates()
@@ -255,7 +283,7 @@ def main() -> int:
     benches = sorted((it for it in benches if it.trials), key=lambda it: -it.crate.lines)
     if options.texts:
         return report(texts(benches))
-    return report(all_tried(benches, options.jobs, commands))
+    return report(all_tried(benches, options.jobs, commands, options.anew))
 
 
 def texts(benches: list[Bench]) -> Iterator[Trial]:
@@ -266,12 +294,14 @@ def texts(benches: list[Bench]) -> Iterator[Trial]:
             yield bench.name_of(trial), "can be applied", trial.failure or "can be applied"
 
 
-def all_tried(benches: list[Bench], jobs: int, commands: Commands) -> Iterator[Trial]:
+def all_tried(benches: list[Bench], jobs: int, commands: Commands, is_anew: bool) -> Iterator[Trial]:
     """The trials that each edit is refused, those of a crate once all of them were tried.
 
-    The crates themselves are proved first.
+    The crates that have edits to be tried are proved first.
     """
-    if not prove([it.crate for it in benches], jobs, commands):
+    for bench in benches:
+        bench.recall(is_anew)
+    if not prove([it.crate for it in benches if it.is_open], jobs, commands):
         yield "the crates without an edit", "proved", "a crate is not proved"
         return
     with ThreadPoolExecutor(max(len(benches), 1)) as pool:

@@ -94,9 +94,9 @@ def refusals(checkout: Checkout) -> Iterator[Trial]:
     page = checkout.top / "docs/l6.1"
     page.rename(checkout.folder / "page")
     actual = checkout.run("install", "no page", has_rt=False)
-    expected = "install: no page/share/man/man1/l6.1 can't be written; nothing is installed\n"
-    ending = actual.stderr[-len(expected):]
-    yield "a manual page that is missing", ("", expected, 1), (actual.stdout, ending, actual.status)
+    said = "install: no page/share/man/man1/l6.1 can't be written; nothing is installed\n"
+    ending = actual.stderr[-len(said):]
+    yield "a manual page that is missing", ("", said, 1), (actual.stdout, ending, actual.status)
     yield "what is installed then", [], names_in(checkout.folder / "no page")
     (checkout.folder / "page").rename(page)
 

@@ -16,6 +16,7 @@ from collections.abc import Iterable, Iterator
 from dataclasses import dataclass
 from itertools import chain
 from pathlib import Path
+from typing import Any
 
 from answers import Answer, answer, answer_of
 from cases import Case
@@ -83,7 +84,7 @@ class Shim:
 
         Standard input is a file, so that each run reads it in the same pieces.
         """
-        options = {} if has_little_room else {"preexec_fn": None}
+        options: dict[str, Any] = {} if has_little_room else {"preexec_fn": None}
         environment = {
             "LD_PRELOAD": self._library,
             "REFUSE_REQUEST": str(refused),
@@ -128,7 +129,7 @@ def refused_memory(shim: Shim, case: Case) -> Iterator[Trial]:
     """
     whole = Measured(case.expected, 0)
     refusals = [Measured(answer(it, OUT_OF_MEMORY, 5), 0) for it in case.prefixes]
-    prefixes = set()
+    prefixes: set[bytes] = set()
     for request in range(1, MAX_REQUESTS + 1):
         ended, requests = shim.run(case.args, case.stdin, request)
         actual = Measured(ended, requests.kept if requests else None)

@@ -29,12 +29,14 @@ from answers import Answer, answer, answer_of
 from cases import read_cases
 from further_jobs import Job
 from model.command import WRONG_WORDS
+from model.jobs import VERBS
 from model.command import answer_of as answer_of_model
 from trials import Trial, report
 
 EXAMPLES = Path(__file__).resolve().parent.parent / "examples"
 BATCH = 50  # numbers that a process takes at a time
 LONG = 100_000  # bytes of a text of a case
+VARIED = 200  # random jobs of each kind that must nearly all differ
 
 
 def without_usage(stdout: bytes, stderr: bytes, status: int | str) -> Answer[bytes]:
@@ -116,7 +118,31 @@ def trials(given: argparse.Namespace) -> Iterator[Trial]:
     beside = Beside(str(Path(given.program).resolve()), given.keep)
     yield from cases(given.long)
     yield from examples()
+    yield from variety()
     yield from random_jobs(beside, range(given.first, given.first + given.jobs), given.processes)
+
+
+def variety() -> Iterator[Trial]:
+    """The trials that the random jobs are not all the same: a few are, since a job may be short."""
+    for kind, make in KINDS:
+        jobs = list(map(make, range(1, VARIED + 1)))
+        different = {(tuple(job.words), job.stdin) for job in jobs}
+        yield f"{kind} jobs that differ", True, len(different) >= VARIED * 95 // 100
+        yield f"the verbs of {kind} jobs", set(), set(VERBS) - {job.words[0] for job in jobs if job.words}
+        statuses = {str(model_answer(job.words, job.stdin).status) for job in jobs[:VARIED // 2]}
+        yield f"the statuses of {kind} jobs", set(), set("01234") - statuses
+
+
+def canaries() -> Iterator[Trial]:
+    """The model and a program that answers nothing: each on a case, and beside each other."""
+    silent = Beside("/bin/false", None)
+    for kind, make in KINDS:
+        yield silent.trial(f"a {kind} job of a program that answers nothing", make(1))
+    case = next(read_cases())
+    yield "a case of a program that answers nothing", case.expected, program_answer("/bin/false", case.args, b"")
+    for verb, file in (("run", "first.printout"), ("list", "first.listing")):
+        other = model_answer([verb], b" (A,E,6)(A,PD)\n")
+        yield f"{verb} of another deck", answer((EXAMPLES / file).read_bytes()), other
 
 
 def main() -> int:
@@ -129,7 +155,7 @@ def main() -> int:
     parser.add_argument("--processes", type=int, default=1)
     parser.add_argument("--keep", type=Path, help="the folder where jobs with a difference are kept")
     parser.add_argument("--long", action="store_true", help="try the model on cases with long texts, too")
-    return report(trials(parser.parse_args()))
+    return report(trials(parser.parse_args()), canaries())
 
 
 if __name__ == "__main__":

@@ -15,13 +15,14 @@ import signal
 import sys
 import tempfile
 from collections.abc import Iterator
+from itertools import islice
 from pathlib import Path
 
 from answers import Answer, answer, answer_of, leave_little_room
-from cases import read_cases
+from cases import Case, read_cases
 from largest_jobs import debug_job, full_store, longest_image, run_job
 from memory import library_of, memory_trials
-from trials import Trial, report
+from trials import Trial, at_least, is_asked_for, report
 
 HERE = Path(__file__).resolve().parent
 EXAMPLES = HERE.parent / "examples"
@@ -107,7 +108,8 @@ def helps(program: str, folder: str) -> Iterator[Trial]:
     """
     os.symlink(os.path.abspath(program), f"{folder}/l6")
     environment = {**os.environ, "PATH": f"{folder}:{os.environ['PATH']}"}
-    for words in [[], ["asm"], ["list"], ["run"], ["load"], ["renew"], ["debug"]]:
+    help_words: list[list[str]] = [[], ["asm"], ["list"], ["run"], ["load"], ["renew"], ["debug"]]
+    for words in help_words:
         actual = answer_of([program, *words, "--help"], input=b"")
         text = actual.stderr.decode("ascii")
         expected = answer(stderr=actual.stderr, status=64)
@@ -251,9 +253,9 @@ def interrupted_devices(program: str, folder: str) -> Iterator[Trial]:
         yield f"{reads} interrupted reads and {writes} interrupted writes", expected, actual
 
 
-def case_trials(program: str) -> Iterator[Trial]:
+def case_trials(program: str, cases: list[Case]) -> Iterator[Trial]:
     """The trials on the cases."""
-    for case in read_cases():
+    for case in cases:
         actual, expected = answer_of([program, *case.args], input=case.stdin), case.expected
         if case.has_free_text:
             expected = answer(expected.stdout, actual.stderr or b"(some text)", expected.status)
@@ -261,23 +263,51 @@ def case_trials(program: str) -> Iterator[Trial]:
 
 
 def trials(program: str) -> Iterator[Trial]:
-    """All trials."""
-    yield from case_trials(program)
-    yield from examples(program)
-    yield from sessions(program)
-    yield from large_stores(program)
-    yield from cut_images(program)
-    yield from largest(program)
-    yield from longest(program)
-    yield from failing_devices(program)
+    """All trials, or the one on a case that is asked for by its name."""
+    cases = list(read_cases())
+    named = [case for case in cases if is_asked_for(case.name)]
+    if named:
+        yield from case_trials(program, named)
+        return
+    yield from at_least(597, "cases", case_trials(program, cases))
+    yield from at_least(72, "examples", examples(program))
+    yield from at_least(18, "sessions", sessions(program))
+    yield from at_least(2, "large stores", large_stores(program))
+    yield from at_least(130, "cut images", cut_images(program))
+    yield from at_least(2, "the largest jobs", largest(program))
+    yield from at_least(4, "the longest image", longest(program))
+    yield from at_least(6, "failing devices", failing_devices(program))
     with tempfile.TemporaryDirectory() as folder:
-        yield from helps(program, folder)
-        yield from limited_files(program, folder)
-        yield from interrupted_devices(program, folder)
-    yield from memory_trials(program, list(read_cases()))
+        yield from at_least(30, "help", helps(program, folder))
+        yield from at_least(30, "limited files", limited_files(program, folder))
+        yield from at_least(5, "interrupted devices", interrupted_devices(program, folder))
+    yield from at_least(4500, "memory", memory_trials(program, cases))
+
+
+WRONG_PROGRAM = """#!/bin/sh
+echo wrong
+exit 77
+"""
+
+
+def canaries() -> Iterator[Trial]:
+    """The first trial of each group, on a program that answers to nothing."""
+    with tempfile.TemporaryDirectory() as folder:
+        program = Path(folder, "wrong")
+        program.write_text(WRONG_PROGRAM)
+        program.chmod(0o755)
+        first = str(program)
+        groups = [
+            case_trials(first, list(islice(read_cases(), 1))), examples(first), sessions(first),
+            large_stores(first), cut_images(first), largest(first), longest(first), failing_devices(first),
+            helps(first, folder), limited_files(first, folder), interrupted_devices(first, folder),
+        ]
+        for group in groups:
+            name, expected, actual = next(group)
+            yield f"of a wrong program, {name}", expected, actual
 
 
 if __name__ == "__main__":
     if len(sys.argv) != 2:
         sys.exit(__doc__)
-    sys.exit(report(trials(sys.argv[1])))
+    sys.exit(report(trials(sys.argv[1]), canaries()))

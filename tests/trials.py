@@ -5,22 +5,83 @@ import dataclasses
 import os
 from collections.abc import Iterable, Iterator
 
+from answers import Answer, answer, answer_of
+
 Trial = tuple[str, object, object]  # a name, what is expected, and the actual value
 SHOWN = 300  # characters of a value
 BEFORE = 40  # how many of them come before the first difference of two texts
+ONLY = "L6_ONLY"  # a variable of the environment: only trials with this text in their names are made
 
 
-def report(trials: Iterable[Trial]) -> int:
-    """Makes the trials, prints their differences and the count, and returns the exit status."""
+def report(trials: Iterable[Trial], canaries: Iterable[Trial] = ()) -> int:
+    """Makes the trials, prints their differences and the count, and returns the exit status.
+
+    First come canaries, none of which may pass: an answer that is wrong in one part, and those of the script.
+    If one of them passes, the script does not see what it is to look at, and no trial counts.
+    """
+    missed = list(missed_canaries(canaries))
+    if missed:
+        print(*(f"a canary that must fail, or one that must pass: {name}" for name in missed), sep="\n")
+        print(f"0 passed, {len(missed)} failed")
+        return 1
+    passed, failed = tally(filter(is_chosen, trials))
+    print(f"{passed} passed, {failed} failed")
+    return 1 if failed else 0
+
+
+def tally(trials: Iterable[Trial], is_shown: bool = True) -> tuple[int, int]:
+    """How many trials pass, and how many fail; the differences are shown."""
     passed = failed = 0
     for name, expected, actual in trials:
         if expected == actual:
             passed += 1
+            if is_shown and ONLY in os.environ:
+                print(f"passed: {name}", flush=True)
             continue
         failed += 1
-        print(name, *differences(expected, actual), sep="\n", flush=True)
-    print(f"{passed} passed, {failed} failed")
-    return 1 if failed else 0
+        if is_shown:
+            print(name, *differences(expected, actual), sep="\n", flush=True)
+    return passed, failed
+
+
+def missed_canaries(canaries: Iterable[Trial]) -> Iterator[str]:
+    """The names of the canaries that are not counted as they must be."""
+    right, *wrong = answer_canaries(answer_of(["sh", "-c", CANARY]))
+    if tally([right], is_shown=False) != (1, 0):
+        yield right[0]
+    for canary in (*wrong, *canaries):
+        if tally([canary], is_shown=False) != (0, 1):
+            yield canary[0]
+
+
+# A command of the shell that has an answer with no part empty.
+CANARY = "echo out; echo err >&2; exit 3"
+
+
+def answer_canaries(actual: Answer[bytes]) -> Iterator[Trial]:
+    """The right answer of the command above, and an answer that is wrong in each part."""
+    yield "a right answer", answer(b"out\n", b"err\n", 3), actual
+    yield "a wrong standard output", answer(b"Out\n", b"err\n", 3), actual
+    yield "a wrong standard error", answer(b"out\n", b"Err\n", 3), actual
+    yield "a wrong exit status", answer(b"out\n", b"err\n", 0), actual
+
+
+def at_least(least: int, what: str, trials: Iterable[Trial]) -> Iterator[Trial]:
+    """Trials, and then one that there were so many. The number is changed with the tests."""
+    count = 0
+    for count, trial in enumerate(trials, 1):
+        yield trial
+    yield f"at least {least} trials: {what}", f"{least} or more", f"{least} or more" if count >= least else f"{count}"
+
+
+def is_chosen(trial: Trial) -> bool:
+    """Whether a trial counts: if only some are to be made, those with a text in their names do."""
+    return os.environ.get(ONLY, "") in trial[0]
+
+
+def is_asked_for(name: str) -> bool:
+    """Whether the trial of just this name is to be made, and no other."""
+    return os.environ.get(ONLY) == name
 
 
 def differences(expected: object, actual: object) -> Iterator[str]:
@@ -52,8 +113,15 @@ def parts_of(value: object) -> dict[str, object]:
 
 def shown(expected: object, actual: object) -> tuple[str, str]:
     """Two values as texts; of long texts only what is around their first difference."""
-    if isinstance(expected, (bytes, str)) and isinstance(actual, type(expected)):
-        start = max(len(os.path.commonprefix([expected, actual])) - BEFORE, 0)
-        left, right = (f"{it[start:start + SHOWN]!r}, length {len(it)}" for it in (expected, actual))
-        return left, right
+    if isinstance(expected, str) and isinstance(actual, str):
+        return around(len(os.path.commonprefix([expected, actual])), expected, actual)
+    if isinstance(expected, bytes) and isinstance(actual, bytes):
+        return around(len(os.path.commonprefix([expected, actual])), expected, actual)
     return repr(expected)[:SHOWN], repr(actual)[:SHOWN]
+
+
+def around(same: int, *texts: str | bytes) -> tuple[str, str]:
+    """What is around the first difference of two texts, which comes after so many that are the same."""
+    start = max(same - BEFORE, 0)
+    left, right = (f"{it[start:start + SHOWN]!r}, length {len(it)}" for it in texts)
+    return left, right

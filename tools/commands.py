@@ -71,8 +71,9 @@ class Commands:
         with self._lock:
             if self._stopped:
                 raise Stopped
-            how = {"stdin": subprocess.DEVNULL, "stdout": output, "stderr": subprocess.STDOUT}
-            process = subprocess.Popen(words, cwd=folder, **how)
+            process = subprocess.Popen(
+                words, cwd=folder, stdin=subprocess.DEVNULL, stdout=output, stderr=subprocess.STDOUT
+            )
             self._running.add(process)
             return process
 

@@ -27,13 +27,19 @@ def processors() -> int:
 
 def free_memory() -> int:
     """How many bytes of memory are free."""
-    meminfo = Path("/proc/meminfo").read_text()
-    free = 1024 * int(re.search(r"MemAvailable:\s+(\d+)", meminfo)[1])
+    free = 1024 * number_after("MemAvailable:", Path("/proc/meminfo"))
     with contextlib.suppress(OSError, ValueError):
         limit = int(LIMIT.read_text())
-        held = int(re.search(r"^anon (\d+)", HELD.read_text(), re.M)[1])
-        free = min(free, max(limit - held, 0))
+        free = min(free, max(limit - number_after("anon", HELD), 0))
     return free
+
+
+def number_after(word: str, file: Path) -> int:
+    """The number after a word that begins a line of a file."""
+    found = re.search(rf"^{re.escape(word)}\s+(\d+)", file.read_text(), re.MULTILINE)
+    if found is None:
+        raise ValueError(f"{file} has no line {word}")
+    return int(found[1])
 
 
 def usable_memory() -> int:

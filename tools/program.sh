@@ -1,3 +1,4 @@
+# shellcheck shell=sh
 # Finds the program l6 that belongs to the sources of this checkout. This file is sourced, with $top set to
 # the top of the repository.
 #
@@ -10,7 +11,7 @@
 # A program belongs to the sources if its provenance is, byte for byte, what the sources and the program give
 # now. Everything is summed at each call (SHA-256): sizes and times of files can mislead.
 
-distributed=$top/dist/l6
+distributed=${top:?}/dist/l6
 built=$top/crates/l6/out/l6
 
 complain() {

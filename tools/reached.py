@@ -16,7 +16,7 @@ from crates import TOP
 
 WORD = re.compile(r"[^\s(){};,]+")
 HEAD = re.compile(r"(?:pub |abbrev |unfoldable )+(?:record |data )?(\S+)")
-USE = re.compile(r"use Rattle\.(\w+)\.specs\.([\w.]+?)(?:\.\{([^}]*)\}| as (\S+))?$")
+USE = re.compile(r"(?:pub )?use Rattle\.(\w+)\.specs\.([\w.]+?)(?:\.\{([^}]*)\}| as (\S+))?$")
 
 
 @dataclass
@@ -82,6 +82,9 @@ class Reach:
         key = (crate, module, name)
         where = self._module(crate, module)
         definition = where.definitions.get(name) or self._of_constructor(where, name)
+        if definition is None and name in where.brought:  # by a `pub use`
+            self.follow(*where.brought[name])
+            return
         if definition is None:
             sys.exit(f"{crate}/specs/{module}.antt defines no {name}")
         key = (crate, module, definition.name)

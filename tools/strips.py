@@ -85,11 +85,11 @@ def label(left: float, right: float, top: float, stretch: Stretch) -> str:
     if wide:
         room = max(len(line) for line in wide) * DIGIT + 4
         height = len(wide) * (FONT + 4) + 2
-        back = top + (HEIGHT - height) / 2
+        above = top + (HEIGHT - height) / 2
         drawn = "" if stretch.kind == "block" else rectangle(
-            middle - room / 2, back, room, height, 'rx="3" fill="white"')
+            middle - room / 2, above, room, height, 'rx="3" fill="white"')
         for at, line in enumerate(wide):
-            drawn += text(middle, back + FONT + at * (FONT + 4), line, ink)
+            drawn += text(middle, above + FONT + at * (FONT + 4), line, ink)
         return drawn
     if width < FONT + 4:
         return ""

@@ -19,7 +19,7 @@ class Session:
     """The state that is shown, its number, and the statements that are marked."""
 
     def __init__(self, program: Program, characters: str, options: Options) -> None:
-        self.start = lambda: State(program, characters, options)
+        self.start: Callable[[], State] = lambda: State(program, characters, options)
         self.state = self.start()
         self.number = 0
         self.marks: set[int] = set()

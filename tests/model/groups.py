@@ -106,8 +106,8 @@ def read_four(elements: list[str], _body: str) -> Group:
     """Reads an operation of four elements."""
     first, name, third, last = elements
     if len(name) == 2 and name[0] == "D":
-        operands = [chain_or_number_of(element) for element in (first, third, last)]
-        return Group(Row("D", operands, field_name=field_of(name[1])))
+        numbers = [chain_or_number_of(element) for element in (first, third, last)]
+        return Group(Row("D", numbers, field_name=field_of(name[1])))
     operands: list[Operand] = [chain_of(first), chain_or_number_of(third)]
     if name == "GT":
         return Group(Row("GT", [*operands, chain_of(last)]))

@@ -150,9 +150,10 @@ class WordReader:
 
     def called_by(self, row: Row) -> int:
         """Takes the number of the statement that is called off a row's operands."""
-        if len(row.operands) != 1 or not isinstance(row.operands[0], Number):
+        called = row.operands.pop() if len(row.operands) == 1 else None
+        if not isinstance(called, Number):
             raise NotAnImage
-        return row.operands.pop().value
+        return called.value
 
     def target_of(self, word: int) -> int | None:
         """The statement to which the label of a row leads, if it has one."""

@@ -140,11 +140,23 @@ def drawn_titles(picture: str) -> list[str]:
     return sorted(re.sub(r":\w+", "", title) for title in found)
 
 
-def words_of(text: str) -> list[str]:
-    """The words of the labels in a text for Graphviz."""
-    labels = "|".join(re.findall(r'label="(.*)"\];', text))
-    cells = re.sub(r"(?<!\\)(?:<\w>|[{}])", "", labels).split("|")
-    return sorted(re.sub(r"\\(.)", r"\1", cell) for cell in cells)
+def words_of(text: str) -> list[list[str]]:
+    """The words of each label in a text for Graphviz, in their order."""
+    labels = re.findall(r'label="(.*)"\];', text)
+    cells = [re.sub(r"(?<!\\)(?:<\w>|[{}])", "", label).split("|") for label in labels]
+    return sorted([re.sub(r"\\(.)", r"\1", cell) for cell in label] for label in cells)
+
+
+def drawn_labels(picture: str) -> list[list[str]]:
+    """The words of each node of a picture that Graphviz has drawn, from above or from the left."""
+    root = xml.etree.ElementTree.fromstring(picture)
+    nodes = [it.iter(f"{SVG}text") for it in root.iter(f"{SVG}g") if it.get("class") == "node"]
+    return sorted([text.text or "" for text in sorted(node, key=place_of)] for node in nodes)
+
+
+def place_of(text: xml.etree.ElementTree.Element) -> tuple[float, float]:
+    """Where a text is: how far below, and how far to the right."""
+    return float(text.get("y", "0")), float(text.get("x", "0"))
 
 
 def drawn_words(picture: str) -> list[str]:
@@ -182,7 +194,7 @@ def graph(file: Path, picture: str) -> Iterator[Trial]:
     yield f"{file.name} is there", True, file.exists()
     drawing = file.read_text("utf-8") if file.exists() else "<svg/>"
     yield f"the arrows of {file.name}", titles(picture), drawn_titles(drawing)
-    yield f"the words of {file.name}", words_of(picture), drawn_words(drawing)
+    yield f"the words of {file.name}", words_of(picture), drawn_labels(drawing)
 
 
 def maps(name: str, text: str) -> Iterator[Trial]:
@@ -208,16 +220,63 @@ def layout(file: Path, text: str) -> Iterator[Trial]:
     yield f"the arrows of {file.name}", arrows, arrows_in(picture)
 
 
+# How a picture's description begins that says how many words or blocks it shows.
+COUNTED = re.compile(r"^(?:The |A \w+ of )?(\w+) (words?|blocks?)\b(?! of)", re.IGNORECASE)
+NUMBERS = ["no", "one", "two", "three", "four", "five", "six", "seven", "eight", "nine", "ten", "eleven", "twelve"]
+FIELDS = re.compile(r"\bfields ((?:[A-Z0-9], )*[A-Z0-9] and [A-Z0-9])\b")
+IMAGE = re.compile(r"!\[([^\]\n]+)\]\(([^)\s]+\.svg)\)")
+
+
 def shown() -> Iterator[Trial]:
-    """The trials that each picture is shown in a document, and that no document shows another one."""
+    """The trials that each picture is shown in a document, with what it shows, and no document shows another."""
     places = set()
     for document in DOCS:
-        for link in re.findall(r"!\[[^\]\n]+\]\(([^)\s]+\.svg)\)", document.read_text("utf-8")):
-            places.add((document.parent / link).resolve())
+        for what, link in IMAGE.findall(document.read_text("utf-8")):
+            file = (document.parent / link).resolve()
+            places.add(file)
+            if file.exists():
+                where = f"{document.relative_to(TOP)}: {file.name}"
+                yield from described(where, what, file.read_text("utf-8"))
     pictures = sorted(it.name for it in PICTURES.glob("*.svg"))
     yield "the pictures that documents show", pictures, sorted(it.name for it in places)
     yield "the places of pictures", [], [str(it.name) for it in places if not it.exists()]
 
 
+def described(where: str, what: str, picture: str) -> Iterator[Trial]:
+    """The trials that a picture has as many words or blocks as its description says, and its fields."""
+    words = drawn_words(picture)
+    counted = COUNTED.match(what)
+    if counted and counted[1].lower() in NUMBERS:
+        nodes = [title for title in drawn_titles(picture) if re.fullmatch(r"b\d+", title)]
+        rows = [word for word in words if re.fullmatch(r"[1-9]\d{3}", word)]
+        is_of_blocks = counted[2].lower().startswith("block") and nodes
+        count = len(nodes) if is_of_blocks or not rows else len(rows)
+        if nodes or counted[2].lower().startswith("word"):
+            yield f"{where}: {counted[0]}", NUMBERS.index(counted[1].lower()), count
+    for names in FIELDS.findall(what):
+        named = re.split(r", | and ", names)
+        fields = {word.split()[0] for word in words if re.fullmatch(r"[A-Z0-9] .+|[A-Z0-9]", word)}
+        yield f"{where}: its fields", [], [name for name in named if name not in fields]
+
+
+def canaries() -> Iterator[Trial]:
+    """A map, words and arrows that are another transcript's, and a picture with two cells exchanged."""
+    texts, others = texts_of("hand", TRANSCRIPT), texts_of("narrow", NARROW)
+    yield "words of another picture", drawn_words(texts["hand.svg"]), drawn_words(others["narrow.svg"])
+    turned = TRANSCRIPT.replace("1024 BLOCK 2\n1026 BLOCK 2\n1028 BLOCK 4 LOST", "1024 BLOCK 4 LOST\n1028 BLOCK 2\n"
+                                "1030 BLOCK 2")
+    other = texts_of("hand", turned)["hand-store-1.svg"]
+    yield "the stretches of another map", STRETCHES, shown_stretches(other)
+    file = PICTURES / "tree-draw-1.svg"
+    drawing, text = file.read_text("utf-8"), file.with_suffix(".dot").read_text("utf-8")
+    exchanged = drawing.replace(">L</text>", ">?</text>").replace(">R</text>", ">L</text>").replace(">?</text>", ">R</text>")
+    yield "a picture with two fields exchanged", words_of(text), drawn_labels(exchanged)
+    yield "a picture with an arrow less", titles(text), drawn_titles(drawing.replace('class="edge"', "", 1))
+    wrong = list(described("a picture", "Four words with the fields C and X", texts["hand.svg"]))
+    yield from wrong
+    if len(wrong) != 2:
+        yield "a wrong description", True, True
+
+
 if __name__ == "__main__":
-    sys.exit(report(chain(handmade(), committed(), shown())))
+    sys.exit(report(chain(handmade(), committed(), shown()), canaries()))

@@ -1,0 +1,204 @@
+#!/usr/bin/env python3
+"""Checks that ./test fails if one of its steps does, and that it makes all of them.
+
+gate.py prints each difference, and last 'N passed, M failed'. ./test is called in a small checkout, with a
+python3 that tests nothing: it notes what it is asked for, and prints a count. Of each step in turn it has a
+trial fail, ends with another status, prints no count, or has tried nothing. Harnesses are tried, too: what
+they print if an answer is wrong.
+"""
+from __future__ import annotations
+
+import re
+import shutil
+import subprocess
+import sys
+import tempfile
+from collections.abc import Iterator
+from pathlib import Path
+
+from answers import Answer
+from checkout import TOP, Checkout
+from trials import ONLY, Trial, report
+
+# The steps of ./test and of the gate, in their order: the words by which each is known.
+STEPS = [
+    "tests/gate.py", "tests/static_checks.py", "tests/memory_words.py", "tests/check_report_trials.py",
+    "tests/verdict_trials.py", "tests/picture_trials.py", "tests/program.py", "tests/model_jobs.py", "bench/run", "tests/documents.py",
+    "tests/facts.py", "tests/table_decks.py", "tests/format_pages.py", "tests/named.py", "tests/launcher.py", "tests/install.py", "tests/scripts.py",
+    "tests/bundled_page.py", "web/tests/all.py",
+]
+GATE_STEPS = ["rt ci", *STEPS[:-1], "tests/edits.py", "web/tests/all.py"]
+NOT_A_STEP = {"hostile.py"}  # scripts of tests/ that ./test does not call
+
+STAND_IN = '''#!/bin/sh
+# A stand-in for python3 and rt: notes its words, and prints a count, which $FAILS and $HOW make a bad one.
+words="${0##*/} $*${L6_ONLY+ of $L6_ONLY}"
+[ "$*" = version ] && exec cat "$STAND_IN/version"
+echo "$words" >> "$STAND_IN/steps"
+how=well
+case "$words" in *"$FAILS"*) how=$HOW ;; esac
+case $how in
+    well) echo "99999 passed, 0 failed" ;;
+    a-failed-trial) echo "99999 passed, 1 failed" ;;
+    a-status) echo "99999 passed, 0 failed"; exit 1 ;;
+    no-count) echo "99999 passed" ;;
+    no-trial) echo "0 passed, 0 failed" ;;
+esac
+'''
+HOWS = ["a-failed-trial", "a-status", "no-count", "no-trial"]
+NONE = "none of these steps"
+
+
+class Gate:
+    """A checkout with ./test, in which nothing is tested."""
+
+    def __init__(self, folder: Path) -> None:
+        self.checkout = Checkout(folder)
+        self.top = self.checkout.top
+        (self.top / "bench").mkdir()
+        for name in ("test", "bench/run"):
+            shutil.copy(TOP / name, self.top / name)
+        self.first = folder / "first"
+        self.first.mkdir()
+        for name in ("python3", "rt"):
+            (self.first / name).write_text(STAND_IN)
+            (self.first / name).chmod(0o755)
+        built = self.top / "crates/l6/out/l6"  # what rt ci would build
+        built.parent.mkdir(parents=True)
+        shutil.copy(self.top / "dist/l6", built)
+
+    def test(self, *words: str, fails: str = NONE, how: str = "well") -> tuple[Answer[str], list[str]]:
+        """What ./test answers if a step fails, and what it called."""
+        log = self.checkout.state / "steps"
+        log.unlink(missing_ok=True)
+        actual = self.checkout.run("test", *words, FIRST=str(self.first), FAILS=fails, HOW=how)
+        return actual, log.read_text().splitlines() if log.exists() else []
+
+
+def last_line(actual: Answer[str]) -> tuple[str, int | str]:
+    """The last line of an answer, and its status."""
+    return (actual.stdout.splitlines() or [""])[-1], actual.status
+
+
+def known_in(steps: list[str], calls: list[str]) -> list[str]:
+    """The steps that calls are, in the order of the calls."""
+    return [next((step for step in steps if step in call), call) for call in calls]
+
+
+def steps_that_fail(gate: Gate) -> Iterator[Trial]:
+    """Each step in turn fails: so does the whole, all steps are made, and the failure is shown at the end."""
+    for words, steps in (((), STEPS), (("--prove",), GATE_STEPS)):
+        name = " ".join(["./test", *words])
+        actual, calls = gate.test(*words)
+        count = 99_999 * len(steps) + (3 if words else 0)
+        yield f"{name} with all steps well", (f"{count} passed, 0 failed", 0), last_line(actual)
+        yield f"the steps of {name}", steps, known_in(steps, calls)
+    for at, step in enumerate(STEPS):
+        yield from step_that_fails(gate, (), step, HOWS[at % len(HOWS)])
+    for how in HOWS:
+        yield from step_that_fails(gate, (), STEPS[0], how)
+    for step in (GATE_STEPS[0], *GATE_STEPS[-2:]):
+        yield from step_that_fails(gate, ("--prove",), step, HOWS[1])
+
+
+def step_that_fails(gate: Gate, words: tuple[str, ...], step: str, how: str) -> Iterator[Trial]:
+    """A step fails in some way."""
+    actual, calls = gate.test(*words, fails=step, how=how)
+    failed = last_line(actual)[0].rpartition(", ")[2]
+    is_shown = "\nfailed: " in actual.stdout
+    expected = ("1 failed", 1, True, len(GATE_STEPS if words else STEPS))
+    yield f"./test {' '.join(words)}: {how} of {step}", expected, (failed, actual.status, is_shown, len(calls))
+
+
+def other_programs(gate: Gate) -> Iterator[Trial]:
+    """The gate fails if the program that is built is not that of dist/."""
+    built = gate.top / "crates/l6/out/l6"
+    built.write_bytes(built.read_bytes() + b"# another\n")
+    actual, _ = gate.test("--prove")
+    yield "another program", (1, True), (actual.status, "dist/l6 is not the program of these sources" in actual.stdout)
+    gate.checkout.set_version("another toolchain")
+    actual, _ = gate.test("--prove")
+    yield "another toolchain", (1, "2 failed"), (actual.status, last_line(actual)[0].rpartition(", ")[2])
+
+
+def words_of_the_command(gate: Gate) -> Iterator[Trial]:
+    """Which words ./test takes, and what they do."""
+    for words in (("-x",), ("--only",), ("--only", ""), ("--anew",), ("--prove", "x"), ("--only", "a", "b")):
+        actual, calls = gate.test(*words)
+        yield f"the words {words}", (64, "", []), (actual.status, actual.stdout, calls)
+    actual, calls = gate.test("--list")
+    names = actual.stdout.splitlines()
+    yield "--list", (0, len(STEPS), len(STEPS), []), (actual.status, len(names), len(set(names)), calls)
+    for at in (0, 5, len(names) - 1):
+        actual, calls = gate.test("--only", names[at])
+        yield f"--only {names[at]}", ([STEPS[at]], 0), (known_in(STEPS, calls), actual.status)
+    actual, _ = gate.test("--only", "install", fails="tests/", how="a-status")
+    yield "--only a step that fails", ("99999 passed, 1 failed", 1), last_line(actual)
+    actual, calls = gate.test("--only", "no word")
+    yield "--only a trial", (STEPS[1:-1], 0), (known_in(STEPS, calls), actual.status)
+    yield "--only a trial, what is asked for", True, all(call.endswith(" of no word") for call in calls)
+    actual, calls = gate.test("--only", "no word", fails="tests/", how="no-trial")
+    yield "--only a trial of one step", 0, actual.status
+    actual, _ = gate.test("--only", "no such trial", fails="", how="no-trial")
+    yield "--only a trial that is not there", ("0 passed, 1 failed", 1), last_line(actual)
+    _, calls = gate.test("--prove", "--anew")
+    yield "--anew", ["python3 tests/edits.py --anew"], [call for call in calls if "edits" in call]
+
+
+HARNESS = f'''
+import os, sys
+sys.path.insert(0, {str(TOP / "tests")!r})
+from answers import answer
+from trials import report
+right = answer(b"out", b"err", 3)
+made = [("right", right, answer(b"out", b"err", 3)), ("stdout", right, answer(b"on", b"err", 3)),
+        ("stderr", right, answer(b"out", b"", 3)), ("status", right, answer(b"out", b"err", 0))]
+sys.exit(report([it for it in made if it[0] in sys.argv[1]], [("a canary", 1, int(sys.argv[2]))]))
+'''
+SHOWN = {
+    "stdout": "stdout\n  stdout: expected b'out', length 3\n          actual   b'on', length 2\n",
+    "stderr": "stderr\n  stderr: expected b'err', length 3\n          actual   b'', length 0\n",
+    "status": "status\n  status: expected 3\n          actual   0\n",
+}
+
+
+def harness(names: str, canary: int, **environment: str) -> Answer[str]:
+    """The answer of a script of trials, of which some fail."""
+    ended = subprocess.run([sys.executable, "-c", HARNESS, names, str(canary)], capture_output=True, text=True,
+                           env={"PATH": "/usr/bin:/bin", **environment})
+    return Answer(ended.stdout, ended.stderr, ended.returncode)
+
+
+def harnesses() -> Iterator[Trial]:
+    """A script of trials reports each part of an answer that is wrong, and a canary that passes."""
+    yield "a right answer", Answer("1 passed, 0 failed\n", "", 0), harness("right", 2)
+    for part, text in SHOWN.items():
+        yield f"a wrong {part}", Answer(f"{text}1 passed, 1 failed\n", "", 1), harness(f"right {part}", 2)
+    all_of_it = "".join(SHOWN.values()) + "1 passed, 3 failed\n"
+    yield "all that is wrong", Answer(all_of_it, "", 1), harness("right stdout stderr status", 2)
+    passed = harness("right", 1)
+    yield "a canary that passes", (("0 passed, 1 failed", 1), True), (last_line(passed), "a canary" in passed.stdout)
+    only = harness("right stderr", 2, **{ONLY: "stderr"})
+    yield "the trials of a name", Answer(f"{SHOWN['stderr']}0 passed, 1 failed\n", "", 1), only
+
+
+def scripts() -> Iterator[Trial]:
+    """Each script of tests/ is a step, and the machine that runs the gate calls it."""
+    made = {file.name for file in (TOP / "tests").glob("*.py") if file.read_text("utf-8").startswith("#!")}
+    steps = {Path(step).name for step in GATE_STEPS if step.startswith("tests/")}
+    yield "the scripts of tests/", sorted(made - NOT_A_STEP), sorted(steps)
+    last = (TOP / ".ci/run").read_text("utf-8").rstrip().splitlines()[-1]
+    yield "what .ci/run ends in", True, re.fullmatch(r"exec .*/\.\./test\" --prove", last) is not None
+
+
+def trials() -> Iterator[Trial]:
+    """All trials, each group on a checkout of its own."""
+    for group in (steps_that_fail, other_programs, words_of_the_command):
+        with tempfile.TemporaryDirectory() as folder:
+            yield from group(Gate(Path(folder) / "checkout"))
+    yield from harnesses()
+    yield from scripts()
+
+
+if __name__ == "__main__":
+    sys.exit(report(trials()))

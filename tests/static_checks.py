@@ -1,0 +1,151 @@
+#!/usr/bin/env python3
+"""Checks the scripts of the repository without running them: the types of Python's, and the shell's.
+
+static_checks.py prints what mypy and shellcheck say, and last 'N passed, M failed'. Each file is a trial. If one
+of the two is not installed, that is said, and a trial of its files is whether Python or the shell can read them.
+Both are Debian's packages.
+"""
+from __future__ import annotations
+
+import os
+import shutil
+import subprocess
+import sys
+import tempfile
+from collections.abc import Iterable, Iterator
+from dataclasses import dataclass
+from pathlib import Path
+
+from kept import kept_folder
+from trials import Trial, report
+
+TOP = Path(__file__).resolve().parent.parent
+BAD_PYTHON = "def length(text: str) -> int:\n    return text\n"
+BAD_SHELL = "#!/bin/sh\nrm $1\n"
+CLEAN = ""  # what is said of a file without a fault
+
+
+@dataclass(frozen=True)
+class Group:
+    """Scripts of Python that import each other by their names alone."""
+
+    folders: tuple[str, ...]  # whose modules they import
+    files: tuple[Path, ...]
+    flags: tuple[str, ...] = ("--strict",)
+
+
+def python_groups() -> list[Group]:
+    """All scripts of Python. Those of web/tests have answers of a browser, which are of any type."""
+    shared = tuple(sorted([*TOP.glob("tests/*.py"), *TOP.glob("tests/model/*.py"), *TOP.glob("tools/*.py")]))
+    bench = tuple(TOP / "bench" / name for name in ("run", "measure.py", "workloads.py"))
+    return [
+        Group(("tests", "tools"), shared),
+        Group(("bench", "tests", "tools"), bench),
+        Group(("tools",), (TOP / "web/build",)),
+        Group(("tools",), (TOP / "web/bundle",)),
+        Group(("web/tests", "tests", "tools"), tuple(sorted(TOP.glob("web/tests/*.py"))), ()),
+    ]
+
+
+def shell_scripts() -> list[Path]:
+    """All scripts of the shell, by their first lines; those that are sourced have no such line."""
+    files = [it for it in scripts() if first_line(it).endswith(("/sh", " bash"))]
+    return [*files, *sorted(TOP.glob("tools/*.sh"))]
+
+
+def scripts() -> Iterator[Path]:
+    """All files that may be run, of the folders that have scripts."""
+    for folder in ("", ".ci", "bench", "tests", "tools", "web", "web/tests"):
+        for file in sorted((TOP / folder).iterdir()):
+            if file.is_file() and first_line(file).startswith("#!"):
+                yield file
+
+
+def first_line(file: Path) -> str:
+    """The first line of a file."""
+    with open(file, "rb") as opened:
+        return opened.readline().decode("utf-8", "replace").rstrip("\n")
+
+
+def said_by_mypy(group: Group) -> dict[Path, str]:
+    """What mypy says of each file of a group."""
+    path = ":".join(str(TOP / folder) for folder in group.folders)
+    kept = kept_folder(f"mypy-{group.files[0].stem}")  # (what was read before, so that the next time takes a second)
+    cache = kept if kept else Path(os.devnull)
+    ended = subprocess.run(
+        ["mypy", *group.flags, "--cache-dir", cache, "--scripts-are-modules", "--no-error-summary", *group.files],
+        env={**os.environ, "MYPYPATH": path}, capture_output=True, text=True, cwd=TOP,
+    )
+    said = dict.fromkeys(group.files, CLEAN)
+    for line in (ended.stdout + ended.stderr).splitlines():
+        file = TOP / line.partition(":")[0]
+        said[file] = said.get(file, "") + line + "\n"
+    if ended.returncode and not any(said.values()):
+        said[group.files[0]] = f"mypy ended with status {ended.returncode}\n"
+    return said
+
+
+def said_by_shellcheck(file: Path) -> str:
+    """What shellcheck says of a file."""
+    ended = subprocess.run(["shellcheck", "-x", file], capture_output=True, text=True, cwd=TOP)
+    return ended.stdout + ended.stderr
+
+
+def said_by_python(file: Path) -> str:
+    """What Python says of a file that it reads and does not run."""
+    try:
+        compile(file.read_bytes(), str(file), "exec")
+    except SyntaxError as error:
+        return str(error)
+    return CLEAN
+
+
+def said_by_shell(file: Path) -> str:
+    """What the shell says of a file that it reads and does not run."""
+    shell = "bash" if "bash" in first_line(file) else "sh"
+    return subprocess.run([shell, "-n", file], capture_output=True, text=True).stderr
+
+
+def is_there(tool: str) -> bool:
+    """Whether a tool is there; says if it is not."""
+    if shutil.which(tool):
+        return True
+    print(f"skipped: {tool} is not installed")
+    return False
+
+
+def trials() -> Iterator[Trial]:
+    """All trials."""
+    for group in python_groups():
+        said = said_by_mypy(group) if is_there("mypy") else {it: said_by_python(it) for it in group.files}
+        yield from (trial(f"the types of {name_of(file)}", what) for file, what in said.items())
+    judge = said_by_shellcheck if is_there("shellcheck") else said_by_shell
+    yield from (trial(f"the shell of {name_of(file)}", judge(file)) for file in shell_scripts())
+    known = {file for group in python_groups() for file in group.files} | set(shell_scripts())
+    yield "scripts that nothing checks", [], [name_of(it) for it in scripts() if it not in known]
+
+
+def trial(name: str, said: str) -> Trial:
+    """The trial that nothing is said of a file."""
+    return name, CLEAN, said
+
+
+def name_of(file: Path) -> str:
+    """The name of a file from the top of the repository on."""
+    return str(file.relative_to(TOP)) if file.is_relative_to(TOP) else file.name
+
+
+def canaries() -> Iterable[Trial]:
+    """A file of each kind that must not be clean."""
+    with tempfile.TemporaryDirectory() as folder:
+        python, shell = Path(folder, "bad.py"), Path(folder, "bad.sh")
+        python.write_text(BAD_PYTHON if shutil.which("mypy") else "def")
+        shell.write_text(BAD_SHELL if shutil.which("shellcheck") else "if")
+        said = said_by_mypy(Group((), (python,)))[python] if shutil.which("mypy") else said_by_python(python)
+        yield "a wrong type", CLEAN, said
+        judge = said_by_shellcheck if shutil.which("shellcheck") else said_by_shell
+        yield "a wrong word of the shell", CLEAN, judge(shell)
+
+
+if __name__ == "__main__":
+    sys.exit(report(trials(), canaries()))

@@ -1,0 +1,58 @@
+# shellcheck shell=sh disable=SC2154
+# Remembers which program belongs to the sources, so that ./l6 need not sum a thousand files at each call. This
+# file is sourced after program.sh.
+#
+# The note has the checkout, the system, the program, and a sum of the names, inodes, sizes and times of all
+# files that were summed: of the sources and of dist/. A file that is edited has another time of its last change
+# (ctime), which nobody can set. So a note that is right in all of these was made of the same files. It is not
+# written while one of them is so new that an edit might have the same time.
+#
+# The note is in the user's folder for caches. Where there is none, or where find is not GNU's, which can print
+# times, there is no note, and everything is summed.
+
+note=${XDG_CACHE_HOME:-${HOME:+$HOME/.cache}}
+note=${note:+$note/l6/program}
+fresh='3 seconds ago'
+
+# Prints a line for each file that a program and its provenance depend on; further arguments go to find.
+list_files() (
+    cd "$top" || exit 1
+    find crates.txt HANDLES crates/*/src crates/*/specs crates/*/proofs dist/l6* -name '.*' -prune -o -type f \
+        \( -name '*.rt' -o -name '*.antt' -o -path 'dist/*' -o -path crates.txt -o -path HANDLES \) \
+        "$@" -printf '%p %i %m %s %T@ %C@\n' 2> /dev/null
+)
+
+# Prints what a note says of a program as the files are now.
+note_of() {
+    files=$(list_files | only_sum) && printf '%s\n' "$top" "$(uname -nsm)" "$1" "$files"
+}
+
+# Sets $program to the one of the note, if the note is right.
+recall_program() {
+    [ -n "$note" ] && [ -f "$note" ] || return 1
+    { read -r _ && read -r _ && IFS= read -r program; } < "$note" || return 1
+    case $program in
+        "$top/dist/"*) ;;
+        *) return 1 ;;
+    esac
+    [ "$(note_of "$program")" = "$(cat "$note")" ] && starts "$program"
+}
+
+# Finds the program, and notes it. One that was built here isn't noted, since it depends on the toolchain, too.
+find_and_note_program() {
+    before=''
+    [ -z "$note" ] || before=$(list_files | only_sum)
+    find_program || return 1
+    case $before:$program in
+        ?*:"$top/dist/"*) [ -n "$(list_files -newerct "$fresh")" ] || write_note 2> /dev/null ;;
+    esac
+    return 0
+}
+
+# Writes the note, if the files are still those that were there before.
+write_note() {
+    [ "$(list_files | only_sum)" = "$before" ] && mkdir -p "${note%/*}" || return 0
+    if ! { note_of "$program" > "$note.$$" && mv -f "$note.$$" "$note"; }; then
+        rm -f "$note.$$"
+    fi
+}

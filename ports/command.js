@@ -1,8 +1,8 @@
-// The command line of l6 for Node, around the module of the page: the same words, answers and exit statuses as
-// the native program has.
+// The command line of l6 for Node, around the module of the page: the same words, answers and exit statuses
+// as the native program has.
 //
-// `bundle` puts `serve` (web/src/serve.js) before it, and the module after it, in gzip and base 64. The result
-// runs as a module (l6.mjs) and as a script without an ending (bin/l6), so it imports by calls.
+// `bundle` puts `serve` (web/src/serve.js) before it, and the module after it, in gzip and base 64. The
+// result runs as a module (l6.mjs) and as a script without an ending (bin/l6), so it imports by calls.
 
 const MOST_INPUT = 16_777_217;   // bytes: one more than a job may have, so that a longer one is refused
 const MOST_WORDS = 15;           // that the module takes; no right command line has so many
@@ -15,8 +15,8 @@ const PAUSE = 10;                // milliseconds until a device that is busy is 
 const BUDGET = "--wasm-tiering-budget=20000000";
 const ENGINES = ["10", "11"]; // of Node 18 and 20
 
-const END_OF_KEYS = `${process.platform === "win32" ? "Ctrl-Z and Enter" : "Ctrl-D"} at the beginning of a line`;
-const FROM_KEYS = `l6: reading the job from the keyboard, up to ${END_OF_KEYS}\n`;
+const END_OF_KEYS = process.platform === "win32" ? "Ctrl-Z and Enter" : "Ctrl-D";
+const FROM_KEYS = `l6: reading the job from the keyboard, up to ${END_OF_KEYS} at the beginning of a line\n`;
 const READ_FAILED = "l6: read failed\n";
 const NO_MEMORY = "l6: out of memory\n";
 const NO_TEXT = "l6: a word is not UTF-8\n";
@@ -29,7 +29,8 @@ async function main() {
   const {isatty} = await import("node:tty");
   const words = process.argv.slice(2, 2 + MOST_WORDS);
   if (words.some((word) => /[\ufffd\ud800-\udfff]/u.test(word))) return refused(files, NO_TEXT, WRONG_WORDS);
-  if (ENGINES.includes(process.versions.v8.split(".")[0])) (await import("node:v8")).setFlagsFromString(BUDGET);
+  const [engine] = process.versions.v8.split(".");
+  if (ENGINES.includes(engine)) (await import("node:v8")).setFlagsFromString(BUDGET);
   const module = new WebAssembly.Module(gunzipSync(Buffer.from(MODULE, "base64")));
   // The program reads a job only if its words are right. So they are tried with an empty one.
   let answer = job(module, words, new Uint8Array(0));

@@ -1,8 +1,9 @@
-// What the program asks of its host, for the static programs: memory, errno, and the words of the command line.
+// What the program asks of its host, for the static programs: memory, errno, and the words of the command
+// line.
 //
-// The program calls the functions of the first part, as dist/l6 calls those of the toolchain's own library. They
-// go to the C library, here musl, which is linked with the program. `build` says how the rest is done for each
-// processor.
+// The program calls the functions of the first part, as dist/l6 calls those of the toolchain's own library.
+// They go to the C library, here musl, which is linked with the program. `build` says how the rest is done
+// for each processor.
 
 #include <errno.h>
 #include <signal.h>
@@ -76,8 +77,8 @@ void (*__sysv_signal(int number, void (*handler)(int)))(int) { return signal(num
 
 ssize_t __write(int file, const void *bytes, size_t count) { return write(file, bytes, count); }
 
-// What the processor says of itself, and what of that the system lets programs use. The two differ for what has
-// registers of its own that a system must save, and `main` asks for nothing of this kind.
+// What the processor says of itself, and what of that the system lets programs use. The two differ for what
+// has registers of its own that a system must save, and `main` asks for nothing of this kind.
 typedef struct {
     uint32_t said[4];
     uint32_t usable[4];
@@ -99,8 +100,8 @@ const Leaf *__x86_get_cpuid_feature_leaf(unsigned index) {
 
 #else
 
-// The proved program's own beginning, to which `build` gives this name. Its `main` for x86-64, which would look
-// at the processor, is left out.
+// The proved program's own beginning, to which `build` gives this name. Its `main` for x86-64, which would
+// look at the processor, is left out.
 extern int l6_program(void);
 
 int main(int count, char **given) {

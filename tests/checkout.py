@@ -17,8 +17,8 @@ from answers import Answer
 
 TOP = Path(__file__).resolve().parent.parent
 SCRIPTS = (
-    "l6", "install", "tools", "docs/l6.1", "completions", "LICENSE-MIT", "LICENSE-APACHE", "THIRD-PARTY.md", "licenses",
-    ".gitattributes",
+    "l6", "install", "tools", "docs/l6.1", "completions", "LICENSE-MIT", "LICENSE-APACHE", "THIRD-PARTY.md",
+    "licenses", ".gitattributes",
 )
 SECONDS = 60  # for one command
 SOURCES = ("src", "specs", "proofs")
@@ -26,8 +26,8 @@ NOBODY = 65_534  # a user and a group without rights
 UNPROVED = "UNPROVED"  # a crate with this text in its sources is not proved
 
 # All commands besides the shell that the scripts may use when neither rt nor Python is needed.
-PLAIN = ("cat", "chmod", "cmp", "cp", "dirname", "find", "grep", "mkdir", "mv", "readlink", "rm", "rmdir", "sed",
-         "sha256sum", "sh", "sort", "uname", "uniq", "xargs")
+PLAIN = ("cat", "chmod", "cmp", "cp", "dirname", "find", "grep", "mkdir", "mv", "readlink", "rm", "rmdir",
+         "sed", "sha256sum", "sh", "sort", "uname", "uniq", "xargs")
 PROGRAMS = ("l6", "l6-static", "l6-aarch64", "l6.mjs")
 
 RT = f'''#!{sys.executable}
@@ -127,8 +127,10 @@ class Checkout:
         for name in SCRIPTS:
             source, target = TOP / name, self.top / name
             target.parent.mkdir(parents=True, exist_ok=True)
-            copy = shutil.copytree if source.is_dir() else shutil.copy
-            copy(source, target)
+            if source.is_dir():
+                shutil.copytree(source, target)
+            else:
+                shutil.copy(source, target)
         for name, text in {**MAKERS, "examples/first.deck": " (A,E,5)(A,PD)\n"}.items():
             self.write(name, text)
             (self.top / name).chmod(0o755)
@@ -148,7 +150,7 @@ class Checkout:
         plain.mkdir()
         whole.mkdir()
         for name in PLAIN:
-            (plain / name).symlink_to(shutil.which(name))
+            (plain / name).symlink_to(shutil.which(name) or name)
         (whole / "python3").symlink_to(sys.executable)
         for name, text in (("whole/rt", RT), ("nodes/node", NODE)):
             (self.folder / name).parent.mkdir(exist_ok=True)
@@ -205,7 +207,9 @@ class Checkout:
             input=stdin, umask=umask,
         )
 
-    def run_words(self, words: list[str], folder: Path, environment: dict[str, str], **options: Any) -> Answer[str]:
+    def run_words(
+        self, words: list[str], folder: Path, environment: dict[str, str], **options: Any
+    ) -> Answer[str]:
         """The answer of a command in a folder, with just this environment."""
         options = {"input": "", **options}
         ended = subprocess.run(

@@ -11,6 +11,7 @@ import sys
 import tempfile
 from collections.abc import Iterator
 from pathlib import Path
+from typing import Any
 
 from answers import Answer
 from checkout import TOP, UNPROVED, Checkout
@@ -25,11 +26,11 @@ INSTALLED = {  # the file that is installed, and where it is from
     "share/fish/vendor_completions.d/l6.fish": "completions/l6.fish",
     "share/doc/l6/examples/first.deck": "examples/first.deck",
     **{f"share/doc/l6/{name}": name for name in ("LICENSE-MIT", "LICENSE-APACHE", "THIRD-PARTY.md")},
-    **{f"share/doc/l6/licenses/{file.name}": f"licenses/{file.name}" for file in (TOP / "licenses").iterdir()},
+    **{f"share/doc/l6/licenses/{it.name}": f"licenses/{it.name}" for it in (TOP / "licenses").iterdir()},
 }
 
 
-def said(place: str) -> str:
+def announced(place: str) -> str:
     """What is said of an installation."""
     return f"installed {place}/bin/l6 and its manual page, completions, examples and licences\n"
 
@@ -51,9 +52,13 @@ def arguments(checkout: Checkout) -> Iterator[Trial]:
     """Help, and wrong arguments."""
     actual = checkout.run("install", "--help", has_rt=False)
     yield "help", (0, USAGE, ""), (actual.status, actual.stdout[:len(USAGE)], actual.stderr)
-    for words in (("-x",), ("a", "b"), ("",), ("--program",), ("--program", "nothing"), ("--uninstall", "a", "b")):
+    wrong: tuple[tuple[str, ...], ...] = (
+        ("-x",), ("a", "b"), ("",), ("--program",), ("--program", "nothing"), ("--uninstall", "a", "b"),
+    )
+    for words in wrong:
         actual = checkout.run("install", *words, has_rt=False)
-        yield f"the arguments {words}", (64, "", USAGE), (actual.status, actual.stdout, actual.stderr[:len(USAGE)])
+        said = actual.stderr[:len(USAGE)]
+        yield f"the arguments {words}", (64, "", USAGE), (actual.status, actual.stdout, said)
 
 
 def installations(checkout: Checkout) -> Iterator[Trial]:
@@ -62,7 +67,8 @@ def installations(checkout: Checkout) -> Iterator[Trial]:
     place = checkout.folder / prefix
     for which in ("the first", "the second"):
         actual = checkout.run("install", prefix, has_rt=False)
-        yield f"{which} installation", Answer(f"{said(prefix)}{prefix}/bin is not on the path\n", "", 0), actual
+        expected = Answer(f"{announced(prefix)}{prefix}/bin is not on the path\n", "", 0)
+        yield f"{which} installation", expected, actual
         yield f"what {which} installs", sorted(INSTALLED), names_in(place)
         yield f"the modes of {which}", MODES, modes_of(place)
         for name, source in INSTALLED.items():
@@ -70,21 +76,23 @@ def installations(checkout: Checkout) -> Iterator[Trial]:
             (place / name).chmod(0o600)
     prefix = str(checkout.folder / "on the path")
     actual = checkout.run("install", prefix, has_rt=False, FIRST=f"{prefix}/bin")
-    yield "a folder on the path", Answer(said(prefix), "", 0), actual
+    yield "a folder on the path", Answer(announced(prefix), "", 0), actual
 
 
 def staged(checkout: Checkout) -> Iterator[Trial]:
-    """With DESTDIR everything goes there, and a program for another system is installed without being tried."""
+    """With DESTDIR everything goes there. A program that is named is installed without being tried."""
     folder = checkout.folder / "a stage"
     actual = checkout.run("install", "/usr", has_rt=False, DESTDIR=str(folder))
-    yield "a stage", Answer(said(f"{folder}/usr"), "", 0), actual
+    yield "a stage", Answer(announced(f"{folder}/usr"), "", 0), actual
     yield "what is in the stage", sorted(f"usr/{name}" for name in INSTALLED), names_in(folder)
     other = checkout.top / "dist/l6-aarch64"
     for name, refuses, status in ((str(other), "l6-aarch64", 0), ("", "l6 l6-static l6.mjs", 1)):
         chosen = ["--program", name] if name else []
-        actual = checkout.run("install", *chosen, "/usr", has_rt=False, DESTDIR=str(folder), REFUSES=refuses)
+        where = {"DESTDIR": str(folder), "REFUSES": refuses}
+        actual = checkout.run("install", *chosen, "/usr", has_rt=False, stdin="", umask=0o022, **where)
         yield f"a program that does not start here: {chosen}", status, actual.status
-        yield f"the program that is then in the stage: {chosen}", other.read_bytes(), (folder / "usr/bin/l6").read_bytes()
+        program = (folder / "usr/bin/l6").read_bytes()
+        yield f"the program that is then in the stage: {chosen}", other.read_bytes(), program
 
 
 def removals(checkout: Checkout) -> Iterator[Trial]:
@@ -107,7 +115,7 @@ def removals(checkout: Checkout) -> Iterator[Trial]:
     expected = Answer(f"{expected.stdout}a place/share/doc/l6 has other files, and stays\n", "", 0)
     yield "a removal beside a file of somebody else", expected, actual
     yield "what is left then", sorted([*kept, "share/doc/l6/mine.deck"]), names_in(place)
-    folder = {"DESTDIR": str(checkout.folder / "a stage")}
+    folder: dict[str, Any] = {"DESTDIR": str(checkout.folder / "a stage")}
     checkout.run("install", "/usr", has_rt=False, **folder)
     actual = checkout.run("install", "--uninstall", "/usr", has_rt=False, **folder)
     yield "a removal from a stage", (0, []), (actual.status, names_in(checkout.folder / "a stage"))
@@ -151,9 +159,9 @@ def refusals(checkout: Checkout) -> Iterator[Trial]:
     page = checkout.top / "docs/l6.1"
     page.rename(checkout.folder / "page")
     actual = checkout.run("install", "no page", has_rt=False)
-    expected = "install: no page/share/man/man1/l6.1 can't be written; nothing is installed\n"
-    ending = actual.stderr[-len(expected):]
-    yield "a manual page that is missing", ("", expected, 1), (actual.stdout, ending, actual.status)
+    said = "install: no page/share/man/man1/l6.1 can't be written; nothing is installed\n"
+    ending = actual.stderr[-len(said):]
+    yield "a manual page that is missing", ("", said, 1), (actual.stdout, ending, actual.status)
     yield "what is installed then", [], names_in(checkout.folder / "no page")
     (checkout.folder / "page").rename(page)
 

@@ -15,6 +15,7 @@ import tempfile
 import time
 from collections.abc import Callable, Iterator
 from pathlib import Path
+from typing import Any
 
 from answers import Answer
 from checkout import PROGRAMS, UNPROVED, Checkout
@@ -239,7 +240,7 @@ def other_systems(checkout: Checkout) -> Iterator[Trial]:
     ):
         which = "" if name == "l6" else f"this is {name}\n"
         path = f"{stand_in_for_uname(checkout, system)}:{first}"
-        words = {"has_rt": False, "FIRST": path, "REFUSES": refuses}
+        words: dict[str, Any] = {"has_rt": False, "FIRST": path, "REFUSES": refuses}
         expected = Answer(f"{which}{checkout.made_of}<a b>\nx", "", 3)
         actual = checkout.run("l6", "a b", stdin="x", STATUS="3", **words)
         yield f"{system}, where {refuses or 'nothing'} does not start", expected, actual
@@ -286,7 +287,8 @@ def damaged_programs(checkout: Checkout) -> Iterator[Trial]:
 
 def notes(checkout: Checkout) -> Iterator[Trial]:
     """With a note of what was summed, nothing is summed again, until a file changes in whatever way."""
-    note, home = checkout.folder / "home/.cache/l6/program", {"has_rt": False, "HOME": str(checkout.folder / "home")}
+    note = checkout.folder / "home/.cache/l6/program"
+    home: dict[str, Any] = {"has_rt": False, "HOME": str(checkout.folder / "home")}
     expected = Answer(checkout.made_of, "", 0)
     yield "the first call", expected, checkout.run("l6", **home)
     yield "what is new is not noted", False, note.exists()
@@ -304,8 +306,8 @@ def notes(checkout: Checkout) -> Iterator[Trial]:
         file.write_bytes(before.swapcase())
         os.utime(file, ns=(times, times))
         actual = checkout.run("l6", **home)
-        which = ("this is l6-static\n" + checkout.made_of, 0) if file == program else ("", 1)
-        yield f"{file.name} changed behind the note", which, (actual.stdout, actual.status)
+        right = (f"this is l6-static\n{checkout.made_of}", 0) if file == program else ("", 1)
+        yield f"{file.name} changed behind the note", right, (actual.stdout, actual.status)
         file.write_bytes(before)
     source.with_name("new.rt").write_text("")
     yield "a new file behind the note", 1, checkout.run("l6", **home).status
@@ -314,6 +316,14 @@ def notes(checkout: Checkout) -> Iterator[Trial]:
         note.write_text(text)
         yield "a note that is altered", expected, checkout.run("l6", **home)
     note.unlink()
+    plain = checkout.folder / "plain find"  # that of busybox and of macOS can't print times
+    plain.mkdir()
+    script = f'case "$*" in *-printf*) exit 1 ;; esac\nexec {shutil.which("find")} "$@"\n'
+    (plain / "find").write_text(f"#!/bin/sh\n{script}")
+    (plain / "find").chmod(0o755)
+    for which in ("the first", "the second"):
+        yield f"{which} call with a find without times", expected, checkout.run("l6", FIRST=str(plain), **home)
+    yield "a note without times", False, note.exists()
     note.parent.rmdir()
     note.parent.write_text("a file in the folder's place\n")
     yield "a note that can't be written", expected, checkout.run("l6", **home)
@@ -365,10 +375,11 @@ def cloned(checkout: Checkout) -> Iterator[Trial]:
 def keyboard(checkout: Checkout) -> Iterator[Trial]:
     """On a terminal it is said once that the job comes from the keyboard, if one is read."""
     said = "l6: reading the job from the keyboard, up to Ctrl-D at the beginning of a line\n"
-    for words, why in (
+    calls: tuple[tuple[list[str], str | None], ...] = (
         (["run"], said), (["debug", "--store", "2"], said), (["asm"], said), (["run", "--help"], ""),
         (["--version"], None), (["nonsense"], ""), ([], ""),
-    ):
+    )
+    for words, why in calls:
         actual = checkout.run_on_terminal(*words)
         if why is not None:
             yield f"what is said on a terminal: {words}", why, actual.stderr
@@ -418,8 +429,8 @@ def making_dist(checkout: Checkout) -> Iterator[Trial]:
 
 GROUPS: tuple[Callable[[Checkout], Iterator[Trial]], ...] = (
     distributed, changed_sources, damaged_distribution, built_program, failed_proofs,
-    edits_while_it_builds, crates_below, other_systems, damaged_programs, other_files, notes, places, cloned, keyboard,
-    making_dist,
+    edits_while_it_builds, crates_below, other_systems, damaged_programs, other_files, notes, places, cloned,
+    keyboard, making_dist,
 )
 
 

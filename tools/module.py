@@ -1,7 +1,7 @@
 """The object file and the LLVM module of the program, from the very build of it.
 
-What is made for other systems, the page's module (web/build) and the static programs (ports/build), is made of
-these. They are kept in out/module/ with a note of what they were made from, so they are built once for all.
+What is made for other systems, the page's module (web/build) and the static programs (ports/build), is made
+of these. They are kept in out/module/ with a note of what they were made from, so they are built once for all.
 """
 from __future__ import annotations
 
@@ -29,7 +29,7 @@ CLANG = """#!/bin/sh
 exec "{clang}" "$@"
 """
 
-Edit = tuple[str, str, int | None]  # a pattern, what takes its place, and how often it is met if that is known
+Edit = tuple[str, str, int | None]  # a pattern, what takes its place, and how often it is met, if known
 
 
 class Stop(Exception):

@@ -12,8 +12,8 @@
 # A program belongs to the sources if its provenance is, byte for byte, what the sources and the program give
 # now. All sources are summed for that (SHA-256).
 #
-# dist/ has programs for several systems. Which of them are tried here is said by candidates(). dist/l6.sources
-# has the sum of each source, so that those that differ can be named.
+# dist/ has programs for several systems. Which of them are tried here is said by candidates().
+# dist/l6.sources has the sum of each source, so that those that differ can be named.
 
 distributed=$top/dist/l6
 built=$top/crates/l6/out/l6
@@ -55,14 +55,16 @@ only_sum() {
     sum=$($summing) && [ ${#sum} -gt 64 ] && printf '%s\n' "${sum%% *}"
 }
 
-# Prints the provenance of a program that was made from the sources as they are now, and of what the lines say.
+# Prints the provenance of a program that was made from the sources as they are now, and of what the lines
+# say.
 provenance_of() {
     sum_sources && sources=$(printf '%s\n%s\n' "$2" "$all_sources" | only_sum) && itself=$(only_sum < "$1") ||
         return 1
     printf '%s\nsources %s\nprogram %s\n' "$2" "$sources" "$itself"
 }
 
-# Sets $made_of to the first lines of a program's provenance, and $named to the sum of the program that it names.
+# Sets $made_of to the first lines of a program's provenance, and $named to the sum of the program that it
+# names.
 read_provenance() {
     made_of='' named=''
     [ -f "$1.provenance" ] || return 1
@@ -110,7 +112,8 @@ start() {
     esac
 }
 
-# Whether a program starts on this system. One that is linked with a C library needs it in its version or later.
+# Whether a program starts on this system. One that is linked with a C library needs it in its version or
+# later.
 starts() {
     start "$1" --version < /dev/null > /dev/null 2>&1
     [ $? = 64 ]

@@ -13,19 +13,25 @@ import sys
 import tempfile
 from collections.abc import Iterator
 from pathlib import Path
+from typing import Any
 
 from answers import Answer
 from trials import CANARY, Trial
 
 TOP = Path(__file__).resolve().parent.parent
-SCRIPTS = ("l6", "install", "tools", "docs/l6.1")
+SCRIPTS = (
+    "l6", "install", "tools", "docs/l6.1", "completions", "LICENSE-MIT", "LICENSE-APACHE", "THIRD-PARTY.md",
+    "licenses", ".gitattributes",
+)
 SECONDS = 60  # for one command
 SOURCES = ("src", "specs", "proofs")
+NOBODY = 65_534  # a user and a group without rights
 UNPROVED = "UNPROVED"  # a crate with this text in its sources is not proved
 
 # All commands besides the shell that the scripts may use when neither rt nor Python is needed.
-PLAIN = ("cat", "chmod", "cmp", "cp", "dirname", "find", "mkdir", "mv", "readlink", "rm", "sed", "sha256sum",
-         "sh", "sort", "uname", "xargs")
+PLAIN = ("cat", "chmod", "cmp", "cp", "dirname", "find", "grep", "mkdir", "mv", "readlink", "rm", "rmdir",
+         "sed", "sha256sum", "sh", "sort", "uname", "uniq", "xargs")
+PROGRAMS = ("l6", "l6-static", "l6-aarch64", "l6.mjs")
 
 RT = f'''#!{sys.executable}
 """A stand-in for rt: prints its version, and "builds" a library or a program in a crate's folder."""
@@ -68,6 +74,24 @@ else:
 '''
 
 
+# Stand-ins for what makes the page and the other programs. Each program says first which one it is.
+MAKERS = {
+    "web/build": "#!/bin/sh\n",
+    "web/bundle": "#!/bin/sh\necho a page > $1\n",
+    "ports/build": """#!/bin/sh
+for name in l6-static l6-aarch64; do
+    sed "2i it=$name" "$1" > "$2/$name"
+    echo "host of $name" > "$2/$name.made_of"
+done
+""",
+    "ports/bundle": """#!/bin/sh
+sed "2i it=l6.mjs" "${1%/*}/l6" > "$2"
+echo "module of $1" | sed 's|/.*/||' > "$2.made_of"
+""",
+}
+NODE = '#!/bin/sh\nexec sh "$@"\n'  # a stand-in for Node, for which l6.mjs is a script of the shell
+
+
 def sum_of_sources(top: Path) -> str:
     """A sum of the sources that the program of a checkout, or of a part of one, is made of."""
     total = hashlib.sha256()
@@ -79,12 +103,18 @@ def sum_of_sources(top: Path) -> str:
 
 
 def program_text(made_of: str) -> str:
-    """A program that prints its sources, its arguments and its input, and ends with the given status."""
+    """A program that prints its sources, its arguments and its input, and ends with the given status.
+
+    It says which program it is if it is not l6, and does not start if it is one of $REFUSES.
+    """
     return (
         "#!/bin/sh\n"
+        'case " ${REFUSES-} " in *" ${it-l6} "*) exit 127 ;; esac\n'
+        '[ -z "${it-}" ] || echo "this is $it"\n'
         f"echo made of {made_of}\n"
         'for word; do printf "<%s>\\n" "$word"; done\n'
         "cat\n"
+        '[ "$*" != --version ] || exit 64\n'
         'exit "${STATUS-0}"\n'
     )
 
@@ -104,6 +134,9 @@ class Checkout:
                 shutil.copytree(source, target)
             else:
                 shutil.copy(source, target)
+        for name, text in {**MAKERS, "examples/first.deck": " (A,E,5)(A,PD)\n"}.items():
+            self.write(name, text)
+            (self.top / name).chmod(0o755)
         self.write("crates.txt", "# a comment\nl6_word:\nl6: l6_word\nl6_tests: l6_word\n")
         self.write("HANDLES", "Handles allowed: none.\n")
         for crate, root in (("l6_word", "lib.rt"), ("l6", "main.rt"), ("l6_tests", "lib.rt")):
@@ -122,13 +155,20 @@ class Checkout:
         for name in PLAIN:
             (plain / name).symlink_to(shutil.which(name) or name)
         (whole / "python3").symlink_to(sys.executable)
-        (whole / "rt").write_text(RT)
-        (whole / "rt").chmod(0o755)
+        for name, text in (("whole/rt", RT), ("nodes/node", NODE)):
+            (self.folder / name).parent.mkdir(exist_ok=True)
+            (self.folder / name).write_text(text)
+            (self.folder / name).chmod(0o755)
 
     @property
     def made_of(self) -> str:
         """The line in which the program of the present sources says what it was made of."""
         return f"made of {sum_of_sources(self.top)}\n"
+
+    def leave_only(self, *names: str) -> None:
+        """Removes the programs of dist/ but these."""
+        for name in set(PROGRAMS) - set(names):
+            (self.top / "dist" / name).unlink()
 
     def set_version(self, line: str) -> None:
         """Sets the line of the toolchain's version."""
@@ -164,13 +204,41 @@ class Checkout:
         path = f"{self.folder / 'whole'}:{os.environ['PATH']}" if has_rt else str(self.folder / "plain")
         first = environment.pop("FIRST", "")
         interpreter = [sys.executable] if command.endswith(".py") else []
+        return self.run_words(
+            [*interpreter, str(self.top / command), *words], self.folder,
+            {"PATH": f"{first}:{path}" if first else path, "STAND_IN": str(self.state), **environment},
+            input=stdin, umask=umask,
+        )
+
+    def run_words(
+        self, words: list[str], folder: Path, environment: dict[str, str], **options: Any
+    ) -> Answer[str]:
+        """The answer of a command in a folder, with just this environment."""
+        options = {"input": "", **options}
         ended = subprocess.run(
-            [*interpreter, self.top / command, *words], input=stdin, capture_output=True, text=True, timeout=SECONDS,
-            cwd=self.folder, umask=umask,
-            env={"PATH": f"{first}:{path}" if first else path, "STAND_IN": str(self.state), **environment},
+            words, capture_output=True, text=True, timeout=SECONDS, cwd=folder, env=environment, **options
         )
         return Answer(ended.stdout, ended.stderr, ended.returncode)
 
+    def run_as_somebody(self, words: list[str], folder: Path) -> Answer[str]:
+        """The answer of a command of a user who may read the checkout, and write nothing in it."""
+        if os.geteuid() != 0:
+            return self.run_words(words, folder, dict(os.environ))
+        above = [it for it in folder.parents if it != Path("/tmp") and Path("/tmp") in it.parents]
+        for it in above:
+            it.chmod(0o755)
+        return self.run_words(words, folder, {}, user=NOBODY, group=NOBODY, extra_groups=[])
+
+    def run_on_terminal(self, *words: str) -> Answer[str]:
+        """The answer of ./l6 whose standard input is a terminal, on which nothing is typed but its end."""
+        ours, theirs = os.openpty()
+        os.write(ours, b"\4")
+        answer = self.run_words(
+            ["./l6", *words], self.top, {"PATH": str(self.folder / "plain")}, input=None, stdin=theirs
+        )
+        os.close(ours)
+        os.close(theirs)
+        return answer
 
 def answers_of_checkouts() -> Iterator[Trial]:
     """Canaries: answers of a script in a checkout that are wrong in one part each, and an old program's sum."""

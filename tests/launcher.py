@@ -8,13 +8,17 @@ It also tries tools/prove.py and tools/make_dist.
 from __future__ import annotations
 
 import os
+import shutil
+import subprocess
 import sys
 import tempfile
+import time
 from collections.abc import Callable, Iterator
 from pathlib import Path
+from typing import Any
 
 from answers import Answer
-from checkout import UNPROVED, Checkout, answers_of_checkouts
+from checkout import PROGRAMS, UNPROVED, Checkout, answers_of_checkouts
 from trials import Trial, report
 
 SOURCES = (
@@ -23,10 +27,18 @@ SOURCES = (
     "crates/l6/proofs/main/Answers.antt",
 )
 STALE = "l6: dist/l6 was not made from the sources in this checkout\n"
+RUNS = "l6: dist/l6 itself runs as it is, whatever the sources say\n"
 BROKEN = "l6: dist/l6 is not the program that dist/l6.provenance names: it is missing, altered or incomplete\n"
 NO_RT = "l6: rt is not on the path; it is needed to prove and build the program (README.md)\n"
 PROVING = "l6: proving and building the program; from nothing this takes some 25 minutes on four processors\n"
+FRESH = 3.5  # seconds after which a file counts as older (tools/note.sh)
+IN_DIST = sorted([*PROGRAMS, *(f"{name}.provenance" for name in PROGRAMS), "l6.html", "l6.sources"])
 EDITED = "l6: the sources were edited meanwhile, so the program may not belong to them; call again\n"
+
+
+def stale(*files: str) -> str:
+    """What is said where sources differ from those of dist/l6: the first of them, each with how it differs."""
+    return f"{STALE}{''.join(f'l6:   {file}{chr(10)}' for file in files)}{RUNS}"
 
 
 def distributed(checkout: Checkout) -> Iterator[Trial]:
@@ -44,7 +56,7 @@ def distributed(checkout: Checkout) -> Iterator[Trial]:
     expected = Answer(checkout.made_of, "", 0)
     yield "./l6 through a link", expected, checkout.run("../linked", has_rt=False)
     made_from = (checkout.top / "dist/l6.provenance").read_text("utf-8")
-    expected = Answer(f"{checkout.made_of}<--version>\n", made_from, 0)
+    expected = Answer(f"{checkout.made_of}<--version>\n", made_from, 64)
     yield "the version", expected, checkout.run("l6", "--version", has_rt=False)
     yield "what rt was asked for", [], checkout.calls()
 
@@ -55,24 +67,40 @@ def changed_sources(checkout: Checkout) -> Iterator[Trial]:
         file = checkout.top / name
         before = file.read_bytes()
         file.write_bytes(before + b"-- edited\n")
-        yield from builds_again(checkout, f"an edit of {name}", STALE)
+        yield from builds_again(checkout, f"an edit of {name}", stale(f"{name} has changed"))
         file.write_bytes(before)
         yield f"{name} as it was", Answer(checkout.made_of, "", 0), checkout.run("l6", has_rt=False)
         checkout.forget_what_was_built()
-    first = checkout.top / "crates/l6_word/src/lib.rt"
-    other = first.with_name("other.rt")
+    name, new = "crates/l6_word/src/lib.rt", "crates/l6_word/src/other.rt"
+    first, other = checkout.top / name, checkout.top / new
     other.write_text("")
-    yield from builds_again(checkout, "a new file", STALE)
+    yield from builds_again(checkout, "a new file", stale(f"{new} is new"))
     other.unlink()
     first.rename(other)
-    yield from builds_again(checkout, "a file that is renamed", STALE)
+    yield from builds_again(checkout, "a file that is renamed", stale(f"{name} is missing", f"{new} is new"))
     other.rename(first)
     times = os.stat(first).st_mtime_ns
     before = first.read_bytes()
     first.write_bytes(before.swapcase())
     os.utime(first, ns=(times, times))
-    yield from builds_again(checkout, "an edit that keeps size and time", STALE)
+    yield from builds_again(checkout, "an edit that keeps size and time", stale(f"{name} has changed"))
     first.write_bytes(before)
+    for name in SOURCES[2:]:
+        checkout.write(name, "-- edited\n")
+    said = [f"{name} has changed" for name in sorted(SOURCES[2:])[:3]]
+    expected = stale(*said, f"and {len(SOURCES) - 5} more files differ")
+    yield "several edits", Answer("", expected + NO_RT, 1), checkout.run("l6", has_rt=False)
+
+
+def other_files(checkout: Checkout) -> Iterator[Trial]:
+    """Files that the prover does not read change nothing: hidden ones, and what editors leave."""
+    folder, expected = checkout.top / "crates/l6_word/src", Answer(checkout.made_of, "", 0)
+    for name in (".lib.rt.swp", ".lib.rt", "lib.rt~", "lib.rt.orig", "#lib.rt#", "notes.txt", ".kept/lib.rt"):
+        (folder / name).parent.mkdir(exist_ok=True)
+        (folder / name).write_text("something\n")
+        yield f"beside {name}", expected, checkout.run("l6", has_rt=False)
+    (folder / ".#lib.rt").symlink_to("nobody@nowhere.1:1")
+    yield "beside an editor's lock", expected, checkout.run("l6", has_rt=False)
 
 
 def builds_again(checkout: Checkout, what: str, why: str) -> Iterator[Trial]:
@@ -90,6 +118,7 @@ def builds_again(checkout: Checkout, what: str, why: str) -> Iterator[Trial]:
 
 def damaged_distribution(checkout: Checkout) -> Iterator[Trial]:
     """A program or a provenance in dist/ that is altered, cut or missing is refused."""
+    checkout.leave_only("l6")
     program, provenance = (checkout.top / "dist" / name for name in ("l6", "l6.provenance"))
     whole, named = program.read_bytes(), provenance.read_bytes()
     turned = whole.replace(b"made", b"Made")
@@ -127,7 +156,8 @@ def built_program(checkout: Checkout) -> Iterator[Trial]:
         file.write_bytes(file.read_bytes()[:-2] + b"1\n")
         actual = checkout.run("l6")
         yield f"{file.name} is altered", (checkout.made_of, 0), (actual.stdout, actual.status)
-        yield f"{file.name} is altered: it is built again", PROVING, actual.stderr[len(STALE):][:len(PROVING)]
+        said = stale("crates/l6/src/main.rt has changed") + PROVING
+        yield f"{file.name} is altered: it is built again", said, actual.stderr[:len(said)]
     checkout.calls()
     checkout.set_version("another toolchain")
     actual = checkout.run("l6")
@@ -201,21 +231,167 @@ def crates_below(checkout: Checkout) -> Iterator[Trial]:
 
 
 def other_systems(checkout: Checkout) -> Iterator[Trial]:
-    """On another system the program of dist/ is not run."""
-    first = checkout.folder / "other system"
-    first.mkdir()
-    (first / "uname").write_text("#!/bin/sh\necho Plan9 mips\n")
-    (first / "uname").chmod(0o755)
-    why = "l6: dist/l6 is for Linux x86_64, and this is Plan9 mips\n"
-    actual = checkout.run("l6", has_rt=False, FIRST=str(first))
-    yield "another system", Answer("", why + NO_RT, 1), actual
+    """The first program for a system that starts there is run; without one it is said what there is."""
+    linux, node = str(checkout.folder / "plain"), str(checkout.folder / "nodes")
+    for system, refuses, first, name in (
+        ("Linux x86_64", "", linux, "l6"), ("Linux x86_64", "l6", linux, "l6-static"),
+        ("Linux x86_64", "l6 l6-static", node, "l6.mjs"), ("Linux aarch64", "", linux, "l6-aarch64"),
+        ("Linux aarch64", "l6-aarch64", node, "l6.mjs"), ("Darwin arm64", "", node, "l6.mjs"),
+    ):
+        which = "" if name == "l6" else f"this is {name}\n"
+        path = f"{stand_in_for_uname(checkout, system)}:{first}"
+        words: dict[str, Any] = {"has_rt": False, "FIRST": path, "REFUSES": refuses}
+        expected = Answer(f"{which}{checkout.made_of}<a b>\nx", "", 3)
+        actual = checkout.run("l6", "a b", stdin="x", STATUS="3", **words)
+        yield f"{system}, where {refuses or 'nothing'} does not start", expected, actual
+        made_from = (checkout.top / f"dist/{name}.provenance").read_text("utf-8")
+        expected = Answer(f"{which}{checkout.made_of}<--version>\n", made_from, 64)
+        yield f"the version on {system}: {name}", expected, checkout.run("l6", "--version", **words)
+    said = {
+        "Linux x86_64": "l6: dist/l6 does not start on this system\n",
+        "Linux aarch64": "l6: dist/l6-aarch64 does not start on this system\n",
+        "Plan9 mips": "l6: dist/ has programs for Linux on x86_64 and aarch64, and this is Plan9 mips\n"
+        "l6: dist/l6.mjs is for every system that has Node (https://nodejs.org), but node is not on the path\n",
+    }
+    for system, why in said.items():
+        path = str(stand_in_for_uname(checkout, system))
+        actual = checkout.run("l6", has_rt=False, FIRST=path, REFUSES="l6 l6-static l6-aarch64")
+        yield f"no program for {system}", Answer("", why + NO_RT, 1), actual
+
+
+def stand_in_for_uname(checkout: Checkout, system: str) -> Path:
+    """A folder with a command uname that names this system."""
+    folder = checkout.folder / f"on {system}"
+    folder.mkdir(exist_ok=True)
+    (folder / "uname").write_text(f"#!/bin/sh\necho {system}\n")
+    (folder / "uname").chmod(0o755)
+    return folder
+
+
+def damaged_programs(checkout: Checkout) -> Iterator[Trial]:
+    """If a program is damaged, the next one for the system is run."""
+    for name, after in (("l6", "l6-static"), ("l6-static", "l6.mjs")):
+        file = checkout.top / "dist" / name
+        file.write_bytes(file.read_bytes() + b"\n")
+        actual = checkout.run("l6", has_rt=False, FIRST=str(checkout.folder / "nodes"))
+        yield f"where {name} is damaged", Answer(f"this is {after}\n{checkout.made_of}", "", 0), actual
+    provenance = checkout.top / "dist/l6-aarch64.provenance"
+    named = provenance.read_bytes()
+    arm = str(stand_in_for_uname(checkout, "Linux aarch64"))
+    ends = [place for place, byte in enumerate(named) if byte == ord("\n")]
+    for place in (place for end in ends for place in (end - 40, end - 1, end)):
+        provenance.write_bytes(named[:place] + bytes([named[place] ^ 1]) + named[place + 1:])
+        actual = checkout.run("l6", has_rt=False, FIRST=arm)
+        yield f"byte {place} of a longer provenance", ("", 1), (actual.stdout, actual.status)
+
+
+def notes(checkout: Checkout) -> Iterator[Trial]:
+    """With a note of what was summed, nothing is summed again, until a file changes in whatever way."""
+    note = checkout.folder / "home/.cache/l6/program"
+    home: dict[str, Any] = {"has_rt": False, "HOME": str(checkout.folder / "home")}
+    expected = Answer(checkout.made_of, "", 0)
+    yield "the first call", expected, checkout.run("l6", **home)
+    yield "what is new is not noted", False, note.exists()
+    time.sleep(FRESH)
+    yield "a later call", expected, checkout.run("l6", **home)
+    yield "what is older is noted", [f"{checkout.top}", f"{checkout.top}/dist/l6"], lines_of(note)[::2]
+    quick = checkout.folder / "quick"
+    quick.mkdir()
+    (quick / "xargs").write_text("#!/bin/sh\nexit 1\n")
+    (quick / "xargs").chmod(0o755)
+    yield "a call that sums nothing", expected, checkout.run("l6", FIRST=str(quick), **home)
+    source, program = checkout.top / "crates/l6_word/src/lib.rt", checkout.top / "dist/l6"
+    for file in (source, program):
+        before, times = file.read_bytes(), os.stat(file).st_mtime_ns
+        file.write_bytes(before.swapcase())
+        os.utime(file, ns=(times, times))
+        actual = checkout.run("l6", **home)
+        right = (f"this is l6-static\n{checkout.made_of}", 0) if file == program else ("", 1)
+        yield f"{file.name} changed behind the note", right, (actual.stdout, actual.status)
+        file.write_bytes(before)
+    source.with_name("new.rt").write_text("")
+    yield "a new file behind the note", 1, checkout.run("l6", **home).status
+    source.with_name("new.rt").unlink()
+    for text in ("", "nonsense\n", note.read_text().replace("dist/l6", "nodes/node")):
+        note.write_text(text)
+        yield "a note that is altered", expected, checkout.run("l6", **home)
+    note.unlink()
+    plain = checkout.folder / "plain find"  # that of busybox and of macOS can't print times
+    plain.mkdir()
+    script = f'case "$*" in *-printf*) exit 1 ;; esac\nexec {shutil.which("find")} "$@"\n'
+    (plain / "find").write_text(f"#!/bin/sh\n{script}")
+    (plain / "find").chmod(0o755)
+    for which in ("the first", "the second"):
+        yield f"{which} call with a find without times", expected, checkout.run("l6", FIRST=str(plain), **home)
+    yield "a note without times", False, note.exists()
+    note.parent.rmdir()
+    note.parent.write_text("a file in the folder's place\n")
+    yield "a note that can't be written", expected, checkout.run("l6", **home)
+
+
+def lines_of(file: Path) -> list[str]:
+    """The lines of a file; none if it isn't there."""
+    return file.read_text("utf-8").splitlines() if file.exists() else []
+
+
+def places(checkout: Checkout) -> Iterator[Trial]:
+    """The program is found wherever the checkout is, and whatever the caller is told and may do."""
+    expected = Answer(checkout.made_of, "", 0)
+    for name in ("with blanks", "Mühle am Bach", "a'quote \"and $HOME", "-dash", "bar|bar", "[a]*"):
+        moved = checkout.folder / name
+        checkout.top.rename(moved)
+        path = {"PATH": str(checkout.folder / "plain")}
+        yield f"in a folder {name}", expected, checkout.run_words(["./l6"], moved, path)
+        yield f"beside a folder {name}", expected, checkout.run_words([f"./{name}/l6"], checkout.folder, path)
+        moved.rename(checkout.top)
+    for shell in ("sh", "bash", "busybox"):
+        if shutil.which(shell):
+            words = [shell, "sh"] if shell == "busybox" else [shell]
+            yield f"by {shell}", expected, checkout.run_words([*words, "./l6"], checkout.top, {})
+    yield "with an empty environment", expected, checkout.run_words(["./l6"], checkout.top, {})
+    yield "from the root", expected, checkout.run_words([f"{checkout.top}/l6"], Path("/"), {})
+    for file in sorted(checkout.top.rglob("*")):
+        file.chmod(0o555 if file.is_dir() or os.access(file, os.X_OK) else 0o444)
+    checkout.top.chmod(0o555)
+    yield "a checkout that can't be written", expected, checkout.run_as_somebody(["./l6"], checkout.top)
+    for file in [checkout.top, *checkout.top.rglob("*")]:
+        file.chmod(0o755)
+
+
+def cloned(checkout: Checkout) -> Iterator[Trial]:
+    """A clone in which Git converts the ends of lines has the same files, since .gitattributes forbids that."""
+    if not shutil.which("git"):
+        print("skipped: a clone that converts the ends of lines: git is missing")
+        return
+    git = ["git", "-c", "user.name=nobody", "-c", "user.email=nobody@localhost"]
+    for words in (["init", "-q"], ["add", "--all"], ["commit", "-q", "-m", "all"]):
+        subprocess.run([*git, *words], cwd=checkout.top, check=True)
+    clone = [*git, "clone", "-q", "-c", "core.autocrlf=true", "-c", "core.eol=crlf", str(checkout.top), "clone"]
+    subprocess.run(clone, cwd=checkout.folder, check=True)
+    expected = Answer(checkout.made_of, "", 0)
+    yield "a clone that converts the ends of lines", expected, checkout.run("../clone/l6", has_rt=False)
+
+
+def keyboard(checkout: Checkout) -> Iterator[Trial]:
+    """On a terminal it is said once that the job comes from the keyboard, if one is read."""
+    said = "l6: reading the job from the keyboard, up to Ctrl-D at the beginning of a line\n"
+    calls: tuple[tuple[list[str], str | None], ...] = (
+        (["run"], said), (["debug", "--store", "2"], said), (["asm"], said), (["run", "--help"], ""),
+        (["--version"], None), (["nonsense"], ""), ([], ""),
+    )
+    for words, why in calls:
+        actual = checkout.run_on_terminal(*words)
+        if why is not None:
+            yield f"what is said on a terminal: {words}", why, actual.stderr
+        printed = "".join(f"<{word}>\n" for word in words)
+        yield f"what is printed on a terminal: {words}", f"{checkout.made_of}{printed}", actual.stdout
 
 
 def making_dist(checkout: Checkout) -> Iterator[Trial]:
     """tools/make_dist writes the program and its provenance, or nothing."""
     dist = checkout.top / "dist"
     before = {file.name: file.read_bytes() for file in dist.iterdir()}
-    yield "what is in dist/", ["l6", "l6.provenance"], sorted(before)
+    yield "what is in dist/", IN_DIST, sorted(before)
     actual = checkout.run("tools/make_dist")
     again = {file.name: file.read_bytes() for file in dist.iterdir()}
     yield "dist/ made again", (0, before), (actual.status, again)
@@ -230,16 +406,31 @@ def making_dist(checkout: Checkout) -> Iterator[Trial]:
     (dist / "l6").chmod(0o600)
     actual = checkout.run("tools/make_dist", umask=0o077)
     yield "dist/ made of other sources", 0, actual.status
-    yield "the mode of dist/l6", 0o755, (dist / "l6").stat().st_mode & 0o777
-    yield "what is in dist/ then", ["l6", "l6.provenance"], sorted(file.name for file in dist.iterdir())
+    modes = {name: (dist / name).stat().st_mode & 0o777 for name in IN_DIST}
+    yield "the modes in dist/", {name: 0o755 if name in PROGRAMS else 0o644 for name in IN_DIST}, modes
+    yield "what is in dist/ then", IN_DIST, sorted(file.name for file in dist.iterdir())
     checkout.forget_what_was_built()
     expected = Answer(checkout.made_of, "", 0)
     yield "the new program of dist/", expected, checkout.run("l6", has_rt=False)
+    before = {file.name: file.read_bytes() for file in dist.iterdir()}
+    for name in ("web/build", "web/bundle", "ports/build", "ports/bundle"):
+        text = (checkout.top / name).read_text()
+        checkout.write(name, "#!/bin/sh\nexit 1\n")
+        actual = checkout.run("tools/make_dist")
+        again = {file.name: file.read_bytes() for file in dist.iterdir()}
+        yield f"{name} fails", (1, before), (actual.status, again)
+        checkout.write(name, text)
+    checkout.write("ports/bundle", text.replace("it=l6.mjs", "it=another"))
+    actual = checkout.run("tools/make_dist", "--node")
+    again = {file.name: file.read_bytes() for file in dist.iterdir()}
+    changed = sorted(name for name in again if again[name] != before[name])
+    yield "the program for Node made again", (0, ["l6.mjs", "l6.mjs.provenance"]), (actual.status, changed)
 
 
 GROUPS: tuple[Callable[[Checkout], Iterator[Trial]], ...] = (
     distributed, changed_sources, damaged_distribution, built_program, failed_proofs,
-    edits_while_it_builds, crates_below, other_systems, making_dist,
+    edits_while_it_builds, crates_below, other_systems, damaged_programs, other_files, notes, places, cloned,
+    keyboard, making_dist,
 )
 
 

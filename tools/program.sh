@@ -5,39 +5,77 @@
 # A program has a provenance beside it, a file that says what it was made from:
 #
 #     toolchain LINE    what `rt version` printed
-#     sources SUM       of that line, and of the names and contents of all files that the prover reads
+#     WORD ..           further lines for the programs of other systems: what they were made of besides
+#     sources SUM       of the lines above, and of the names and contents of all files that the prover reads
 #     program SUM       of the program itself
 #
 # A program belongs to the sources if its provenance is, byte for byte, what the sources and the program give
-# now. Everything is summed at each call (SHA-256): sizes and times of files can mislead.
+# now. All sources are summed for that (SHA-256).
+#
+# dist/ has programs for several systems. Which of them are tried here is said by candidates().
+# dist/l6.sources has the sum of each source, so that those that differ can be named.
 
 distributed=${top:?}/dist/l6
 built=$top/crates/l6/out/l6
+source_list=$top/dist/l6.sources
 
 complain() {
     echo "l6: $1" >&2
 }
 
-# Prints the sum of a toolchain's line and of the sources.
-sources_sum() (
+# The command that prints sums. (macOS has another one, of three words.)
+if command -v sha256sum > /dev/null; then
+    summing=sha256sum
+else
+    summing='shasum -a 256'
+fi
+
+# Prints the names of all files that the prover reads, each ended by a zero byte. Hidden files and those that
+# editors leave, as .lib.rt.swp and lib.rt~, are none of them.
+source_names() (
     cd "$top" || exit 1
-    export LC_ALL=C
-    {
-        printf '%s\n' "$1"
-        find crates.txt HANDLES crates/*/src crates/*/specs crates/*/proofs -type f -print0 |
-            sort -z | xargs -0 sha256sum
-    } | only_sum
+    find crates.txt HANDLES crates/*/src crates/*/specs crates/*/proofs -name '.*' -prune -o -type f \
+        \( -name '*.rt' -o -name '*.antt' -o -path crates.txt -o -path HANDLES \) -print0 |
+        LC_ALL=C sort -z
 )
+
+# Prints the sum and the name of each source.
+# shellcheck disable=SC2086
+source_sums() (
+    cd "$top" && source_names | xargs -0 $summing
+)
+
+# Sets $all_sources to the sum of these sums and names, if it isn't set.
+sum_sources() {
+    [ -n "${all_sources-}" ] || all_sources=$(source_sums | only_sum)
+}
 
 # Prints the sum of standard input.
 only_sum() {
-    sum=$(sha256sum) && [ ${#sum} -gt 64 ] && printf '%s\n' "${sum%% *}"
+    sum=$($summing) && [ ${#sum} -gt 64 ] && printf '%s\n' "${sum%% *}"
 }
 
-# Prints the provenance of a program that was made from the sources as they are now, by a toolchain.
+# Prints the provenance of a program that was made from the sources as they are now, and of what the lines
+# say.
 provenance_of() {
-    sources=$(sources_sum "$2") && itself=$(only_sum < "$1") || return 1
-    printf 'toolchain %s\nsources %s\nprogram %s\n' "$2" "$sources" "$itself"
+    sum_sources && sources=$(printf '%s\n%s\n' "$2" "$all_sources" | only_sum) && itself=$(only_sum < "$1") ||
+        return 1
+    printf '%s\nsources %s\nprogram %s\n' "$2" "$sources" "$itself"
+}
+
+# Sets $made_of to the first lines of a program's provenance, and $named to the sum of the program that it
+# names.
+read_provenance() {
+    made_of='' named=''
+    [ -f "$1.provenance" ] || return 1
+    while IFS= read -r line; do
+        case $line in
+            "sources "*) ;;
+            "program "*) named=${line#program } ;;
+            *) made_of=$made_of${made_of:+
+}$line ;;
+        esac
+    done < "$1.provenance"
 }
 
 # Prints the toolchain's line of a program's provenance.
@@ -47,31 +85,75 @@ toolchain_of() {
 
 # Whether a program belongs to the sources.
 belongs() {
-    [ -f "$1" ] && [ -x "$1" ] && [ -f "$1.provenance" ] || return 1
-    provenance=$(provenance_of "$1" "$(toolchain_of "$1")" && echo end) || return 1
+    [ -f "$1" ] && read_provenance "$1" || return 1
+    provenance=$(provenance_of "$1" "$made_of" && echo end) || return 1
     [ "$provenance" = "$(cat "$1.provenance" && echo end)" ]
 }
 
 # Whether a program is the one that its provenance names, from whatever sources.
 is_whole() {
-    named=$(sed -n '3s/^program //p' "$1.provenance" 2> /dev/null)
-    [ -n "$named" ] && [ -f "$1" ] && [ "$(only_sum < "$1")" = "$named" ]
+    read_provenance "$1" && [ -n "$named" ] && [ -f "$1" ] && [ "$(only_sum < "$1")" = "$named" ]
 }
 
-# Whether the program of dist/ can run on this system.
-is_for_this_system() {
-    [ "$(uname -sm)" = "Linux x86_64" ]
+# Prints the names of the programs of dist/ that are for this system, those first that are tried first.
+candidates() {
+    case $(uname -sm) in
+        "Linux x86_64") echo l6 l6-static l6.mjs ;;
+        "Linux aarch64") echo l6-aarch64 l6.mjs ;;
+        *) echo l6.mjs ;;
+    esac
 }
 
-# Says why the program of dist/ is not run.
+# Runs a program with the arguments given.
+start() {
+    case $1 in
+        *.mjs) node "$@" ;;
+        *) "$@" ;;
+    esac
+}
+
+# Whether a program starts on this system. One that is linked with a C library needs it in its version or
+# later.
+starts() {
+    start "$1" --version < /dev/null > /dev/null 2>&1
+    [ $? = 64 ]
+}
+
+# Says why the programs of dist/ are not run; the arguments are the names of those for this system.
 explain() {
-    if ! is_for_this_system; then
-        complain "dist/l6 is for Linux x86_64, and this is $(uname -sm)"
-    elif ! is_whole "$distributed"; then
-        complain "dist/l6 is not the program that dist/l6.provenance names: it is missing, altered or incomplete"
+    if [ "$*" = l6.mjs ] && ! command -v node > /dev/null; then
+        complain "dist/ has programs for Linux on x86_64 and aarch64, and this is $(uname -sm)"
+        complain "dist/l6.mjs is for every system that has Node (https://nodejs.org), but node is not on the path"
+    elif ! is_whole "$top/dist/$1"; then
+        complain "dist/$1 is not the program that dist/$1.provenance names: it is missing, altered or incomplete"
+    elif belongs "$top/dist/$1"; then
+        complain "dist/$1 does not start on this system"
     else
-        complain "dist/l6 was not made from the sources in this checkout"
+        complain "dist/$1 was not made from the sources in this checkout"
+        explain_sources
+        complain "dist/$1 itself runs as it is, whatever the sources say"
     fi
+}
+
+# Names the first sources that differ from those that the programs of dist/ were made from.
+explain_sources() {
+    [ -f "$source_list" ] || return 0
+    { cat "$source_list"; source_sums; } | LC_ALL=C sort | uniq -u | sed 's/^[^ ]*  //' | LC_ALL=C sort -u | {
+        count=0
+        while IFS= read -r name; do
+            count=$((count + 1))
+            if [ "$count" -gt 3 ]; then
+                continue
+            elif [ ! -e "$top/$name" ]; then
+                complain "  $name is missing"
+            elif grep -qF "  $name" "$source_list"; then
+                complain "  $name has changed"
+            else
+                complain "  $name is new"
+            fi
+        done
+        [ "$count" -le 3 ] || complain "  and $((count - 3)) more files differ"
+    }
 }
 
 # Whether the toolchain that is here proved and built a program from the sources.
@@ -79,16 +161,20 @@ is_built_here() {
     [ -f "$1.provenance" ] && [ "$(rt version 2> /dev/null)" = "$(toolchain_of "$1")" ] && belongs "$1"
 }
 
-# Sets $program to the one that belongs to the sources; proves and builds it if there is none.
+# Sets $program to one that belongs to the sources and starts here; proves and builds it if there is none.
+# shellcheck disable=SC2086
 find_program() {
-    program=$distributed
-    is_for_this_system && belongs "$program" && return
+    names=$(candidates)
+    for name in $names; do
+        program=$top/dist/$name
+        belongs "$program" && starts "$program" && return
+    done
     program=$built
     if is_built_here "$program"; then
-        is_whole "$distributed" || explain
+        is_whole "$distributed" || explain $names
         return 0
     fi
-    explain
+    explain $names
     prove_program
 }
 
@@ -102,16 +188,20 @@ prove_program() {
         fi
     done
     complain "proving and building the program; from nothing this takes some 25 minutes on four processors"
-    toolchain=$(rt version) && before=$(sources_sum "$toolchain") || return 1
+    all_sources=''
+    toolchain=$(rt version) && sum_sources || return 1
+    before=$all_sources
     if ! python3 "$top/tools/prove.py" l6; then
         complain "the program was not built"
         return 1
     fi
     # What was edited meanwhile may be in the program or not.
-    if [ "$(sources_sum "$toolchain")" != "$before" ]; then
+    all_sources=''
+    sum_sources || return 1
+    if [ "$all_sources" != "$before" ]; then
         complain "the sources were edited meanwhile, so the program may not belong to them; call again"
         return 1
     fi
-    provenance_of "$program" "$toolchain" > "$program.provenance.new" &&
+    provenance_of "$program" "toolchain $toolchain" > "$program.provenance.new" &&
         mv -f "$program.provenance.new" "$program.provenance"
 }

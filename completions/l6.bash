@@ -1,0 +1,23 @@
+# Completes the words of l6 in bash.
+
+_l6() {
+    local word=${COMP_WORDS[COMP_CWORD]} before=${COMP_WORDS[COMP_CWORD - 1]} verb=${COMP_WORDS[1]-} choices
+    COMPREPLY=()
+    case $before in
+        *[\<\>]*)
+            compopt -o default # a file
+            return
+            ;;
+        --store | --steps | --output) return ;; # a number
+    esac
+    case $COMP_CWORD:$verb in
+        1:*) choices='asm list run load renew debug help --help --version' ;;
+        2:help) choices='asm list run load renew debug' ;;
+        *:run | *:load | *:debug) choices='--store --steps --output --help' ;;
+        *:asm | *:list | *:renew) choices='--help' ;;
+        *) choices='' ;;
+    esac
+    mapfile -t COMPREPLY < <(compgen -W "$choices" -- "$word")
+}
+
+complete -F _l6 l6

@@ -4,7 +4,7 @@ import {readFileSync} from "node:fs";
 import {dirname, resolve} from "node:path";
 import {fileURLToPath} from "node:url";
 
-import {serve} from "../src/serve.js";
+import {answered} from "../src/serve.js";
 import {unpacked} from "../src/unpack.js";
 
 export const WEB = resolve(dirname(fileURLToPath(import.meta.url)), "..");
@@ -23,8 +23,8 @@ export function bytesOfText(text) {
   return Uint8Array.from(Buffer.from(text, "latin1"));
 }
 
-export function serveText(module, words, stdin, limit = MEMORY) {
-  const answer = serve(module, {words, input: bytesOfText(stdin), limit});
+export function serveText(module, words, stdin, limit = MEMORY, digest = null) {
+  const answer = answered(module, {words, input: bytesOfText(stdin), limit, digest});
   const text = (bytes) => Buffer.from(bytes).toString("latin1");
   return {...answer, output: text(answer.output), errors: text(answer.errors)};
 }

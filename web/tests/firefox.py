@@ -154,9 +154,9 @@ STOPPED = f"""(async () => {{
 }})()"""
 TRIALS = [  # what is tried, the link, a script, and its answer
     ("the first deck", "", f"l6.run().then(() => {text('printed')})", "5\n== DONE AFTER 6 STEPS"),
-    ("a step", "", f"l6.step().then(() => {text('where')})", "AT 0.1 AFTER 1 STEPS"),
+    ("a step", "", f"l6.step().then(() => {text('where')})", "AT 0.2 AFTER 2 STEPS"),
     ("a state of an example", "#tree@137", DRAWN, "6 5"),
-    ("the store", "#tree@137", text("store-text"), "6 blocks; 12 words used, 8,180 free"),
+    ("the store", "#tree@137", text("store-text"), "6 blocks; 12 words used, 8,180 free, largest 1,024"),
     ("a listing", "", LISTED, "      1     0   (A,E,5)(A,PD)"),
     ("72 columns fit", "#tree", FITS, True),
     ("an endless deck is stopped", "", STOPPED, "stopped"),

@@ -108,7 +108,7 @@ def on_a_phone(page: Page) -> None:
         page.do(f"l6.state({state})")
         kinds.append(page.value("l6.viewer.drawing.graph.isBox"))
     page.same("blocks get small once", sum(one != other for one, other in zip(kinds, kinds[1:])), 1)
-    heights = page.value("[...document.querySelectorAll('.controls button')].map(e => e.offsetHeight)")
+    heights = page.value("[...document.querySelectorAll('.controls button')].map(e => e.offsetHeight).filter(it => it)")
     page.right("buttons are large enough for a thumb", min(heights) >= 36, str(heights))
     page.browser.resize(1400, 900)
 

@@ -29,8 +29,8 @@ export class Frames {
     const wanted = (name) => Math.min(MOST_FRAMES, view.amounts[name]);
     const left = {returns: 0, contents: 0, definitions: 0}; // that were taken back later
     const isWhole = () => Object.keys(found).every((name) => found[name].length >= wanted(name));
-    const least = Math.max(0, view.state.number - MOST_BACK);
-    for (let number = view.state.number - 1; number >= least && !isWhole(); number--) {
+    const least = Math.max(0, view.state.steps - MOST_BACK);
+    for (let number = view.state.steps - 1; number >= least && !isWhole(); number--) {
       const spot = await trail.near(number, -4);
       if (!spot) continue;
       const stacking = stackingAt(reading, spot);

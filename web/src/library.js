@@ -284,10 +284,12 @@ function difference({wrong, lines, wanted, ending}, steps) {
   const differs =
     wrong < 0 ? "" : `line ${wrong + 1} is ${printed(wrong)}, and not “${shortened(wanted[wrong])}”`;
   if (ending === "LIMIT") {
-    const isCut = wrong === lines.length - 1 && wanted[wrong].startsWith(lines[wrong]);
-    const upTo = wrong < 0           ? "more is printed than is wanted" :
-      wrong >= lines.length || isCut ? "up to there it is right" :
-                                       differs;
+    const isCut =
+      wrong >= lines.length || (wrong === lines.length - 1 && wanted[wrong].startsWith(lines[wrong]));
+    const isMore = wrong < 0 && lines.length > wanted.length;
+    const upTo = isMore  ? "more is printed than is wanted" :
+      wrong < 0 || isCut ? "up to there it is right" :
+                           differs;
     return `the run does not end, and was stopped after ${count(steps, "step")}; ${upTo}`;
   }
   if (differs) return differs;

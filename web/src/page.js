@@ -25,8 +25,8 @@ import {count, withCommas} from "./word.js";
 
 const SHORT_RUN = 2_000_000; // steps of a run that is made ahead, to know how many states there are
 const LAST_STATE = 1_000_000_001;
-const LONG_DECK = 200_000; // characters; a longer deck is read after the key, and not with it
-const READ_AFTER = 400;    // milliseconds
+const LONG_DECK = 50_000; // characters; a longer deck is read after the key, and not with it
+const READ_AFTER = 400;   // milliseconds
 
 class Page {
   constructor(engine, examples, manual) {
@@ -233,7 +233,13 @@ class Page {
   }
 
   state(number) {
-    return this.leap((session) => session.view(number));
+    return this.leap(async (session) => {
+      const view = await session.view(number);
+      const {number: last} = view.state;
+      if (number > last)
+        this.tell(`There is no state ${withCommas(number)}: the last one is ${withCommas(last)}.`);
+      return view;
+    });
   }
 
   end() {
@@ -262,6 +268,7 @@ class Page {
   // Goes to the step that changed what the reader has chosen: the one before, or the next.
   change(isForward) {
     const {watched} = this.viewer;
+    this.pause();
     if (!watched) return this.tell("Choose what is to be followed: click a bug or a field, or type a chain.");
     return this.leap(async (session, at) => {
       const number = await session.values.change(watched, at, isForward);

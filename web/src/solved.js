@@ -28,7 +28,6 @@ export class Solved {
   }
 
   add(key, deck) {
-    if (this.decks.get(key) === deck) return;
     this.decks.set(key, deck);
     try {
       window.localStorage.setItem(KEY, JSON.stringify(Object.fromEntries(this.decks)));

@@ -65,8 +65,7 @@ export class Strip {
     this.unitBox.max = this.count;
     this.unitBox.value = this.part.unit + 1;
     if (this.count > 1) this.drawUnits();
-    this.text.textContent =
-      `${this.amounts}${this.bySize.checked ? ". A frame is a piece that was halved." : ""}`;
+    this.text.textContent = this.amounts;
     this.text.title = "words used, words free, and the largest free piece";
     this.levels.hidden = this.levelsText.hidden = !this.bySize.checked;
     if (this.bySize.checked) this.levelsText.textContent = levelsInWords(store.levels());
@@ -267,5 +266,5 @@ function levelsInWords(levels) {
     const parts = [blocks && count(blocks, "block"), free && `${withCommas(free)} free`].filter((it) => it);
     return parts.length ? [`of ${withCommas(2 ** level)}: ${parts.join(", ")}`] : [];
   };
-  return `In the whole store, ${levels.flatMap(tell).join(" · ")}`;
+  return `A frame is a piece that was halved. In the whole store, ${levels.flatMap(tell).join(" · ")}`;
 }

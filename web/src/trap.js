@@ -19,18 +19,17 @@ export async function showTrap(frame, view, session, action, goTo) {
   const told = number <= 3 ? await chainTrap(number, view, session) : await otherTrap(number, view, session);
   if (!told) return null;
   const {text, freed} = told;
-  frame.replaceChildren(...text);
-  if (freed) {
-    frame.append(
-      ` whose block was freed by (${freed.operation.text}): `,
-      make(
-        "button", {type: "button", class: "to", onclick: () => goTo(freed.number + 1)},
-        `state ${freed.number + 1}`
-      )
-    );
-  }
-  frame.append(".");
+  frame.replaceChildren(...text, ...(freed ? freedInWords(freed, goTo) : []), ".");
   return told;
+}
+
+function freedInWords({number, operation}, goTo) {
+  const state = `state ${number + 1}`;
+  return [
+    "whose block was freed at ",
+    make("button", {type: "button", class: "to", onclick: () => goTo(number + 1)}, state),
+    ` by (${operation.text})`
+  ];
 }
 
 // ---- Chains
@@ -87,10 +86,10 @@ async function whyNoBlock(place, view, session) {
 // known. A block is gone only by such a step.
 async function freeOf(place, view, session) {
   const {trail, reading, values} = session;
-  const least = Math.max(0, view.state.number - MOST_BACK);
+  const least = Math.max(0, view.state.steps - MOST_BACK);
   let size = FIRST_FREES;
   let frees = [];
-  for (let number = view.state.number - 1; number >= least; number--) {
+  for (let number = view.state.steps - 1; number >= least; number--) {
     const spot = await trail.near(number, -4);
     const operation = spot && operationAt(reading, spot);
     if (operation?.elements[1] === "FR") frees.push({number, operation, chain: operation.elements[0]});
@@ -139,7 +138,7 @@ async function otherTrap(number, view, session) {
   const is = (text) =>
     (/^[0-9]/.test(text) ? `${Number(text)}` : `${text} is ${withCommas(value(text) ?? 0)}`);
   const text = TELL[number]?.(elements, {is, value, view, session});
-  return text ? {text: [text]} : null;
+  return text ? {text: [text[0].toUpperCase() + text.slice(1)]} : null;
 }
 
 // What there is to say of a trap, by its number; `is` says what a chain or number is.

@@ -114,10 +114,13 @@ def main() -> int:
     passed = failed = 0
     browser = Firefox()
     try:
-        for what, fragment, script, want in TRIALS:
+        for what, fragment, script, want in [("a canary", "", "1 + 1", 3), *TRIALS]:
             browser.open(page, fragment)
             got = browser.value(script)
-            if got == want:
+            if what == "a canary":
+                if got == want:
+                    raise AssertionError("what is wrong is not found")
+            elif got == want:
                 passed += 1
             else:
                 failed += 1

@@ -174,17 +174,17 @@ def keys_in_the_deck_and_the_drawing(page: Page) -> None:
 
 @trial
 def playing(page: Page) -> None:
-    page.open("#list")
+    page.open("#lost")
     page.value("document.getElementById('speed').value = '40'")
     page.browser.click("#play")
     page.browser.wait("(l6.view?.state.number ?? 0) >= 5")
     page.browser.click("#play")
     page.right("it is paused", page.value("!l6.player.isPlaying"))
     page.browser.click("#play")
-    page.browser.wait("l6.view?.state.number === 114 && !l6.player.isPlaying")
-    page.has("it plays to the end", page.text("printed"), "DESSERTS")
+    page.browser.wait("l6.view?.state.number === 21 && !l6.player.isPlaying")
+    page.has("it plays to the end", page.text("printed"), "12\n== TRAP 2")
     page.browser.click("#play")
-    page.browser.wait("[1, 2, 3].includes(l6.view?.state.number)")
+    page.browser.wait("[2, 3, 6].includes(l6.view?.state.number)")
     page.right("at the end it begins at the start", page.value("l6.player.isPlaying"))
     page.browser.click("#stop")
     page.right("Stop ends it, too", page.value("!l6.player.isPlaying"))

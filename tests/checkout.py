@@ -240,6 +240,7 @@ class Checkout:
         os.close(theirs)
         return answer
 
+
 def answers_of_checkouts() -> Iterator[Trial]:
     """Canaries: answers of a script in a checkout that are wrong in one part each, and an old program's sum."""
     with tempfile.TemporaryDirectory() as folder:

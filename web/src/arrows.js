@@ -11,7 +11,7 @@ const IN_WINDOW = 6; // where an arrow begins, from the side of its window
 
 // Arrow heads, one for each colour.
 export function arrowHeads() {
-  const names = [...Array(COLOURS).keys()].map((it) => `f${it}`).concat("new");
+  const names = [...Array(COLOURS).keys()].map((it) => `f${it}`).concat("new", "lit");
   return svg(
     "defs", {},
     ...names.map(
@@ -67,7 +67,8 @@ function arrowOf({block, link, to}, router, bugs, colourOf) {
   const isChanged = block.isNew || link.isChanged;
   const colour = colourOf(link.name);
   const kind = `arrow ${colour}${isChanged ? " changed" : ""}`;
-  const group = svg("g", {class: kind, "data-from": block.place, "data-to": to.place});
+  const group =
+    svg("g", {class: kind, "data-from": block.place, "data-to": to.place, "data-field": link.name});
   group.append(svg("path", {d: pathOf(points), "marker-end": `url(#head-${isChanged ? "new" : colour})`}));
   group.append(
     starts[0].inner ? svg("circle", {cx: points[0].x, cy: points[0].y, r: 2.8}) : tagOf(points, link)
@@ -78,8 +79,8 @@ function arrowOf({block, link, to}, router, bugs, colourOf) {
 // The name of its field beside an arrow that begins at the edge of a small block.
 function tagOf([start, next], link) {
   const isDown = start.x === next.x;
-  const x = next.x < start.x ? start.x - 10 : start.x + 4;
-  return svg("text", {x, y: start.y + (isDown ? 11 : -4), class: "tag"}, link.name);
+  const x = next.x < start.x ? start.x - 11 : start.x + 4;
+  return svg("text", {x, y: start.y + (isDown ? 12 : -4), class: "tag"}, link.name);
 }
 
 // About how far an arrow has to go.

@@ -1,16 +1,17 @@
 // One block of the drawing: a card with its fields as windows on bits, and the bugs that lead to it above.
 
 import {svg} from "./dom.js";
-import {BIT, HEAD, ROW} from "./shape.js";
+import {BIT, HEAD, NARROW, ROW} from "./shape.js";
 import {count, WORD_BITS} from "./word.js";
 
 export const PILL_STEP = 26; // from one bug above a block to the next
-const NARROW = 10;           // a cell in which not even a name has room
+const LETTER = 7.3;          // the width of a letter
+const SLIM = 10;             // a cell in which not even a name has room
 const BESIDE = 14;           // the room that a name needs beside its cell
 const ROUND = 5;             // the radius of a card's corners
 
-// What a block is made of, seen from its upper left corner.
-export function partsOfBlock(block, bugs, colourOf) {
+// What a block is made of, seen from its upper left corner. A click on a bug calls `hide` with its name.
+export function partsOfBlock(block, bugs, colourOf, hide) {
   const {shape} = block;
   const size = {width: shape.width, height: shape.height, rx: ROUND};
   return [
@@ -19,7 +20,7 @@ export function partsOfBlock(block, bugs, colourOf) {
     ...headOf(block),
     ...shape.rows.flatMap((row) => partsOfRow(row, shape, colourOf)),
     svg("rect", {class: "edge", ...size}),
-    ...bugs.map((bug, index) => pillOf(bug, index)),
+    ...bugs.map((bug, index) => pillOf(bug, index, hide)),
   ];
 }
 
@@ -65,17 +66,20 @@ function cellElement(cell, row, colourOf) {
   );
 }
 
-// The texts of a cell: its field's name and the value; where there is little room the name is small.
+// The texts of a cell: its field's name and the value; where there is room for one alone, the value.
 function textsOfCell(cell, row) {
   const {y} = row;
-  const middle = {x: cell.x + cell.width / 2, "text-anchor": "middle"};
-  if (!cell.name) return [svg("text", {...middle, y: y + 16, class: "value"}, cell.text)];
-  if (cell.width < NARROW) return hasRoomBeside(cell, row) ? [nameBeside(cell, y)] : [];
-  if (cell.width < 40) {
-    if (!cell.text) return [svg("text", {...middle, y: y + 16, class: "name"}, cell.name.slice(0, 1))];
+  const middle = {x: cell.x + cell.width / 2, y: y + 16, "text-anchor": "middle"};
+  if (!cell.name) return [svg("text", {...middle, class: "value"}, cell.text)];
+  if (cell.width < SLIM) return hasRoomBeside(cell, row) ? [nameBeside(cell, y)] : [];
+  if (cell.width < NARROW) {
+    const name = cell.name.slice(0, 1);
+    if (!cell.text) return [svg("text", {...middle, class: "name"}, name)];
+    const hasBoth = (cell.text.length + 1) * LETTER <= cell.width;
+    if (!hasBoth) return [svg("text", {...middle, class: "value"}, cell.text)];
     return [
-      svg("text", {x: cell.x + 3, y: y + 9, class: "small"}, cell.name),
-      svg("text", {...middle, x: middle.x + 2, y: y + 18, class: "value"}, cell.text)
+      svg("text", {x: cell.x + 2, y: y + 16, class: "name"}, name),
+      svg("text", {x: cell.x + cell.width - 2, y: y + 16, class: "value", "text-anchor": "end"}, cell.text)
     ];
   }
   const leavesLeft = cell.link && cell.window.first === 0 && cell.window.last !== 35;
@@ -111,13 +115,17 @@ function topOf({width, rows}) {
   return `M0 5Q0 0 5 0H${width - 5}Q${width} 0 ${width} 5${bottom}Z`;
 }
 
-function pillOf(bug, index) {
+function pillOf(bug, index, hide) {
   const x = index * PILL_STEP;
+  const path = `M${x + 4} -22H${x + 18}Q${x + 22} -22 ${x + 22} -18V-10Q${x + 22} -6 ${x + 18} -6H${x + 15}L${
+    x + 11} -1L${x + 7} -6H${x + 4}Q${x} -6 ${x} -10V-18Q${x} -22 ${x + 4} -22Z`;
+  const pick = (event) => {
+    event.stopPropagation();
+    hide(bug.name);
+  };
   return svg(
-    "g", {class: `pill ${bug.isChanged ? "changed" : ""}`}, svg("path", {
-      d: `M${x + 4} -22H${x + 18}Q${x + 22} -22 ${x + 22} -18V-10Q${x + 22} -6 ${x + 18} -6H${x + 15}L${
-        x + 11} -1L${x + 7} -6H${x + 4}Q${x} -6 ${x} -10V-18Q${x} -22 ${x + 4} -22Z`
-    }),
-    svg("text", {x: x + 11, y: -10, "text-anchor": "middle"}, bug.name)
+    "g", {class: `pill ${bug.isChanged ? "changed" : ""}`, "data-bug": bug.name, onclick: pick},
+    svg("path", {d: path}), svg("text", {x: x + 11, y: -10, "text-anchor": "middle"}, bug.name),
+    svg("title", {}, `Bug ${bug.name}. Is it only a number, and leads here by chance? A click hides it.`)
   );
 }

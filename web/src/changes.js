@@ -1,17 +1,19 @@
 // What changed from the state that was shown before to this one, in sentences.
 
-import {findPiece, freePieceWith} from "./pieces.js";
+import {valueOf} from "./chain.js";
 import {windowsOf} from "./shape.js";
-import {count, seenThrough, withCommas, UNIT} from "./word.js";
+import {KINDS} from "./store.js";
+import {count, seenThrough, UNIT, withCommas} from "./word.js";
 
 const MOST_TOLD = 7;
+const MOST_FOUND = 1000; // blocks that are told one by one
 
-// The sentences. Of neighbours they also say how often the store halved or joined pieces.
-export function changesOf(before, view, input) {
+// The sentences. Of one step, which has the operation that was done or null, they also say how often the
+// store halved or joined pieces.
+export function changesOf(before, view, input, step = null) {
   if (!before) return [];
-  const isStep = Math.abs(view.state.number - before.state.number) === 1;
   return [
-    ...blocksOf(before, view, isStep),
+    ...blocksOf(before, view, step),
     ...bugsOf(before, view),
     ...fieldsOf(before, view),
     ...wordsOf(before, view),
@@ -54,50 +56,73 @@ const TRAPS = {
   14: "trap 14: the output would pass its limit",
 };
 
-function blocksOf(before, view, isStep) {
-  const blocks = (store) => new Map(store.pieces.filter((it) => !it.isFree).map((it) => [it.place, it]));
-  const [old, now] = [blocks(before.store), blocks(view.store)];
+function blocksOf(before, view, step) {
   const found = [];
-  for (const [place, block] of now) {
-    const was = old.get(place);
-    if (was?.size !== block.size)
-      found.push(`got ${count(block.size, "word")} at ${place}${isStep ? halved(before, block) : ""}`);
-    if (block.isLost && !was?.isLost) found.push(`block ${place} is lost: nothing leads to it`);
-    if (!block.isLost && was?.isLost) found.push(`block ${place} is lost no more`);
-  }
-  for (const [place, block] of old) {
-    if (now.get(place)?.size !== block.size)
-      found.push(`freed ${count(block.size, "word")} at ${place}${isStep ? joined(view, block) : ""}`);
-  }
-  return found;
+  let more = 0;
+  const tell = (text) => (found.length < MOST_FOUND ? found.push(text()) : more++);
+  eachBlock(before.store, view.store, (was, is) => {
+    if (is && was?.size !== is.size)
+      tell(() => `got ${count(is.size, "word")} at ${is.place}${step ? gotHow(before, is, step) : ""}`);
+    if (is?.isLost && !was?.isLost) tell(() => `block ${is.place} is lost: nothing leads to it`);
+    if (is && !is.isLost && was?.isLost) tell(() => `block ${is.place} is lost no more`);
+    if (was && was.size !== is?.size)
+      tell(() => `freed ${count(was.size, "word")} at ${was.place}${step ? joined(view, was) : ""}`);
+  });
+  return more ? [...found, `and ${count(more, "more block", "more blocks")}`] : found;
 }
 
-// How often a free piece was halved for a block that was got.
-function halved(before, block) {
-  const size = freePieceWith(before.store, block.place);
+// Calls with the block of one store and that of another at each place where one has a block that the other
+// has not, or not so.
+function eachBlock(one, other, call) {
+  const [a, b] = [one.places, other.places];
+  let [i, j] = [0, 0];
+  const block = (store, index) => (store.kinds[index] === KINDS.free ? null : store.piece(index));
+  while (i < a.length || j < b.length) {
+    const isSame = a[i] === b[j];
+    if (isSame && one.sizes[i] === other.sizes[j] && one.kinds[i] === other.kinds[j]) {
+      i++;
+      j++;
+    } else if (isSame)
+      call(block(one, i++), block(other, j++));
+    else if (j >= b.length || a[i] < b[j])
+      call(block(one, i++), null);
+    else
+      call(null, block(other, j++));
+  }
+}
+
+// How often a free piece was halved for a block that was got, and how many of its words were not asked for.
+function gotHow(before, block, {operation}) {
+  const wanted = operation?.elements[1] === "GT" ? valueOf(operation.elements[2], before) : null;
+  const wasted = wanted === null ? 0 : block.size - wanted;
+  const waste = wasted > 0 ? `${withCommas(wanted)} asked for, so ${withCommas(wasted)} wasted; ` : "";
+  const size = before.store.freePieceWith(block.place);
   if (!size) return "";
   const times = Math.log2(size / block.size);
-  return times > 0 ? ` (a free piece of ${withCommas(size)} was halved ${count(times, "time")})` :
-                     " (a free piece of this size was there: none was halved)";
+  return times > 0 ? ` (${waste}a free piece of ${withCommas(size)} was halved ${count(times, "time")})` :
+                     ` (${waste}a free piece of this size was there: none was halved)`;
 }
 
 // How often the words of a freed block were joined with their buddies, and why not once more.
 function joined(view, block) {
-  const size = freePieceWith(view.store, block.place);
+  const size = view.store.freePieceWith(block.place);
   if (!size) return "";
   const times = Math.log2(size / block.size);
-  const much = times > 0
-    ? `joined ${count(times, "time")}, to a free piece of ${withCommas(size)}`
-    : "not joined";
-  return ` (${much}${whyNoMore(view.store, block.place - (block.place % size), size)})`;
+  if (size === UNIT && times > 0)
+    return ` (it was joined ${count(times, "time")}, to a free piece of 1,024, which is a whole unit)`;
+  if (size === UNIT) return " (it is a whole unit, which has no buddy)";
+  const why = whyNoMore(view.store, block.place - (block.place % size), size);
+  if (times === 0) return ` (it was not joined, since its buddy ${why})`;
+  return ` (it was joined ${count(times, "time")}, to a free piece of ${
+           withCommas(size)}, and no more, since ` +
+    `the buddy of that piece ${why})`;
 }
 
 function whyNoMore(store, place, size) {
-  if (size === UNIT) return ", which is a whole unit";
   const buddy = place % (2 * size) === 0 ? place + size : place - size;
-  const piece = findPiece(store, buddy);
+  const piece = store.pieceWith(buddy);
   const isBlock = !piece.isFree && piece.place === buddy && piece.size === size;
-  return `; the buddy at ${buddy} is ${isBlock ? "a block" : "not free as a whole"}`;
+  return `at ${buddy} is ${isBlock ? "a block" : "not free as a whole"}`;
 }
 
 function bugsOf(before, view) {
@@ -151,7 +176,7 @@ function amountsOf(before, view, input) {
   if (is.returns > was.returns) found.push(`called: ${count(is.returns, "return waits", "returns wait")}`);
   if (is.returns < was.returns) found.push("returned");
   if (is.input > was.input) found.push(`took ${takenOf(input, was.input, is.input)} from the input`);
-  if (is.output > was.output) found.push(`printed ${quoted(view.output.slice(was.output))}`);
+  if (is.output > was.output) found.push(`printed ${quoted(view.printedSince(was.output))}`);
   return found;
 }
 

@@ -1,38 +1,50 @@
 // Which blocks are shown where there are too many: those nearest to the bugs, and some of the lost ones.
 
+import {KINDS} from "./store.js";
+
 export const MOST_BLOCKS = 150;
 export const MOST_LOST = 40;
 const MOST_WORDS = 20_000; // of all blocks that are shown
 
-// The places of the blocks of a view that are shown, and how many are not.
-export function choose(view) {
-  const {blocks} = view.draw;
-  const lost = view.store.pieces.filter((it) => it.isLost);
-  const near = nearest(view.draw, blocks.size <= MOST_BLOCKS ? blocks.size : MOST_BLOCKS);
-  const sizes = new Map(
-    [...[...blocks.values()].map((it) => [it.place, it.size]), ...lost.map((it) => [it.place, it.size])]
-  );
-  const places = [];
+// Of what `draw` and `store` answered: the bugs that lead to blocks, the blocks that are shown with their
+// links, and how many are not. Bugs that the reader hid lead nowhere.
+export function choose(drawn, store, hiddenBugs = []) {
+  const bugs = new Map([...drawn.bugs].filter(([name]) => !hiddenBugs.includes(name)));
+  const blocks = new Map();
   let words = 0;
-  for (const place of [...near, ...lost.slice(0, MOST_LOST).map((it) => it.place)]) {
-    words += sizes.get(place);
-    if (words > MOST_WORDS && places.length) break;
-    places.push(place);
+  const hasRoom = (size) => {
+    words += size;
+    return words <= MOST_WORDS || blocks.size === 0;
+  };
+  const near = nearest(bugs, drawn, hasRoom, blocks);
+  const lost = [];
+  let lostCount = 0;
+  for (let index = 0; index < store.kinds.length; index++) {
+    if (store.kinds[index] !== KINDS.lost) continue;
+    lostCount++;
+    if (lost.length < MOST_LOST && words + store.sizes[index] <= MOST_WORDS) {
+      words += store.sizes[index];
+      lost.push(store.places[index]);
+    }
   }
-  const shown = new Set(places);
-  const lostShown = lost.filter((it) => shown.has(it.place)).length;
-  return {places, hidden: blocks.size - (places.length - lostShown), hiddenLost: lost.length - lostShown};
+  return {
+    draw: {bugs, hiddenBugs: [...drawn.bugs].filter(([name]) => hiddenBugs.includes(name)), blocks},
+    shown:
+      {places: [...near, ...lost], hidden: drawn.count - near.length, hiddenLost: lostCount - lost.length},
+  };
 }
 
 // The first blocks that are met from the bugs on, level by level.
-function nearest({bugs, blocks}, most) {
+function nearest(bugs, drawn, hasRoom, blocks) {
   const met = new Set();
   const queue = [];
   const meet = (place) => {
-    if (met.size < most && blocks.has(place) && !met.has(place)) {
-      met.add(place);
-      queue.push(place);
-    }
+    if (met.size >= MOST_BLOCKS || met.has(place)) return;
+    const block = drawn.block(place);
+    if (!block || !hasRoom(block.size)) return;
+    met.add(place);
+    blocks.set(place, block);
+    queue.push(place);
   };
   [...bugs.values()].forEach(meet);
   for (let next = 0; next < queue.length; next++)

@@ -6,6 +6,11 @@ import {withCommas} from "./word.js";
 
 const SHORT = 1000; // states on the slider where it is not known how many there are
 
+// Marks a button as one that does nothing now. It keeps the focus, which a disabled one would lose.
+export function disable(id, isDisabled) {
+  byId(id).setAttribute("aria-disabled", String(isDisabled));
+}
+
 // Shows the number of a state, and that of the last one or null.
 export function showNumber(number, last) {
   const slider = byId("slider");
@@ -15,13 +20,13 @@ export function showNumber(number, last) {
   slider.setAttribute("aria-valuetext", `state ${withCommas(number)}${end}`);
   byId("number").value = number;
   byId("of").textContent = last === null ? "of ?" : `of ${withCommas(last)}`;
-  byId("step").disabled = byId("end").disabled = last !== null && number >= last;
-  byId("back").disabled = byId("start").disabled = number === 0;
+  for (const id of ["step", "end", "statement", "over", "out"]) disable(id, last !== null && number >= last);
+  for (const id of ["back", "start"]) disable(id, number === 0);
 }
 
 // No state is shown.
 export function clearNumber() {
   byId("of").textContent = "";
   byId("slider").max = byId("slider").value = byId("number").value = 0;
-  for (const id of ["step", "end", "back", "start"]) byId(id).disabled = false;
+  for (const id of ["step", "end", "statement", "over", "out", "back", "start"]) disable(id, false);
 }

@@ -9,22 +9,32 @@ import {GRID} from "./shape.js";
 import {blockInWords, drawingInWords} from "./spoken.js";
 import {count, withCommas} from "./word.js";
 
-const SCALES =
-  [1.25, 1, 0.86, 0.74, 0.64]; // how large a drawing is, and how small it may get to be seen whole
-const LONG_SCALE = 0.8;        // of one that is not seen whole in any case
-const FEWER = 0.7;             // of the blocks at which all were made small: of less they are cards again
-const LOST_WIDTH = 324;        // of what is said of them
+// How large a drawing is: so that all of it is seen, if its letters, of 12 pixels at least, are then large
+// enough.
+const SIZES = {
+  page: {least: 1, most: 2},
+  lecture: {least: 1.5, most: 3}
+};
+const FINER = 1.08; // from one size that is tried to the next
+const STEADY = 1.3; // a size stays until one that is so much larger would do
+const LEAST_ROOM = 240;
+const EDGE = 10;        // around a drawing in its frame
+const FEW = 6;          // blocks that are shown with their words though not all is seen then
+const FEWER = 0.7;      // of the blocks at which all were made small: of less they are cards again
+const LOST_WIDTH = 220; // of what is said of them
 
 export class Drawing {
-  // `choose` is called with the place of a block that the reader chose.
-  constructor(frame, choose) {
-    this.frame = frame;
-    this.choose = choose;
+  // `choose` is called with the place of a block that the reader chose, `hide` with the name of a bug.
+  constructor(frame, {choose, hide}) {
+    Object.assign(this, {frame, choose, hide});
+    this.texts = new Set();   // the fields that hold texts
     this.colours = new Map(); // by names of fields, in the order in which they were met
     this.directions = new Map();
     this.groups = new Map(); // elements of blocks, by their places
     this.detail = "auto";
-    this.smallFrom = Infinity; // blocks: at so many they were made small
+    this.lit = {blocks: new Set(), arrows: new Set(), end: null};
+    this.steady = {cards: null, boxes: null}; // the sizes that stay from state to state
+    this.smallFrom = Infinity;                // blocks: at so many they were made small
     this.chosen = null;
     this.focused = null;
     this.layer = {blocks: svg("g"), arrows: svg("g", {class: "arrows"}), notes: svg("g")};
@@ -41,6 +51,7 @@ export class Drawing {
     this.directions.clear();
     this.forgetSize();
     this.chosen = null;
+    this.light([]);
   }
 
   colourOf(name) {
@@ -57,6 +68,7 @@ export class Drawing {
     const graph = this.graphThatFits(view, before);
     this.drawBlocks(graph);
     this.layer.arrows.replaceChildren(...arrowsOf(graph, this.size, (name) => this.colourOf(name)));
+    this.applyLight();
     this.fit();
     this.revealChange(graph);
     this.picture.setAttribute("aria-label", drawingInWords(graph));
@@ -67,26 +79,27 @@ export class Drawing {
   // or if the others are too wide for the frame. It stays so until there are clearly fewer blocks, or it
   // would flicker.
   graphThatFits(view, before) {
-    if (this.detail !== "auto") return this.placeAs(view, before, this.detail);
     const number = view.shown.places.length;
+    if (this.detail !== "auto" || number === 0) return this.placeAs(view, before, this.detail);
     if (number > this.smallFrom * FEWER) return this.placeAs(view, before, "boxes");
-    this.forgetSize();
+    this.smallFrom = Infinity;
     this.placeAs(view, before, "auto");
     if (this.isWhole) return this.graph;
     const isTooWide = this.size.width * this.scale > this.frame.clientWidth;
     this.placeAs(view, before, "boxes");
-    if (!this.isWhole && !isTooWide) return this.placeAs(view, before, "auto");
+    if (!this.isWhole && !isTooWide && number <= FEW) return this.placeAs(view, before, "auto");
     this.smallFrom = number;
     return this.graph;
   }
 
-  // Whether blocks are small is found out again.
+  // Whether blocks are small, and how large all is, is found out again.
   forgetSize() {
     this.smallFrom = Infinity;
+    this.steady = {cards: null, boxes: null};
   }
 
   placeAs(view, before, detail) {
-    this.graph = graphOf(view, before, this.directions, detail);
+    this.graph = graphOf(view, before, this.directions, detail, this.texts);
     this.place(this.graph);
     return this.graph;
   }
@@ -100,19 +113,23 @@ export class Drawing {
     this.fit();
   }
 
-  // Places the blocks in as much room as lets the whole be seen, as far as it can then be read.
+  // Places the blocks so that the whole is seen, as large as it can be then; but never smaller than can be
+  // read.
   place(graph) {
-    const {clientWidth, clientHeight} = this.frame;
+    const [width, height] = [this.frame.clientWidth - EDGE, this.frame.clientHeight - EDGE];
     const fits = (scale) => {
-      this.placeIn(graph, Math.max(360, Math.floor((clientWidth - 10) / scale)));
-      return this.size.height * scale <= clientHeight && this.size.width * scale <= clientWidth;
+      this.placeIn(graph, Math.max(LEAST_ROOM, Math.floor(width / scale)));
+      return this.size.height * scale <= height && this.size.width * scale <= width;
     };
-    this.scale = SCALES.find(fits) ?? LONG_SCALE;
-    this.isWhole = this.scale !== LONG_SCALE;
-    if (!this.isWhole) {
-      fits(LONG_SCALE);
-      this.scale = Math.max(SCALES.at(-1), Math.min(LONG_SCALE, (clientWidth - 10) / this.size.width));
-    }
+    const {least, most} = document.body.classList.contains("lecture") ? SIZES.lecture : SIZES.page;
+    let scale = most;
+    while (scale > least && !fits(scale)) scale = Math.max(least, scale / FINER);
+    const kind = graph.isBox ? "boxes" : "cards";
+    const old = this.steady[kind];
+    if (old && old >= least && old <= most && scale > old && scale < old * STEADY) scale = old;
+    this.isWhole = fits(scale);
+    this.steady[kind] = this.isWhole ? scale : null;
+    this.scale = scale;
     this.layer.notes.replaceChildren(
       ...this.notes.map((it) => svg("text", {x: it.x, y: it.y, class: `note ${it.kind}`}, it.text))
     );
@@ -142,7 +159,7 @@ export class Drawing {
     this.notes.push({
       x: left + GRID * 2,
       y: top + GRID * 2,
-      text: `Lost: no bug and no field leads to ${lost.length === 1 ? "it" : "these"}`,
+      text: `Lost: nothing leads to ${lost.length === 1 ? "it" : "these"}`,
       kind: "lost"
     });
     own.places.forEach((at, place) => places.set(place, {...at, x: at.x + left, y: at.y + top}));
@@ -201,7 +218,29 @@ export class Drawing {
     group.setAttribute("class", kinds.filter((it) => it).join(" "));
     group.setAttribute("aria-label", blockInWords(block, bugs));
     group.style.transform = `translate(${block.x}px, ${block.y}px)`;
-    group.replaceChildren(...partsOfBlock(block, bugs, (name) => this.colourOf(name)));
+    group.replaceChildren(...partsOfBlock(block, bugs, (name) => this.colourOf(name), this.hide));
+  }
+
+  // Lights the way of a chain: the blocks that it comes to, and the arrows along which. Where it traps, the
+  // block at which it ends is marked.
+  light(steps, trap) {
+    const fields = steps.filter((it) => it.place !== null);
+    const arrows = new Set(fields.map((it) => `${it.place} ${it.name}`));
+    const blocks = new Set([...fields.map((it) => it.place), ...steps.map((it) => it.value)]);
+    this.lit = {blocks, arrows, end: trap ? fields.at(-1)?.place ?? null : null};
+    this.applyLight();
+  }
+
+  applyLight() {
+    const {blocks, arrows, end} = this.lit;
+    for (const [place, group] of this.groups) {
+      group.classList.toggle("lit", blocks.has(place));
+      group.classList.toggle("stopped", place === end);
+    }
+    for (const arrow of this.layer.arrows.children) {
+      const {from, field} = arrow.dataset;
+      arrow.classList.toggle("lit", field.split(" ").some((name) => arrows.has(`${from} ${name}`)));
+    }
   }
 
   // Fits the drawing into its frame, as far as it can be read.
@@ -253,6 +292,9 @@ export class Drawing {
       this.groups.get(this.focused).setAttribute("tabindex", -1);
       this.groups.get(next).setAttribute("tabindex", 0);
       this.groups.get(next).focus();
+    } else if (event.key === "h" && at >= 0) {
+      const bug = this.graph.bugs.find(({place}) => place === this.focused);
+      if (bug) this.hide(bug.name);
     } else if ((event.key === "Enter" || event.key === " ") && at >= 0) {
       this.pick(this.focused);
     } else

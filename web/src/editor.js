@@ -27,6 +27,7 @@ export class Editor {
     probe.style.cssText = "position:absolute;width:auto;clip-path:none;visibility:hidden";
     this.column = probe.getBoundingClientRect().width / 100 || 7.5;
     probe.remove();
+    this.above = this.ruler.offsetHeight + 1;
     this.row = parseFloat(getComputedStyle(this.text).lineHeight) || 20;
     this.ruler.replaceChildren(...[1, 10, 20, 30, 40, 50, 60, 70, 72].filter((it) => it !== 70).map((it) => {
       const tick = make("i", {class: it === 72 ? "edge" : ""}, String(it));
@@ -96,7 +97,7 @@ export class Editor {
 
   numbersOf(card, top) {
     const number = make("span", {class: "card"}, String(card + 1));
-    number.style.top = `${18 + 1 + top}px`;
+    number.style.top = `${this.above + top}px`;
     const statement = this.deck.cards[card] ?? -1;
     if (statement < 0 || this.deck.statements[statement]?.card !== card) return [number];
     const hasBreakpoint = this.breakpoints.has(statement);
@@ -113,7 +114,7 @@ export class Editor {
       },
       String(statement)
     );
-    button.style.top = `${18 + 1 + top}px`;
+    button.style.top = `${this.above + top}px`;
     return [number, button];
   }
 
@@ -122,6 +123,17 @@ export class Editor {
     this.spot = spot;
     if (spot && spot.card >= 0) this.reveal(spot.card);
     this.draw();
+  }
+
+  // Brings the mark of where the run is into sight again.
+  revealSpot() {
+    if (this.spot && this.spot.card >= 0) this.reveal(this.spot.card);
+    this.draw();
+  }
+
+  // The text of a card.
+  lineOf(card) {
+    return linesOf(this.text.value)[card] ?? "";
   }
 
   blame(fault) {
@@ -135,6 +147,17 @@ export class Editor {
     if (top < scrollTop + this.row || top > scrollTop + clientHeight - 3 * this.row) {
       this.text.scrollTop = Math.max(0, top - clientHeight / 2);
     }
+    this.revealColumns();
+  }
+
+  // Brings the columns of the mark into sight, too, where the deck is wider than its box.
+  revealColumns() {
+    if (!this.spot) return;
+    const {scrollLeft, clientWidth} = this.text;
+    const [from, to] = [this.spot.from * this.column, Math.min(this.spot.to, COLUMNS) * this.column];
+    if (to + INDENT > scrollLeft + clientWidth || from < scrollLeft)
+      this.text.scrollLeft =
+        to < clientWidth * 0.9 ? 0 : Math.max(0, Math.min(from - 20, to - clientWidth * 0.6));
   }
 
   // The card and the column of the cursor, counted from 0.

@@ -1,26 +1,16 @@
 // The engine: its worker does the jobs, so that the page always answers, and the reader can stop them.
 
+import {textOfBytes} from "./bytes.js";
+
 // Why a job has no answer: the reader stopped it.
 export class Stopped extends Error {}
 
-// A character is one byte, as for the program. One that has no byte is none that cards have, either.
-export function bytesOf(text) {
-  const bytes = new Uint8Array(text.length);
-  for (let place = 0; place < text.length; place++) {
-    const code = text.charCodeAt(place);
-    bytes[place] = code < 256 ? code : 255;
-  }
-  return bytes;
-}
-
-export function textOfBytes(bytes) {
-  return new TextDecoder("latin1").decode(bytes);
-}
-
 export class Engine {
-  // The module is compiled already, and the script is that of the worker.
-  constructor(module, script) {
+  // The module is compiled already, and the script is that of the worker. `changed` is called where jobs
+  // begin or end.
+  constructor(module, script, changed = () => {}) {
     this.module = module;
+    this.changed = changed;
     this.address = URL.createObjectURL(new Blob([script], {type: "text/javascript"}));
     this.waiting = new Map();
     this.number = 0;
@@ -34,12 +24,14 @@ export class Engine {
     this.worker.postMessage({module: this.module});
   }
 
-  // Has a job done: the words of the command line, and what standard input has, as bytes.
-  run(words, input, limit) {
+  // Has a job done: the words of the command line, and what standard input has, as bytes. With a digest the
+  // worker makes of the output what that says.
+  run(words, input, limit, digest = null) {
     const number = ++this.number;
     return new Promise((resolve, reject) => {
       this.waiting.set(number, {resolve, reject});
-      this.worker.postMessage({number, words, input, limit});
+      this.changed();
+      this.worker.postMessage({number, words, input, limit, digest});
     });
   }
 
@@ -50,6 +42,7 @@ export class Engine {
   settle({number, answer, broken}) {
     const job = this.waiting.get(number);
     this.waiting.delete(number);
+    this.changed();
     if (broken)
       job.reject(new Error(broken));
     else
@@ -66,6 +59,7 @@ export class Engine {
     const jobs = [...this.waiting.values()];
     this.waiting.clear();
     this.begin();
+    this.changed();
     for (const job of jobs) job.reject(error);
   }
 }

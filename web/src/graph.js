@@ -6,21 +6,21 @@ import {seenThrough} from "./word.js";
 
 const MOST_CARDS = 40; // of more blocks each is a box
 
-// The drawing of a view. `directions` has, by names of fields, what the reader chose: "right" or "down".
-export function graphOf(view, before, directions, detail) {
+// The drawing of a view. `directions` has, by names of fields, what the reader chose: "right" or "down";
+// `texts` has the fields that hold texts.
+export function graphOf(view, before, directions, detail, texts = new Set()) {
   const windows = windowsOf(view.fields);
-  const pieces = new Map(view.store.pieces.filter((it) => !it.isFree).map((it) => [it.place, it]));
-  const old = before && new Map(before.store.pieces.filter((it) => !it.isFree).map((it) => [it.place, it]));
+  for (const it of windows) it.isText = it.names.some((name) => texts.has(name));
   const isBox = detail === "boxes" || (detail === "auto" && view.shown.places.length > MOST_CARDS);
-  const links = new Map(view.shown.places.map((place) => [place, linksOf(view, place, windows, pieces)]));
+  const links = new Map(view.shown.places.map((place) => [place, linksOf(view, place, windows)]));
   const ways = waysOf(windows, [...links.values()].flat(), directions);
   const blocks = view.shown.places.map((place) => {
-    const {size, isLost} = pieces.get(place);
+    const {size, isLost} = view.store.block(place);
     const words = view.words.get(place);
     const own = links.get(place);
     own.forEach((link) => Object.assign(link, ways.get(link.key)));
     const shape = shapeOf({place, size}, words, windows, own, isBox);
-    const isNew = Boolean(old) && old.get(place)?.size !== size;
+    const isNew = Boolean(before) && before.store.block(place)?.size !== size;
     const block =
       {place, size, isLost, isNew, words, links: own, shape, width: shape.width, height: shape.height};
     if (before) markChanges(block, before, windows);
@@ -31,7 +31,7 @@ export function graphOf(view, before, directions, detail) {
 
 // Where the windows of a block lead. The debugger gives it for blocks that are reached; lost ones are read
 // here.
-function linksOf(view, place, windows, pieces) {
+function linksOf(view, place, windows) {
   const words = view.words.get(place);
   const drawn = view.draw.blocks.get(place);
   const links = [];
@@ -41,7 +41,7 @@ function linksOf(view, place, windows, pieces) {
       target = drawn.links.find((it) => window.names.includes(it.field))?.target ?? null;
     else if (words && window.word < words.length) {
       const value = seenThrough(words[window.word], window);
-      if (pieces.has(value)) target = value;
+      if (view.store.block(value)) target = value;
     }
     if (target !== null)
       links.push({key: window.key, name: window.name, names: window.names, from: place, target});

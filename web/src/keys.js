@@ -21,6 +21,8 @@ function escape(page, target, isTyping) {
     page.stop();
   else if (isTyping)
     target.blur();
+  else
+    page.panes.lecture(false);
 }
 
 // Those that work where nothing is typed.
@@ -34,6 +36,12 @@ function outside(page) {
     g: () => page.nextBreakpoint(),
     b: () => page.breakpointBefore(),
     r: () => page.runTo(page.editor.statementAtCursor()),
+    s: () => page.statement(),
+    v: () => page.over(),
+    u: () => page.out(),
+    c: () => page.change(true),
+    x: () => page.change(false),
+    l: () => page.panes.lecture(!page.panes.isLecture),
     m: () => page.markHere(),
     Home: () => page.state(0),
     End: () => page.end(),
@@ -43,15 +51,19 @@ function outside(page) {
 }
 
 export function press(page, event) {
-  if (document.querySelector("dialog[open]")) return;
   const {key, target} = event;
-  const isBox = target.tagName === "INPUT" && target.type !== "checkbox";
+  if (document.querySelector("dialog[open]") || byId("manual-pane").contains(target)) return;
+  const isBox = target.tagName === "INPUT" && !/^(checkbox|range)$/.test(target.type);
   const isTyping = isBox || /^(TEXTAREA|SELECT)$/.test(target.tagName);
+  const isControl = target.tagName === "INPUT" && target.type === "range" && /^(Arrow|Home|End)/.test(key);
+  if (isControl) return;
   const isPressed = /^(BUTTON|SUMMARY)$/.test(target.tagName) && (key === " " || key === "Enter");
   const held =
     [event.ctrlKey && "Ctrl", event.metaKey && "Meta", event.shiftKey && key.length > 1 && "Shift"];
+  const isLetter = key.length === 1 && key !== " ";
   const name = [...held, key].filter((it) => it).join(" ");
-  const others = isTyping || isPressed || event.altKey ? {} : outside(page);
+  const others =
+    isTyping || isPressed || event.altKey || (isLetter && !byId("letter-keys").checked) ? {} : outside(page);
   const what = everywhere(page, target, isTyping)[name] ?? others[name] ?? others[name.toLowerCase()];
   if (!what) return;
   event.preventDefault();

@@ -6,9 +6,9 @@ import {GRID} from "./shape.js";
 
 const GAPS = {
   card: {side: GRID * 3, below: GRID * 4},
-  box: {side: GRID * 2, below: GRID * 3}
+  box: {side: GRID * 2, below: GRID * 2}
 }; // between blocks
-const MARGIN = GRID * 3;
+const MARGIN = GRID * 2;
 const PILL = GRID * 2; // the height of a bug above its block
 
 // Places the blocks: `blocks` have a place, width, height and links, each with the key of its window, a

@@ -1,30 +1,44 @@
 // Where decks come from and go to: the menu of examples and exercises, files, and links.
 
+import {textOfBytes} from "./bytes.js";
 import {byId, make} from "./dom.js";
 import {linkOf, readLink} from "./links.js";
 import {DEFAULTS} from "./options.js";
 import {save} from "./papers.js";
 import {job, partsOf} from "./session.js";
-import {withCommas} from "./word.js";
+import {Solved} from "./solved.js";
+import {taskOf} from "./tasks.js";
+import {count, withCommas} from "./word.js";
 
-const MOST_BYTES = 16_777_216; // of a job
+const MOST_JOB = 16_777_216; // bytes
+const MOST_PART = 1_048_576; // of a deck, an input, or commands
+const TO_BEGIN = "Beside this is what it is to print. Type, and press Run.";
 
 export class Library {
-  constructor(page, examples) {
-    Object.assign(this, {page, examples});
+  // `desk` is what of the page the library may use: its job, its messages, its states.
+  constructor(desk, examples) {
+    Object.assign(this, {desk, examples});
     this.example = null;    // that was opened
+    this.exercise = null;   // with its task: one of the examples, or one that came with a link or a file
     this.isChanged = false; // whether the deck or the input was changed since it was opened, saved or linked
+    this.solved = new Solved();
     this.fillMenu();
   }
 
   fillMenu() {
+    const nameOf = ({key, title, task}) => `${task && this.solved.has(key) ? "✓ " : ""}${title}`;
     byId("example").replaceChildren(
       make("option", {value: ""}, "Examples and exercises .."),
       ...this.examples.map(
         ({name, items}) =>
-          make("optgroup", {label: name}, ...items.map((it) => make("option", {value: it.key}, it.title)))
+          make("optgroup", {label: name}, ...items.map((it) => make("option", {value: it.key}, nameOf(it))))
       )
     );
+    byId("example").value = this.example?.key ?? "";
+  }
+
+  get isTask() {
+    return Boolean(this.exercise);
   }
 
   // Whether the reader lets go of what was changed.
@@ -46,11 +60,24 @@ export class Library {
   }
 
   openExample(key) {
-    this.example = this.find(key);
-    byId("example").value = key;
-    if (this.example.bySize) byId("by-size").checked = true;
-    this.page.put(this.example);
+    const example = this.find(key);
+    this.put(example, example, example.task ? example : null);
+  }
+
+  // Puts a job into the page: one of the examples, or null, and the exercise that it belongs to.
+  put(own, example, exercise) {
+    this.example = example;
+    this.exercise = exercise;
+    byId("example").value = (example ?? exercise)?.key ?? "";
+    this.desk.put(own);
+    this.isChanged = false;
     this.showExercise();
+  }
+
+  // The deck, the input or an option was changed: what was said of the answer holds no more.
+  changed() {
+    this.isChanged = true;
+    if (this.exercise) this.showVerdict("", TO_BEGIN);
   }
 
   // What is shown where the page is opened without a link.
@@ -66,76 +93,129 @@ export class Library {
     ));
   }
 
+  // The box of the input says whether the deck reads it.
+  deckRead(deck) {
+    const reads =
+      deck.statements.some(({operations}) => operations.some(({elements}) => elements[1] === "IN"));
+    byId("input-label").textContent =
+      reads ? "Input: put data of your own here" : "Input: this deck reads none";
+  }
+
+  // ---- Exercises
+
   showExercise() {
     const frame = byId("exercise");
-    const {task, printout} = this.example ?? {};
-    frame.hidden = !task;
-    if (task)
-      frame.replaceChildren(
-        make("p", {}, make("b", {}, "Exercise "), task),
-        make("pre", {tabindex: 0, "aria-label": "What it is to print"}, printout),
-        make("p", {id: "verdict", role: "status"}, "Beside this is what it is to print. Type, and press Run.")
-      );
+    const {exercise} = this;
+    frame.hidden = !exercise;
+    if (!exercise) return;
+    frame.replaceChildren(
+      make("p", {}, make("b", {}, exercise.key ? "Exercise " : "Task "), exercise.task),
+      make("pre", {tabindex: 0, "aria-label": "What it is to print"}, exercise.printout),
+      make("p", {id: "verdict", role: "status"})
+    );
+    this.showVerdict("", TO_BEGIN, ...this.ownSolution());
+  }
+
+  showVerdict(kind, ...parts) {
+    byId("verdict").className = kind;
+    byId("verdict").replaceChildren(...parts);
+  }
+
+  // A button that puts back the deck with which the reader has solved the exercise.
+  ownSolution() {
+    const {key} = this.exercise;
+    if (!key || !this.solved.has(key)) return [];
+    const put = () => {
+      if (this.mayLeave()) this.put({...this.exercise, deck: this.solved.deckOf(key)}, null, this.exercise);
+    };
+    return [" You have solved it. ", make("button", {type: "button", onclick: put}, "Show how")];
   }
 
   // Whether the printout is that which the exercise asks for.
-  checkExercise() {
-    if (!this.example?.task || !this.page.view?.state.ending) return;
-    const {output, state} = this.page.view;
-    const lines = output.trimEnd().split("\n");
-    const wanted = this.example.printout.trimEnd().split("\n");
+  checkExercise(view, session) {
+    const {exercise} = this;
+    if (!exercise || !view.state.ending) return;
+    const printed = session.printout?.printed ?? view.output;
+    const lines = printed.trimEnd().split("\n");
+    const wanted = exercise.printout.trimEnd().split("\n");
     const wrong = wanted.findIndex((line, index) => line !== lines[index]);
-    const isRight = wrong < 0 && lines.length === wanted.length && state.ending === "DONE";
-    const first = state.ending === "LIMIT" ? "the run does not end" : differenceAt(wrong, lines, wanted);
-    byId("verdict").className = isRight ? "right-answer" : "wrong-answer";
-    byId("verdict").replaceChildren(
-      isRight ? "✓ Solved: just this is printed." : `Not yet: ${first}.`,
-      ...(isRight ? this.nextExercise() : [])
+    const isRight = wrong < 0 && lines.length === wanted.length && view.state.ending === "DONE";
+    if (isRight) {
+      this.solve(exercise);
+      return;
+    }
+    const found = {wrong, lines, wanted, ending: view.state.ending};
+    this.showVerdict("wrong-answer", `Not yet: ${difference(found, session.options.steps)}.`);
+  }
+
+  solve(exercise) {
+    if (exercise.key) {
+      this.solved.add(exercise.key, this.desk.job().deck);
+      this.fillMenu();
+      byId("example").value = exercise.key;
+      this.isChanged = false; // (the answer is kept)
+    }
+    const lost = exercise.key && !this.solved.isKept;
+    this.showVerdict(
+      "right-answer", "✓ Solved: just this is printed.",
+      lost ? " This browser keeps it only until the page is closed." : "", ...this.nextExercise()
     );
   }
 
   // A button that opens the exercise after this one, if there is one.
   nextExercise() {
     const all = this.examples.flatMap(({items}) => items).filter((it) => it.task);
-    const next = all[all.indexOf(this.example) + 1];
+    const next = this.exercise.key ? all[all.findIndex(({key}) => key === this.exercise.key) + 1] : null;
     if (!next) return [];
     return [
       make("button", {type: "button", onclick: () => this.chooseExample(next.key)}, `On to ${next.title}`)
     ];
   }
 
+  openTask(task) {
+    this.put(task, null, task);
+  }
+
+  // ---- Files
+
   async openFile(file) {
-    const bytes = new Uint8Array(await file.arrayBuffer());
-    if (bytes.length > MOST_BYTES) return this.page.tell("The file is longer than a job may be.");
-    let text;
-    try {
-      text = new TextDecoder("utf-8", {fatal: true, ignoreBOM: false}).decode(bytes);
-    } catch {
-      text = new TextDecoder("latin1").decode(bytes);
-    }
-    this.example = null;
-    byId("example").value = "";
-    this.page.put(partsOf(text));
-    this.showExercise();
-    return this.page.tell(`opened ${file.name}`);
+    const tell = (text) => this.desk.tell(`${file.name} was not opened: ${text}`);
+    if (file.size > MOST_JOB)
+      return tell(`it has ${withCommas(file.size)} bytes, and a job has at most ${withCommas(MOST_JOB)}.`);
+    const text = textOfFile(new Uint8Array(await file.arrayBuffer()));
+    const task = taskOf(text);
+    const parts = task ?? partsOf(text);
+    const long = ["deck", "input", "commands"].find((it) => (parts[it]?.length ?? 0) > MOST_PART);
+    if (long)
+      return tell(
+        `its ${long} has ${withCommas(parts[long].length)} bytes, and ${withCommas(MOST_PART)} is the most.`
+      );
+    this.put(parts, null, task);
+    return this.desk.tell(`opened ${file.name}`);
   }
 
   saveFile() {
-    const {deck, input} = this.page.job();
+    const {deck, input} = this.desk.job();
     this.isChanged = false;
     save(`${this.example?.key ?? "my"}.deck`, job(deck, null, input));
   }
 
+  // ---- Links
+
   async makeLink() {
-    const now = this.page.job();
-    const {example} = this;
+    const now = this.desk.job();
+    const {example, exercise} = this;
     const isSame = example && example.deck === now.deck && (example.input ?? "") === now.input &&
       JSON.stringify(now.options) === JSON.stringify({...DEFAULTS, ...example.options});
+    const task = exercise?.key ? {exercise: exercise.key} :
+                                 exercise && {task: exercise.task, printout: exercise.printout};
     const link = await linkOf({
       ...now,
+      ...task,
       example: isSame ? example.key : null,
-      breakpoints: [...this.page.editor.breakpoints].sort((a, b) => a - b),
-      number: this.page.view ? this.page.view.state.number : null
+      breakpoints: this.desk.breakpoints(),
+      number: this.desk.shown(),
+      lecture: this.desk.isLecture()
     });
     history.replaceState(null, "", link);
     this.isChanged = false;
@@ -144,9 +224,9 @@ export class Library {
       isFile ? " For other computers take it from # on, after the address of their own l6.html." : "";
     try {
       await navigator.clipboard.writeText(location.href);
-      this.page.tell(`The link is copied, and is in the address.${part}`);
+      this.desk.tell(`The link is copied, and is in the address.${part}`);
     } catch {
-      this.page.tell(`The link is in the address.${part}`);
+      this.desk.tell(`The link is in the address.${part}`);
     }
   }
 
@@ -154,34 +234,70 @@ export class Library {
   // reader asks for it.
   async openLink() {
     const link = await readLink(location.hash);
-    if (!link || (link.example && !this.find(link.example)) || !this.mayLeave()) return false;
-    if (link.example) {
-      this.openExample(link.example);
-      if (link.breakpoints.length) this.page.editor.breakpoints = new Set(link.breakpoints);
-      this.page.editor.draw();
-      if (link.number !== null) await this.page.state(link.number);
+    if (!link) return false;
+    const why =
+      link.damaged ?? (link.example && !this.find(link.example) ? `no deck is called “${link.example}”` : "");
+    if (why) {
+      if (!this.example && !this.isChanged) this.welcome();
+      this.desk.tell(`The link is damaged: ${why}.`);
       return true;
     }
-    this.example = null;
-    byId("example").value = "";
-    this.page.put(link);
-    this.showExercise();
-    if (link.number !== null) {
-      const go = make(
-        "button", {type: "button", class: "main", onclick: () => this.page.state(link.number)},
-        `Go to state ${withCommas(link.number)}`
-      );
-      byId("empty").replaceChildren(
-        make("div", {}, make("b", {}, "This deck came with the link, and was not run."), make("br"), go)
-      );
+    if (!this.mayLeave()) return false;
+    if (link.lecture) this.desk.lecture(true);
+    if (link.example) {
+      this.openExample(link.example);
+      if (link.breakpoints.length) this.desk.setBreakpoints(link.breakpoints);
+      if (link.number !== null) await this.desk.state(link.number);
+      return true;
     }
+    this.openOwn(link);
     return true;
+  }
+
+  openOwn(link) {
+    const own = link.exercise ? this.find(link.exercise) : null;
+    this.put(link, null, own?.task ? own : link.task ? {task: link.task, printout: link.printout} : null);
+    if (link.number === null) return;
+    const go = make(
+      "button", {type: "button", class: "main", onclick: () => this.desk.state(link.number)},
+      `Go to state ${withCommas(link.number)}`
+    );
+    byId("empty").replaceChildren(
+      make("div", {}, make("b", {}, "This deck came with the link, and was not run."), make("br"), go)
+    );
   }
 }
 
-// Where a printout first differs from the wanted one.
-function differenceAt(wrong, lines, wanted) {
-  if (wrong < 0) return "more is printed, or the run does not end by DONE";
-  const printed = lines[wrong] ? `“${lines[wrong]}”` : "empty";
-  return `line ${wrong + 1} is ${printed}, and not “${wanted[wrong]}”`;
+// A file's bytes as a text: UTF-8, or else a character for each byte.
+function textOfFile(bytes) {
+  try {
+    return new TextDecoder("utf-8", {fatal: true, ignoreBOM: false}).decode(bytes);
+  } catch {
+    return textOfBytes(bytes);
+  }
+}
+
+// Where a printout first differs from the wanted one. That of a run that does not end is compared up to where
+// it was cut off.
+function difference({wrong, lines, wanted, ending}, steps) {
+  const printed = (index) => (lines[index] ? `“${shortened(lines[index])}”` : "empty");
+  const differs =
+    wrong < 0 ? "" : `line ${wrong + 1} is ${printed(wrong)}, and not “${shortened(wanted[wrong])}”`;
+  if (ending === "LIMIT") {
+    const isCut =
+      wrong >= lines.length || (wrong === lines.length - 1 && wanted[wrong].startsWith(lines[wrong]));
+    const isMore = wrong < 0 && lines.length > wanted.length;
+    const upTo = isMore  ? "more is printed than is wanted" :
+      wrong < 0 || isCut ? "up to there it is right" :
+                           differs;
+    return `the run does not end, and was stopped after ${count(steps, "step")}; ${upTo}`;
+  }
+  if (differs) return differs;
+  if (lines.length > wanted.length)
+    return `more is printed: line ${wanted.length + 1} is ${printed(wanted.length)}`;
+  return `all is printed, but the run does not end by DONE`;
+}
+
+function shortened(line) {
+  return line.length > 60 ? `${line.slice(0, 58)}..` : line;
 }

@@ -1,31 +1,47 @@
 // Links: what comes after the # of the page's address. `#tree` is an example, `#tree@137` a state of it,
-// `#tree@137!5,8` has breakpoints, too. A deck of the reader's own is packed into the link.
+// `#tree@137!5,8` has breakpoints, too, and `#tree@137;lecture` opens the lecture view. A deck of the
+// reader's own is packed into the link, and with it the exercise or the task that it belongs to.
 
-export async function linkOf({example, deck, input, options, breakpoints, number}) {
-  const tail =
-    `${number === null ? "" : `@${number}`}${breakpoints.length ? `!${breakpoints.join(",")}` : ""}`;
+const LINK = /^#(deck=)?([\w-]+)(?:@(\d{1,10}))?(?:!(\d[\d,]*))?(;lecture)?$/;
+
+export async function linkOf({example, breakpoints, number, lecture = false, ...own}) {
+  const tail = `${number === null ? "" : `@${number}`}${
+    breakpoints.length ? `!${breakpoints.join(",")}` : ""}${lecture ? ";lecture" : ""}`;
   if (example) return `#${example}${tail}`;
-  const packed = await pack(JSON.stringify({deck, input, options}));
+  const {deck, input, options, exercise, task, printout} = own;
+  const packed = await pack(JSON.stringify({deck, input, options, exercise, task, printout}));
   return `#deck=${packed}${tail}`;
 }
 
-// What a link says, or null where it says nothing that can be shown.
+// What a link says: null where there is none, and {damaged} with the reason where it can't be read.
 export async function readLink(hash) {
-  const found = /^#(deck=)?([\w-]+)(?:@(\d{1,10}))?(?:!([\d,]+))?$/.exec(hash);
-  if (!found) return null;
+  if (hash === "" || hash === "#") return null;
+  const found = LINK.exec(hash);
+  if (!found) return {damaged: "it has characters that no link has, or was cut off"};
   const number = found[3] === undefined ? null : Number(found[3]);
   const breakpoints = (found[4] ?? "").split(",").filter((it) => it).map(Number);
-  if (!found[1]) return {example: found[2], number, breakpoints};
+  const more = {number, breakpoints, lecture: found[5] !== undefined};
+  if (!found[1]) return {example: found[2], ...more};
   try {
-    const {deck, input, options} = JSON.parse(await unpack(found[2]));
-    if (typeof deck !== "string" || typeof input !== "string") return null;
-    return {deck, input, options: numbersOf(options), number, breakpoints};
+    const own = JSON.parse(await unpack(found[2]));
+    const {deck, input, options, exercise, task, printout} = own;
+    if (typeof deck !== "string" || typeof input !== "string") return {damaged: "it has no deck in it"};
+    const isTask = typeof task === "string" && typeof printout === "string";
+    return {
+      deck,
+      input,
+      options: numbersOf(options),
+      ...(typeof exercise === "string" ? {exercise} : {}),
+      ...(isTask ? {task, printout} : {}),
+      ...more
+    };
   } catch {
-    return null;
+    return {damaged: "what is packed in it can't be unpacked; perhaps it was cut off"};
   }
 }
 
-function numbersOf(options) {
+// The options of a link or a file that are numbers.
+export function numbersOf(options) {
   const numbers = ["store", "steps", "output"].map((it) => [it, Number(options?.[it])]);
   return Object.fromEntries(numbers.filter(([, it]) => Number.isInteger(it) && it >= 0));
 }

@@ -15,4 +15,5 @@ async function load() {
 load().catch((error) => {
   document.getElementById("run-note").textContent =
     `The page can't begin: ${error.message}. It needs a browser of 2023 or later.`;
+  document.body.dataset.ready = "no";
 });

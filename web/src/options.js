@@ -1,26 +1,37 @@
 // The limits of a run that the reader sets. Each has a range.
 
 import {byId} from "./dom.js";
+import {withCommas} from "./word.js";
 
 export const DEFAULTS = {
   store: 8,
   steps: 1_000_000,
   output: 1_048_576
 };
-const RANGES = {
+export const RANGES = {
   store: [1, 255],
   steps: [0, 1_000_000_000],
   output: [0, 16_777_216],
   memory: [1, 2048]
+};
+const NAMES = {
+  store: "Units of the store",
+  steps: "Steps",
+  output: "Bytes of output",
+  memory: "Memory"
 };
 const MEBIBYTE = 2 ** 20;
 
 export const OPTIONS = Object.keys(RANGES);
 
 function valueOf(name) {
+  return byId(name).value.trim() === "" ? NaN : Number(byId(name).value);
+}
+
+function isRight(name) {
   const [least, most] = RANGES[name];
-  const number = Math.floor(Number(byId(name).value));
-  return Math.min(most, Math.max(least, Number.isFinite(number) ? number : least));
+  const number = valueOf(name);
+  return Number.isInteger(number) && number >= least && number <= most;
 }
 
 // The options that the program is given.
@@ -30,17 +41,24 @@ export function optionsChosen() {
 
 // The most bytes of memory that the program may have.
 export function memoryChosen() {
-  return valueOf("memory") * MEBIBYTE;
+  return isRight("memory") ? valueOf("memory") * MEBIBYTE : RANGES.memory[1] * MEBIBYTE;
 }
 
 export function showOptions(options) {
   for (const [name, value] of Object.entries({...DEFAULTS, ...options})) byId(name).value = value;
+  sayWrongOptions();
 }
 
-// Puts each number that is out of its range back into it, and says so.
-export function keepRanges() {
-  const wrong = OPTIONS.filter((name) => Number(byId(name).value) !== valueOf(name));
-  for (const name of wrong) byId(name).value = valueOf(name);
-  const tell = (name) => `${name}: from ${RANGES[name].join(" to ")}.`;
-  byId("options-note").textContent = wrong.map(tell).join(" ");
+// Says which numbers are out of their ranges, and answers that, or "". Nothing is run with such a number.
+export function sayWrongOptions() {
+  const wrong = OPTIONS.filter((name) => !isRight(name));
+  const tell = (name) => {
+    const [least, most] = RANGES[name];
+    return `${NAMES[name]}: a number from ${withCommas(least)} to ${withCommas(most)}, and not “${
+      byId(name).value}”.`;
+  };
+  const text = wrong.map(tell).join(" ");
+  byId("options-note").textContent = text;
+  for (const name of OPTIONS) byId(name).setAttribute("aria-invalid", String(wrong.includes(name)));
+  return text;
 }

@@ -1,53 +1,95 @@
 // The page: what the reader does, and what is then shown.
 
 import {Checker} from "./checker.js";
-import {clearNumber, showNumber} from "./controls.js";
+import {clearNumber, disable, showNumber} from "./controls.js";
 import {readDeck} from "./deck.js";
 import {byId} from "./dom.js";
 import {Editor} from "./editor.js";
 import {Engine, Stopped} from "./engine.js";
 import {press} from "./keys.js";
 import {Library} from "./library.js";
+import {Manual} from "./manual.js";
 import {groupAt} from "./meaning.js";
-import {keepRanges, memoryChosen, OPTIONS, optionsChosen, showOptions} from "./options.js";
+import {memoryChosen, OPTIONS, optionsChosen, sayWrongOptions, showOptions} from "./options.js";
+import {Panes} from "./panes.js";
 import {Papers} from "./papers.js";
 import {Player} from "./player.js";
 import {referenceOf} from "./reference.js";
 import {partsOf, Refused, Session} from "./session.js";
+import {isSilent, nextShown} from "./steps.js";
+import {TaskMaker} from "./tasks.js";
 import {unpacked} from "./unpack.js";
+import {Values} from "./values.js";
 import {Viewer} from "./viewer.js";
 import {count, withCommas} from "./word.js";
 
 const SHORT_RUN = 2_000_000; // steps of a run that is made ahead, to know how many states there are
 const LAST_STATE = 1_000_000_001;
+const LONG_DECK = 50_000; // characters; a longer deck is read after the key, and not with it
+const READ_AFTER = 400;   // milliseconds
 
 class Page {
-  constructor(engine, examples) {
+  constructor(engine, examples, manual) {
     this.engine = engine;
+    this.engine.changed = () => this.showBusy();
+    this.busyTimer = null;
     this.session = null;
     this.waiting = null; // what is to be done once the engine has answered
     this.isBusy = false;
     this.editor = new Editor(
       {text: byId("deck"), under: byId("under"), gutter: byId("gutter"), ruler: byId("ruler")},
-      (statement, runs) => (runs ? this.runTo(statement) : this.toggle(statement))
+      (statement, runs) => this.markClicked(statement, runs)
     );
-    this.viewer = new Viewer(this.editor, (error) => this.trouble(error));
+    this.viewer = new Viewer(this.editor, {
+      trouble: (error) => this.trouble(error),
+      goTo: (number) => this.state(number),
+      hide: (name) => this.hideBug(name),
+      next: (state) => this.nextOf(state),
+    });
     this.papers = new Papers({
       job: () => this.job(),
       ask: (words, input) => this.ask(words, input),
       words: (verb) => new Session(null, this.job()).words(verb),
       exchanges: () => this.session?.exchanges ?? [],
     });
-    this.checker = new Checker(this);
+    this.checker = new Checker({
+      editor: this.editor,
+      assemble: (input) => this.ask(["asm"], input),
+      isBusy: () => this.isBusy,
+      tell: (text) => this.tell(text),
+    });
     this.player = new Player({
-      step: () => this.step(),
-      begin: () => this.state(0),
+      step: () => this.advance(),
+      begin: () => this.goTo((session) => session.view(0)),
       atEnd: () => Boolean(this.view?.state.ending),
       paused: () => this.playEnded(),
     });
+    this.panes = new Panes(() => this.viewer.resized());
+    this.manual = new Manual(manual);
     byId("reference").append(...referenceOf());
-    this.library = new Library(this, examples);
+    this.library = new Library(this.desk(), examples);
+    this.tasks = new TaskMaker({
+      job: () => this.job(),
+      printed: () => this.session?.printout?.printed ?? this.view?.output ?? "",
+      open: (task) => this.library.openTask(task),
+    });
     this.listen();
+  }
+
+  // What the library may do with the page.
+  desk() {
+    return {
+      job: () => this.job(),
+      put: (job) => this.put(job),
+      tell: (text) => this.tell(text),
+      state: (number) => this.state(number),
+      shown: () => this.view?.state.number ?? null,
+      breakpoints: () => [...this.editor.breakpoints].sort((a, b) => a - b),
+      setBreakpoints: (statements) => this.setBreakpoints(statements),
+      lecture: (isOn) => this.panes.lecture(isOn),
+      isLecture: () => this.panes.isLecture,
+      reveal: (id) => this.reveal(id),
+    };
   }
 
   // ---- The job
@@ -56,16 +98,20 @@ class Page {
     return {deck: byId("deck").value, input: byId("input").value, options: optionsChosen()};
   }
 
-  ask(words, input) {
-    return this.engine.run(words, input, memoryChosen());
+  ask(words, input, digest) {
+    return this.engine.run(words, input, memoryChosen(), digest);
   }
 
   // The session of the job as it is now; another one where the deck, the input or an option was changed.
   current() {
+    const wrong = sayWrongOptions();
+    if (wrong) throw new Error(wrong);
     const now = this.job();
-    const key = JSON.stringify(now);
+    const key = [now.deck, now.input, ...Object.values(now.options)].join("\u0000");
     if (!this.session || this.sessionKey !== key) {
-      this.session = new Session((words, input) => this.ask(words, input), now);
+      this.readDeck();
+      const ask = (words, input, digest) => this.ask(words, input, digest);
+      this.session = new Session(ask, now, this.editor.deck);
       this.sessionKey = key;
       this.viewer.forget();
     }
@@ -94,18 +140,23 @@ class Page {
 
   setBusy(isBusy) {
     this.isBusy = isBusy;
-    clearTimeout(this.busyTimer);
-    if (isBusy)
-      this.busyTimer = setTimeout(() => this.tellBusy(), 150);
-    else {
-      byId("stop").disabled = !this.player.isPlaying;
+    this.showBusy();
+  }
+
+  // Whether something is done is shown where it takes longer than a moment; then it can be stopped.
+  showBusy() {
+    if (!this.isBusy && !this.engine.isBusy) {
+      clearTimeout(this.busyTimer);
+      this.busyTimer = null;
+      disable("stop", !this.player.isPlaying);
       document.body.classList.remove("busy");
       if (byId("run-note").textContent === "running ..") byId("run-note").textContent = "";
-    }
+    } else
+      this.busyTimer ??= setTimeout(() => this.tellBusy(), 150);
   }
 
   tellBusy() {
-    byId("stop").disabled = false;
+    disable("stop", false);
     document.body.classList.add("busy");
     byId("run-note").textContent = "running ..";
   }
@@ -117,6 +168,7 @@ class Page {
     } else if (error instanceof Refused) {
       this.checker.show(error.message);
       this.clear(error.message);
+      this.reveal("fault");
     } else {
       this.tell(error.message);
       this.clear(error.message);
@@ -130,39 +182,102 @@ class Page {
       const view = await session.view(session.last);
       if (session !== this.session) return; // (the deck was changed meanwhile)
       this.show(view, null);
+      this.reveal(this.library.isTask ? "exercise" : "printed");
       this.tell(`${count(ending.steps, "step")} in ${
         milliseconds < 10 ? milliseconds.toFixed(1) : withCommas(Math.round(milliseconds))} ms`);
     });
   }
 
-  // Goes to a state: `find` has the session and the number of the state that is shown.
+  // Goes to a state: `find` has the session and the number of the state that is shown, and answers a view; or
+  // a view and that with which it is compared, and whether it is one step from there.
   goTo(find) {
     return this.act(async (session) => {
       if (session.options.steps <= SHORT_RUN) await session.run();
       const shown = this.view ?? (await session.view(0));
-      const view = await find(session, shown.state.number);
-      if (session !== this.session) return; // (the deck was changed meanwhile)
-      const isStep = Math.abs(view.state.number - shown.state.number) <= 1;
-      this.show(view, this.view || isStep ? shown : null);
+      const found = await find(session, shown.state.number);
+      if (session !== this.session || !found) return; // (the deck was changed meanwhile)
+      const {view, before = shown, isStep} = found.view ? found : {view: found};
+      const isNear = Math.abs(view.state.number - before.state.number) <= 1;
+      this.show(view, this.view || isNear || isStep ? before : null, isStep ?? isNear);
+    });
+  }
+
+  // As `goTo`, asked for by the reader: what plays is paused.
+  leap(find) {
+    this.pause();
+    return this.goTo(find);
+  }
+
+  // Goes on by a step that shows something, or by any step if the reader wants that.
+  advance() {
+    return this.goTo(async (session, at) => {
+      const number = this.stopsAtEvery ? at + 1 : await session.steps.on(at);
+      return {view: await session.view(number), isStep: true};
     });
   }
 
   step() {
-    return this.goTo((session, at) => session.view(at + 1));
+    this.pause();
+    return this.advance();
   }
 
   back() {
-    return this.goTo((session, at) => session.view(Math.max(0, at - 1)));
+    return this.leap(async (session, at) => {
+      const number = this.stopsAtEvery ? Math.max(0, at - 1) : await session.steps.back(at);
+      return {view: await session.view(number), isStep: true};
+    });
+  }
+
+  get stopsAtEvery() {
+    return byId("every-step").checked;
   }
 
   state(number) {
-    return this.goTo((session) => session.view(number));
+    return this.leap(async (session) => {
+      const view = await session.view(number);
+      const {number: last} = view.state;
+      if (number > last)
+        this.tell(`There is no state ${withCommas(number)}: the last one is ${withCommas(last)}.`);
+      return view;
+    });
   }
 
   end() {
-    return this.goTo(async (session) => {
+    return this.leap(async (session) => {
       await session.run();
       return session.view(session.last);
+    });
+  }
+
+  statement() {
+    return this.leap(async (session, at) => session.view(await session.steps.statement(at)));
+  }
+
+  over() {
+    return this.leap(async (session, at) => session.view(await session.steps.over(at)));
+  }
+
+  out() {
+    return this.leap(async (session, at) => {
+      if (this.view?.amounts.returns) return session.view(await session.steps.out(at));
+      this.tell("No call waits for its return here.");
+      return null;
+    });
+  }
+
+  // Goes to the step that changed what the reader has chosen: the one before, or the next.
+  change(isForward) {
+    const {watched} = this.viewer;
+    this.pause();
+    if (!watched) return this.tell("Choose what is to be followed: click a bug or a field, or type a chain.");
+    return this.leap(async (session, at) => {
+      const number = await session.values.change(watched, at, isForward);
+      if (number !== null) {
+        const [before, view] = [await session.view(number - 1), await session.view(number)];
+        return {view, before, isStep: true};
+      }
+      this.tell(`${Values.nameOf(watched)} does not change ${isForward ? "any more" : "before this state"}.`);
+      return null;
     });
   }
 
@@ -175,15 +290,19 @@ class Page {
   }
 
   withBreakpoints(find) {
-    const breakpoints = [...this.editor.breakpoints].filter(
-                                                      (it) => it <= this.editor.deck.statements.length
-    ).sort((a, b) => a - b);
-    if (!breakpoints.length) return this.tell("No statement has a breakpoint: click the number of one.");
-    return this.goTo((session, at) => find(session, at, breakpoints));
+    const {breakpoints, deck} = this.editor;
+    const known = [...breakpoints].filter((it) => it <= deck.statements.length).sort((a, b) => a - b);
+    if (!known.length) return this.tell("No statement has a breakpoint: click the number of one.");
+    return this.leap((session, at) => find(session, at, known));
   }
 
   runTo(statement) {
-    return this.goTo((session, at) => session.go(at, [statement]));
+    return this.leap((session, at) => session.go(at, [statement]));
+  }
+
+  markClicked(statement, runs) {
+    this.pause();
+    return runs ? this.runTo(statement) : this.toggle(statement);
   }
 
   toggle(statement) {
@@ -193,6 +312,11 @@ class Page {
     this.tell(
       `statement ${statement} has ${breakpoints.has(statement) ? "a breakpoint" : "no breakpoint any more"}`
     );
+  }
+
+  setBreakpoints(statements) {
+    this.editor.breakpoints = new Set(statements);
+    this.editor.draw();
   }
 
   // Sets a breakpoint at the statement where the run is.
@@ -206,7 +330,7 @@ class Page {
 
   play() {
     this.player.toggle();
-    if (this.player.isPlaying) byId("stop").disabled = false;
+    if (this.player.isPlaying) disable("stop", false);
   }
 
   pause() {
@@ -215,7 +339,7 @@ class Page {
 
   // While a run plays nothing is spoken: its last state is, once it ends.
   playEnded() {
-    if (!this.isBusy) byId("stop").disabled = true;
+    if (!this.isBusy && !this.engine.isBusy) disable("stop", true);
     this.viewer.speak();
   }
 
@@ -225,18 +349,33 @@ class Page {
     if (this.engine.isBusy) this.engine.stop();
   }
 
+  // Hides a bug that leads to a block by chance, or shows it again.
+  hideBug(name) {
+    return this.leap(async (session, at) => {
+      session.hide(name);
+      return session.view(at);
+    });
+  }
+
   // ---- What is shown
 
   get view() {
     return this.viewer.view;
   }
 
-  show(view, before) {
+  // Where the run is in a state that has a next step: the step that is shown next.
+  nextOf(state) {
+    const {deck} = this.editor;
+    if (state.ending || this.stopsAtEvery || !isSilent(deck, state)) return state;
+    return nextShown(deck, state);
+  }
+
+  show(view, before, isStep = false) {
     this.checker.show(""); // (a deck with a fault is not run)
-    this.viewer.show(view, before, this.session);
+    this.viewer.show(view, before, this.session, isStep);
     if (!this.player.isPlaying) this.viewer.speak();
     showNumber(view.state.number, this.session.last);
-    this.library.checkExercise();
+    this.library.checkExercise(view, this.session);
   }
 
   // Shows nothing of a run, and says why not.
@@ -247,7 +386,13 @@ class Page {
 
   tell(text) {
     byId("run-note").textContent = text;
+    byId("run-note").title = text;
     byId("spoken").textContent = text;
+  }
+
+  // Brings what a run has answered into sight, where all is in one column.
+  reveal(id) {
+    if (this.panes.isColumn) byId(id).scrollIntoView({block: "nearest"});
   }
 
   // ---- The deck
@@ -255,18 +400,33 @@ class Page {
   // The deck was changed: what was shown of a run is shown no more.
   changed() {
     this.pause();
-    this.library.isChanged = true;
     this.splitJob();
-    this.readDeck();
-    if (this.view || this.session) {
-      this.session = null;
-      this.clear("The deck has changed.");
-    }
+    this.readLater();
+    this.dropRun("The deck has changed.");
     this.checker.typing();
   }
 
+  // A long deck is read once the reader pauses.
+  readLater() {
+    clearTimeout(this.readTimer);
+    if (byId("deck").value.length <= LONG_DECK) return this.readDeck();
+    this.readTimer = setTimeout(() => this.readDeck(), READ_AFTER);
+  }
+
+  dropRun(why) {
+    this.library.changed();
+    if (!this.view && !this.session) return;
+    this.session = null;
+    this.clear(why);
+  }
+
   readDeck() {
-    this.editor.read(readDeck(byId("deck").value));
+    clearTimeout(this.readTimer);
+    const text = byId("deck").value;
+    if (this.readText === text) return;
+    this.readText = text;
+    this.editor.read(readDeck(text));
+    this.library.deckRead(this.editor.deck);
   }
 
   // While nothing is run: what the group with the cursor does.
@@ -289,17 +449,19 @@ class Page {
   }
 
   // Puts a job into its boxes.
-  put({deck, input = "", commands = "", options = {}, breakpoints = []}) {
+  put({deck, input = "", commands = "", options = {}, breakpoints = [], bySize = false}) {
     this.pause();
+    clearTimeout(this.readTimer);
     byId("deck").value = deck;
     byId("input").value = input;
     byId("commands").value = commands;
-    this.library.isChanged = false;
+    byId("by-size").checked = bySize;
     showOptions(options);
     this.session = null;
-    this.viewer.chosen = null;
-    byId("place").value = byId("chain").value = "";
+    this.viewer.begin();
+    this.readText = deck;
     this.editor.begin(readDeck(deck), breakpoints);
+    this.library.deckRead(this.editor.deck);
     this.checker.show("");
     this.clear("");
     this.tell("");
@@ -318,6 +480,11 @@ class Page {
       play: () => this.play(),
       step: () => this.step(),
       end: () => this.end(),
+      statement: () => this.statement(),
+      over: () => this.over(),
+      out: () => this.out(),
+      "change-back": () => this.change(false),
+      "change-next": () => this.change(true),
       "mark-back": () => this.breakpointBefore(),
       "mark-next": () => this.nextBreakpoint(),
       "to-cursor": () => this.runTo(this.editor.statementAtCursor()),
@@ -325,12 +492,18 @@ class Page {
       save: () => this.library.saveFile(),
       link: () => this.library.makeLink(),
       papers: () => this.papers.open(this.papers.tab),
+      task: () => this.tasks.open(),
+      lecture: () => this.panes.lecture(!this.panes.isLecture),
+      "leave-lecture": () => this.panes.lecture(false),
+      manual: () => this.manual.toggle(),
       help: () => byId("help-dialog").showModal(),
     };
-    for (const [id, what] of Object.entries(buttons)) on(id, "click", what);
+    for (const [id, what] of Object.entries(buttons))
+      on(id, "click", () => byId(id).getAttribute("aria-disabled") !== "true" && what());
     on("deck", "input", () => this.changed());
     on("input", "input", () => this.inputChanged());
     for (const name of OPTIONS) on(name, "change", () => this.optionChanged());
+    on("every-step", "change", () => this.viewer.showWhere());
     on("slider", "input", () => this.state(Number(byId("slider").value)));
     on("number", "change", () => this.numberTyped());
     on("example", "change", () => this.library.chooseExample(byId("example").value));
@@ -342,7 +515,8 @@ class Page {
     document.addEventListener("keydown", (event) => press(this, event));
     document.addEventListener("selectionchange", () => this.explainCursor());
     document.addEventListener("click", (event) => {
-      if (!byId("options").contains(event.target)) byId("options").open = false;
+      if (event.target instanceof Node && !byId("options").contains(event.target))
+        byId("options").open = false;
     });
     window.addEventListener("hashchange", () => this.library.openLink());
     window.addEventListener("beforeunload", (event) => {
@@ -371,27 +545,22 @@ class Page {
 
   inputChanged() {
     this.pause();
-    this.library.isChanged = true;
-    if (this.view || this.session) {
-      this.session = null;
-      this.clear("The input has changed.");
-    }
+    this.dropRun("The input has changed.");
   }
 
   optionChanged() {
-    keepRanges();
-    if (this.view || this.session) {
-      this.session = null;
-      this.clear("An option has changed.");
-    }
+    sayWrongOptions();
+    if (!this.view && !this.session) return;
+    this.session = null;
+    this.clear("An option has changed.");
   }
 }
 
 async function begin() {
-  const {worker, examples} = window.l6Texts;
+  const {worker, examples, manual} = window.l6Texts;
   const bytes = await unpacked(byId("module").textContent);
   const engine = new Engine(await WebAssembly.compile(bytes), worker);
-  const page = new Page(engine, examples);
+  const page = new Page(engine, examples, manual);
   window.l6 = page; // (for tests, and for whoever looks inside)
   if (!(await page.library.openLink())) page.library.welcome();
   document.body.dataset.ready = "yes";
@@ -400,4 +569,5 @@ async function begin() {
 begin().catch((error) => {
   byId("run-note").textContent =
     `The page can't begin: ${error.message}. It needs a browser of 2023 or later.`;
+  document.body.dataset.ready = "no";
 });

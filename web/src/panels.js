@@ -1,8 +1,6 @@
 // The tables beside the drawing: bugs, fields, and the words of a block or what a chain leads to.
 
-import {follow} from "./chain.js";
 import {make} from "./dom.js";
-import {findPiece} from "./pieces.js";
 import {lanesOf, windowsOf} from "./shape.js";
 import {characterOf, count, isLetter, likelyText, octal, seenThrough, widthOf, WORD_BITS} from "./word.js";
 
@@ -10,23 +8,29 @@ const MOST_BESIDE = 9_999_999; // the largest number with a text beside which oc
 const MOST_OF_BLOCK = 256;     // of a block that are shown
 const FULL_STOP = 14;          // the code with which most inputs end
 
-// The bugs that are not 0, or were not before.
+// The bugs that are not 0, or were not before. `choose` has what a click chooses: a `block`, or a bug or
+// field to `watch`.
 export function showBugs(table, amounts, view, before, choose) {
   const names = [...new Set([...view.bugs.keys(), ...(before?.bugs.keys() ?? [])])].sort();
   const rows = names.map((name) => {
     const value = view.bugs.get(name) ?? 0;
-    return {name, value, was: before ? before.bugs.get(name) ?? 0 : value, hint: hintOf(value, view, choose)};
+    const was = before ? before.bugs.get(name) ?? 0 : value;
+    return {name, value, was, hint: hintOf(value, view, choose.block)};
   });
   const hasOctal = !rows.some(({value, hint}) => value > MOST_BESIDE && hint);
-  table.replaceChildren(...rows.map((row) => rowOfBug(row, hasOctal)));
+  table.replaceChildren(...rows.map((row) => rowOfBug(row, hasOctal, choose.watch)));
   if (!rows.length) table.append(make("tr", {}, make("td", {class: "octal"}, "All bugs are 0.")));
   amounts.textContent = amountsInWords(view.amounts);
 }
 
-function rowOfBug({name, value, was, hint}, hasOctal) {
+function rowOfBug({name, value, was, hint}, hasOctal, watch) {
+  const title = `${name} is ${octal(value)} in octal. A click chooses it: then ‹ Change and Change › ` +
+    `go to the steps that changed it.`;
+  const button =
+    make("button", {type: "button", class: "name", title, onclick: () => watch({chain: name})}, name);
   return make(
-    "tr", {class: was === value ? "" : "changed", title: `${name} is ${octal(value)} in octal`},
-    make("th", {scope: "row"}, name), make("td", {class: "number"}, String(value)), make("td", {}, hint),
+    "tr", {class: was === value ? "" : "changed"}, make("th", {scope: "row"}, button),
+    make("td", {class: "number"}, String(value)), make("td", {}, hint),
     hasOctal && make("td", {class: "octal"}, octal(value))
   );
 }
@@ -44,8 +48,7 @@ function amountsInWords({contents, definitions, returns, input}) {
 
 // What a number may mean: the place of a block, which can be chosen, or a text.
 function hintOf(value, view, choose) {
-  const piece = findPiece(view.store, value);
-  if (piece && !piece.isFree && piece.place === value) {
+  if (view.store.block(value)) {
     return make(
       "button", {type: "button", onclick: () => choose(value), "aria-label": `Show block ${value}`}, "→"
     );
@@ -56,7 +59,7 @@ function hintOf(value, view, choose) {
 }
 
 // The fields, each as a window on the 36 bits of its word.
-export function showFields(frame, view, before, colourOf) {
+export function showFields(frame, view, before, {colourOf, watch}) {
   const windows = windowsOf(view.fields);
   const rows = [];
   for (const word of [...new Set(windows.map((it) => it.word))]) {
@@ -70,7 +73,8 @@ export function showFields(frame, view, before, colourOf) {
         lane.map((it) => ({
                    window: it,
                    text: it.name,
-                   isChanged: before && !it.names.every((name) => isSame(before.fields.get(name), it))
+                   isChanged: before && !it.names.every((name) => isSame(before.fields.get(name), it)),
+                   onclick: () => watch({definition: it.names[0]})
                  })),
         colourOf
       ));
@@ -87,11 +91,14 @@ function isSame(one, other) {
 // A word as a bar of 36 bits with windows on it.
 function bitsOf(cells, colourOf) {
   const bar = make("div", {class: "bits"});
-  for (const {window, text, isChanged} of cells) {
+  for (const {window, text, isChanged, onclick} of cells) {
     const part = make(
-      "span", {
+      "button", {
+        type: "button",
         class: `${colourOf(window.name)} ${isChanged ? "changed" : ""}`,
-        title: `${window.name}: word ${window.word}, bits ${window.first} to ${window.last}`
+        title:
+          `${window.name}: word ${window.word}, bits ${window.first} to ${window.last}. A click follows it.`,
+        onclick
       },
       text
     );
@@ -103,8 +110,8 @@ function bitsOf(cells, colourOf) {
 }
 
 // The words of a block: each in octal, and below it what the fields show of it now.
-export function showWords(frame, place, view, before, colourOf) {
-  const words = place === null ? null : view.words.get(place);
+export function showWords(frame, place, view, before, choose) {
+  const words = place === null ? null : view.wordsAt(place);
   if (!words) {
     const why = place === null ?
       "Choose a block in the drawing or in the store, or type a place or a chain." :
@@ -116,14 +123,14 @@ export function showWords(frame, place, view, before, colourOf) {
   const windows = windowsOf(view.fields);
   const partsOf = (word, index) => {
     const own = windows.filter((it) => it.word === index);
-    return partsOfWord(word, old[index], index, own, colourOf);
+    return partsOfWord(word, old[index], index, own, {...choose, place});
   };
   frame.replaceChildren(...words.slice(0, MOST_OF_BLOCK).flatMap(partsOf));
   const left = words.length - MOST_OF_BLOCK;
   if (left > 0) frame.append(make("p", {class: "amounts"}, `and ${count(left, "more word", "more words")}`));
 }
 
-function partsOfWord(word, old, index, windows, colourOf) {
+function partsOfWord(word, old, index, windows, {colourOf, watch, place}) {
   const shown = apart(windows.map((it) => tellOf(it, word)));
   const line = make(
     "div", {class: "wordline"}, make("span", {}, `${index}`), make("b", {}, octal(word)),
@@ -132,7 +139,8 @@ function partsOfWord(word, old, index, windows, colourOf) {
   const cellOfWord = (window) => {
     const value = seenThrough(word, window);
     const isChanged = old !== undefined && seenThrough(old, window) !== value;
-    return {window, text: `${window.name} ${value}`, isChanged};
+    const onclick = () => watch({place, field: window.names[0]});
+    return {window, text: `${window.name} ${value}`, isChanged, onclick};
   };
   return [line, ...lanesOf(windows).map((lane) => bitsOf(lane.map(cellOfWord), colourOf))];
 }
@@ -148,19 +156,80 @@ function tellOf(window, word) {
   return `${window.name} ${value}${text ? ` “${text}”` : ""}`;
 }
 
-// What a chain leads to. Answers the place of a block whose words are missing, if there is one.
-export function showChain(frame, chain, view, choose) {
-  if (!chain) {
-    frame.replaceChildren();
-    return null;
-  }
-  const {steps, trap, missing} = follow(chain, view);
-  if (missing !== undefined) return missing;
+// What a chain leads to: the answer, and the steps on the way.
+export function showChain(frame, answer, {steps = [], trap, wrong}, view, choose) {
+  const last = steps.at(-1);
+  answer.replaceChildren();
+  if (wrong)
+    answer.append(wrong);
+  else if (trap)
+    answer.append(`trap ${trap.number}`);
+  else if (last)
+    answer.append(`= ${last.value} `, hintOf(last.value, view, choose) ?? "");
+  answer.classList.toggle("wrong", Boolean(trap || wrong));
+  if (steps.length < 2 && !trap) return frame.replaceChildren();
   const list = make(
     "ol", {class: "way"},
     ...steps.map((it) => make("li", {}, `${it.text} = ${it.value} `, hintOf(it.value, view, choose)))
   );
-  if (trap) list.append(make("li", {class: "wrong"}, trap));
-  frame.replaceChildren(list);
-  return null;
+  if (trap) list.append(make("li", {class: "wrong"}, `trap ${trap.number}: ${trap.text}`));
+  return frame.replaceChildren(list);
+}
+
+// The calls that wait and what is saved, newest on top.
+export function showFrames(frame, {returns, contents, definitions}, view, deck, choose) {
+  const {amounts} = view;
+  const parts = [
+    ...frameList("Calls", amounts.returns, returns, (it) => callInWords(it, deck, choose)),
+    ...frameList("Saved contents", amounts.contents, contents, (it) => contentInWords(it, view, choose)),
+    ...frameList(
+      "Saved definitions", amounts.definitions, definitions, (it) => definitionInWords(it, choose)
+    ),
+  ];
+  const none = "No call waits, and nothing is saved.";
+  frame.replaceChildren(...(parts.length ? parts : [make("p", {class: "amounts"}, none)]));
+}
+
+function frameList(title, size, entries, tell) {
+  if (!size) return [];
+  const more = size - entries.length;
+  return [
+    make("h3", {}, `${title} `, make("small", {}, String(size))),
+    make(
+      "ol", {class: "stack"}, ...entries.map((it) => make("li", {}, ...tell(it))),
+      ...(more ? [make("li", {class: "amounts"}, `and ${count(more, "older one", "older ones")}`)] : [])
+    ),
+  ];
+}
+
+function stateButton(number, choose) {
+  const title = `To state ${number}, before this step`;
+  return make(
+    "button", {type: "button", class: "to", title, onclick: () => choose.goTo(number)}, `at ${number}`
+  );
+}
+
+// Which call waits: what it called, from which statement, and where its return leads.
+function callInWords({number, spot, operation}, deck, choose) {
+  const [label, , fail] = operation.elements;
+  const from = deck.statements[spot.statement].label;
+  const where = `statement ${spot.statement}${from ? ` ${from}` : ""}`;
+  return [
+    make("b", {}, label), ` from ${where}`, make("br"), make("code", {}, `(${operation.text})`),
+    fail ? ` FAIL: ${fail} ` : " ", stateButton(number, choose)
+  ];
+}
+
+function contentInWords({number, operation, value}, view, choose) {
+  const chain = operation.elements[2];
+  return [
+    make("b", {}, chain), ` = ${value ?? "?"} `, hintOf(value ?? 0, view, choose.block), " ",
+    stateButton(number, choose)
+  ];
+}
+
+function definitionInWords({number, operation, value}, choose) {
+  const name = operation.elements[2];
+  const says = value ? `word ${value.word}, bits ${value.first}–${value.last}` : "no definition";
+  return [make("b", {}, name), ` = ${says} `, stateButton(number, choose)];
 }

@@ -1,8 +1,8 @@
 // The dialog with what the program writes: printout, listing, image, the answers to the reader's own
 // commands, and what the page asked last. Each can be downloaded.
 
+import {bytesOf} from "./bytes.js";
 import {byId, make} from "./dom.js";
-import {bytesOf} from "./engine.js";
 import {job} from "./session.js";
 
 const TABS = [
@@ -100,9 +100,9 @@ export class Papers {
   }
 }
 
-// Has the browser save a text as a file, a byte for each character.
-export function save(name, text) {
-  const address = URL.createObjectURL(new Blob([bytesOf(text)], {type: "text/plain"}));
+// Has the browser save a text as a file: a byte for each character, or in UTF-8.
+export function save(name, text, isUnicode = false) {
+  const address = URL.createObjectURL(new Blob([isUnicode ? text : bytesOf(text)], {type: "text/plain"}));
   make("a", {href: address, download: name}).click();
   setTimeout(() => URL.revokeObjectURL(address), 10_000);
 }

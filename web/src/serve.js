@@ -1,4 +1,17 @@
-// Has the module do one job. Each job has an instance of its own, so that none leaves anything for the next.
+// Has the module do one job, and makes of its answer what is asked for. Each job has an instance of its own,
+// so that none leaves anything for the next.
+
+import {textOfBytes} from "./bytes.js";
+import {DIGESTS} from "./digest.js";
+
+// Does a job. With a digest its output is not sent, but what the digest makes of it, and the output's begin.
+export function answered(module, job) {
+  const answer = serve(module, job);
+  if (!job.digest || answer.status !== 0) return answer;
+  const {name, begin, ...more} = job.digest;
+  const text = textOfBytes(answer.output);
+  return {...answer, output: answer.output.slice(0, begin), digest: DIGESTS[name](text, more)};
+}
 
 // The words are texts, the input bytes; the limit is the most bytes of memory that the program may have.
 // Answers the exit status and what went to the two outputs, as bytes.

@@ -3,16 +3,23 @@
 // A question is a whole job that begins at state 0. To reach state 100,000,000 takes a second or two, and
 // each state there is cheap: so the states around the one that is wanted are asked for at the same time.
 
-import {choose} from "./choice.js";
-import {bytesOf} from "./engine.js";
+import {bytesOf} from "./bytes.js";
+import {readDeck} from "./deck.js";
+import {Frames} from "./frames.js";
+import {Steps} from "./steps.js";
+import {Trail} from "./trail.js";
 import {stateOf, Transcript} from "./transcript.js";
+import {Values} from "./values.js";
+import {View} from "./view.js";
 
-const FAR = 1_000_000;         // the state from which on the way there takes longer than the answers
-const MOST_KEPT = 24_000_000;  // characters of answers whose states are kept
-const MOST_ANSWER = 3_000_000; // characters of the answers to one question, about
-const MOST_OUT = 200_000;      // characters of output that are shown
-const SHORT_WAY = 4096;        // states that are gone through for the breakpoint before
-const MOST_GOES = 100_000;     // in one question
+const FAR = 1_000_000;           // the state from which on the way there takes longer than the answers
+const MOST_KEPT = 24_000_000;    // characters of answers whose states are kept
+const MOST_ANSWER = 3_000_000;   // characters of the answers to one question, about
+const MOST_OUT = 200_000;        // characters of output that are shown
+const SHORT_WAY = 4096;          // states that are gone through for the breakpoint before
+const MOST_GOES = 100_000;       // in one question
+const MOST_REMEMBERED = 100_000; // characters of an answer
+const LARGE_STORE = 32; // units from which on one state is asked for at first, to see how large it is
 
 // Why there is no state: the program refused the job, or memory ran out in the midst.
 export class Refused extends Error {
@@ -23,16 +30,21 @@ export class Refused extends Error {
 }
 
 export class Session {
-  // `ask` has the engine do a job: the words of the command line, and the bytes of standard input.
-  constructor(ask, {deck, input, options}) {
-    Object.assign(this, {ask, deck, input, options});
+  // `ask` has the engine do a job: the words of the command line, the bytes of standard input, and what is to
+  // be made of the output. `reading` is what the page reads in the deck.
+  constructor(ask, {deck, input, options}, reading = readDeck(deck)) {
+    Object.assign(this, {ask, deck, input, options, reading});
     this.views = new Map();
     this.kept = 0;
-    this.output = "";     // as far as it is known
-    this.printout = null; // what `run` prints, once it was asked
-    this.last = null;     // the last state's number, once it is known
-    this.size = 2000;     // characters that a state took lately
-    this.exchanges = [];  // what was asked and answered last
+    this.printout = null;                                      // what `run` prints, once it was asked
+    this.last = null;                                          // the last state's number, once it is known
+    this.size = options.store > LARGE_STORE ? Infinity : 2000; // characters that a state took lately
+    this.exchanges = [];                                       // what was asked and answered last
+    this.hidden = [];                                          // bugs that the reader has hidden
+    this.trail = new Trail((first, count) => this.trailFrom(first, count));
+    this.steps = new Steps(reading, this.trail);
+    this.values = new Values(this);
+    this.frames = new Frames(this);
   }
 
   words(verb, more = {}) {
@@ -46,8 +58,14 @@ export class Session {
       const answer = await this.ask(this.words("run"), bytesOf(job(this.deck, null, this.input)));
       if (answer.status > 3) throw new Refused(answer);
       const lines = answer.output.trimEnd();
-      const ending = stateOf(lines.slice(lines.lastIndexOf("\n") + 1));
-      this.printout = {text: answer.output, ending, milliseconds: answer.milliseconds};
+      const end = lines.lastIndexOf("\n") + 1;
+      const ending = stateOf(lines.slice(end));
+      this.printout = {
+        text: answer.output,
+        printed: answer.output.slice(0, end),
+        ending,
+        milliseconds: answer.milliseconds
+      };
       this.last = ending.number;
     }
     return this.printout;
@@ -59,7 +77,7 @@ export class Session {
     if (!this.views.has(wanted)) await this.fetch(wanted);
     const view = this.views.get(wanted) ?? this.views.get(this.last);
     if (!view) throw new Error("the debugger has not answered with the state");
-    return this.withOutput(view);
+    return view;
   }
 
   has(number) {
@@ -67,43 +85,26 @@ export class Session {
   }
 
   // Asks for the states around one, and keeps them.
-  async fetch(number, more = []) {
+  async fetch(number) {
     const room = Math.max(1, Math.min(number < FAR ? 6 : 60, Math.floor(MOST_ANSWER / this.size)));
     const before = Math.min(number, Math.floor(room / 4));
-    const states = {first: number - before, count: room};
-    const views = await this.look([`step ${states.first}`, ...more], states.count);
+    const views = await this.look(number - before, room);
     await this.addWords(views);
     views.forEach((view) => this.keep(view));
   }
 
-  // Goes by commands, and looks at so many states from there on.
-  async look(way, count) {
-    const commands = [...way];
+  // Looks at so many states from one on.
+  async look(first, count) {
+    const commands = [`step ${first}`];
     for (let state = 0; state < count; state++) {
       if (state > 0) commands.push("step 1");
       commands.push("show", "fields", "draw", "store");
     }
     commands.push("out");
-    const transcript = await this.question(commands);
-    for (const command of way)
-      if (!command.startsWith("block")) transcript.line();
-    const views = [];
-    for (let state = 0; state < count; state++) {
-      if (state > 0) transcript.line();
-      const begun = transcript.place;
-      const view = {
-        ...transcript.show(),
-        fields: transcript.fields(),
-        draw: transcript.draw(),
-        store: transcript.store()
-      };
-      if (views.at(-1)?.state.number === view.state.number) continue;
-      view.cost = transcript.place - begun;
-      views.push(view);
-    }
-    const output = transcript.out();
-    if (output.length > this.output.length) this.output = output;
-    return views;
+    const more = {skip: 1, count, hidden: this.hidden, mostOutput: MOST_OUT};
+    const {views, output, size} = await this.digest("views", commands, more);
+    this.size = Math.max(500, size / views.length);
+    return views.map((it) => new View({...it, output, cost: it.cost + output.text.length / views.length}));
   }
 
   // Asks for the words of the blocks that are shown of each view.
@@ -111,7 +112,6 @@ export class Session {
     const commands = [`step ${views[0].state.number}`];
     let at = views[0].state.number;
     for (const view of views) {
-      view.shown = choose(view);
       if (view.state.number > at) commands.push(`step ${view.state.number - at}`);
       at = view.state.number;
       for (const place of view.shown.places) commands.push(`block ${place}`);
@@ -122,7 +122,7 @@ export class Session {
     views.forEach((view, index) => {
       if (index > 0) transcript.line();
       const begun = transcript.place;
-      view.words = new Map(view.shown.places.map((place) => [place, transcript.block()]));
+      for (const place of view.shown.places) view.words.set(place, transcript.block());
       view.cost += transcript.place - begun;
     });
   }
@@ -136,7 +136,6 @@ export class Session {
   }
 
   keep(view) {
-    this.size = Math.max(500, view.cost);
     this.kept += view.cost;
     this.views.set(view.state.number, view);
     for (const [number, old] of this.views) {
@@ -146,12 +145,22 @@ export class Session {
     }
   }
 
-  // A view with what was printed up to it.
-  withOutput(view) {
-    const size = view.amounts.output;
-    const whole = this.output.slice(0, size);
-    view.output = whole.length > MOST_OUT ? `.. ${whole.slice(-MOST_OUT)}` : whole;
-    return view;
+  // Hides a bug, or shows it again: what it alone leads to is not drawn.
+  hide(name) {
+    this.hidden =
+      this.hidden.includes(name) ? this.hidden.filter((it) => it !== name) : [...this.hidden, name];
+    this.views.clear();
+    this.kept = 0;
+  }
+
+  trailFrom(first, count) {
+    return this.digest("trail", [`step ${first}`, ...Array(count - 1).fill("step 1")], {});
+  }
+
+  // How the store's words are shared out in some states, whose numbers are in order.
+  async totals(numbers) {
+    const commands = numbers.flatMap((it, index) => [`step ${it - (numbers[index - 1] ?? 0)}`, "store"]);
+    return this.digest("totals", commands, {count: numbers.length});
   }
 
   // The view of the next state that is at the condition of one of these statements, or of the last state.
@@ -205,17 +214,27 @@ export class Session {
 
   // The answers to commands.
   async question(commands, more) {
+    return new Transcript((await this.asked(commands, more)).output);
+  }
+
+  // What the worker makes of the answers to commands.
+  async digest(name, commands, more) {
+    return (await this.asked(commands, {}, {name, begin: MOST_REMEMBERED, ...more})).digest;
+  }
+
+  async asked(commands, more, digest = null) {
     const text = commands.join("\n") + "\n";
-    const answer = await this.ask(this.words("debug", more), bytesOf(job(this.deck, text, this.input)));
+    const answer =
+      await this.ask(this.words("debug", more), bytesOf(job(this.deck, text, this.input)), digest);
     this.remember(text, answer);
     if (answer.status !== 0) throw new Refused(answer);
-    return new Transcript(answer.output);
+    return answer;
   }
 
   remember(asked, answer) {
     this.exchanges.push({
       asked: asked.slice(0, 20_000),
-      answered: answer.output.slice(0, 100_000),
+      answered: answer.output.slice(0, MOST_REMEMBERED),
       milliseconds: answer.milliseconds
     });
     if (this.exchanges.length > 2) this.exchanges.shift();

@@ -9,6 +9,8 @@ export const HEAD = 24;
 const MOST_ROWS = 8;
 const SHOWN_WORDS = 4; // of a block without fields
 const LEGIBLE = 3;     // bits of a field whose value has room; of a word with narrower ones all is shown, too
+const LETTER = 7.3;    // the width of a letter
+export const NARROW = 40; // a cell that has room for a value or a name, but hardly for both
 
 // The windows of the fields, each once: names that are defined alike share one.
 export function windowsOf(fields) {
@@ -97,14 +99,20 @@ function cellOf(window, content, links) {
   };
 }
 
-// What a cell shows, as far as there is room for it.
+// What a cell shows of a value, as far as there is room for it: a character where the field holds texts, else
+// a number, with the letter beside it that it may be.
 export function textOfCell(window, value, link) {
-  const room = Math.floor((widthOf(window) * BIT - 6) / 6.7) - window.name.length - 1;
-  if (link) return room >= String(value).length ? String(value) : "";
-  const isCode = value > 0 && (widthOf(window) === 6 || isLetter(value));
-  const text = isCode ? characterOf(value) : likelyText(value);
-  const both = text ? `${value} ${text}` : String(value);
-  return [both, text, String(value)].find((it) => it && it.length <= room) ?? (text.length === 1 ? text : "");
+  const width = widthOf(window) * BIT;
+  const room =
+    width < NARROW ? Math.floor(width / LETTER) : Math.floor((width - 6) / LETTER) - window.name.length - 1;
+  const text = isLetter(value) ? characterOf(value) : likelyText(value);
+  const wanted = link ? [] : window.isText ? [textHeld(value)] : text ? [`${value} ${text}`] : [];
+  return [...wanted, String(value)].find((it) => it && it.length <= room) ?? "";
+}
+
+// The text that a field of texts holds, or "" where it holds none.
+function textHeld(value) {
+  return value > 0 && value < 64 ? characterOf(value) : likelyText(value);
 }
 
 // A box: what it holds besides links, in a row, and a stub for each link below.

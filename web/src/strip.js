@@ -1,8 +1,8 @@
 // The store as a strip: its units, and of one of them each block and each free piece, to scale.
 
 import {Pen} from "./pen.js";
-import {findPiece, freePieceWith, piecesBetween} from "./pieces.js";
-import {count, withCommas, UNIT} from "./word.js";
+import {KINDS} from "./store.js";
+import {count, UNIT, withCommas} from "./word.js";
 
 const LEAST_PART = 32; // words
 const LEVELS = 11;
@@ -13,8 +13,8 @@ const LABEL = 34;          // pixels in which the place of a piece has room
 const MOST_SPOKEN = 40;    // pieces that the text of the picture names
 
 export class Strip {
-  constructor({text, units, strip, levels, bySize, unitBox}, choose) {
-    Object.assign(this, {text, units, strip, levels, bySize, unitBox, choose});
+  constructor({text, units, strip, levels, levelsText, bySize, unitBox}, choose) {
+    Object.assign(this, {text, units, strip, levels, levelsText, bySize, unitBox, choose});
     this.unit = null; // that the reader chose, or null
     this.chosen = null;
     bySize.addEventListener("change", () => this.draw());
@@ -30,11 +30,10 @@ export class Strip {
   show(view, before) {
     Object.assign(this, {view, before});
     const {store} = view;
-    const blocks = store.pieces.filter((it) => !it.isFree);
-    const lost = blocks.filter((it) => it.isLost).length;
-    const lostText = lost ? `, ${withCommas(lost)} lost` : "";
-    this.amounts = `${count(blocks.length, "block")}${lostText}; ${count(store.used, "word")} used, ${
-      withCommas(store.free)} free`;
+    const lostText = store.lost ? `, ${withCommas(store.lost)} lost` : "";
+    const largest = store.largestFree ? `, largest ${withCommas(store.largestFree)}` : "";
+    this.amounts = `${count(store.blocks, "block")}${lostText}; ${count(store.used, "word")} used, ${
+      withCommas(store.free)} free${largest}`;
     this.draw();
   }
 
@@ -46,7 +45,8 @@ export class Strip {
   forget() {
     Object.assign(this, {view: null, before: null, unit: null, chosen: null});
     this.text.textContent = "";
-    this.units.hidden = this.levels.hidden = this.unitBox.parentElement.hidden = true;
+    this.units.hidden = this.levelsText.hidden = this.levels.hidden = this.unitBox.parentElement.hidden =
+      true;
     this.strip.hidden = false;
     new Pen(this.strip);
   }
@@ -54,21 +54,21 @@ export class Strip {
   draw() {
     if (!this.view) return;
     const {store} = this.view;
-    this.begin = store.pieces[0].place;
-    const last = store.pieces.at(-1);
-    this.count = (last.place + last.size - this.begin) / UNIT;
+    this.begin = store.begin;
+    this.count = (store.end - this.begin) / UNIT;
     this.part = this.partShown();
-    this.pieces = piecesBetween(store, this.part.begin, this.part.end);
+    this.pieces = store.piecesBetween(this.part.begin, this.part.end);
     this.old = this.before ?
-      new Set(piecesBetween(this.before.store, this.part.begin, this.part.end).map(keyOf)) :
+      new Set(this.before.store.piecesBetween(this.part.begin, this.part.end).map(keyOf)) :
       null;
     this.units.hidden = this.unitBox.parentElement.hidden = this.count === 1;
     this.unitBox.max = this.count;
     this.unitBox.value = this.part.unit + 1;
     if (this.count > 1) this.drawUnits();
-    this.text.textContent =
-      `${this.amounts}${this.bySize.checked ? ". A frame is a piece that was halved." : ""}`;
-    this.levels.hidden = !this.bySize.checked;
+    this.text.textContent = this.amounts;
+    this.text.title = "words used, words free, and the largest free piece";
+    this.levels.hidden = this.levelsText.hidden = !this.bySize.checked;
+    if (this.bySize.checked) this.levelsText.textContent = levelsInWords(store.levels());
     this.strip.hidden = this.bySize.checked;
     if (this.bySize.checked)
       this.drawLevels();
@@ -81,13 +81,13 @@ export class Strip {
   // which something has changed last, or the first with a block.
   partShown() {
     const {store} = this.view;
-    const changed = this.unit === null && this.before ? firstChange(this.before.store, store) : null;
+    const changed = this.unit === null && this.before ? this.before.store.firstChange(store) : null;
     if (changed !== null) this.latest = Math.floor((changed - this.begin) / UNIT);
-    const first = store.pieces.find((it) => !it.isFree);
-    const fallback = first ? Math.floor((first.place - this.begin) / UNIT) : 0;
+    const first = store.kinds.findIndex((it) => it !== KINDS.free);
+    const fallback = first < 0 ? 0 : Math.floor((store.places[first] - this.begin) / UNIT);
     const unit = Math.min(this.unit ?? this.latest ?? fallback, this.count - 1);
     const begin = this.begin + unit * UNIT;
-    const used = piecesBetween(store, begin, begin + UNIT).filter((it) => !it.isFree);
+    const used = store.piecesBetween(begin, begin + UNIT).filter((it) => !it.isFree);
     const reach = used.length ? used.at(-1).place + used.at(-1).size - begin : 0;
     let size = LEAST_PART;
     while (size < reach) size *= 2;
@@ -102,12 +102,13 @@ export class Strip {
     pen.fill("--free", 0, 0, pen.width, 12);
     let from = 0;
     const at = (place) => ((place - this.begin) / UNIT) * width;
-    for (const piece of store.pieces) { // (thin neighbours are joined)
-      if (piece.isFree) continue;
-      const end = at(piece.place + piece.size);
-      if (end - from < 0.5 && from > 0 && !piece.isLost) continue;
-      const x = Math.max(from, at(piece.place));
-      pen.fill(piece.isLost ? "--lost" : "--block", x, 2, Math.max(0.6, end - x), 8);
+    for (let index = 0; index < store.places.length; index++) { // (thin neighbours are joined)
+      if (store.kinds[index] === KINDS.free) continue;
+      const isLost = store.kinds[index] === KINDS.lost;
+      const end = at(store.places[index] + store.sizes[index]);
+      if (end - from < 0.5 && from > 0 && !isLost) continue;
+      const x = Math.max(from, at(store.places[index]));
+      pen.fill(isLost ? "--lost" : "--block", x, 2, Math.max(0.6, end - x), 8);
       from = end;
     }
     for (let unit = 1; unit < this.count && width > 4; unit++)
@@ -124,7 +125,7 @@ export class Strip {
     for (const piece of this.pieces) {
       const box = this.boxOf(piece, 1, 35);
       this.drawPiece(pen, piece, box);
-      const [ink, size] = [piece.isFree ? "--soft" : "--block-ink", withCommas(piece.size)];
+      const [ink, size] = [inkOf(piece), withCommas(piece.size)];
       if (box.width > size.length * 7 + 4) pen.text(ink, size, box.x + box.width / 2, 29, 12.5);
       if (box.width > 34) pen.text(ink, String(piece.place), box.x + 4, 12, 10, "left");
     }
@@ -174,8 +175,8 @@ export class Strip {
       const {from, to} = this.widths[index];
       const box = {x: LEVELS_LEFT + from, y: line(piece.size), width: to - from, height: height - 2};
       this.drawPiece(pen, piece, box);
-      const ink = piece.isFree ? "--soft" : "--block-ink";
-      if (box.width > 28) pen.text(ink, String(piece.place), box.x + box.width / 2, box.y + height - 5, 10.5);
+      if (box.width > 28)
+        pen.text(inkOf(piece), String(piece.place), box.x + box.width / 2, box.y + height - 5, 10.5);
     });
     this.levels.setAttribute(
       "aria-label", `The pieces of unit ${this.part.unit + 1} by their sizes. ${this.textOf()}`
@@ -200,17 +201,17 @@ export class Strip {
   }
 
   pick(event) {
-    const piece = this.view && findPiece(this.view.store, this.placeAt(event));
+    const piece = this.view?.store.pieceWith(this.placeAt(event));
     if (piece && !piece.isFree) this.choose(piece.place);
   }
 
   hint(event) {
     if (!this.view) return;
     const place = this.placeAt(event);
-    const piece = findPiece(this.view.store, place);
+    const piece = this.view.store.pieceWith(place);
     if (!piece) return;
     const free =
-      piece.isFree ? `${place}: in a free piece of ${withCommas(freePieceWith(this.view.store, place))}` : "";
+      piece.isFree ? `${place}: in a free piece of ${withCommas(this.view.store.freePieceWith(place))}` : "";
     event.currentTarget.title =
       free || `block ${piece.place}, ${count(piece.size, "word")}${piece.isLost ? ", lost" : ""}`;
   }
@@ -254,11 +255,16 @@ function keyOf(piece) {
   return `${piece.place} ${piece.size} ${piece.isFree ? "free" : piece.isLost ? "lost" : "block"}`;
 }
 
-// The first place at which two stores differ, or null.
-function firstChange(one, other) {
-  const size = Math.min(one.pieces.length, other.pieces.length);
-  for (let index = 0; index < size; index++) {
-    if (keyOf(one.pieces[index]) !== keyOf(other.pieces[index])) return other.pieces[index].place;
-  }
-  return one.pieces.length === other.pieces.length ? null : other.pieces[size - 1].place;
+function inkOf(piece) {
+  if (piece.isFree) return "--soft";
+  return piece.isLost ? "--lost-ink" : "--block-ink";
+}
+
+// How many blocks and free pieces there are of each size.
+function levelsInWords(levels) {
+  const tell = ({blocks, free}, level) => {
+    const parts = [blocks && count(blocks, "block"), free && `${withCommas(free)} free`].filter((it) => it);
+    return parts.length ? [`of ${withCommas(2 ** level)}: ${parts.join(", ")}`] : [];
+  };
+  return `A frame is a piece that was halved. In the whole store, ${levels.flatMap(tell).join(" · ")}`;
 }

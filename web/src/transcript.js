@@ -1,5 +1,7 @@
 // Reads the debugger's answers (docs/debugger.md). All that the page shows of a run comes from here.
 
+import {KINDS} from "./store.js";
+
 export class Transcript {
   constructor(text) {
     this.text = text;
@@ -65,40 +67,49 @@ export class Transcript {
     return Array.from({length: Number(found[1])}, () => parseInt(this.line().trim().split(" ")[1], 8));
   }
 
-  // The answer to `draw`: the bugs that lead to blocks, and of each block that is reached where its fields
-  // lead.
+  // The answer to `draw`: the bugs that lead to blocks, and the blocks that are reached. The links of a block
+  // are read where they are asked for.
   draw() {
     const bugs = new Map();
-    const blocks = new Map();
-    let links = null;
+    const places = [];
+    const sizes = [];
+    const offsets = []; // where the lines of a block's links begin
     for (;;) {
       const line = this.line();
       if (line.startsWith("BLOCK ")) {
         const [, place, , size] = line.split(" ");
-        links = [];
-        blocks.set(Number(place), {place: Number(place), size: Number(size), links});
+        places.push(Number(place));
+        sizes.push(Number(size));
+        offsets.push(this.place);
       } else if (line.startsWith("  ")) {
-        links.push({field: line[2], target: Number(line.slice(7))});
+        continue;
       } else if (line.includes("->")) {
         bugs.set(line[0], Number(line.slice(5)));
       } else {
-        return {bugs, blocks};
+        return new Drawn(this.text, bugs, {places, sizes, offsets});
       }
     }
   }
 
   // The answer to `store`: blocks and runs of free words in the order of their places.
   store() {
-    const pieces = [];
+    const places = [];
+    const sizes = [];
+    const kinds = [];
     for (;;) {
       const words = this.line().split(" ");
-      if (words[1] === "WORDS") return {pieces, used: Number(words[0]), free: Number(words[3])};
-      pieces.push({
-        place: Number(words[0]),
-        size: Number(words[2]),
-        isFree: words[1] === "FREE",
-        isLost: words[3] === "LOST"
-      });
+      if (words[1] === "WORDS") {
+        return {
+          places: Int32Array.from(places),
+          sizes: Int32Array.from(sizes),
+          kinds: Uint8Array.from(kinds),
+          used: Number(words[0]),
+          free: Number(words[3])
+        };
+      }
+      places.push(Number(words[0]));
+      sizes.push(Number(words[2]));
+      kinds.push(words[1] === "FREE" ? KINDS.free : words[3] === "LOST" ? KINDS.lost : KINDS.block);
     }
   }
 
@@ -108,6 +119,42 @@ export class Transcript {
     const text = this.text.slice(this.place, this.place + size);
     this.place += size + (size > 0 && !text.endsWith("\n") ? 1 : 0);
     return text;
+  }
+}
+
+// The blocks that are reached, as `draw` answers them.
+export class Drawn {
+  constructor(text, bugs, {places, sizes, offsets}) {
+    Object.assign(this, {text, bugs, places, sizes, offsets});
+  }
+
+  get count() {
+    return this.places.length;
+  }
+
+  // The block that begins at a place, with its links, or null.
+  block(place) {
+    let [low, high] = [0, this.places.length - 1];
+    while (low <= high) {
+      const middle = (low + high) >> 1;
+      if (this.places[middle] === place)
+        return {place, size: this.sizes[middle], links: this.linksFrom(this.offsets[middle])};
+      if (this.places[middle] < place)
+        low = middle + 1;
+      else
+        high = middle - 1;
+    }
+    return null;
+  }
+
+  linksFrom(offset) {
+    const links = [];
+    for (let at = offset; this.text.startsWith("  ", at);) {
+      const end = this.text.indexOf("\n", at);
+      links.push({field: this.text[at + 2], target: Number(this.text.slice(at + 7, end))});
+      at = end + 1;
+    }
+    return links;
   }
 }
 

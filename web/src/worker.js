@@ -1,6 +1,6 @@
 // The worker: it has the module, and does the jobs that the page sends, one after another.
 
-import {serve} from "./serve.js";
+import {answered} from "./serve.js";
 
 let module = null;
 
@@ -10,7 +10,7 @@ self.onmessage = ({data}) => {
     return;
   }
   try {
-    const answer = serve(module, data);
+    const answer = answered(module, data);
     self.postMessage({number: data.number, answer}, [answer.output.buffer, answer.errors.buffer]);
   } catch (error) {
     self.postMessage({number: data.number, broken: String(error)});

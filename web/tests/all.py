@@ -3,17 +3,21 @@
 
 all.py PROGRAM [--quick] makes the page again and compares it byte for byte with the one that is handed out;
 runs the cases, examples and random jobs through the page's module, in node, against their answers and those
-of the program; and tries the page in headless Chromium, and in Firefox. It says what it skips.
-With --quick the module is not made again, which takes two minutes. The last line is 'N passed, M failed'.
+of the program; and tries the page in headless Chromium, and in Firefox. It says what it skips. Its parts run
+side by side; each says how much it has tried, and less than is written here is a failure.
+With --quick the module is not made again, which takes two minutes, and the trials of large things are left
+out; the page is bundled again with the module that it has. The last line is 'N passed, M failed'.
 """
 from __future__ import annotations
 
+import os
 import re
 import shutil
 import subprocess
 import sys
 import tempfile
 from collections.abc import Iterator
+from concurrent.futures import ThreadPoolExecutor
 from pathlib import Path
 
 sys.dont_write_bytecode = True
@@ -21,40 +25,49 @@ HERE = Path(__file__).resolve().parent
 WEB = HERE.parent
 TOP = WEB.parent
 PAGE = TOP / "dist" / "l6.html"
+AT_ONCE = 4  # parts
+SHARDS = 3  # into which the trials in Chromium are parted
+LEAST_IN_CHROMIUM = {"quick": [100, 100, 100], "all": [150, 150, 150]}  # trials of each shard
+NEW_MANUAL = ["--new-manual"] if shutil.which("markdown_py") else []
 COUNT = re.compile(r"^(\d+) passed, (\d+) failed$")
 
 from browser import find_browser  # noqa: E402
 from firefox import find_firefox  # noqa: E402
 
 
-def counted(words: list[str]) -> tuple[int, int]:
-    """Runs a test, shows what it prints but its count, and answers the count."""
-    print(f"web: {' '.join(Path(word).name for word in words)}", flush=True)
-    ran = subprocess.run(words, stdout=subprocess.PIPE, stderr=subprocess.STDOUT, text=True, errors="replace")
+class Part:
+    """A part of the tests: the tools that it needs, what it is, its command, and the least that it tries."""
+
+    def __init__(self, needs: set[str], name: str, command: list[str], least: int) -> None:
+        self.needs, self.name, self.command, self.least = needs, name, command, least
+
+
+def counted(part: Part) -> tuple[str, int, int]:
+    """Runs a part; answers what it prints but its count, and its counts."""
+    ran = subprocess.run(part.command, stdout=subprocess.PIPE, stderr=subprocess.STDOUT, text=True, errors="replace")
     *lines, last = ran.stdout.splitlines() or [""]
     found = COUNT.match(last)
     if not found:
-        print("\n".join([*lines, last, f"{words[-1]}: no count at the end, status {ran.returncode}"]))
-        return 0, 1
-    print("".join(f"{line}\n" for line in lines), end="")
+        return "\n".join([*lines, last, f"no count at the end, status {ran.returncode}"]), 0, 1
     passed, failed = map(int, found.groups())
-    return passed, failed or int(ran.returncode != 0)
+    if passed + failed < part.least:
+        lines.append(f"{passed + failed} were tried, and {part.least} is the least")
+        failed += 1
+    return "\n".join(lines), passed, failed or int(ran.returncode != 0)
 
 
-def made_again(program: Path) -> tuple[int, int]:
+def made_again(program: Path, is_quick: bool) -> tuple[str, int, int]:
     """Makes the page again, and compares it with the one that is handed out."""
     with tempfile.TemporaryDirectory(prefix="l6-page-") as folder:
         page = Path(folder, "l6.html")
-        for words in ([str(WEB / "build"), str(program)], [str(WEB / "bundle"), str(page)]):
-            print(f"web: {Path(words[0]).name}", flush=True)
+        bundle = [str(WEB / "bundle"), *(["--same-module"] if is_quick else NEW_MANUAL), str(page)]
+        for words in ([bundle] if is_quick else [[str(WEB / "build"), str(program)], bundle]):
             ran = subprocess.run(words, stdout=subprocess.PIPE, stderr=subprocess.STDOUT, text=True)
             if ran.returncode:
-                print(ran.stdout, end="")
-                return 0, 1
+                return ran.stdout, 0, 1
         if page.read_bytes() != PAGE.read_bytes():
-            print(f"{PAGE.relative_to(TOP)} is not the page that web/build and web/bundle make")
-            return 0, 1
-    return 1, 0
+            return f"{PAGE.relative_to(TOP)} is not the page that {Path(bundle[0]).name} makes", 0, 1
+    return "", 1, 0
 
 
 def missing() -> Iterator[str]:
@@ -68,30 +81,43 @@ def missing() -> Iterator[str]:
         yield "firefox"
 
 
+def parts(program: Path, is_quick: bool) -> Iterator[Part]:
+    """The parts, the longest first."""
+    chromium = [sys.executable, str(HERE / "chromium.py"), *(["--quick"] if is_quick else [])]
+    for number in range(1, SHARDS + 1):
+        least = LEAST_IN_CHROMIUM["quick" if is_quick else "all"][number - 1]
+        shard = [*chromium, "--part", f"{number}/{SHARDS}"]
+        yield Part({"chromium"}, f"the page in Chromium, {number} of {SHARDS}", shard, least)
+    random = [sys.executable, str(HERE / "random_jobs.py"), str(program)]
+    yield Part({"node"}, "random jobs in node", random, 3000)
+    yield Part({"node"}, "the parts of the page in node", ["node", str(HERE / "parts.mjs")], 700)
+    yield Part({"node"}, "the cases in node", ["node", str(HERE / "cases.mjs")], 620)
+    yield Part({"firefox"}, "the page in Firefox", [sys.executable, str(HERE / "firefox.py")], 7)
+
+
 def main() -> int:
     """Runs the tests; answers the exit status."""
     words = [word for word in sys.argv[1:] if word != "--quick"]
     program, is_quick = Path(words[0]).resolve(), "--quick" in sys.argv
     gone = set(missing())
-    tests: list[tuple[set[str], str, list[str]]] = [
-        ({"node"}, "the cases in node", ["node", str(HERE / "cases.mjs")]),
-        ({"node"}, "the parts of the page in node", ["node", str(HERE / "parts.mjs")]),
-        ({"node"}, "random jobs in node", [sys.executable, str(HERE / "random_jobs.py"), str(program)]),
-        ({"chromium"}, "the page in Chromium", [sys.executable, str(HERE / "chromium.py")]),
-        ({"firefox"}, "the page in Firefox", [sys.executable, str(HERE / "firefox.py")]),
-    ]
-    counts = []
-    if is_quick or gone & {"wasm-opt", "rt"}:
-        why = "as was asked" if is_quick else f"{', '.join(sorted(gone & {'wasm-opt', 'rt'}))} is missing"
-        print(f"skipped: the page made again: {why}")
-    else:
-        counts.append(made_again(program))
-    for needs, what, command in tests:
-        if needs & gone:
-            print(f"skipped: {what}: {', '.join(needs & gone)} is missing")
+    wanted = list(parts(program, is_quick))
+    done = []
+    with ThreadPoolExecutor(min(AT_ONCE, os.cpu_count() or 1)) as pool:
+        if not is_quick and gone & {"wasm-opt", "rt"}:
+            print(f"skipped: the page made again: {', '.join(sorted(gone & {'wasm-opt', 'rt'}))} is missing")
+            done.append(("the page bundled again", pool.submit(made_again, program, True)))
         else:
-            counts.append(counted(command))
-    passed, failed = (sum(part) for part in zip(*counts)) if counts else (0, 0)
+            done.append(("the page made again", pool.submit(made_again, program, is_quick)))
+        for part in wanted:
+            if part.needs & gone:
+                print(f"skipped: {part.name}: {', '.join(part.needs & gone)} is missing")
+            else:
+                done.append((part.name, pool.submit(counted, part)))
+        passed = failed = 0
+        for name, future in done:
+            text, right, wrong = future.result()
+            print(f"web: {name}: {right} passed, {wrong} failed", *([text] if text else []), sep="\n", flush=True)
+            passed, failed = passed + right, failed + wrong
     print(f"{passed} passed, {failed} failed")
     return 1 if failed else 0
 

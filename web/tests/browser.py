@@ -12,10 +12,11 @@ import time
 from pathlib import Path
 
 SECONDS = 60
+TO_BEGIN = 20  # seconds in which a page begins
 PROGRAMS = ("chromium", "chromium-browser", "google-chrome", "chrome")
 KEYS = {
     "Enter": 13, "Escape": 27, "ArrowLeft": 37, "ArrowRight": 39, "ArrowUp": 38, "ArrowDown": 40,
-    "Home": 36, "End": 35, "Tab": 9, " ": 32, "F8": 119, "F9": 120,
+    "Home": 36, "End": 35, "Tab": 9, " ": 32, "F8": 119, "F9": 120, "Delete": 46,
 }
 MIDDLE = """(() => {
     const element = document.querySelector(SELECTOR);
@@ -28,6 +29,10 @@ MIDDLE = """(() => {
 def find_browser() -> str | None:
     """The path of Chromium, or None."""
     return next(filter(None, (shutil.which(name) for name in PROGRAMS)), None)
+
+
+class NotBegun(Exception):
+    """The page did not begin, so nothing can be tried on it."""
 
 
 class Browser:
@@ -82,7 +87,12 @@ class Browser:
         self._call("Page.navigate", url="about:blank")
         self.wait("location.href === 'about:blank'")  # (else this way could end the next one)
         self._call("Page.navigate", url=address + fragment)
-        self.wait("document.body?.dataset.ready === 'yes'")
+        try:
+            self.wait("document.body?.dataset.ready !== undefined", TO_BEGIN)
+        except AssertionError as error:
+            raise NotBegun(f"the page is not ready within {TO_BEGIN} seconds") from error
+        if self.value("document.body.dataset.ready") != "yes":
+            raise NotBegun(self.value("document.getElementById('run-note').textContent"))
 
     def value(self, script: str):
         """What a script answers; a promise is waited for."""
@@ -113,8 +123,20 @@ class Browser:
     def click(self, selector: str) -> None:
         """Clicks in the middle of an element."""
         x, y = self.value(MIDDLE.replace("SELECTOR", json.dumps(selector)))
-        for kind in ("mousePressed", "mouseReleased"):
-            self._call("Input.dispatchMouseEvent", type=kind, x=x, y=y, button="left", clickCount=1)
+        self.click_at(x, y)
+
+    def click_at(self, x: float, y: float, modifiers: int = 0, times: int = 1) -> None:
+        """Clicks at a point of the window."""
+        how = {"x": x, "y": y, "button": "left", "modifiers": modifiers}
+        for count in range(1, times + 1):
+            for kind in ("mousePressed", "mouseReleased"):
+                self._call("Input.dispatchMouseEvent", type=kind, clickCount=count, **how)
+
+    def drag(self, selector: str, dx: float) -> None:
+        """Drags an element to the right, or to the left."""
+        x, y = self.value(MIDDLE.replace("SELECTOR", json.dumps(selector)))
+        for kind, at, buttons in (("mousePressed", x, 1), ("mouseMoved", x + dx, 1), ("mouseReleased", x + dx, 0)):
+            self._call("Input.dispatchMouseEvent", type=kind, x=at, y=y, button="left", buttons=buttons, clickCount=1)
 
     def picture(self, path: Path) -> None:
         """Writes a picture of the window."""

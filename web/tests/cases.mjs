@@ -5,7 +5,7 @@
 
 import {readdirSync, readFileSync} from "node:fs";
 
-import {bytesOfText, compiled, serveText, Tally, TOP} from "./common.mjs";
+import {bytesOfText, canary, compiled, serveText, Tally, TOP} from "./common.mjs";
 
 const tally = new Tally();
 const module = await compiled();
@@ -24,15 +24,23 @@ function repeated(text, first, last) {
   return all;
 }
 
-function check(name, answer, want, hasFreeText = false) {
+function check(name, answer, want, hasFreeText = false, counts = tally) {
   const right = answer.status === want.status && answer.output === want.output &&
     (hasFreeText ? answer.errors !== "" : answer.errors === want.errors);
-  tally.count(name, right, () => `got ${show(answer)}, want ${show(want)}`);
+  counts.count(name, right, () => `got ${show(answer)}, want ${show(want)}`);
 }
 
 function show({status, output, errors}) {
   return JSON.stringify([status, output.slice(0, 300), errors.slice(0, 300)]);
 }
+
+const right = {
+  status: 0,
+  output: "5\n",
+  errors: ""
+};
+for (const wrong of [{status: 1}, {output: "6\n"}, {errors: "x"}])
+  await canary((counts) => check("a canary", {...right, ...wrong}, right, false, counts));
 
 for (const line of readFileSync(`${TOP}/tests/cases.jsonl`, "utf8").trim().split("\n")) {
   const one = JSON.parse(line);

@@ -2,39 +2,90 @@
 """Tries the page in headless Chromium, as its readers do.
 
 chromium.py [PAGE] prints what differs, and last 'N passed, M failed'. With --tell it names each trial as it
-begins. With --pictures FOLDER it writes a picture of each deck of the gallery there, for you to look at.
+begins, and how long it took; with --only NAME it does that one alone, with --part I/N each N-th, from the I-th
+on, and with --quick those of large things are left out. With --pictures FOLDER it writes a picture of each deck of the gallery there, for you to look at.
 """
 from __future__ import annotations
 
+import contextlib
+import io
 import sys
+import time
+from collections.abc import Callable
 from pathlib import Path
 
 sys.dont_write_bytecode = True
 
 import trial_runs  # noqa: E402, F401
 import trial_decks  # noqa: E402, F401
+import trial_controls  # noqa: E402, F401
+import trial_class  # noqa: E402, F401
+import trial_large  # noqa: E402, F401
 import trial_looks  # noqa: E402
-from browser import Browser  # noqa: E402
+from browser import Browser, NotBegun  # noqa: E402
 from page import TOP, TRIALS, Page  # noqa: E402
 
 
-def try_all(page: Page, tells: bool) -> None:
-    """Does all trials."""
-    for one in TRIALS:
+def canaries(page: Page) -> None:
+    """What is wrong must be counted as wrong: if it is not, no trial says anything."""
+    def breaks(_: Page) -> None:
+        raise AssertionError("it must be counted")
+
+    looks = [lambda it: it.same("1", 1, 2), lambda it: it.has("2", "ab", "c"), lambda it: it.right("3", False), breaks]
+    with contextlib.redirect_stdout(io.StringIO()):
+        for look in looks:
+            try_one(page, look)
+    if (page.passed, page.failed) != (0, len(looks)):
+        sys.exit("chromium.py does not count what is wrong")
+    page.failed = 0
+
+
+def try_one(page: Page, one: Callable[[Page], None]) -> None:
+    """Does one trial."""
+    try:
+        one(page)
+    except AssertionError as error:
+        page.right("it ends", False, str(error))
+
+
+def try_all(page: Page, trials: list[Callable[[Page], None]], tells: bool) -> None:
+    """Does some trials, as long as the page begins."""
+    for one in trials:
         page.trial = one.__name__.replace("_", " ")
-        if tells:
-            print(page.trial, file=sys.stderr, flush=True)
+        begun = time.monotonic()
         try:
-            one(page)
+            try_one(page, one)
             page.same("the page has no troubles", page.browser.troubles(), [])
-        except AssertionError as error:
-            page.right("it ends", False, str(error))
+        except NotBegun as error:
+            page.right("the page begins", False, str(error))
+            return
+        if tells:
+            print(f"{time.monotonic() - begun:5.1f} s  {page.trial}", file=sys.stderr, flush=True)
+
+
+def chosen(words: list[str]) -> list[Callable[[Page], None]]:
+    """The trials that the words of the command line ask for; those words are taken out."""
+    def taken(name: str) -> str:
+        if name not in words:
+            return ""
+        at = words.index(name)
+        value = words[at + 1]
+        del words[at:at + 2]
+        return value
+
+    only, part = taken("--only"), taken("--part")
+    trials = [it for it in TRIALS if it.__name__ == only.replace(" ", "_")] if only else TRIALS
+    if "--quick" in words:
+        trials = [it for it in trials if it.__module__ != "trial_large"]
+    first, step = map(int, part.split("/")) if part else (1, 1)
+    return trials[first - 1::step]
 
 
 def main() -> int:
     """Tries all; answers the exit status."""
     words = sys.argv[1:]
     folder = Path(words.pop(words.index("--pictures") + 1)) if "--pictures" in words else None
+    trials = chosen(words)
     files = [Path(it) for it in words if not it.startswith("--")]
     file = files[0] if files else TOP / "dist" / "l6.html"
     with Browser() as browser:
@@ -42,7 +93,8 @@ def main() -> int:
             trial_looks.pictures(browser, file, folder)
             return 0
         page = Page(browser, file)
-        try_all(page, "--tell" in words)
+        canaries(page)
+        try_all(page, trials, "--tell" in words)
     print(f"{page.passed} passed, {page.failed} failed")
     return 1 if page.failed else 0
 

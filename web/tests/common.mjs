@@ -4,7 +4,7 @@ import {readFileSync} from "node:fs";
 import {dirname, resolve} from "node:path";
 import {fileURLToPath} from "node:url";
 
-import {serve} from "../src/serve.js";
+import {answered} from "../src/serve.js";
 import {unpacked} from "../src/unpack.js";
 
 export const WEB = resolve(dirname(fileURLToPath(import.meta.url)), "..");
@@ -23,8 +23,8 @@ export function bytesOfText(text) {
   return Uint8Array.from(Buffer.from(text, "latin1"));
 }
 
-export function serveText(module, words, stdin, limit = MEMORY) {
-  const answer = serve(module, {words, input: bytesOfText(stdin), limit});
+export function serveText(module, words, stdin, limit = MEMORY, digest = null) {
+  const answer = answered(module, {words, input: bytesOfText(stdin), limit, digest});
   const text = (bytes) => Buffer.from(bytes).toString("latin1");
   return {...answer, output: text(answer.output), errors: text(answer.errors)};
 }
@@ -52,4 +52,16 @@ export class Tally {
     console.log(`${this.passed} passed, ${this.failed} failed`);
     process.exit(this.failed ? 1 : 0);
   }
+}
+
+// What is wrong must be counted as wrong: if it is not, no test says anything.
+export async function canary(check = (tally) => tally.same("a canary", 1, 2)) {
+  const say = console.log;
+  console.log = () => {};
+  const tally = new Tally();
+  await check(tally);
+  console.log = say;
+  if (tally.failed > 0 && tally.passed === 0) return;
+  console.log("what is wrong is not counted");
+  process.exit(1);
 }

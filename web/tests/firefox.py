@@ -115,10 +115,13 @@ def main() -> int:
     passed = failed = 0
     browser = Firefox()
     try:
-        for what, fragment, script, want in TRIALS:
+        for what, fragment, script, want in [("a canary", "", "1 + 1", 3), *TRIALS]:
             browser.open(page, fragment)
             got = browser.value(script)
-            if got == want:
+            if what == "a canary":
+                if got == want:
+                    raise AssertionError("what is wrong is not found")
+            elif got == want:
                 passed += 1
             else:
                 failed += 1
@@ -155,9 +158,9 @@ STOPPED = f"""(async () => {{
 }})()"""
 TRIALS = [  # what is tried, the link, a script, and its answer
     ("the first deck", "", f"l6.run().then(() => {text('printed')})", "5\n== DONE AFTER 6 STEPS"),
-    ("a step", "", f"l6.step().then(() => {text('where')})", "AT 0.1 AFTER 1 STEPS"),
+    ("a step", "", f"l6.step().then(() => {text('where')})", "AT 0.2 AFTER 2 STEPS"),
     ("a state of an example", "#tree@137", DRAWN, "6 5"),
-    ("the store", "#tree@137", text("store-text"), "6 blocks; 12 words used, 8,180 free"),
+    ("the store", "#tree@137", text("store-text"), "6 blocks; 12 words used, 8,180 free, largest 1,024"),
     ("a listing", "", LISTED, "      1     0   (A,E,5)(A,PD)"),
     ("72 columns fit", "#tree", FITS, True),
     ("an endless deck is stopped", "", STOPPED, "stopped"),

@@ -7,22 +7,23 @@ import {execFileSync} from "node:child_process";
 import {readdirSync, readFileSync} from "node:fs";
 
 import {follow} from "../src/chain.js";
-import {changesOf} from "../src/changes.js";
-import {choose} from "../src/choice.js";
+import {changesOf, endingOf} from "../src/changes.js";
 import {readDeck} from "../src/deck.js";
-import {graphOf} from "../src/graph.js";
+import {graphOf, waysOf} from "../src/graph.js";
 import {arrange} from "../src/layout.js";
 import {linkOf, readLink} from "../src/links.js";
-import {actionAt} from "../src/meaning.js";
-import {freePieceWith, piecesBetween} from "../src/pieces.js";
+import {actionAt, meaningOf, testMeaning} from "../src/meaning.js";
+import {DEFAULTS, RANGES} from "../src/options.js";
 import {Router} from "../src/route.js";
 import {job, partsOf, Session} from "../src/session.js";
+import {textNames} from "../src/texts.js";
 import {stateOf, Transcript} from "../src/transcript.js";
 import {unpacked} from "../src/unpack.js";
 import {likelyText, octal, seenThrough, textOf} from "../src/word.js";
 
-import {compiled, MEMORY, serveText, Tally, TOP, WEB} from "./common.mjs";
+import {canary, compiled, MEMORY, serveText, Tally, TOP, WEB} from "./common.mjs";
 
+await canary();
 const tally = new Tally();
 const module = await compiled();
 const same = (name, got, want) => tally.same(name, got, want);
@@ -112,20 +113,134 @@ same(
   "ends without an exit: on to the next one"
 );
 
+// ---- What tests, conditions, operations, exits and traps are in words
+
+const trapsInWords = {
+  1: "names a field that has no definition",
+  2: "no block begins at the place",
+  3: "the field's word lies outside of the block",
+  4: "a word up to 1,023, and bits from 0 to 35 in order",
+  5: "a division by 0",
+  6: "a block has 1 to 1,024 words",
+  7: "no place is open for the block",
+  8: "the input has too few characters left",
+  9: "nothing is saved that could be restored",
+  10: "the pushdown has 1,024 entries",
+  11: "1,024 calls wait for their return",
+  12: "a call that names no label for it",
+  13: "1 to 6 characters can be asked for",
+  14: "the output would pass its limit",
+};
+for (const [number, part] of Object.entries(trapsInWords)) {
+  const told = endingOf({state: stateOf(`== TRAP ${number} SOME NAME AT 1.1 AFTER 9 STEPS`)});
+  tally.count(`trap ${number}`, told.startsWith(`trap ${number}: `) && told.includes(part), () => told);
+}
+for (const [line, told] of Object.entries({
+       "== DONE AFTER 1 STEPS": "the run is done",
+       "== FAIL AFTER 1 STEPS": "the run has failed",
+       "== LIMIT AFTER 1 STEPS": "the run has made all the steps it may",
+       "AT 1.1 AFTER 1 STEPS": ""
+     }))
+  same(`how it ended: ${line}`, endingOf({state: stateOf(line)}), told);
+
+const testsInWords = {
+  "A,E,5": "A is 5",
+  "A,N,B": "A is not B",
+  "A,G,5": "A is greater than 5",
+  "A,L,5": "A is less than 5",
+  "A,O,5": "A has all bits of 5",
+  "A,Z,5": "A has no bit of 5",
+  "A,EO,17": "A is octal 17",
+  "A,EH,Y": "A is the text “Y”",
+};
+for (const [text, told] of Object.entries(testsInWords))
+  same(`the test ${text}`, testMeaning(text.split(","), text), told);
+const wordsOfConditions = {
+  IF: "whether A is 1",
+  NOT: "whether it is false that A is 1",
+  IFALL: "whether all of these are true: A is 1",
+  IFANY: "whether one of these is true: A is 1",
+  IFNONE: "whether none of these is true: A is 1",
+  IFNALL: "whether one of these is false: A is 1",
+};
+for (const [word, told] of Object.entries(wordsOfConditions))
+  same(
+    `the condition ${word}`, actionAt(readDeck(` ${word} (A,E,1) THEN DONE\n`), 0, 0).says, `asks ${told}`
+  );
+const operationsInWords = {
+  "A,E,5": "A becomes 5",
+  "A,EO,17": "A becomes octal 17",
+  "A,EH,AB": "A becomes the text “AB”",
+  "A,A,B": "adds B to A",
+  "A,S,1": "takes 1 from A",
+  "A,M,10": "multiplies A by 10",
+  "A,V,10": "A becomes the quotient of A by 10",
+  "A,Y,10": "A becomes the remainder of A by 10",
+  "A,N,B": "A keeps the bits that are one in B, too",
+  "A,O,B": "A gets the bits of B beside its own",
+  "A,X,B": "turns the bits of A that are one in B",
+  "A,C,B": "A becomes B with each bit turned",
+  "A,L,6": "shifts A left by 6",
+  "A,R,6": "shifts A right by 6",
+  "A,I,B": "exchanges A and B",
+  "0,DN,18,35": "defines field N: word 0, bits 18 to 35",
+  "S,FC,A": "saves the content of A",
+  "R,FC,A": "A becomes the content saved last",
+  "S,FD,N": "saves the definition of field N",
+  "R,FD,N": "field N gets the definition saved last",
+  "A,GT,1": "gets a block for 1 word; A becomes its place",
+  "A,GT,4,AN": "gets a block for 4 words; A becomes its place, then AN what A was",
+  "A,GT,4,,FULL": "gets a block for 4 words; A becomes its place; goes to FULL if there is none",
+  "A,DP,B": "copies the block at B; A becomes the copy's place",
+  "A,DP,B,,FULL": "copies the block at B; A becomes the copy's place; goes to FULL if there is no room",
+  "A,FR": "frees the block at A; A becomes 0",
+  "A,FR,AN": "frees the block at A; A becomes what AN was",
+  "SORT,DO": "calls SORT",
+  "SORT,DO,ERROR": "calls SORT; if that fails, goes to ERROR",
+  "A,IN,1": "takes 1 of the input into A",
+  "A,IN,1,END": "takes 1 of the input into A; goes to END if it has ended",
+  "A,PR,1": "prints the last character of A",
+  "A,PR,6": "prints the last 6 characters of A",
+  "A,PD": "prints A in decimal",
+  "A,PO": "prints A in octal",
+  "HELLO,PH": "prints “HELLO”",
+  PL: "ends the line",
+};
+for (const [text, told] of Object.entries(operationsInWords))
+  same(`the operation ${text}`, meaningOf(text.split(","), text), told);
+const exits = {
+  DONE: "returns from the latest call, or ends the run",
+  FAIL: "returns to the fail label of the latest call, or ends the run",
+  L: "goes to L",
+};
+for (const [exit, told] of Object.entries(exits))
+  same(`the exit ${exit}`, actionAt(readDeck(`L (PL) ${exit}\n`), 0, 2).says, told);
+
+// ---- Limits and options against the program
+
+const help = serveText(module, ["run", "--help"], "").errors;
+for (const [name, value] of Object.entries(DEFAULTS)) {
+  const line = help.split("\n").find((it) => it.includes(`--${name} `)) ?? "";
+  const numbers = line.replaceAll(",", "").match(/\d+/g)?.map(Number) ?? [];
+  same(`--${name}: range and default`, numbers.slice(-3), [...RANGES[name], value]);
+}
+const long = (count) => readDeck(" \t(PL)\n".repeat(count)).fault;
+same("65,534 statements", long(65_534), null);
+same("and one more", [long(65_535)?.kind, long(65_535)?.card], ["past a limit", 65_534]);
+const texts = textNames(readDeck(" (A,IN,1)(LC,E,A)(LN,E,B)(D,EH,X)(LK,E,5)\n"));
+same("what holds texts", [...texts].sort(), ["C", "bug A", "bug D"]);
+
 // ---- Bytes in the page
 
-const everyByte = Uint8Array.from({length: 1001}, (_, index) => (index * 89) % 256);
-const packed = execFileSync(
-  "python3",
-  [
-    "-c", `
+const PACK = `
 import runpy, sys
-sys.stdout.write(runpy.run_path(sys.argv[1])["packed"](sys.stdin.buffer.read()))`,
-    `${WEB}/bundle`
-  ],
-  {input: everyByte}
-);
-same("bytes are unpacked as they were", [...(await unpacked(packed.toString()))], [...everyByte]);
+sys.stdout.write(runpy.run_path(sys.argv[1])["packed"](sys.stdin.buffer.read()))`;
+let packed = "";
+for (const length of [1000, 1001, 1002, 1003]) { // (the last digits stand for one to four bytes)
+  const bytes = Uint8Array.from({length}, (_, index) => (index * 89) % 256);
+  packed = execFileSync("python3", ["-c", PACK, `${WEB}/bundle`], {input: bytes}).toString();
+  same(`${length} bytes are unpacked as they were`, [...(await unpacked(packed))], [...bytes]);
+}
 tally.count("no digit begins a tag", !packed.includes("<"), () => "one does");
 
 // ---- Jobs
@@ -178,7 +293,8 @@ same("a trap's state has the next number", stateOf("== TRAP 2 NOT A BLOCK AT 4.1
 
 // ---- Sessions, on the module
 
-const ask = async (words, input) => serveText(module, words, Buffer.from(input).toString("latin1"), MEMORY);
+const ask = async (words, input, digest) =>
+  serveText(module, words, Buffer.from(input).toString("latin1"), MEMORY, digest);
 const options = {
   store: 8,
   steps: 1_000_000,
@@ -195,7 +311,7 @@ same("its fields", [...at14.fields], [
   ["N", {word: 0, first: 18, last: 35}], ["V", {word: 1, first: 0, last: 35}]
 ]);
 same("its blocks", [...at14.draw.blocks.keys()], [1024, 1026]);
-same("its lost block", at14.store.pieces.filter((it) => it.isLost).map((it) => it.place), [1028]);
+same("its lost block", [at14.store.lost, at14.store.block(1028).isLost], [1, true]);
 same("its words", at14.words.get(1024), [1026, 5]);
 const trap = await run.view(21);
 same("the state of the trap", trap.state.line, "== TRAP 2 NOT A BLOCK AT 4.1 AFTER 20 STEPS");
@@ -225,56 +341,83 @@ await session(" (A,E,5\n")
 
 const at12 = await run.view(12);
 const at13 = await run.view(13);
-same("what changed in a step", changesOf(at12, at13, ""), [
+same("what changed in a step", changesOf(at12, at13, "", {}), [
   "block 1028 is lost: nothing leads to it", "B was 1028, is 0"
 ]);
 same(
-  "a block is got, of a piece of its size", changesOf(await run.view(11), await run.view(12), "")[0],
+  "a block is got, of a piece of its size", changesOf(await run.view(11), await run.view(12), "", {})[0],
   "got 4 words at 1028 (a free piece of this size was there: none was halved)"
 );
 same(
-  "the first block", changesOf(await run.view(5), await run.view(6), "")[0],
+  "the first block", changesOf(await run.view(5), await run.view(6), "", {})[0],
   "got 2 words at 1024 (a free piece of 1,024 was halved 9 times)"
 );
 same("a longer way", changesOf(await run.view(4), await run.view(6), "")[0], "got 2 words at 1024");
 const firstGet = session(" (A,GT,1)(A,FR)\n");
 same(
-  "ten halvings", changesOf(await firstGet.view(1), await firstGet.view(2), "")[0],
+  "ten halvings", changesOf(await firstGet.view(1), await firstGet.view(2), "", {})[0],
   "got 1 word at 1024 (a free piece of 1,024 was halved 10 times)"
 );
 same(
-  "ten joinings", changesOf(await firstGet.view(2), await firstGet.view(3), "")[0],
-  "freed 1 word at 1024 (joined 10 times, to a free piece of 1,024, which is a whole unit)"
+  "ten joinings", changesOf(await firstGet.view(2), await firstGet.view(3), "", {})[0],
+  "freed 1 word at 1024 (it was joined 10 times, to a free piece of 1,024, which is a whole unit)"
 );
-same("the free pieces", piecesBetween((await firstGet.view(2)).store, 1024, 2048).map((it) => it.size), [
+same("the free pieces", (await firstGet.view(2)).store.piecesBetween(1024, 2048).map((it) => it.size), [
   1, 1, 2, 4, 8, 16, 32, 64, 128, 256, 512
 ]);
-same("the piece with a word", freePieceWith((await firstGet.view(2)).store, 1100), 64);
+same("the piece with a word", (await firstGet.view(2)).store.freePieceWith(1100), 64);
 
 // The allocator's page tells which pieces are free after each of eight calls; the first six are held to it
 // here.
 const eight = session(" (A,GT,1)(B,GT,1)(C,GT,1)(D,GT,1)(A,FR)(C,FR)(E,GT,1)(D,FR)\n", "", {store: 1});
 const freeAt = async (number) =>
-  piecesBetween((await eight.view(number)).store, 1024, 2048).filter((it) => it.isFree).map((it) => it.place);
+  (await eight.view(number)).store.piecesBetween(1024, 2048).filter((it) => it.isFree).map((it) => it.place);
 same("after the first get", (await freeAt(2)).slice(0, 4), [1025, 1026, 1028, 1032]);
 same("after the fourth", (await freeAt(5)).slice(0, 2), [1028, 1032]);
 same("after the second free", (await freeAt(7)).slice(0, 3), [1024, 1026, 1028]);
-const changedBy = async (number) => changesOf(await eight.view(number - 1), await eight.view(number), "")[0];
+const changedBy = async (number) =>
+  changesOf(await eight.view(number - 1), await eight.view(number), "", {})[0];
 same(
   "why a piece is not joined", await changedBy(6),
-  "freed 1 word at 1024 (not joined; the buddy at 1025 is a block)"
+  "freed 1 word at 1024 (it was not joined, since its buddy at 1025 is a block)"
 );
 const pair = session(" (A,GT,1)(B,GT,1)(C,GT,1)(A,FR)(B,FR)\n", "", {store: 1});
 same(
-  "how far one is joined", changesOf(await pair.view(5), await pair.view(6), "")[0],
-  "freed 1 word at 1025 (joined 1 time, to a free piece of 2; the buddy at 1026 is not free as a whole)"
+  "how far one is joined", changesOf(await pair.view(5), await pair.view(6), "", {})[0],
+  "freed 1 word at 1025 (it was joined 1 time, to a free piece of 2, and no more, since the buddy of that piece at " +
+    "1026 is not free as a whole)"
 );
 
 same("a chain", follow("ANV", at14).steps.map((it) => it.value), [1024, 1026, 7]);
-same("a chain's trap", [follow("ANNV", at14).trap, follow("AX", at14).trap], [
-  "trap 2: no block begins at 0", "trap 1: X is not defined"
+same("a chain's trap", [follow("ANNV", at14).trap.text, follow("AX", at14).trap.text], [
+  "no block begins at 0", "X is not defined"
 ]);
-same("no chain", follow("1A", at14).trap, "a chain is 1 to 6 names, the first a letter");
+same(
+  "a field past the block",
+  follow("AX", {...glimpse(at14), fields: new Map([["X", {word: 2, first: 0, last: 5}]])}).trap,
+  {number: 3, name: "X", value: 1024, text: "X is in word 2, and block 1024 has 2"}
+);
+same("no chain", follow("1A", at14).wrong, "a chain is 1 to 6 names, the first a letter");
+
+function glimpse(view) {
+  return {bugs: view.bugs, fields: view.fields, wordsAt: (place) => view.wordsAt(place)};
+}
+
+// ---- Where links lead: those of a tree down, those of a list to the right
+
+const fieldAt = (name, first, last) =>
+  ({key: `0.${first}.${last}`, word: 0, first, last, names: [name], name});
+const leads = (names, links) => {
+  const windows = names.map((name, index) => fieldAt(name, index * 9, index * 9 + 8));
+  const keyOf = (name) => windows.find((it) => it.name === name).key;
+  const all = links.map(([name, from, target]) => ({key: keyOf(name), name, names: [name], from, target}));
+  return windows.map((it) => waysOf(windows, all, new Map()).get(it.key)?.down);
+};
+same("L and R are a tree", leads(["L", "R"], [["L", 1, 2], ["R", 1, 3]]), [true, true]);
+same("L alone is a list", leads(["L"], [["L", 1, 2], ["L", 2, 3]]), [false]);
+same("N leads to the right beside others", leads(["N", "F"], [["N", 1, 2], ["F", 1, 3], ["F", 2, 4]]), [
+  false, true
+]);
 
 // ---- Drawings: no block covers another, and no arrow goes through one
 
@@ -324,7 +467,7 @@ same(
 same("in one line", new Set([...both.places.values()].map((it) => it.y)).size, 1);
 const big = session(" (0,DN,18,35)\nG (L,GT,1,LN,F) G\nF DONE\n");
 await big.run();
-const chosen = choose(await big.view(big.last));
+const chosen = (await big.view(big.last)).shown;
 same(
   "of 8,192 blocks 150 are shown", [chosen.places.length, chosen.hidden, chosen.places[0]], [150, 8042, 9215]
 );
@@ -353,16 +496,22 @@ same(
 
 const own =
   await readLink(await linkOf({deck: " (<b>,PH)\n", input: "x", options, breakpoints: [1, 4], number: 7}));
-same("a link keeps all", own, {deck: " (<b>,PH)\n", input: "x", options, number: 7, breakpoints: [1, 4]});
+same(
+  "a link keeps all", own,
+  {deck: " (<b>,PH)\n", input: "x", options, number: 7, breakpoints: [1, 4], lecture: false}
+);
 same(
   "an example's link", await readLink(await linkOf({example: "tree", breakpoints: [5], number: 137})),
-  {example: "tree", number: 137, breakpoints: [5]}
+  {example: "tree", number: 137, breakpoints: [5], lecture: false}
 );
 for (const bad of
        ["", "#", "#deck=%%", "#deck=AAAA", "#a b",
         "#deck=" +
           "A".repeat(50)])
-  same(`no link: ${bad.slice(0, 12)}`, await readLink(bad), null);
+  tally.count(
+    `no link: ${bad.slice(0, 12)}`,
+    (await readLink(bad)) === null || bad.length > 1 && (await readLink(bad)).damaged, () => "it is read"
+  );
 
 // ---- Exercises: the tutorial's answers print what is asked for, and the decks to begin with don't
 

@@ -59,15 +59,24 @@ def main() -> int:
     """Compares the answers; answers the exit status."""
     program, count = sys.argv[1], int(sys.argv[2]) if sys.argv[2:] else JOBS
     module, failed = Module(), 0
+    same = module.answer(["asm"], b" (PL)\n")
+    if same != native(program, ["asm"], b" (PL)\n") or same == native(program, ["asm"], b" (PO)\n"):
+        print("an answer that differs is not found")
+        return 1
+    different = set()
     for number in range(count):
         job = job_of(number)
         stdin = job.stdin(native(program, ["asm"], job.deck)[1] if job.has_image else b"")
+        different.add((tuple(job.words), stdin))
         come, want = module.answer(job.words, stdin), native(program, job.words, stdin)
         if come != want:
             failed += 1
             shown = [(status, out[-SHOWN:], err[-SHOWN:]) for status, out, err in (come, want)]
             print(f"job {number}, {shlex.join(job.words)}\n  answers {shown[0]}\n  and not {shown[1]}")
     module.end()
+    if len(different) < count * 0.99:
+        print(f"of {count} jobs only {len(different)} differ")
+        failed += 1
     print(f"{count - failed} passed, {failed} failed")
     return 1 if failed else 0
 

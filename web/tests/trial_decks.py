@@ -33,7 +33,7 @@ def faults(page: Page) -> None:
     page.open()
     for deck, (line, why) in FAULTS.items():
         page.put(deck)
-        page.browser.wait("!document.getElementById('fault').hidden")
+        page.browser.wait("document.querySelector('#fault code') !== null")
         shown = page.text("fault")
         page.has("the program's line", shown, line)
         page.has("and what is meant", shown, why)
@@ -145,7 +145,8 @@ def links(page: Page) -> None:
     page.open("#tree@137!5")
     page.same("an example is shown at its state", page.state(), 137)
     page.open("#deck=nothing@@")
-    page.same("a link that says nothing", page.box("deck"), " (A,E,5)(A,PD)\n")
+    page.same("a damaged link", page.box("deck"), " (A,E,5)(A,PD)\n")
+    page.has("it is said", page.text("run-note"), "The link is damaged")
     page.browser.troubles()
 
 
@@ -155,7 +156,6 @@ def links_of_the_manual(page: Page) -> None:
     page.open()
     to_manual = page.value("[...document.querySelectorAll('a')].map(it => it.getAttribute('href'))")
     to_manual = [it for it in to_manual if it.startswith("../")]
-    page.right("the page leads to the manual", "../docs/language.md" in to_manual)
     page.same("each leads to a file", [it for it in to_manual if not (TOP / "dist" / it).is_file()], [])
     known = set(page.value("l6.library.examples.flatMap(({items}) => items).map(it => it.key)"))
     for file in [TOP / "README.md", *sorted((TOP / "docs").glob("*.md"))]:
@@ -216,5 +216,8 @@ def limits(page: Page) -> None:
     notes = page.value("l6.viewer.drawing.layer.notes.textContent")
     page.has("too many blocks to draw", notes, "Not drawn: 8,042 blocks")
     page.fill("store", 9999, "change")
-    page.same("an option out of range", page.box("store"), "255")
-    page.has("is put back, which is said", page.text("options-note"), "store: from 1 to 255")
+    page.same("an option out of range stays", page.box("store"), "9999")
+    wrong = "Units of the store: a number from 1 to 255, and not “9999”."
+    page.same("it is said", page.text("options-note"), wrong)
+    page.click("run")
+    page.has("and nothing is run with it", page.text("empty"), wrong)

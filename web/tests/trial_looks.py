@@ -1,10 +1,15 @@
 """Trials of how the page looks, who can reach it, and what the browser lets it do."""
 from __future__ import annotations
 
+import base64
+import hashlib
+import json
+import re
+import runpy
 from pathlib import Path
 
 from browser import Browser
-from page import Page, trial
+from page import TOP, Page, trial
 
 PICTURES = {  # a state of each deck of the gallery
     "first": 6, "squares": 40, "sum": 500, "primes": 300, "list": 28, "scan": 120, "reverse": 127,
@@ -60,21 +65,13 @@ CONTRASTS = """(() => {
     const bad = [];
     for (const e of document.querySelectorAll('body *:not(svg *)')) {
         const hasText = [...e.childNodes].some(n => n.nodeType === 3 && n.textContent.trim());
-        if (!hasText || !e.getClientRects().length || e.closest('button:disabled, .hidden')) continue;
+        if (!hasText || !e.getClientRects().length || e.closest('[aria-disabled=true], .hidden')) continue;
         const [a, b] = [light(rgb(getComputedStyle(e).color)), light(ground(e))];
         const ratio = (Math.max(a, b) + 0.05) / (Math.min(a, b) + 0.05);
         if (ratio < 4.5) bad.push(`${e.outerHTML.slice(0, 60)} ${ratio.toFixed(2)}`);
     }
     return bad;
 })()"""
-
-ADD_SCRIPT = """(() => {
-    const script = document.createElement('script');
-    script.textContent = 'window.broken = 1';
-    document.body.append(script);
-    return window.broken === undefined;
-})()"""
-
 
 @trial
 def drawings(page: Page) -> None:
@@ -108,20 +105,159 @@ def on_a_phone(page: Page) -> None:
         page.do(f"l6.state({state})")
         kinds.append(page.value("l6.viewer.drawing.graph.isBox"))
     page.same("blocks get small once", sum(one != other for one, other in zip(kinds, kinds[1:])), 1)
-    heights = page.value("[...document.querySelectorAll('.controls button')].map(e => e.offsetHeight)")
+    heights = page.value("[...document.querySelectorAll('.controls button')].map(e => e.offsetHeight).filter(it => it)")
     page.right("buttons are large enough for a thumb", min(heights) >= 36, str(heights))
     page.browser.resize(1400, 900)
 
 
+# What the page must not do, and the directive of the policy that each is against.
+FORBIDDEN = {
+    "fetch('https://example.com/').catch(() => {})": "connect-src",
+    "new Image().src = 'https://example.com/a.png'": "img-src",
+    "(it => (it.textContent = 'window.broken = 1', document.body.append(it)))(document.createElement('script'))":
+        "script-src-elem",
+    "setTimeout('window.broken = 1', 0)": "script-src",
+    "document.body.insertAdjacentHTML('beforeend', '<b onclick=1></b>')": "script-src-attr",
+    "document.body.insertAdjacentHTML('beforeend', '<b style=color:red></b>')": "style-src-attr",
+    "(it => (it.textContent = 'b {}', document.head.append(it)))(document.createElement('style'))": "style-src-elem",
+    "(it => (it.href = 'https://example.com/', document.head.append(it)))(document.createElement('base'))":
+        "base-uri",
+    "(it => (it.action = 'https://example.com/', document.body.append(it), it.submit()))"
+    "(document.createElement('form'))": "form-action",
+    "document.body.insertAdjacentHTML('beforeend', '<iframe src=https://example.com/></iframe>')": "frame-src",
+    "document.body.insertAdjacentHTML('beforeend', '<object data=https://example.com/></object>')": "object-src",
+    "(() => { try { new Worker('data:text/javascript,1'); } catch {} })()": "worker-src",
+}
+
+
+def hashed(text: str) -> str:
+    return f"'sha256-{base64.b64encode(hashlib.sha256(text.encode()).digest()).decode()}'"
+
+
 @trial
 def policy(page: Page) -> None:
+    """The policy is this, and no other: its hashes are those of the page's scripts and style."""
+    text = page.file.read_text("utf-8")
+    parts = runpy.run_path(str(TOP / "web" / "bundle"))
+    script = json.loads(parts["part_of"](text.encode(), b"texts"))["script"]
+    loader = re.search(r"<script>([^<]*(?:<(?!/script)[^<]*)*)</script>", text)[1]
+    style = re.search(r"<style>(.*?)</style>", text, re.DOTALL)[1]
+    want = (f"default-src 'none'; script-src {hashed(loader)} {hashed(script)} 'wasm-unsafe-eval'; worker-src blob:; "
+            f"style-src {hashed(style)}; base-uri 'none'; form-action 'none'")
     page.open()
-    refused = page.value("fetch('https://example.com/').then(() => false, () => true)")
-    page.right("nothing is fetched", refused)
-    page.right("no script is run that the page has not", page.value(ADD_SCRIPT))
-    page.value("new Promise(done => { setTimeout('window.broken = 1', 0); setTimeout(done, 50); })")
-    page.right("no text is run", page.value("window.broken === undefined"))
+    policies = "[...document.querySelectorAll('meta[http-equiv]')].map(it => it.content)"
+    page.same("the policy", page.value(policies), [want])
+    page.same("nothing is against it", page.browser.troubles(), [])
+    for script, directive in FORBIDDEN.items():
+        page.open()
+        page.value("window.seen = []; document.addEventListener('securitypolicyviolation', "
+                   "(it) => seen.push(it.effectiveDirective))")
+        page.value(f"void ({script})")
+        page.value("new Promise(done => setTimeout(done, 60))")
+        page.same(f"refused: {script[:60]}", page.value("[...new Set(seen)]"), [directive])
+        page.right("it was not done", page.value("window.broken === undefined"))
     page.browser.troubles()
+
+
+COLOURS = {"block": "rgb(45, 108, 171)", "lost": "rgb(185, 56, 21)", "changed": "rgb(180, 83, 9)",
+           "f0": "rgb(11, 107, 95)", "f1": "rgb(123, 45, 142)", "f2": "rgb(163, 74, 6)"}
+BLOCKS = """Object.fromEntries([...document.querySelectorAll('.block')].map(it => [it.dataset.place,
+    [it.getAttribute('class'), it.getAttribute('aria-label'),
+        getComputedStyle(it.querySelector('.top')).fill]]))"""
+ARROWS = """[...document.querySelectorAll('.arrow')].map(it => [it.dataset.from, it.dataset.field, it.dataset.to,
+    getComputedStyle(it.querySelector('path')).stroke].join(' ')).sort()"""
+PLACES = "Object.fromEntries(l6.viewer.drawing.graph.blocks.map(({place, x, y}) => [place, [x, y]]))"
+# The stretches that two arrows share, other than the last ones into the same block.
+SHARED = """(() => {
+    const points = [...document.querySelectorAll('.arrow')].map(arrow => {
+        const path = arrow.querySelector('path');
+        const length = path.getTotalLength();
+        return {to: arrow.dataset.to, all: Array.from({length: Math.floor(length / 5)},
+            (_, at) => path.getPointAtLength(at * 5 + 8)).slice(0, -4)};
+    });
+    let shared = 0;
+    points.forEach(({all, to}, index) => {
+        for (const other of points.slice(index + 1)) {
+            if (other.to === to) continue;
+            const near = all.filter(a => other.all.some(b => Math.hypot(a.x - b.x, a.y - b.y) < 1));
+            if (near.length > 3) shared++;
+        }
+    });
+    return shared;
+})()"""
+STRIP = """((x, y) => [...document.getElementById('strip').getContext('2d').getImageData(x, y, 1, 1).data])"""
+
+
+@trial
+def what_is_lost(page: Page) -> None:
+    """The blocks of the deck `lost`, their classes, texts and colours."""
+    page.open("#lost@14")
+    page.same("blocks", page.value(BLOCKS), {
+        "1024": ["block", "Block 1024, 2 words, A leads here. N leads to 1026, V 5", COLOURS["block"]],
+        "1026": ["block", "Block 1026, 2 words. N 0, V 7", COLOURS["block"]],
+        "1028": ["block lost", "Block 1028, 4 words, lost. N 0, V 0", COLOURS["lost"]],
+    })
+    page.same("arrows", page.value(ARROWS), [f"1024 N 1026 {COLOURS['f0']}"])
+    page.same("the lost block says so", page.value("document.querySelector('.lost .size').textContent"), "4 words, lost")
+    page.same("what is said of it", page.value("document.querySelector('.note.lost').textContent"), "Lost: nothing leads to it")
+    scale = page.value("l6.viewer.strip.scale")
+    lost = page.value(f"{STRIP}({int(6 * scale)}, 20)")[:3]
+    page.right("it has its colour in the strip", lost[0] > 180 and lost[0] - lost[2] > 90, str(lost))
+    page.same("as others have theirs", page.value(f"{STRIP}({int(1 * scale)}, 33)")[:3], [45, 108, 171])
+    page.same("the drawing in words", page.value("l6.viewer.drawing.picture.ariaLabel"),
+              "2 blocks, and 1 lost; A leads to 1024; N of 1024 to 1026")
+    page.do("l6.state(7)")
+    page.do("l6.step()")
+    page.same("a link that has changed", page.value(ARROWS), [f"1024 N 1026 {COLOURS['changed']}"])
+    page.same("its field, too", page.value("[...document.querySelectorAll('.cell.changed .name')].map(it => it.textContent)"),
+              ["N"])
+    page.same("a block that is new", page.value("[...document.querySelectorAll('.block.new')].map(it => it.dataset.place)"),
+              ["1026"])
+    stroke = "getComputedStyle(document.querySelector('.block.new .edge')).stroke"
+    page.same("and how it is marked", page.value(stroke), COLOURS["changed"])
+    page.do("l6.state(1)")
+    page.do("l6.step()")
+    page.same("a field that is defined is marked", page.count("#fields .changed"), 1)
+
+
+@trial
+def how_a_tree_stands(page: Page) -> None:
+    page.open("#tree@137")
+    blocks = page.value(BLOCKS)
+    page.same("its blocks", sorted(blocks), ["1024", "1026", "1028", "1030", "1032", "1034"])
+    page.same("the root", blocks["1024"], [
+        "block", "Block 1024, 2 words, T leads here. L leads to 1026, R leads to 1028", COLOURS["block"]])
+    arrows = [it.split(" rgb")[0] for it in page.value(ARROWS)]
+    page.same("its arrows", arrows, ["1024 L 1026", "1024 R 1028", "1026 L 1032", "1026 R 1030", "1032 L 1034"])
+    places = page.value(PLACES)
+    for parent, left, right in (("1024", "1026", "1028"), ("1026", "1032", "1030"), ("1032", "1034", None)):
+        at = places[parent]
+        page.right(f"what L leads to is on the left of {parent}", places[left][0] < at[0] and places[left][1] > at[1])
+        if right:
+            page.right(f"what R leads to on the right of {parent}", places[right][0] > at[0] and places[right][1] > at[1])
+    for name, state in (("tree", 137), ("queue", 99), ("words", 900), ("collect", 87)):
+        page.example(name, state)
+        page.same(f"no two arrows of {name} run on one another", page.value(SHARED), 0)
+
+
+@trial
+def access(page: Page) -> None:
+    """What is spoken, what has the focus, and how it is seen."""
+    page.open()
+    live = page.value("[...document.querySelectorAll('[aria-live], [role=status], [role=alert]')].map(it => "
+                      "`${it.id} ${it.getAttribute('aria-live') ?? it.getAttribute('role')}`).sort()")
+    page.same("what is spoken by itself", live, [
+        "fault status", "led polite", "options-note alert", "paper-note status", "spoken polite", "task-note status"])
+    page.value("document.activeElement.blur()")
+    page.browser.key("Tab")
+    skip = page.value("(it => [it.className, it.getBoundingClientRect().top >= 0, getComputedStyle(it).outlineStyle])"
+                      "(document.activeElement)")
+    page.same("the first is the skip link, which is seen", skip, ["skip", True, "solid"])
+    seen = []
+    for _ in range(8):
+        page.browser.key("Tab")
+        seen.append(page.value("getComputedStyle(document.activeElement).outlineStyle"))
+    page.same("each that has the focus has a ring", set(seen), {"solid"})
 
 
 @trial
@@ -135,7 +271,34 @@ def reached_by_all(page: Page) -> None:
     for dark in (False, True):
         page.browser.resize(1400, 900, dark)
         page.same(f"texts can be read, dark {dark}", page.value(CONTRASTS), [])
+        hints = page.value("getComputedStyle(document.getElementById('chain'), '::placeholder').color")
+        ground = page.value("getComputedStyle(document.getElementById('chain')).backgroundColor")
+        page.right("and hints", contrast(*(hexadecimal(it) for it in (ground, hints))) >= 4.5, f"{hints} on {ground}")
+    page.open("#lost@14")
+    page.browser.resize(1400, 900, True)
+    page.do("l6.state(14)")
+    inks = page.value("(it => ['--block', '--block-ink', '--lost', '--lost-ink'].map(name => "
+                      "it.getPropertyValue(name).trim()))(getComputedStyle(document.documentElement))")
+    for ground, ink in (inks[:2], inks[2:]):
+        page.right(f"{ink} on {ground} can be read", contrast(ground, ink) >= 4.5, str(contrast(ground, ink)))
     page.browser.resize(1400, 900)
+
+
+def hexadecimal(colour: str) -> str:
+    """A colour as #rrggbb."""
+    return "#" + "".join(f"{int(it):02x}" for it in re.findall(r"\d+", colour)[:3])
+
+
+def contrast(one: str, other: str) -> float:
+    """The contrast of two colours."""
+    def light(colour: str) -> float:
+        digits = colour[1:] if len(colour) == 7 else "".join(it * 2 for it in colour[1:])
+        parts = [int(digits[at:at + 2], 16) / 255 for at in (0, 2, 4)]
+        linear = [it / 12.92 if it <= 0.03928 else ((it + 0.055) / 1.055) ** 2.4 for it in parts]
+        return sum(share * it for share, it in zip((0.2126, 0.7152, 0.0722), linear))
+
+    low, high = sorted((light(one), light(other)))
+    return (high + 0.05) / (low + 0.05)
 
 
 def pictures(browser: Browser, file: Path, folder: Path) -> None:

@@ -4,10 +4,11 @@ from __future__ import annotations
 from page import Page, trial
 
 JOININGS = [  # of the deck "join", as docs/allocator.md has them
-    "freed 1 word at 1027 (not joined; the buddy at 1026 is a block)",
-    "freed 1 word at 1026 (joined 1 time, to a free piece of 2; the buddy at 1024 is not free as a whole)",
-    "freed 1 word at 1024 (not joined; the buddy at 1025 is a block)",
-    "freed 1 word at 1025 (joined 10 times, to a free piece of 1,024, which is a whole unit)",
+    "freed 1 word at 1027 (it was not joined, since its buddy at 1026 is a block)",
+    "freed 1 word at 1026 (it was joined 1 time, to a free piece of 2, and no more, since the buddy of that piece at "
+    "1024 is not free as a whole)",
+    "freed 1 word at 1024 (it was not joined, since its buddy at 1025 is a block)",
+    "freed 1 word at 1025 (it was joined 10 times, to a free piece of 1,024, which is a whole unit)",
 ]
 
 
@@ -30,7 +31,7 @@ def an_endless_deck(page: Page) -> None:
     page.open()
     page.put("L (A,A,1) L\n", steps=1_000_000_000)
     page.value("void l6.run()")
-    page.browser.wait("!document.getElementById('stop').disabled")
+    page.browser.wait("document.getElementById('stop').ariaDisabled === 'false'")
     page.same("the page answers while it runs", page.value("1 + 1"), 2)
     page.click("stop")
     page.same("it is stopped", page.text("run-note"), "stopped")
@@ -48,7 +49,7 @@ def an_endless_deck(page: Page) -> None:
 def a_session(page: Page) -> None:
     page.open("#lost")
     page.click("step")
-    page.same("a step", page.text("where"), "AT 0.1 AFTER 1 STEPS")
+    page.same("a step that shows something", page.text("where"), "AT 0.2 AFTER 2 STEPS")
     page.value("l6.toggle(3)")
     page.click("mark-next")
     page.same("a breakpoint", page.text("where"), "AT 3.0 AFTER 14 STEPS")
@@ -56,10 +57,10 @@ def a_session(page: Page) -> None:
     page.same("its blocks", page.value("[...l6.viewer.drawing.groups.keys()]"), [1024, 1026, 1028])
     page.same("its lost block", page.count(".block.lost"), 1)
     page.click("back")
-    page.same("nothing changed in that step", page.text("changes"), "")
+    page.same("nothing changed on that way", [page.state(), page.text("changes")], [13, ""])
     page.click("back")
-    page.has("what changed", page.text("changes"), "block 1028 is lost no more")
-    page.has("and the bug", page.text("changes"), "B was 0, is 1028")
+    undone = "Undone: block 1028 is lost: nothing leads to it · B was 1028, is 0"
+    page.same("what was undone", page.text("changes"), undone)
     page.same("the bug is marked in the drawing", page.count(".pill.changed"), 1)
     page.same("and in the table", page.count("#bugs .changed"), 1)
     page.click("end")
@@ -88,7 +89,7 @@ def what_is_said_aloud(page: Page) -> None:
     page.has("how it ended", page.text("spoken"), ending)
     page.open("#store@6")
     page.click("step")
-    page.has("why pieces do not join", page.text("spoken"), "not joined; the buddy at 1027 is a block")
+    page.has("why pieces do not join", page.text("spoken"), "it was not joined, since its buddy at 1027 is a block")
     page.open("#tree@137")
     drawing = "l6.viewer.drawing.picture.getAttribute('aria-label')"
     page.has("the drawing", page.value(drawing), "6 blocks; T leads to 1024")
@@ -110,12 +111,11 @@ def blocks_and_chains(page: Page) -> None:
     page.has("a chain that leads too far", page.text("led"), "trap 2")
     page.open("#store@0")
     page.do("l6.step()")
-    page.do("l6.step()")
     page.has("halvings", page.text("changes"), "a free piece of 1,024 was halved 10 times")
     page.has("the picture has a text", page.label("levels"), "1536 free of 512")
     page.open("#join@0")
     freed = []
-    for _ in range(11):
+    for _ in range(8):
         page.do("l6.step()")
         freed.append(page.text("changes").removeprefix("Changed ").partition(" · ")[0])
     page.same("joinings", [it for it in freed if it.startswith("freed")], JOININGS)
@@ -129,7 +129,7 @@ def blocks_and_chains(page: Page) -> None:
 def keys(page: Page) -> None:
     page.open("#lost")
     page.value("document.activeElement.blur()")
-    for key, state in (("n", 1), ("ArrowRight", 2), ("p", 1), ("ArrowLeft", 0), ("End", 21), ("Home", 0)):
+    for key, state in (("n", 2), ("ArrowRight", 3), ("p", 2), ("ArrowLeft", 0), ("End", 21), ("Home", 0)):
         page.key(key)
         page.same(f"the key {key}", page.state(), state)
     page.key("m")
@@ -146,7 +146,7 @@ def keys_in_the_deck_and_the_drawing(page: Page) -> None:
     page.open("#lost@0")
     page.focus("deck", 0)
     page.key("F8")
-    page.same("F8 in the deck", page.state(), 1)
+    page.same("F8 in the deck", page.state(), 2)
     page.key("F8", modifiers=8)
     page.same("Shift F8 in the deck", page.state(), 0)
     page.key("Enter", modifiers=2)
@@ -174,17 +174,17 @@ def keys_in_the_deck_and_the_drawing(page: Page) -> None:
 
 @trial
 def playing(page: Page) -> None:
-    page.open("#list")
+    page.open("#lost")
     page.value("document.getElementById('speed').value = '40'")
     page.browser.click("#play")
     page.browser.wait("(l6.view?.state.number ?? 0) >= 5")
     page.browser.click("#play")
     page.right("it is paused", page.value("!l6.player.isPlaying"))
     page.browser.click("#play")
-    page.browser.wait("l6.view?.state.number === 114 && !l6.player.isPlaying")
-    page.has("it plays to the end", page.text("printed"), "DESSERTS")
+    page.browser.wait("l6.view?.state.number === 21 && !l6.player.isPlaying")
+    page.has("it plays to the end", page.text("printed"), "12\n== TRAP 2")
     page.browser.click("#play")
-    page.browser.wait("[1, 2, 3].includes(l6.view?.state.number)")
+    page.browser.wait("[2, 3, 6].includes(l6.view?.state.number)")
     page.right("at the end it begins at the start", page.value("l6.player.isPlaying"))
     page.browser.click("#stop")
     page.right("Stop ends it, too", page.value("!l6.player.isPlaying"))

@@ -1,0 +1,68 @@
+// The calls that wait, and what is saved on the two pushdowns, by name and value. The debugger tells how many
+// there are; which they are follows from the steps that led to the state: the latest call, or save, that was
+// not taken back since.
+
+import {operationAt, stackingAt} from "./steps.js";
+
+const MOST_FRAMES = 24;    // of each kind that are found
+const MOST_BACK = 400_000; // states that are gone back through for them
+
+export class Frames {
+  constructor(session) {
+    this.session = session;
+    this.values = new Map(); // of what was saved, by the numbers of the states before it was
+  }
+
+  // The calls, contents and definitions of a state, newest first; of each the number of the state before it
+  // was called or saved, the spot, and its operation; of what was saved also the value.
+  async of(view) {
+    const {returns, contents, definitions} = view.amounts;
+    const found = {returns: [], contents: [], definitions: []};
+    if (returns + contents + definitions > 0) await this.find(view, found);
+    await this.addContents(found.contents);
+    await this.addDefinitions(found.definitions);
+    return found;
+  }
+
+  async find(view, found) {
+    const {trail, reading} = this.session;
+    const wanted = (name) => Math.min(MOST_FRAMES, view.amounts[name]);
+    const left = {returns: 0, contents: 0, definitions: 0}; // that were taken back later
+    const isWhole = () => Object.keys(found).every((name) => found[name].length >= wanted(name));
+    const least = Math.max(0, view.state.steps - MOST_BACK);
+    for (let number = view.state.steps - 1; number >= least && !isWhole(); number--) {
+      const spot = await trail.near(number, -4);
+      if (!spot) continue;
+      const stacking = stackingAt(reading, spot);
+      if (!stacking) continue;
+      const {name, change} = stacking;
+      if (change < 0)
+        left[name]++;
+      else if (left[name] > 0)
+        left[name]--;
+      else if (found[name].length < wanted(name))
+        found[name].push({number, spot, operation: operationAt(reading, spot)});
+    }
+  }
+
+  async addContents(entries) {
+    const unknown = entries.filter(({number}) => !this.values.has(number)).reverse();
+    if (unknown.length) {
+      const wanted = unknown.map(({number, operation}) => ({number, chain: operation.elements[2]}));
+      const values = await this.session.values.ofChains(wanted);
+      unknown.forEach(({number}, index) => this.values.set(number, values[index]));
+    }
+    for (const entry of entries) entry.value = this.values.get(entry.number);
+  }
+
+  async addDefinitions(entries) {
+    const unknown = entries.filter(({number}) => !this.values.has(number)).reverse();
+    if (unknown.length) {
+      const states = await this.session.values.look(unknown.map(({number}) => number), () => undefined);
+      unknown.forEach(({number, operation}, index) => {
+        this.values.set(number, states[index].fields.get(operation.elements[2]) ?? null);
+      });
+    }
+    for (const entry of entries) entry.value = this.values.get(entry.number);
+  }
+}

@@ -1,0 +1,174 @@
+// Why a run has trapped: which chain could not be followed, with the values on the way, and what happened
+// before to the block that it came to.
+
+import {follow, valueOf} from "./chain.js";
+import {make} from "./dom.js";
+import {operationAt} from "./steps.js";
+import {count, withCommas} from "./word.js";
+
+const MOST_BACK = 400_000; // states that are gone back through for the step that freed a block
+const FIRST_FREES = 32;    // frees that are looked at at once, next to the trap
+const MOST_FREES = 1024;
+
+const FULL = 1024; // entries of a pushdown, and calls that wait
+
+// Puts the explanation into a frame. Answers the chain that could not be followed, or {}; null where there is
+// nothing to be said beyond the trap's own text.
+export async function showTrap(frame, view, session, action, goTo) {
+  const number = Number(/TRAP (\d+)/.exec(view.state.line)[1]);
+  const told = number <= 3 ? await chainTrap(number, view, session) : await otherTrap(number, view, session);
+  if (!told) return null;
+  const {text, freed} = told;
+  frame.replaceChildren(...text, ...(freed ? freedInWords(freed, goTo) : []), ".");
+  return told;
+}
+
+function freedInWords({number, operation}, goTo) {
+  const state = `state ${number + 1}`;
+  return [
+    "whose block was freed at ",
+    make("button", {type: "button", class: "to", onclick: () => goTo(number + 1)}, state),
+    ` by (${operation.text})`
+  ];
+}
+
+// ---- Chains
+
+// The chain that trapped: the first, in the order in which they are read, that can't be followed.
+async function chainTrap(number, view, session) {
+  for (const chain of chainsAt(session.reading, view.state)) {
+    const {steps, trap} = await followed(chain, view, session);
+    if (trap?.number === number) return tellChain(chain, steps, trap, view, session);
+  }
+  const pointer = number === 2 ? pointerAt(session.reading, view.state) : null;
+  if (!pointer) return null;
+  const {steps} = await followed(pointer, view, session);
+  return steps?.length ?
+    tellChain(pointer, steps, {number, name: "", value: steps.at(-1).value}, view, session) :
+    null;
+}
+
+async function followed(chain, view, session) {
+  for (;;) {
+    const answer = follow(chain, view);
+    if (answer.missing === undefined) return answer;
+    await session.addBlock(view, answer.missing);
+  }
+}
+
+async function tellChain(chain, steps, trap, view, session) {
+  const [last, code] = [steps.at(-1), make("code", {}, chain)];
+  const what = `${last.place === null ? last.name : last.text} is ${last.value}`;
+  const way = trap.name ? [code, ` ends before ${trap.name}: `] : [];
+  if (trap.number === 1) return {steps, trap, text: [code, `: ${trap.name} has no definition here`]};
+  if (trap.number === 3) {
+    const {size} = view.store.block(last.value);
+    const {word} = view.fields.get(trap.name);
+    const text = `${what}, a block of ${count(size, "word")}, and ${trap.name} is in word ${word}`;
+    return {steps, trap, text: [...way, text, size === 1 ? ", counted from 0" : ""]};
+  }
+  const {text, freed} = await whyNoBlock(last.value, view, session);
+  return {steps, trap, freed, text: [...way, `${what}, ${text}`]};
+}
+
+// Why no block begins at a place.
+async function whyNoBlock(place, view, session) {
+  if (place === 0) return {text: "no block"};
+  const piece = view.store.pieceWith(place);
+  if (!piece) return {text: "which is no place of the store"};
+  if (!piece.isFree) return {text: `which is inside the block at ${piece.place}`};
+  const freed = await freeOf(place, view, session);
+  if (freed) return {text: "", freed};
+  return {text: freed === null ? "which was never a block" : "where no block begins"};
+}
+
+// The latest step that freed the block at a place: null where there was none, undefined where that is not
+// known. A block is gone only by such a step.
+async function freeOf(place, view, session) {
+  const {trail, reading, values} = session;
+  const least = Math.max(0, view.state.steps - MOST_BACK);
+  let size = FIRST_FREES;
+  let frees = [];
+  for (let number = view.state.steps - 1; number >= least; number--) {
+    const spot = await trail.near(number, -4);
+    const operation = spot && operationAt(reading, spot);
+    if (operation?.elements[1] === "FR") frees.push({number, operation, chain: operation.elements[0]});
+    if (frees.length < size && number > least) continue;
+    const places = frees.length ? await values.ofChains([...frees].reverse()) : [];
+    const found = places.lastIndexOf(place);
+    if (found >= 0) return frees[frees.length - 1 - found];
+    frees = [];
+    size = Math.min(MOST_FREES, size * 2);
+  }
+  return least === 0 ? null : undefined;
+}
+
+// The chains that are read at a spot, in their order.
+function chainsAt(deck, state) {
+  const operation = operationAt(deck, state);
+  const groups = operation ? [operation] : deck.statements[state.statement]?.tests ?? [];
+  return groups.flatMap(({elements}) => chainsOf(elements, !operation)).filter((it) => /^[A-Z]/.test(it));
+}
+
+function chainsOf(elements, isTest) {
+  const [first, verb = "", third = "", fourth = ""] = elements;
+  if (isTest) return verb.length === 1 ? [first, third] : [first];
+  if (elements.length === 4 && /^D.$/.test(verb)) return [first, third, fourth];
+  if (verb === "FC") return [third];
+  if (["FD", "DO", "PH"].includes(verb) || elements.length === 1) return [];
+  if (/^.[OH]$/.test(verb) && elements.length === 3) return [first];
+  return elements.length < 3 ? [first] : [first, third];
+}
+
+// The chain whose value must be the place of a block, or null.
+function pointerAt(deck, state) {
+  const elements = operationAt(deck, state)?.elements ?? [];
+  if (elements[1] === "FR") return elements[0];
+  return elements[1] === "DP" && /^[A-Z]/.test(elements[2]) ? elements[2] : null;
+}
+
+// ---- Other traps
+
+async function otherTrap(number, view, session) {
+  const operation = operationAt(session.reading, view.state);
+  const elements = operation?.elements ?? [];
+  for (const chain of elements.filter((it) => /^[A-Z][A-Z0-9]{0,5}$/.test(it)))
+    await followed(chain, view, session);
+  const value = (text) => valueOf(text, view);
+  const is = (text) =>
+    (/^[0-9]/.test(text) ? `${Number(text)}` : `${text} is ${withCommas(value(text) ?? 0)}`);
+  const text = TELL[number]?.(elements, {is, value, view, session});
+  return text ? {text: [text[0].toUpperCase() + text.slice(1)]} : null;
+}
+
+// What there is to say of a trap, by its number; `is` says what a chain or number is.
+const TELL = {
+  4: ([word, , first, last], {is}) =>
+    `the word: ${is(word)}; the first bit: ${is(first)}; the last: ${is(last)}`,
+  5: ([chain, , divisor], {is}) => `the divisor of ${chain}: ${is(divisor)}`,
+  6: ([, , size], {is}) => `the size that is asked for: ${is(size)}`,
+  7: (elements, {value, view}) => storeFull(elements, value, view),
+  8: ([, , size], {is, view, session}) =>
+    `asked for: ${is(size)}; left: ${count(charactersOf(session.input) - view.amounts.input, "character")}`,
+  9: ([, verb]) => `no ${verb === "FC" ? "content" : "definition"} is saved here`,
+  10: ([, verb]) => `${withCommas(FULL)} ${verb === "FC" ? "contents" : "definitions"} are saved`,
+  11: ([label]) => `${withCommas(FULL)} calls wait, and ${label} is called once more`,
+  12: () => "the latest call has no second label, to which FAIL could lead",
+  13: ([, , size], {is}) => `the number of characters: ${is(size)}`,
+  14: (_, {view, session}) => `${count(view.amounts.output, "byte")} are printed, and ${
+    withCommas(session.options.output)} is the most`,
+};
+
+function storeFull([, verb, third], value, view) {
+  const wanted = verb === "DP" ? view.store.block(value(third))?.size : value(third);
+  const {free, largestFree} = view.store;
+  const largest = largestFree ? `the largest free piece has ${withCommas(largestFree)}` : "none is free";
+  return `${count(wanted ?? 0, "word")} asked for; ${count(free, "word")} free, and ${largest}`;
+}
+
+// How many characters an input has: each line has 80.
+function charactersOf(input) {
+  const lines = input.split("\n");
+  if (lines.at(-1) === "") lines.pop();
+  return lines.length * 80;
+}

@@ -1,0 +1,30 @@
+// A state of a run as the page shows it.
+
+import {Store} from "./store.js";
+
+export class View {
+  constructor({state, bugs, amounts, fields, draw, shown, store, output, cost}) {
+    Object.assign(this, {state, bugs, amounts, fields, draw, shown, cost});
+    this.store = new Store(store);
+    this.words = new Map(); // of blocks, by their places
+    this.out = output;      // what was printed, from a place on, up to this state or some later one
+  }
+
+  // What was printed up to this state, or the end of that.
+  get output() {
+    const {from, text} = this.out;
+    const printed = text.slice(0, this.amounts.output - from);
+    return from > 0 ? `.. ${printed}` : printed;
+  }
+
+  // What was printed after so many bytes, as far as it is known.
+  printedSince(bytes) {
+    const {from, text} = this.out;
+    return text.slice(Math.max(0, bytes - from), this.amounts.output - from);
+  }
+
+  // The words of the block at a place: null where none begins, undefined where they were not asked for.
+  wordsAt(place) {
+    return this.store.block(place) ? this.words.get(place) : null;
+  }
+}

@@ -1,0 +1,118 @@
+"""Trials of large things: many blocks, long decks and printouts, long files."""
+from __future__ import annotations
+
+from page import Page, trial
+
+MANY = " (0,DN,0,35)\nG (L,GT,1,LN,F)(C,A,1)\n IF (C,L,250000) THEN G\nF DONE\n"
+TO_MAIN = """(() => {
+    window.most = 0;
+    const answer = l6.engine.settle.bind(l6.engine);
+    l6.engine.settle = (data) => { most = Math.max(most, data.answer?.output.length ?? 0); answer(data); };
+    l6.engine.worker.onmessage = ({data}) => l6.engine.settle(data);
+})()"""
+
+
+@trial
+def many_blocks(page: Page) -> None:
+    """No more is sent to the page than is shown, and what is left out is said."""
+    page.open()
+    page.value(TO_MAIN)
+    page.put(MANY, store=255, steps=100_000_000)
+    page.do("l6.run()")
+    page.has("250,000 blocks", page.text("store-text"), "250,000 blocks; 250,000 words used")
+    page.right("of the answers little is sent", page.value("most") <= 100_000, str(page.value("most")))
+    page.same("150 are drawn", page.count(".block"), 150)
+    page.has("what is left out is said", page.value("l6.viewer.drawing.layer.notes.textContent"),
+             "Not drawn: 249,850 blocks")
+    page.do("l6.back()")
+    page.has("a step back", page.text("where"), "AT 3.0 AFTER 1500002 STEPS")
+    page.value("void l6.state(700000)")
+    page.same("the page answers meanwhile", page.value("1 + 1"), 2)
+    page.browser.wait("!l6.isBusy && !l6.engine.isBusy")
+    page.same("any state", page.state(), 700_000)
+
+
+@trial
+def long_decks(page: Page) -> None:
+    page.open()
+    page.put(" (A,E,1)(B,A,1)\n" * 63_000)
+    page.browser.wait("!l6.engine.isBusy")
+    page.focus("deck", 4)
+    page.browser.type("B")
+    page.right("a long deck is read after the key", page.value("l6.readText !== document.getElementById('deck').value"))
+    page.browser.wait("l6.readText === document.getElementById('deck').value")
+    page.right("once", page.value("l6.editor.deck.statements.length") == 63_000 or page.value("l6.editor.deck.fault"))
+    page.do("l6.run()")
+    page.has("and run", page.text("fault"), "l6: card 1: no reading")
+
+
+@trial
+def long_files(page: Page) -> None:
+    page.open()
+    for what, size, part in (
+        ("a file longer than a job", 17 * 2**20, "a job has at most 16,777,216"),
+        ("a deck that is too long", 2**20 + 9, "its deck has 1,048,585 bytes, and 1,048,576 is the most"),
+    ):
+        page.do(f"l6.library.openFile(new File([' (A,E,1)\\n'.repeat({size} / 9 + 1).slice(0, {size})], 'a.deck'))")
+        page.has(what, page.text("run-note"), part)
+        page.same("and is not read into the editor", page.box("deck"), " (A,E,5)(A,PD)\n")
+    page.do("l6.library.openFile(new File([' (A,E,1)\\n'.repeat(116508)], 'a.deck'))")
+    page.has("a shorter one is opened", page.text("run-note"), "opened a.deck")
+    page.value("l6.library.isChanged = false")
+
+
+@trial
+def long_printouts(page: Page) -> None:
+    page.open()
+    page.put("L (A,A,1)(A,PD)(PL)\n IF (A,L,50000) THEN L\n")
+    page.do("l6.run()")
+    page.right("the end of a long printout is shown", page.text("printed").endswith("\n50000\n== DONE AFTER 350001 STEPS"),
+               page.text("printed")[-80:])
+    page.has("and what is left out", page.text("printed")[:3], ".. ")
+    for way in ("back", "back", "back", "back", "step"):
+        page.do(f"l6.{way}()")
+    page.same("what came last is marked", page.value("document.querySelector('#printed .fresh').textContent"), "50000")
+
+
+@trial
+def damaged_links(page: Page) -> None:
+    """A link that is damaged says so, and breaks nothing."""
+    page.open("#tree@137")
+    page.do("l6.library.makeLink()")
+    page.put(" (A,E,5)(A,PD)\n")
+    page.do("l6.library.makeLink()")
+    whole = page.value("location.hash")
+    page.has("a whole link", whole, "#deck=")
+    for damaged in (whole[:-9], whole[:20], whole + "%", "#deck=", "#nothing", "#tree@99999999999", "#tree!x", "#deck=AAAA@1"):
+        page.open(damaged)
+        page.has(f"the link {damaged[-30:]}", page.text("run-note"), "The link is damaged: ")
+        page.same("the first deck is there", page.box("deck"), " (A,E,5)(A,PD)\n")
+    page.open("#tree@9999")
+    page.has("a state that there is not", page.text("run-note"), "There is no state 9,999: the last one is 274.")
+    page.open("#tree@100000")
+    page.same("the last one is shown", page.state(), 274)
+
+
+@trial
+def a_job_that_breaks(page: Page) -> None:
+    """A job that breaks in the worker is answered, too, and the next one is done."""
+    page.open()
+    page.value("l6.engine.worker.postMessage({module: 1})")
+    page.do("l6.run()")
+    page.has("it is said", page.text("run-note"), "Error")
+    page.value("l6.engine.stop()")
+    page.do("l6.run()")
+    page.same("and the next is done", page.text("printed"), "5\n== DONE AFTER 6 STEPS")
+
+
+@trial
+def what_waits(page: Page) -> None:
+    """What is asked for while a run goes on is done after it; of several, the last."""
+    page.open("#list")
+    page.value("void Promise.all([l6.run(), l6.state(5), l6.state(7)])")
+    page.browser.wait("!l6.isBusy && !l6.waiting && l6.view?.state.number === 7")
+    page.right("the last is done", True)
+    page.put(" (A,IN,1)(A,PD)\n", "A\n")
+    page.click("run")
+    page.fill("input", "B")
+    page.same("a run of another input is not shown", [page.state(), page.text("printed")], [-1, ""])

@@ -92,9 +92,9 @@ impl<S: Places> History<S> {
     }
 
     /// Goes to the state of a number, or to the last one where that comes first. A state further
-    /// back is reached from the nearest one before it that is kept, or from the start. Answers how
-    /// many states were run through; if copies are refused memory that may be more, and nothing
-    /// else changes.
+    /// back is reached from the nearest one before it that is kept, or from the start. Answers the
+    /// distance from there, in states; if copies are refused memory that may be more, and nothing else
+    /// changes.
     pub fn to(&mut self, alloc: Global, number: u64) -> u64
     where
         S: Drop,
@@ -123,7 +123,7 @@ impl<S: Places> History<S> {
     }
 
     /// Goes on to the state of a number, or to the last one where that comes first. Answers how many
-    /// states were run through.
+    /// states further that is.
     fn forward(&mut self, alloc: Global, number: u64) -> u64
     where
         S: Drop,
@@ -144,7 +144,7 @@ impl<S: Places> History<S> {
     }
 
     /// Goes on to the state of a number, or to the last one or the next one at which a checkpoint is
-    /// tried, where that comes first. Answers how many states were run through.
+    /// tried, where that comes first. Answers how many states further that is.
     fn stretch(&mut self, alloc: Global, number: u64) -> u64
     where
         S: Drop,

@@ -100,7 +100,7 @@ impl<S: Places> NumberedMachine<S> {
     }
 
     /// Goes on to the state of a number, or to the last one where that comes first. Answers how many
-    /// states were run through.
+    /// states further that is.
     pub(crate) fn forward(&mut self, number: u64) -> u64
         requires { self.old.number ≤ number }
         ensures context { self.new.context ≡ self.old.context }

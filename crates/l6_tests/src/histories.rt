@@ -1,4 +1,4 @@
-//! How many states a history runs through, and which it keeps, where there is memory for all. The
+//! How far a history goes on, and which states it keeps, where there is memory for all. The
 //! states themselves are shown by sessions of the built program, in `tests/`.
 
 use l6_asm::assemble;

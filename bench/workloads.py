@@ -95,6 +95,11 @@ def chains(rounds: int) -> list[str]:
     return lines
 
 
+def countdown(rounds: int) -> list[str]:
+    """The numbers of the rounds, down to 1, added up."""
+    return [str(rounds * (rounds + 1) // 2 & MASK)]
+
+
 def calls(rounds: int) -> list[str]:
     """12 over 6; a recursion to its edges makes two calls for each 1 that it adds, less one."""
     return [str(comb(12, 6)), str((2 * comb(12, 6) - 1) * rounds)]
@@ -228,6 +233,9 @@ def mix_sieve(rounds: int) -> MixCount:
 
 PLAIN = (
     Workload("bugs", "arithmetic, shifts and logic on bugs", 100, 2_500_000, bugs),
+    Workload("field", "a set and a sum through one field", 100, 2_500_000, countdown),
+    Workload("fields3", "a set and a sum through three fields", 100, 2_500_000, countdown),
+    Workload("fields5", "a set and a sum through five fields", 100, 2_500_000, countdown),
     Workload("chains", "fields at the end of chains of two to six names", 50, 1_200_000, chains),
     Workload("calls", "subroutines, fail exits, saved contents", 1, 2_500, calls),
     Workload("characters", "characters read, counted, changed and printed", 5, 24_000, characters, sentences),

@@ -52,7 +52,7 @@ CONSTANTS = {
 # The numbers that a capacity may be, by the files that have them: how each is bound, and why it is one.
 COUNTS = {
     ("l6_instructions/src/layout.rt", "count"):
-        ("let count = firsts.last().copied().unwrap_or(0).saturating_add(2);", "actions of a program"),
+        ("let count = entries.last().copied().unwrap_or(0).saturating_add(2);", "actions of a program"),
     ("l6_image/src/decode/statements.rt", "count as usize"):
         ("count: u64,", "rows that the first word of a statement announces, 63 at most"),
     ("l6_draw/src/walk.rt", "blocks"):

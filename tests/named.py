@@ -33,7 +33,7 @@ PAGES = [
     "README.md", *(f"docs/{file.name}" for file in sorted((TOP / "docs").glob("*.md"))), "docs/pictures/README.md",
     "bench/README.md", "web/README.md", "dist/README.md", "tests/model/README.md",
 ]
-FOLDERS = ("crates", "tests", "tools", "web", "bench", "examples", "docs", "dist", ".ci")
+FOLDERS = ("crates", "tests", "tools", "web", "ports", "bench", "examples", "docs", "dist", ".ci")
 SUFFIXES = r"rt|antt|py|mjs|js|jsonl|c|sh|css|html|json|deck|session|transcript|svg|md|edit|1"
 FILE = re.compile(rf"[\w.-]*(?:/[\w.-]+)*\.(?:{SUFFIXES})")
 # Names of files that a reader has, or that a script makes.

@@ -51,18 +51,23 @@ fn limits_stop_a_run(rt: HostRuntime) -> Result<(), Fail> {
     ];
     for (deck, steps, output, ending, text) in rows {
         let options = Options::new(64, steps, output).ok_or("out of range")?;
-        let mut writer = Host::new(Vec::new(rt.alloc()));
-        let result = perform(
-            rt.alloc(),
-            Verb::Run,
-            options,
-            &mut Host::new(deck),
-            &mut writer,
-        );
-        assert_eq!(rt; result, Ok(Outcome::Ran(ending)));
-        assert_eq!(rt; writer.into_inner().as_slice(), text);
+        deck_runs_so(&rt, deck, options, ending, text);
     }
     Ok(())
+}
+
+/// The run of a deck under these options ends so, and prints this.
+fn deck_runs_so(rt: &HostRuntime, deck: &[u8], options: Options, ending: Ending, text: &[u8]) {
+    let mut writer = Host::new(Vec::new(rt.alloc()));
+    let result = perform(
+        rt.alloc(),
+        Verb::Run,
+        options,
+        &mut Host::new(deck),
+        &mut writer,
+    );
+    assert_eq!(rt; result, Ok(Outcome::Ran(ending)));
+    assert_eq!(rt; writer.into_inner().as_slice(), text);
 }
 
 /// What became of a job.

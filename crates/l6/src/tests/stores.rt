@@ -1,7 +1,7 @@
 //! Runs in a store of one unit.
 
-use crate::job::{Outcome, Verb, perform};
-use l6_run::{Ending, Host, Options};
+use super::deck_runs_so;
+use l6_run::{Ending, Options};
 use l6_steps::Trap;
 use std::test::Fail;
 
@@ -27,16 +27,7 @@ fn one_unit_is_soon_full(rt: HostRuntime) -> Result<(), Fail> {
     ];
     for (deck, ending, text) in rows {
         let options = Options::new(1, 1_000, 1_000).ok_or("out of range")?;
-        let mut writer = Host::new(Vec::new(rt.alloc()));
-        let result = perform(
-            rt.alloc(),
-            Verb::Run,
-            options,
-            &mut Host::new(deck),
-            &mut writer,
-        );
-        assert_eq!(rt; result, Ok(Outcome::Ran(ending)));
-        assert_eq!(rt; writer.into_inner().as_slice(), text);
+        deck_runs_so(&rt, deck, options, ending, text);
     }
     Ok(())
 }

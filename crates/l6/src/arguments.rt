@@ -1,8 +1,9 @@
 //! The words of the command line, read with `clap`. What they mean is tested, and not proved.
 
-ghost use Rattle.std.specs.Prelude.{◌≡◌, IfSome};
+ghost use Rattle.std.specs.Prelude.{◌≡◌, ◌≢◌, IfSome};
+ghost use Rattle.std.specs.IoError.{error_kind};
 ghost use Rattle.l6_machine.specs.Options.{default_options};
-ghost use Rattle.l6.specs.Words.{fault_of, unread_words};
+ghost use Rattle.l6.specs.Words.{fault_of};
 
 use crate::help::{self, Help};
 use crate::job::Verb;
@@ -10,7 +11,7 @@ use clap::error::ErrorKind;
 use clap::{Arg, ArgMatches, Command, value_parser};
 use l6_run::Options;
 use std::alloc::{AllocError, Global};
-use std::io;
+use std::io::{self, ErrorKind as IoErrorKind};
 use thiserror::Error;
 
 /// The version of the program, and of the images that it writes.
@@ -65,11 +66,13 @@ impl From<AllocError> for WordsFault {
 
 /// The fault if the words could not be read.
 impl From<io::Error> for WordsFault {
-    ghost from_gives = { λ error fault. fault ≡ unread_words error };
+    ghost from_gives = { λ error fault.
+        (error_kind error ≡ IoErrorKind.OutOfMemory → fault ≡ WordsFault.NoMemory)
+        × (error_kind error ≢ IoErrorKind.OutOfMemory → fault ≡ WordsFault.NotText) };
 
     fn from(error: io::Error) -> Self {
         match error.kind() {
-            io::ErrorKind::OutOfMemory => WordsFault::NoMemory,
+            IoErrorKind::OutOfMemory => WordsFault::NoMemory,
             _ => WordsFault::NotText,
         }
     }

@@ -4,6 +4,7 @@ ghost use Rattle.std.specs.Prelude.{◌≡◌, ◌≢◌, IfSome};
 ghost use Rattle.std.specs.IoError.{error_kind};
 ghost use Rattle.l6_machine.specs.Options.{default_options};
 ghost use Rattle.l6.specs.Words.{fault_of};
+ghost use Rattle.l6.specs.declared.arguments.WordsFault.TheVariants.{NoMemory};
 
 use crate::help::{self, Help};
 use crate::job::Verb;
@@ -57,7 +58,7 @@ impl From<clap::Error> for WordsFault {
 }
 
 impl From<AllocError> for WordsFault {
-    ghost from_gives = { λ _ fault. fault ≡ WordsFault.NoMemory };
+    ghost from_gives = { λ _ fault. fault ≡ NoMemory };
 
     fn from(_error: AllocError) -> Self {
         WordsFault::NoMemory
@@ -66,15 +67,19 @@ impl From<AllocError> for WordsFault {
 
 /// The fault if the words could not be read.
 impl From<io::Error> for WordsFault {
-    ghost from_gives = { λ error fault.
-        (error_kind error ≡ IoErrorKind.OutOfMemory → fault ≡ WordsFault.NoMemory)
-        × (error_kind error ≢ IoErrorKind.OutOfMemory → fault ≡ WordsFault.NotText) };
-
     fn from(error: io::Error) -> Self {
-        match error.kind() {
-            IoErrorKind::OutOfMemory => WordsFault::NoMemory,
-            _ => WordsFault::NotText,
-        }
+        fault_of_reading(&error)
+    }
+}
+
+/// The fault if this error came in place of the words.
+fn fault_of_reading(error: &io::Error) -> WordsFault
+    ensures memory { error_kind error.now ≡ IoErrorKind.OutOfMemory → result ≡ WordsFault.NoMemory }
+    ensures other { error_kind error.now ≢ IoErrorKind.OutOfMemory → result ≡ WordsFault.NotText }
+{
+    match error.kind() {
+        IoErrorKind::OutOfMemory => WordsFault::NoMemory,
+        _ => WordsFault::NotText,
     }
 }
 

@@ -49,14 +49,14 @@ def trials() -> Iterator[Trial]:
     """The trials on the page that is handed out."""
     script, page = bundler(), PAGE.read_bytes()
     module = module_in(page, script)
-    yield "the module in dist/l6.html", WASM, module[:len(WASM)]
+    yield "the module in dist/l6.html", WASM, module[: len(WASM)]
     yield "dist/l6.html (web/bundle makes it)", page.decode("utf-8"), script.page_of(module).decode("utf-8")
 
 
 def canaries() -> Iterator[Trial]:
     """A page without its module, and a page of another module."""
     script, page = bundler(), PAGE.read_bytes()
-    yield "a page without a module", WASM, module_in(page.replace(b"module", b""), script)[:len(WASM)]
+    yield "a page without a module", WASM, module_in(page.replace(b"module", b""), script)[: len(WASM)]
     yield "a page of another module", page, script.page_of(WASM)
 
 

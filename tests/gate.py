@@ -22,15 +22,30 @@ from trials import ONLY, Trial, report
 
 # The steps of ./test and of the gate, in their order: the words by which each is known.
 STEPS = [
-    "tests/gate.py", "tests/static_checks.py", "tests/memory_words.py", "tests/check_report_trials.py",
-    "tests/verdict_trials.py", "tests/picture_trials.py", "tests/program.py", "tests/model_jobs.py", "bench/run", "tests/documents.py",
-    "tests/facts.py", "tests/table_decks.py", "tests/format_pages.py", "tests/named.py", "tests/launcher.py", "tests/install.py", "tests/scripts.py",
-    "tests/bundled_page.py", "web/tests/all.py",
+    "tests/gate.py",
+    "tests/static_checks.py",
+    "tests/memory_words.py",
+    "tests/check_report_trials.py",
+    "tests/verdict_trials.py",
+    "tests/picture_trials.py",
+    "tests/program.py",
+    "tests/model_jobs.py",
+    "bench/run",
+    "tests/documents.py",
+    "tests/facts.py",
+    "tests/table_decks.py",
+    "tests/format_pages.py",
+    "tests/named.py",
+    "tests/launcher.py",
+    "tests/install.py",
+    "tests/scripts.py",
+    "tests/bundled_page.py",
+    "web/tests/all.py",
 ]
 GATE_STEPS = ["rt ci", *STEPS[:-1], "tests/edits.py", "web/tests/all.py"]
 NOT_A_STEP = {"hostile.py"}  # scripts of tests/ that ./test does not call
 
-STAND_IN = '''#!/bin/sh
+STAND_IN = """#!/bin/sh
 # A stand-in for python3 and rt: notes its words, and prints a count, which $FAILS and $HOW make a bad one.
 words="${0##*/} $*${L6_ONLY+ of $L6_ONLY}"
 [ "$*" = version ] && exec cat "$STAND_IN/version"
@@ -44,7 +59,7 @@ case $how in
     no-count) echo "99999 passed" ;;
     no-trial) echo "0 passed, 0 failed" ;;
 esac
-'''
+"""
 HOWS = ["a-failed-trial", "a-status", "no-count", "no-trial"]
 NONE = "none of these steps"
 
@@ -107,7 +122,12 @@ def step_that_fails(gate: Gate, words: tuple[str, ...], step: str, how: str) -> 
     failed = last_line(actual)[0].rpartition(", ")[2]
     is_shown = "\nfailed: " in actual.stdout
     expected = ("1 failed", 1, True, len(GATE_STEPS if words else STEPS))
-    yield f"./test {' '.join(words)}: {how} of {step}", expected, (failed, actual.status, is_shown, len(calls))
+    yield f"./test {' '.join(words)}: {how} of {step}", expected, (
+        failed,
+        actual.status,
+        is_shown,
+        len(calls),
+    )
 
 
 def other_programs(gate: Gate) -> Iterator[Trial]:
@@ -115,7 +135,10 @@ def other_programs(gate: Gate) -> Iterator[Trial]:
     built = gate.top / "crates/l6/out/l6"
     built.write_bytes(built.read_bytes() + b"# another\n")
     actual, _ = gate.test("--prove")
-    yield "another program", (1, True), (actual.status, "dist/l6 is not the program of these sources" in actual.stdout)
+    yield "another program", (1, True), (
+        actual.status,
+        "dist/l6 is not the program of these sources" in actual.stdout,
+    )
     gate.checkout.set_version("another toolchain")
     actual, _ = gate.test("--prove")
     yield "another toolchain", (1, "2 failed"), (actual.status, last_line(actual)[0].rpartition(", ")[2])
@@ -145,7 +168,7 @@ def words_of_the_command(gate: Gate) -> Iterator[Trial]:
     yield "--anew", ["python3 tests/edits.py --anew"], [call for call in calls if "edits" in call]
 
 
-HARNESS = f'''
+HARNESS = f"""
 import os, sys
 sys.path.insert(0, {str(TOP / "tests")!r})
 from answers import answer
@@ -154,7 +177,7 @@ right = answer(b"out", b"err", 3)
 made = [("right", right, answer(b"out", b"err", 3)), ("stdout", right, answer(b"on", b"err", 3)),
         ("stderr", right, answer(b"out", b"", 3)), ("status", right, answer(b"out", b"err", 0))]
 sys.exit(report([it for it in made if it[0] in sys.argv[1]], [("a canary", 1, int(sys.argv[2]))]))
-'''
+"""
 SHOWN = {
     "stdout": "stdout\n  stdout: expected b'out', length 3\n          actual   b'on', length 2\n",
     "stderr": "stderr\n  stderr: expected b'err', length 3\n          actual   b'', length 0\n",
@@ -164,8 +187,12 @@ SHOWN = {
 
 def harness(names: str, canary: int, **environment: str) -> Answer[str]:
     """The answer of a script of trials, of which some fail."""
-    ended = subprocess.run([sys.executable, "-c", HARNESS, names, str(canary)], capture_output=True, text=True,
-                           env={"PATH": "/usr/bin:/bin", **environment})
+    ended = subprocess.run(
+        [sys.executable, "-c", HARNESS, names, str(canary)],
+        capture_output=True,
+        text=True,
+        env={"PATH": "/usr/bin:/bin", **environment},
+    )
     return Answer(ended.stdout, ended.stderr, ended.returncode)
 
 
@@ -177,7 +204,10 @@ def harnesses() -> Iterator[Trial]:
     all_of_it = "".join(SHOWN.values()) + "1 passed, 3 failed\n"
     yield "all that is wrong", Answer(all_of_it, "", 1), harness("right stdout stderr status", 2)
     passed = harness("right", 1)
-    yield "a canary that passes", (("0 passed, 1 failed", 1), True), (last_line(passed), "a canary" in passed.stdout)
+    yield "a canary that passes", (("0 passed, 1 failed", 1), True), (
+        last_line(passed),
+        "a canary" in passed.stdout,
+    )
     only = harness("right stderr", 2, **{ONLY: "stderr"})
     yield "the trials of a name", Answer(f"{SHOWN['stderr']}0 passed, 1 failed\n", "", 1), only
 

@@ -139,7 +139,8 @@ def canaries() -> Iterator[Trial]:
     for kind, make in KINDS:
         yield silent.trial(f"a {kind} job of a program that answers nothing", make(1))
     case = next(read_cases())
-    yield "a case of a program that answers nothing", case.expected, program_answer("/bin/false", case.args, b"")
+    nothing = program_answer("/bin/false", case.args, b"")
+    yield "a case of a program that answers nothing", case.expected, nothing
     for verb, file in (("run", "first.printout"), ("list", "first.listing")):
         other = model_answer([verb], b" (A,E,6)(A,PD)\n")
         yield f"{verb} of another deck", answer((EXAMPLES / file).read_bytes()), other

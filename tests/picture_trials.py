@@ -222,13 +222,13 @@ def layout(file: Path, text: str) -> Iterator[Trial]:
 
 # How a picture's description begins that says how many words or blocks it shows.
 COUNTED = re.compile(r"^(?:The |A \w+ of )?(\w+) (words?|blocks?)\b(?! of)", re.IGNORECASE)
-NUMBERS = ["no", "one", "two", "three", "four", "five", "six", "seven", "eight", "nine", "ten", "eleven", "twelve"]
+NUMBERS = "no one two three four five six seven eight nine ten eleven twelve".split()
 FIELDS = re.compile(r"\bfields ((?:[A-Z0-9], )*[A-Z0-9] and [A-Z0-9])\b")
 IMAGE = re.compile(r"!\[([^\]\n]+)\]\(([^)\s]+\.svg)\)")
 
 
 def shown() -> Iterator[Trial]:
-    """The trials that each picture is shown in a document, with what it shows, and no document shows another."""
+    """The trials that each picture is shown in a document, with what it shows, and that no other is."""
     places = set()
     for document in DOCS:
         for what, link in IMAGE.findall(document.read_text("utf-8")):
@@ -263,13 +263,12 @@ def canaries() -> Iterator[Trial]:
     """A map, words and arrows that are another transcript's, and a picture with two cells exchanged."""
     texts, others = texts_of("hand", TRANSCRIPT), texts_of("narrow", NARROW)
     yield "words of another picture", drawn_words(texts["hand.svg"]), drawn_words(others["narrow.svg"])
-    turned = TRANSCRIPT.replace("1024 BLOCK 2\n1026 BLOCK 2\n1028 BLOCK 4 LOST", "1024 BLOCK 4 LOST\n1028 BLOCK 2\n"
-                                "1030 BLOCK 2")
+    turned = TRANSCRIPT.replace("BLOCK 2\n1026 BLOCK 2\n1028 BLOCK 4 LOST", "BLOCK 4 LOST\n1028 BLOCK 2\n1030 BLOCK 2")
     other = texts_of("hand", turned)["hand-store-1.svg"]
     yield "the stretches of another map", STRETCHES, shown_stretches(other)
     file = PICTURES / "tree-draw-1.svg"
     drawing, text = file.read_text("utf-8"), file.with_suffix(".dot").read_text("utf-8")
-    exchanged = drawing.replace(">L</text>", ">?</text>").replace(">R</text>", ">L</text>").replace(">?</text>", ">R</text>")
+    exchanged = re.sub(">([LR])</text>", lambda it: f">{'LR'['RL'.index(it[1])]}</text>", drawing)
     yield "a picture with two fields exchanged", words_of(text), drawn_labels(exchanged)
     yield "a picture with an arrow less", titles(text), drawn_titles(drawing.replace('class="edge"', "", 1))
     wrong = list(described("a picture", "Four words with the fields C and X", texts["hand.svg"]))

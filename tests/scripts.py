@@ -1,5 +1,5 @@
 #!/usr/bin/env python3
-"""Tries what launcher.py and install.py leave out of the scripts: words, other systems, checks that are killed.
+"""Tries what launcher.py and install.py leave out: words of scripts, other systems, checks that are killed.
 
 scripts.py prints each difference, and last 'N passed, M failed'. It works on small checkouts of its own
 (checkout.py), with stand-ins for rt and for commands of the system.
@@ -53,10 +53,12 @@ def first_on_the_path(checkout: Checkout, name: str, **scripts: str) -> str:
 
 
 def words(checkout: Checkout) -> Iterator[Trial]:
-    """Only --prove and --version alone are the script's own; the program has all other words, and its status."""
+    """Only --prove and --version alone are the script's own; all other words are the program's."""
     for given in (("--prove", "x"), ("x", "--prove"), ("--version", "x"), ("--prove", "--version"), ("",)):
         printed = checkout.made_of + "".join(f"<{word}>\n" for word in given)
-        yield f"the words {given}", Answer(printed, "", 7), checkout.run("l6", *given, has_rt=False, STATUS="7")
+        yield f"the words {given}", Answer(printed, "", 7), checkout.run(
+            "l6", *given, has_rt=False, STATUS="7"
+        )
     actual = checkout.run("l6", "--version", has_rt=False, STATUS="64")
     yield "the status of --version", (64, f"{checkout.made_of}<--version>\n"), (actual.status, actual.stdout)
 
@@ -144,12 +146,18 @@ def installing(checkout: Checkout) -> Iterator[Trial]:
 def tools(_checkout: Checkout) -> Iterator[Trial]:
     """What other tools say of wrong words, and that the tables of pages are made."""
     for command in (
-        ["tools/reached.py", "l6.JobResult", "IsNotThere"], ["tools/tables.py", "--chek"], ["tools/pictures.py", "one"],
-        ["tests/program.py"], ["tests/facts.py"], ["bench/run", "--times", "0"],
+        ["tools/reached.py", "l6.JobResult", "IsNotThere"],
+        ["tools/tables.py", "--chek"],
+        ["tools/pictures.py", "one"],
+        ["tests/program.py"],
+        ["tests/facts.py"],
+        ["bench/run", "--times", "0"],
     ):
         ended = subprocess.run([sys.executable, *command], cwd=TOP, capture_output=True, text=True)
         yield f"wrong words: {' '.join(command)}", (True, ""), (ended.returncode != 0, ended.stdout)
-    ended = subprocess.run([sys.executable, "tools/tables.py", "--check"], cwd=TOP, capture_output=True, text=True)
+    ended = subprocess.run(
+        [sys.executable, "tools/tables.py", "--check"], cwd=TOP, capture_output=True, text=True
+    )
     yield "tools/tables.py --check", (0, ""), (ended.returncode, ended.stdout)
 
 

@@ -1,9 +1,9 @@
 #!/usr/bin/env python3
 """Checks the scripts of the repository without running them: the types of Python's, and the shell's.
 
-static_checks.py prints what mypy and shellcheck say, and last 'N passed, M failed'. Each file is a trial. If one
-of the two is not installed, that is said, and a trial of its files is whether Python or the shell can read them.
-Both are Debian's packages.
+static_checks.py prints what mypy and shellcheck say, and last 'N passed, M failed'. Each file is a trial. If
+one of the two is not installed, that is said, and a trial of its files is whether Python or the shell can
+read them. Both are Debian's packages.
 """
 from __future__ import annotations
 
@@ -70,11 +70,24 @@ def first_line(file: Path) -> str:
 def said_by_mypy(group: Group) -> dict[Path, str]:
     """What mypy says of each file of a group."""
     path = ":".join(str(TOP / folder) for folder in group.folders)
-    kept = kept_folder(f"mypy-{group.files[0].stem}")  # (what was read before, so that the next time takes a second)
+    kept = kept_folder(
+        f"mypy-{group.files[0].stem}"
+    )  # (what was read before, so that the next time takes a second)
     cache = kept if kept else Path(os.devnull)
     ended = subprocess.run(
-        ["mypy", *group.flags, "--cache-dir", cache, "--scripts-are-modules", "--no-error-summary", *group.files],
-        env={**os.environ, "MYPYPATH": path}, capture_output=True, text=True, cwd=TOP,
+        [
+            "mypy",
+            *group.flags,
+            "--cache-dir",
+            cache,
+            "--scripts-are-modules",
+            "--no-error-summary",
+            *group.files,
+        ],
+        env={**os.environ, "MYPYPATH": path},
+        capture_output=True,
+        text=True,
+        cwd=TOP,
     )
     said = dict.fromkeys(group.files, CLEAN)
     for line in (ended.stdout + ended.stderr).splitlines():

@@ -1,5 +1,5 @@
 #!/usr/bin/env python3
-"""Tries that an edit which the prover refused is not tried again until something changes that this depends on.
+"""Tries that an edit which was refused is not tried again until something changes that this depends on.
 
 verdict_trials.py prints each difference, and last 'N passed, M failed'. tests/edits.py is called in a small
 checkout with a stand-in for rt, by which a function that answers 2 is not proved.
@@ -60,7 +60,9 @@ class Edits:
     def __init__(self, folder: Path) -> None:
         self.checkout = Checkout(folder)
         self.top, self.kept = self.checkout.top, folder / "kept"
-        shutil.copytree(TOP / "tests", self.top / "tests", ignore=shutil.ignore_patterns("__pycache__", "*.jsonl"))
+        shutil.copytree(
+            TOP / "tests", self.top / "tests", ignore=shutil.ignore_patterns("__pycache__", "*.jsonl")
+        )
         self.first = folder / "first"
         self.first.mkdir()
         (self.first / "rt").write_text(RT)
@@ -71,7 +73,10 @@ class Edits:
     def tried(self, *words: str, **environment: str) -> tuple[Answer[str], bool]:
         """What tests/edits.py answers, and whether it had anything checked."""
         self.checkout.calls()
-        where: dict[str, Any] = {"FIRST": str(self.first), **(environment or {"XDG_CACHE_HOME": str(self.kept)})}
+        where: dict[str, Any] = {
+            "FIRST": str(self.first),
+            **(environment or {"XDG_CACHE_HOME": str(self.kept)}),
+        }
         actual = self.checkout.run("tests/edits.py", "l6_word", *words, **where)
         return actual, CHECKED in self.checkout.calls()
 
@@ -86,13 +91,26 @@ def changes(edits: Edits) -> Iterator[Trial]:
     yield edits.trial("all anew", True, "--anew")
     yield edits.trial("after all anew", False)
     for name in (
-        "crates/l6_word/src/lib.rt", "crates/l6_word/specs/Lib.antt", "crates/l6_word/proofs/Lib.antt",
-        "crates/l6_word/edits/give_answers_two.edit", "crates.txt", "tests/check_report.py", "tools/rooms.py",
+        "crates/l6_word/src/lib.rt",
+        "crates/l6_word/specs/Lib.antt",
+        "crates/l6_word/proofs/Lib.antt",
+        "crates/l6_word/edits/give_answers_two.edit",
+        "crates.txt",
+        "tests/check_report.py",
+        "tools/rooms.py",
     ):
         file = edits.top / name
         before = file.read_bytes()
-        file.write_bytes(before + (b"\n" if name.endswith(".edit") else b"# another\n" if name.endswith(
-            (".py", ".txt")) else b"-- another\n"))
+        file.write_bytes(
+            before
+            + (
+                b"\n"
+                if name.endswith(".edit")
+                else b"# another\n"
+                if name.endswith((".py", ".txt"))
+                else b"-- another\n"
+            )
+        )
         if name == "crates.txt":
             file.write_bytes(before + b"l6_more:\n")
         yield edits.trial(f"after a change of {name}", True)
@@ -126,7 +144,8 @@ def verdicts(edits: Edits) -> Iterator[Trial]:
     (kept,) = (edits.kept / "l6/edits").iterdir()
     whole = kept.read_text()
     for what, text in (
-        ("half a line", whole[:-9]), ("another verdict", whole.replace("refused", "proved")),
+        ("half a line", whole[:-9]),
+        ("another verdict", whole.replace("refused", "proved")),
         ("one line more", whole + "and more\n"),
     ):
         kept.write_text(text)

@@ -29,12 +29,13 @@ from model import (
     state,
     store,
 )
-from page_tables import canary, plain, spans_of, table_with, tables_of, text_of
+from page_tables import TOP, canary, plain, spans_of, table_with, tables_of, text_of
 from trials import Trial, report
 
 LANGUAGE, SUMMARY, MANUAL = "docs/language.md", "docs/summary.md", "docs/l6.1"
 ROBUSTNESS, DEBUGGER, ALLOCATOR = "docs/robustness.md", "docs/debugger.md", "docs/allocator.md"
 RUNNING = ("run", "load", "debug")
+RANDOM_JOBS = 1_000  # numbers of model_jobs.py, each of which makes two
 STRIDE, CHECKPOINTS = (
     4_096,
     16,
@@ -91,6 +92,16 @@ SENTENCES: list[tuple[str, str, int, int]] = [
     (LANGUAGE, "begins at place #, so 0 is the place of no block", store.UNIT, 1),
     (LANGUAGE, "at the places 1,024 to # (", 9 * store.UNIT - 1, 1),
     (LANGUAGE, "or was interrupted more than # times", 1_000, 2),
+    (LANGUAGE, "A bug is one of # words", len(characters.LETTERS), 1),
+    (LANGUAGE, "are numbered from 0 to #.", len(characters.NAMES) - 1, 1),
+    (LANGUAGE, "2^k words side by side, k from 0 to #,", 10, 1),
+    (LANGUAGE, "bits of what it leads to: # for a bug", 36, 1),
+    (LANGUAGE, "the last bit (0 to #, in order)", 35, 1),
+    (LANGUAGE, "a bit past #, or bits out of order", 35, 1),
+    (LANGUAGE, "by a word past #,", 1_023, 1),
+    (LANGUAGE, "of no word or of more than # is asked for", operations.SIZE_LIMIT, 1),
+    (LANGUAGE, "fewer than 1 or more than # characters", operations.WORD_CHARACTERS, 1),
+    (LANGUAGE, "a call is made while # calls wait", operations.ENTRIES_LIMIT, 1),
     (SUMMARY, "up to # tests and", programs.ROWS_LIMIT, 1),
     (SUMMARY, "tests and # operations", programs.ROWS_LIMIT, 1),
     (SUMMARY, "on up to # cards", cards.CONTINUATIONS_LIMIT, 1),
@@ -120,6 +131,13 @@ SENTENCES: list[tuple[str, str, int, int]] = [
     (ROBUSTNESS, "or was interrupted for the #st time", 1_001, 1),
     (ROBUSTNESS, "more than # interruptions in one call", 1_000, 1),
     (DEBUGGER, "A number is decimal, at most #.", 1_000_000_000, 1),
+    (
+        "docs/proof.md",
+        "examples and # random jobs as the program does (tests/model_jobs.py)",
+        2 * RANDOM_JOBS,
+        1,
+    ),
+    ("tests/model/README.md", "then gives # random jobs to the model", 2 * RANDOM_JOBS, 1),
     (DEBUGGER, "whose number is a multiple of #.", STRIDE, 1),
     (DEBUGGER, "At most # are kept", CHECKPOINTS, 1),
     (DEBUGGER, "by up to # states costs", (CHECKPOINTS - 1) * STRIDE, 1),
@@ -185,6 +203,14 @@ def limits() -> Iterator[Trial]:
     }
     for what in {**LIMITS, **rows}:
         yield f"{LANGUAGE}: the limit of {what}", LIMITS.get(what), rows.get(what)
+
+
+def jobs_of_the_model() -> Iterator[Trial]:
+    """How many random jobs are made if no number is given."""
+    text = (TOP / "tests/model_jobs.py").read_text("utf-8")
+    yield "the random jobs of tests/model_jobs.py", [f"{RANDOM_JOBS:_}"], re.findall(
+        r'"--jobs", type=int, default=(\w+)', text
+    )
 
 
 def options(program: str) -> Iterator[Trial]:
@@ -391,6 +417,7 @@ def canaries(program: str) -> Iterator[Trial]:
 def trials(program: str) -> Iterator[Trial]:
     """All trials."""
     yield from limits()
+    yield from jobs_of_the_model()
     yield from options(program)
     yield from traps()
     yield from codes()

@@ -16,7 +16,7 @@ import tempfile
 from collections.abc import Iterator
 from pathlib import Path
 
-from answers import Answer
+from answers import Answer, answer_of
 from checkout import TOP, Checkout
 from trials import ONLY, Trial, report
 
@@ -29,6 +29,7 @@ STEPS = [
     "tests/verdict_trials.py",
     "tests/picture_trials.py",
     "tests/program.py",
+    "tests/memory_runs.py",
     "tests/model_jobs.py",
     "bench/run",
     "tests/documents.py",
@@ -43,6 +44,7 @@ STEPS = [
     "web/tests/all.py",
 ]
 GATE_STEPS = ["rt ci", *STEPS[:-1], "tests/edits.py", "web/tests/all.py"]
+PACKAGES = {"binaryen", "nodejs", "chromium", "mypy", "shellcheck"}  # without which tests are left out
 NOT_A_STEP = {"hostile.py"}  # scripts of tests/ that ./test does not call
 
 STAND_IN = """#!/bin/sh
@@ -62,6 +64,7 @@ esac
 """
 HOWS = ["a-failed-trial", "a-status", "no-count", "no-trial"]
 NONE = "none of these steps"
+OF_SHELL = "dist"  # the step of the gate that calls no script
 
 
 class Gate:
@@ -69,6 +72,7 @@ class Gate:
 
     def __init__(self, folder: Path) -> None:
         self.checkout = Checkout(folder)
+        self._names: dict[tuple[str, ...], list[str]] = {}
         self.top = self.checkout.top
         (self.top / "bench").mkdir()
         for name in ("test", "bench/run"):
@@ -89,6 +93,17 @@ class Gate:
         actual = self.checkout.run("test", *words, FIRST=str(self.first), FAILS=fails, HOW=how)
         return actual, log.read_text().splitlines() if log.exists() else []
 
+    def names(self, *words: str) -> list[str]:
+        """The names of the steps, as they are said when each begins."""
+        if words not in self._names:
+            said = self.test(*words)[0].stderr
+            self._names[words] = [
+                it
+                for it in re.findall(r"^test: \S+ +\d+ of \d+, (\S+):", said, re.MULTILINE)
+                if it != OF_SHELL
+            ]
+        return self._names[words]
+
 
 def last_line(actual: Answer[str]) -> tuple[str, int | str]:
     """The last line of an answer, and its status."""
@@ -108,6 +123,7 @@ def steps_that_fail(gate: Gate) -> Iterator[Trial]:
         count = 99_999 * len(steps) + (3 if words else 0)
         yield f"{name} with all steps well", (f"{count} passed, 0 failed", 0), last_line(actual)
         yield f"the steps of {name}", steps, known_in(steps, calls)
+        yield f"what {name} says of failures then", [], failures_in(actual)
     for at, step in enumerate(STEPS):
         yield from step_that_fails(gate, (), step, HOWS[at % len(HOWS)])
     for how in HOWS:
@@ -117,17 +133,19 @@ def steps_that_fail(gate: Gate) -> Iterator[Trial]:
 
 
 def step_that_fails(gate: Gate, words: tuple[str, ...], step: str, how: str) -> Iterator[Trial]:
-    """A step fails in some way."""
+    """A step fails in some way. It alone is named at the end."""
     actual, calls = gate.test(*words, fails=step, how=how)
-    failed = last_line(actual)[0].rpartition(", ")[2]
-    is_shown = "\nfailed: " in actual.stdout
-    expected = ("1 failed", 1, True, len(GATE_STEPS if words else STEPS))
-    yield f"./test {' '.join(words)}: {how} of {step}", expected, (
-        failed,
-        actual.status,
-        is_shown,
-        len(calls),
-    )
+    count = last_line(actual)[0].rpartition(", ")[2]
+    number = (GATE_STEPS if words else STEPS).index(step)
+    named = failures_in(actual)
+    names = gate.names(*words)
+    expected = ("1 failed", 1, [names[number]], len(names))
+    yield f"./test {' '.join(words)}: {how} of {step}", expected, (count, actual.status, named, len(calls))
+
+
+def failures_in(actual: Answer[str]) -> list[str]:
+    """The titles of the steps that are named as failed at the end."""
+    return re.findall(r"^failed: (.*); status \d+$", actual.stdout, re.MULTILINE)
 
 
 def other_programs(gate: Gate) -> Iterator[Trial]:
@@ -208,6 +226,9 @@ def harnesses() -> Iterator[Trial]:
         last_line(passed),
         "a canary" in passed.stdout,
     )
+    room = answer_of(["sh", "-c", "ulimit -v"]).stdout
+    yield "the addresses that a program has, in KiB", b"49152\n", room
+    yield "a program that does not end", "none within 1 seconds", answer_of(["sleep", "60"], seconds=1).status
     only = harness("right stderr", 2, **{ONLY: "stderr"})
     yield "the trials of a name", Answer(f"{SHOWN['stderr']}0 passed, 1 failed\n", "", 1), only
 
@@ -217,7 +238,10 @@ def scripts() -> Iterator[Trial]:
     made = {file.name for file in (TOP / "tests").glob("*.py") if file.read_text("utf-8").startswith("#!")}
     steps = {Path(step).name for step in GATE_STEPS if step.startswith("tests/")}
     yield "the scripts of tests/", sorted(made - NOT_A_STEP), sorted(steps)
-    last = (TOP / ".ci/run").read_text("utf-8").rstrip().splitlines()[-1]
+    text = (TOP / ".ci/run").read_text("utf-8")
+    installed = {package for package in PACKAGES if re.search(rf"[ :]{package}\b", text)}
+    yield "what .ci/run installs", PACKAGES, installed
+    last = text.rstrip().splitlines()[-1]
     yield "what .ci/run ends in", True, re.fullmatch(r"exec .*/\.\./test\" --prove", last) is not None
 
 

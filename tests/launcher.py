@@ -14,7 +14,7 @@ from collections.abc import Callable, Iterator
 from pathlib import Path
 
 from answers import Answer
-from checkout import UNPROVED, Checkout, answers_of_checkouts
+from checkout import UNPROVED, Checkout
 from trials import Trial, report
 
 SOURCES = (
@@ -252,4 +252,4 @@ def trials() -> Iterator[Trial]:
 
 
 if __name__ == "__main__":
-    sys.exit(report(trials(), answers_of_checkouts()))
+    sys.exit(report(trials()))

@@ -101,6 +101,38 @@ class Shim:
         return actual, Requests(int(made), was_refused == "refused", int(kept), int(peak), int(total))
 
 
+class WrongShim:
+    """A shim that finds fault with each run of a program that answers as it must."""
+
+    def __init__(self, right: Answer[bytes], requests: Requests) -> None:
+        self._right, self._requests = right, requests
+
+    def run(
+        self, args: list[str], stdin: bytes, refused: int = 0, has_little_room: bool = True
+    ) -> tuple[Answer[bytes], Requests | None]:
+        """The right answer, and the wrong requests."""
+        return self._right, self._requests
+
+
+def memory_canaries() -> Iterator[Trial]:
+    """Runs that hold too much, request too much in all, or keep a block, as rooms and as cases."""
+    right, room = answer(b"5"), Room("a canary", ["run"], b"", answer(b"5"), 1_000)
+    peak = PIECE + DOUBLED * (room.needed + 1)
+    for what, requests in (
+        ("too much at one time", Requests(1, False, 0, peak + 1, 1)),
+        ("too much in all", Requests(1, False, 0, 1, DOUBLED * peak + 1)),
+        ("a block that is kept", Requests(1, False, 1, 1, 1)),
+    ):
+        name, expected, actual = room.trial(WrongShim(right, requests))
+        yield f"{what}: {name}", expected, actual
+    case = Case('{"name": "a canary", "stdout": "5", "status": 0, "memory": "a group"}')
+    kept = WrongShim(right, Requests(1, False, 1, 1, 1))
+    yield next(refused_memory(kept, case))
+    yield next(equal_requests(kept, [case]))
+    answered = WrongShim(answer(b"4"), Requests(1, True, 0, 1, 1))
+    yield next(refused_memory(answered, case))
+
+
 def memory_trials(program: str, cases: list[Case]) -> Iterator[Trial]:
     """All trials on memory."""
     with tempfile.TemporaryDirectory() as folder:
@@ -118,7 +150,7 @@ def memory_trials(program: str, cases: list[Case]) -> Iterator[Trial]:
             yield room.trial(shim)
 
 
-def refused_memory(shim: Shim, case: Case) -> Iterator[Trial]:
+def refused_memory(shim: Shim | WrongShim, case: Case) -> Iterator[Trial]:
     """The trials on a case with the first, the second and each further request for memory refused.
 
     Where a request was not needed, as for a nicer text, the answer may be the case's own. A debugger's
@@ -148,7 +180,7 @@ def refused_memory(shim: Shim, case: Case) -> Iterator[Trial]:
     yield "refused memory", "an end of the requests", f"more than {MAX_REQUESTS}"
 
 
-def equal_requests(shim: Shim, cases: Iterable[Case]) -> Iterator[Trial]:
+def equal_requests(shim: Shim | WrongShim, cases: Iterable[Case]) -> Iterator[Trial]:
     """The trials that the cases of a group make equally many requests for memory.
 
     So what they differ in makes none: a step of a run, a state that a debugger passes, a checkpoint that
@@ -176,7 +208,7 @@ class Room:
     needed: int
     requested_again: int = 0  # of all bytes requested, those of machines that were made and given back
 
-    def trial(self, shim: Shim) -> Trial:
+    def trial(self, shim: Shim | WrongShim) -> Trial:
         """The trial that the program holds and requests no more than it may."""
         ended, requests = shim.run(self.args, self.stdin, has_little_room=False)
         needed = len(self.stdin) + len(self.expected.stdout) + self.needed

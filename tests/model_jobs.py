@@ -19,6 +19,7 @@ import argparse
 import multiprocessing
 import shlex
 import sys
+import tempfile
 from collections.abc import Callable, Iterator
 from dataclasses import dataclass
 from pathlib import Path
@@ -139,11 +140,16 @@ def canaries() -> Iterator[Trial]:
     for kind, make in KINDS:
         yield silent.trial(f"a {kind} job of a program that answers nothing", make(1))
     case = next(read_cases())
+    with tempfile.TemporaryDirectory() as folder:
+        other = Path(folder, "other")
+        other.write_text("#!/bin/sh\ncat > /dev/null\necho wrong >&2\nexit 4\n")
+        other.chmod(0o755)
+        yield Beside(str(other), None).trial("another line on standard error", Job(["run"], b"5\n"))
     nothing = program_answer("/bin/false", case.args, b"")
     yield "a case of a program that answers nothing", case.expected, nothing
     for verb, file in (("run", "first.printout"), ("list", "first.listing")):
-        other = model_answer([verb], b" (A,E,6)(A,PD)\n")
-        yield f"{verb} of another deck", answer((EXAMPLES / file).read_bytes()), other
+        made = model_answer([verb], b" (A,E,6)(A,PD)\n")
+        yield f"{verb} of another deck", answer((EXAMPLES / file).read_bytes()), made
 
 
 def main() -> int:

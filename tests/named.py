@@ -49,6 +49,7 @@ FILE = re.compile(rf"[\w.-]*(?:/[\w.-]+)*\.(?:{SUFFIXES})")
 OF_READERS = re.compile(r"my[.-].*|first\.image|.*\b(?:NAME|SUBJECTS?)\b.*|out/.*|.*/out/.*")
 IDENTIFIER = re.compile(r"[a-z][a-z0-9]*(?:_[a-z0-9]+){2,}")
 WORD = re.compile(r"\w+")
+CALL = re.compile(r"\b[A-Z]\w+(?:::\w+)+")
 LINK = re.compile(r"\]\((?!https?:)([^)#\s]*)(?:#([^)\s]*))?\)")
 # Words in quotation marks that name no trial, and a name that is made up.
 PROSE = {"out of memory", "Proved", "Tested", "Read in the source"}
@@ -134,6 +135,20 @@ def identifiers() -> Iterator[Trial]:
             )
 
 
+def calls_of_types() -> Iterator[Trial]:
+    """Each call that a page names with its type, as in Region::read, and each name in its tables of where."""
+    for page in PAGES:
+        for span in dict.fromkeys(it for span in spans_of(text_of(page)) for it in CALL.findall(span)):
+            yield f"{page}: the call {span}", set(), {
+                word for word in span.split("::") if word not in words()
+            }
+    for page in ("docs/robustness.md", "docs/proof.md", "docs/architecture.md"):
+        for table in tables_of(text_of(page)):
+            for row in table.rows if table.head[-1].startswith(("Where", "Its main calls")) else ():
+                names = {it for span in spans_of(row[-1]) for it in WORD.findall(span) if "/" not in span}
+                yield f"{page}: the names beside {row[0]}", set(), names - words() - {"antt", "rt"}
+
+
 def paths() -> Iterator[Trial]:
     """Each file that a page names is there, from the top of the repository on or from a folder below it."""
     known = {f"/{file.relative_to(TOP)}" for file in files()}
@@ -201,6 +216,14 @@ def links() -> Iterator[Trial]:
             file = (TOP / page).parent / path if path else TOP / page
             is_there = file.exists() and (not heading or heading in headings_of(file))
             yield f"{page}: the link to {path}#{heading}", True, is_there
+
+
+def contents() -> Iterator[Trial]:
+    """A table of contents leads from the name of each section to that section."""
+    for table in tables_of(text_of("docs/gallery.md")):
+        for name, anchor in re.findall(r"\[([^\]]+)\]\(#([^)]+)\)", " ".join(row[-1] for row in table.rows)):
+            slug = re.sub(r"[^\w\- ]", "", name.lower()).replace(" ", "-")
+            yield f"docs/gallery.md: the section {name}", slug, anchor
 
 
 def counting_commands() -> Iterator[Trial]:
@@ -273,6 +296,8 @@ def canaries(program: str) -> Iterator[Trial]:
     yield canary(
         "docs/proof.md", "`a_host_answers_as_its_device`", "`a_host_answers_as_another`", identifiers
     )
+    yield canary("docs/robustness.md", "`perform`, `unwritten`", "`perform`, `unsaid`", calls_of_types)
+    yield canary("docs/architecture.md", "`Window::take`", "`Window::grab`", calls_of_types)
     yield canary("docs/proof.md", "(`tests/hostile.py`,", "(`tests/hostility.py`,", paths)
     yield canary(CONTRACTS, "`word_of_37_bits`", "`word_of_38_bits`", contracts)
     yield canary(CONTRACTS, "| `Region::read` |", "| `Region::look` |", contracts)
@@ -291,9 +316,11 @@ def trials(program: str) -> Iterator[Trial]:
     """All trials."""
     yield from trial_names()
     yield from identifiers()
+    yield from calls_of_types()
     yield from paths()
     yield from contracts()
     yield from links()
+    yield from contents()
     yield from counting_commands()
     yield from generated()
     yield from numbers_of_operations()

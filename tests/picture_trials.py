@@ -266,6 +266,8 @@ def canaries() -> Iterator[Trial]:
     turned = TRANSCRIPT.replace("BLOCK 2\n1026 BLOCK 2\n1028 BLOCK 4 LOST", "BLOCK 4 LOST\n1028 BLOCK 2\n1030 BLOCK 2")
     other = texts_of("hand", turned)["hand-store-1.svg"]
     yield "the stretches of another map", STRETCHES, shown_stretches(other)
+    numbers = "".join(f'<text font-size="12" x="{x}" y="5">{x}</text>' for x in (10, 25))
+    yield "numbers that touch", [], touching(f'<svg xmlns="http://www.w3.org/2000/svg">{numbers}</svg>')
     file = PICTURES / "tree-draw-1.svg"
     drawing, text = file.read_text("utf-8"), file.with_suffix(".dot").read_text("utf-8")
     exchanged = re.sub(">([LR])</text>", lambda it: f">{'LR'['RL'.index(it[1])]}</text>", drawing)

@@ -240,6 +240,20 @@ def moves() -> Iterator[Trial]:
             model.free(int(call.split()[1]))
             count = before + 1 - sum(map(len, model.free_lists.values()))
         yield f"{ALLOCATOR}: moves of {call}", moved, str(count)
+    model = store.Store(1)
+    places_of = [model.get(1) for _ in range(4)]
+    numbers = []
+    for place in (1027, 1026, 1024, 1025):
+        before = sum(map(len, model.free_lists.values()))
+        model.free(place)
+        numbers.append(before + 1 - sum(map(len, model.free_lists.values())))
+    said = re.search(
+        r"after the fourth get, `moves` would answer (\d+), then (\d+) .*?, then (\d+), .* at last (\d+),",
+        " ".join(text_of(ALLOCATOR).split()),
+    )
+    yield f"{ALLOCATOR}: the moves of four frees", numbers, [
+        int(it) for it in said.groups()
+    ] if said else places_of
     (links,) = [
         table for table in tables_of(text_of(ALLOCATOR)) if table.head == ["", "Word", "Before", "After"]
     ]
@@ -280,8 +294,31 @@ def commands_and_verbs(program: str) -> Iterator[Trial]:
     )
     for where, found in ((MANUAL, of_manual), (LANGUAGE, of_language), (SUMMARY, of_sheet)):
         yield f"the verbs of {where}", verbs, sorted(found)
+    for where, listing in (
+        (
+            MANUAL,
+            dict(re.findall(r"^\.It Cm (\w+)\n((?:(?!\.It|\.El).*\n)+)", text_of(MANUAL), re.MULTILINE)),
+        ),
+        (LANGUAGE, {spans_of(row[0])[0].split()[1]: row[1] for row in table.rows}),
+        (SUMMARY, dict(re.findall(r"`l6 (\w+) < JOB` \| ([^|]*) \|", text_of(SUMMARY)))),
+        ("the help", dict(re.findall(r"^  (\w+) +([A-Z].*)$", run(program, "", "--help")[0], re.MULTILINE))),
+    ):
+        for verb, words in WHAT_VERBS_DO.items():
+            what = " ".join(listing.get(verb, "").lower().split())
+            yield f"{where}: what {verb} does", [], [word for word in words if word not in what]
     yield "the verbs of the help", verbs, sorted(it for it in listed if it != "help")
     yield f"the verbs with options in {LANGUAGE}", sorted(jobs.RUNNING), sorted(with_options)
+
+
+# Words of what each verb does, in the words that all pages share.
+WHAT_VERBS_DO = {
+    "asm": ["write", "image"],
+    "list": ["write", "listing"],
+    "run": ["run"],
+    "load": ["run", "image"],
+    "renew": ["rewrit", "image"],
+    "debug": ["command"],
+}
 
 
 # What each exit status means, in the words that all pages share.
@@ -307,6 +344,8 @@ def statuses_and_faults(program: str) -> Iterator[Trial]:
         spans_of(line)[0].split()[1]: int(status)
         for line, status in table_with(text_of(LANGUAGE), "Line", "Exit status").rows
     }
+    forms = [spans_of(line)[0] for line, _ in table_with(text_of(LANGUAGE), "Line", "Exit status").rows]
+    yield f"the endings of {MANUAL}", forms, re.findall(r"^\.It (== .*)$", text_of(MANUAL), re.MULTILINE)
     yield f"the statuses of endings in {LANGUAGE}", {"DONE": 0, "FAIL": 1, "TRAP": 2, "LIMIT": 3}, endings
     faults_of = {
         line: int(status)

@@ -30,22 +30,24 @@ if verb == "version":
     sys.exit(0)
 with open(state / "log", "a") as log:
     log.write(f"{{verb}} {{Path.cwd().name}}\\n")
+if verb == "lib" and "UNPROVED" in Path("src/lib.rt").read_text():
+    sys.exit(1)
 if verb == "lib":
     Path("out/rlib").mkdir(parents=True, exist_ok=True)
     Path("out/rlib/stamp").write_text("made")
     sys.exit(0)
-name, wrong = "", False
+name, wrong, unproved = "", False, False
 for line, text in enumerate(Path("src/lib.rt").read_text().splitlines(), 1):
     if text.startswith("fn "):
-        name = text.split()[1].partition("(")[0]
+        name, wrong = text.split()[1].partition("(")[0], False
     elif text == "    2":
-        wrong = True
+        wrong = unproved = True
         print(f"fn l6_word::{{name}}: not proved")
         print(f"note: src/lib.rt:{{line}}:5: it is not proved that it answers 1")
     elif text == "}}":
         print(f"fn l6_word::{{name}}: proved") if not wrong else None
-print("logic=not-proved functions=2" if wrong else "logic=proved functions=2")
-sys.exit(1 if wrong else 0)
+print("logic=not-proved functions=2" if unproved else "logic=proved functions=2")
+sys.exit(1 if unproved else 0)
 '''
 CODE = "fn give() -> u8 {\n    1\n}\n\nfn take() -> u8 {\n    4\n}\n"
 REFUSED = "file: src/lib.rt\nold:     1\nnew:     2\n"
@@ -138,7 +140,11 @@ def verdicts(edits: Edits) -> Iterator[Trial]:
     edits.checkout.write("crates/l6_word/edits/take_is_not_there.edit", NOT_REFUSED.replace("4", "6"))
     for which in ("the first time", "the second time"):
         yield edits.trial(f"an edit that is not refused, {which}", True, count="1 passed, 2 failed")
-    for name in ("take_answers_five", "take_is_not_there"):
+    two = "file: src/lib.rt\nold: u8\nnew: u16\n"  # (a text that is there twice)
+    edits.checkout.write("crates/l6_word/edits/take_is_twice_there.edit", two)
+    actual, _ = edits.tried()
+    yield "an old text that is there twice", True, "BAD EDIT: an old text is in src/lib.rt 2 times" in actual.stdout
+    for name in ("take_answers_five", "take_is_not_there", "take_is_twice_there"):
         (edits.top / f"crates/l6_word/edits/{name}.edit").unlink()
     yield edits.trial("the edit that was refused beside them", False)
     (kept,) = (edits.kept / "l6/edits").iterdir()
@@ -153,6 +159,23 @@ def verdicts(edits: Edits) -> Iterator[Trial]:
     yield edits.trial("once it is kept again", False)
     kept.rename(kept.with_name(kept.name.replace("l6_word-", "l6_word-0")))
     yield edits.trial("what was kept of another state", True)
+
+
+def copies(edits: Edits) -> Iterator[Trial]:
+    """Two edits of one function are tried in copies of it, in one check; a crate that is not proved fails."""
+    edits.checkout.write(
+        "crates/l6_word/edits/give_answers_two_again.edit",
+        REFUSED.replace("old:     1", "old: 1").replace("new:     2", "new: 2"),
+    )
+    actual, _ = edits.tried("--anew")
+    said = "2 of 2 edits refused" in actual.stdout and "in 1 checks" in actual.stdout
+    yield "two edits of one function", ("2 passed, 0 failed", True), (actual.stdout.splitlines()[-1], said)
+    (edits.top / "crates/l6_word/edits/give_answers_two_again.edit").unlink()
+    edits.checkout.write("crates/l6_word/src/lib.rt", CODE + "// UNPROVED\n")
+    actual, was_checked = edits.tried("--anew")
+    failed = actual.stdout.splitlines()[-1]
+    yield "a crate that is not proved", ("0 passed, 1 failed", 1, False), (failed, actual.status, was_checked)
+    edits.checkout.write("crates/l6_word/src/lib.rt", CODE)
 
 
 def folders(edits: Edits) -> Iterator[Trial]:
@@ -193,7 +216,7 @@ def trials() -> Iterator[Trial]:
     yield from scripts()
     with tempfile.TemporaryDirectory() as folder:
         edits = Edits(Path(folder) / "checkout")
-        for group in (verdicts, changes, folders, crates_below):
+        for group in (verdicts, changes, copies, folders, crates_below):
             edits.kept = Path(folder, group.__name__)
             yield from group(edits)
 

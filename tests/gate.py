@@ -162,6 +162,14 @@ def other_programs(gate: Gate) -> Iterator[Trial]:
     yield "another toolchain", (1, "2 failed"), (actual.status, last_line(actual)[0].rpartition(", ")[2])
 
 
+def no_program(gate: Gate) -> Iterator[Trial]:
+    """If no program belongs to the sources and none can be built, nothing is tested."""
+    gate.checkout.write("crates/l6/src/main.rt", "another main\n")
+    actual, calls = gate.test(fails="tools/prove.py", how="a-status")
+    called = [call.rpartition("/")[2] for call in calls]
+    yield "no program", (1, "", ["prove.py l6"]), (actual.status, actual.stdout.partition("99999")[0], called)
+
+
 def words_of_the_command(gate: Gate) -> Iterator[Trial]:
     """Which words ./test takes, and what they do."""
     for words in (("-x",), ("--only",), ("--only", ""), ("--anew",), ("--prove", "x"), ("--only", "a", "b")):
@@ -247,7 +255,7 @@ def scripts() -> Iterator[Trial]:
 
 def trials() -> Iterator[Trial]:
     """All trials, each group on a checkout of its own."""
-    for group in (steps_that_fail, other_programs, words_of_the_command):
+    for group in (steps_that_fail, other_programs, no_program, words_of_the_command):
         with tempfile.TemporaryDirectory() as folder:
             yield from group(Gate(Path(folder) / "checkout"))
     yield from harnesses()

@@ -101,6 +101,37 @@ class Shim:
         return actual, Requests(int(made), was_refused == "refused", int(kept), int(peak), int(total))
 
 
+# A program of which it is known what it requests: three blocks, of which one replaces another and one is kept.
+KNOWN = """
+#include <stdlib.h>
+int main(void) {
+    void *block = malloc(1000), *kept = malloc(500);
+    void *larger = realloc(block, 3000);
+    if (!larger || !kept)
+        return 5;
+    free(larger);
+    return 0;
+}
+"""
+SLACK = 64  # bytes that malloc gives more than it is asked for, at most, in all
+
+
+def known_requests(folder: str) -> Iterator[Trial]:
+    """The trials that the shim of refuse.c counts what a known program requests, and refuses what it is to."""
+    source, program = Path(folder, "known.c"), Path(folder, "known")
+    source.write_text(KNOWN)
+    subprocess.run(["cc", "-O0", "-o", program, source], check=True)
+    shim = Shim(str(program), folder)
+    for refused, status, made, kept in ((0, 0, 3, 1), (1, 0, 3, 1), (2, 5, 3, 1), (3, 5, 3, 2)):
+        ended, counted = shim.run([], b"", refused)
+        assert counted is not None
+        actual = (ended.status, counted.made, counted.kept, counted.was_refused)
+        yield f"a known program, with request {refused} refused", (status, made, kept, refused > 0), actual
+        if not refused:
+            bytes_ = [(1_000 + 500 - 1_000 + 3_000, counted.peak), (1_000 + 500 + 3_000, counted.total)]
+            yield "the bytes of a known program", [True, True], [0 <= it - least < SLACK for least, it in bytes_]
+
+
 class WrongShim:
     """A shim that finds fault with each run of a program that answers as it must."""
 
@@ -137,6 +168,7 @@ def memory_trials(program: str, cases: list[Case]) -> Iterator[Trial]:
     """All trials on memory."""
     with tempfile.TemporaryDirectory() as folder:
         shim = Shim(program, folder)
+        yield from known_requests(folder)
         _, requests = shim.run(cases[0].args, cases[0].stdin)
         if requests is None:
             actual = "no report: it was not loaded, or the program was killed"

@@ -117,6 +117,25 @@ def handmade() -> Iterator[Trial]:
     yield "numbers of bits that touch", [], touching(narrow)
 
 
+# What is wrong with a transcript, and how the one above becomes it.
+WRONG = {
+    "a map with a gap": ("1028 BLOCK 4 LOST", "1029 BLOCK 4 LOST"),
+    "words that are used, but not there": ("8 WORDS USED 1016", "9 WORDS USED 1016"),
+    "words that are free, but not there": ("USED 1016 FREE", "USED 1017 FREE"),
+    "a block that is not drawn": ("  N -> 1024\n2 BLOCKS", "  N -> 1024\n3 BLOCKS"),
+}
+
+
+def refusals() -> Iterator[Trial]:
+    """The trials that no picture is made of a transcript that contradicts itself."""
+    for what, (old, new) in WRONG.items():
+        try:
+            made = ", ".join(texts_of("wrong", TRANSCRIPT.replace(old, new)))
+        except ValueError:
+            made = "nothing"
+        yield f"pictures of {what}", "nothing", made
+
+
 def touching(picture: str) -> list[tuple[str, str]]:
     """The numbers of bits above the rows that are closer than two digits are wide."""
     texts = [it for it in xml.etree.ElementTree.fromstring(picture).iter(f"{SVG}text")
@@ -280,4 +299,4 @@ def canaries() -> Iterator[Trial]:
 
 
 if __name__ == "__main__":
-    sys.exit(report(chain(handmade(), committed(), shown()), canaries()))
+    sys.exit(report(chain(handmade(), refusals(), committed(), shown()), canaries()))

@@ -143,6 +143,7 @@ def verdicts(edits: Edits) -> Iterator[Trial]:
     two = "file: src/lib.rt\nold: u8\nnew: u16\n"  # (a text that is there twice)
     edits.checkout.write("crates/l6_word/edits/take_is_twice_there.edit", two)
     actual, _ = edits.tried()
+    yield "what is said of an edit that is not refused", True, "NOT REFUSED: the crate is proved" in actual.stdout
     yield "an old text that is there twice", True, "BAD EDIT: an old text is in src/lib.rt 2 times" in actual.stdout
     for name in ("take_answers_five", "take_is_not_there", "take_is_twice_there"):
         (edits.top / f"crates/l6_word/edits/{name}.edit").unlink()

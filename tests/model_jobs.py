@@ -37,6 +37,8 @@ from trials import Trial, report
 EXAMPLES = Path(__file__).resolve().parent.parent / "examples"
 BATCH = 50  # numbers that a process takes at a time
 LONG = 100_000  # bytes of a text of a case
+ODD = b"\0\x7f\x80\xff"
+IMAGE = b"542651554722\n000000000002\n000000000007\n000020000000\n013077000000\n127777777777\n000000000005\n"
 VARIED = 200  # random jobs of each kind that must nearly all differ
 
 
@@ -120,6 +122,7 @@ def trials(given: argparse.Namespace) -> Iterator[Trial]:
     yield from cases(given.long)
     yield from examples()
     yield from variety()
+    yield from hostility()
     yield from random_jobs(beside, range(given.first, given.first + given.jobs), given.processes)
 
 
@@ -132,6 +135,18 @@ def variety() -> Iterator[Trial]:
         yield f"the verbs of {kind} jobs", set(), set(VERBS) - {job.words[0] for job in jobs if job.words}
         statuses = {str(model_answer(job.words, job.stdin).status) for job in jobs[:VARIED // 2]}
         yield f"the statuses of {kind} jobs", set(), set("01234") - statuses
+
+
+def hostility() -> Iterator[Trial]:
+    """The trials that hostile jobs are hostile: some decks have bytes that no sound deck has, some images none."""
+    jobs = [hostile_jobs.job_of(number) for number in range(1, 4 * VARIED + 1)]
+    odd = [job for job in jobs if set(job.deck) & set(ODD)]
+    yield "hostile decks with odd bytes", True, len(odd) >= VARIED // 20
+    images = [job.stdin(IMAGE) for job in jobs if job.has_image]
+    marks = [len({job for job in images if IMAGE[:13] not in job}), len({job for job in images if IMAGE in job})]
+    yield "hostile images, altered and whole", [True, True], [count > 0 for count in marks]
+    parts = [sum(mark in job.rest for job in jobs) for mark in (b"$INPUT", b"$COMMANDS")]
+    yield "hostile inputs and commands", [True, True], [count > VARIED // 4 for count in parts]
 
 
 def canaries() -> Iterator[Trial]:

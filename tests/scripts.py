@@ -28,6 +28,13 @@ KILLING = """#!/bin/sh
 echo "$1" >> "$STAND_IN/killed"
 exit 247
 """
+# A stand-in for rt: a check fails, and says why.
+FAILING_CHECK = """#!/bin/sh
+[ "$1" = version ] && exec cat "$STAND_IN/version"
+echo why
+echo why else >&2
+exit 1
+"""
 # A stand-in for rt: a check takes long enough for another one to begin beside it.
 SLOW = """#!/bin/sh
 [ "$1" = version ] && exec cat "$STAND_IN/version"
@@ -90,6 +97,15 @@ def orders(checkout: Checkout) -> Iterator[Trial]:
     for language in ("C", "en_US.UTF-8", ""):
         actual = checkout.run("l6", has_rt=False, FIRST=first, LC_ALL=language)
         yield f"sources sorted by {language or 'nothing'}", Answer(checkout.made_of, "", 0), actual
+
+
+def what_checks_say(checkout: Checkout) -> Iterator[Trial]:
+    """What a check that fails has written to either output is shown."""
+    checkout.write("crates/l6_word/src/lib.rt", "a text whose check fails\n")
+    first = first_on_the_path(checkout, "failing", rt=FAILING_CHECK)
+    actual = checkout.run("tools/prove.py", "l6_word", FIRST=first)
+    said = [line for line in actual.stderr.splitlines() if line.startswith("why")]
+    yield "a check that fails", (1, ["why", "why else"]), (actual.status, said)
 
 
 def checks_that_are_killed(checkout: Checkout) -> Iterator[Trial]:
@@ -214,6 +230,7 @@ GROUPS: tuple[tuple[Callable[[Checkout], Iterator[Trial]], ...], ...] = (
     (
         proofs_that_fail,
         edits_meanwhile,
+        what_checks_say,
         checks_that_are_killed,
         two_at_once,
         cut_copies,

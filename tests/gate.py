@@ -247,7 +247,7 @@ def scripts() -> Iterator[Trial]:
     steps = {Path(step).name for step in GATE_STEPS if step.startswith("tests/")}
     yield "the scripts of tests/", sorted(made - NOT_A_STEP), sorted(steps)
     text = (TOP / ".ci/run").read_text("utf-8")
-    installed = {package for package in PACKAGES if re.search(rf"[ :]{package}\b", text)}
+    installed = {package for package in PACKAGES if re.search(rf"\w:{package}[ ;\n]", text)}
     yield "what .ci/run installs", PACKAGES, installed
     last = text.rstrip().splitlines()[-1]
     yield "what .ci/run ends in", True, re.fullmatch(r"exec .*/\.\./test\" --prove", last) is not None

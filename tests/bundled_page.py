@@ -45,20 +45,21 @@ def module_in(page: bytes, script: ModuleType) -> bytes:
         return b""
 
 
-def trials() -> Iterator[Trial]:
-    """The trials on the page that is handed out."""
-    script, page = bundler(), PAGE.read_bytes()
+def trials(page: bytes) -> Iterator[Trial]:
+    """The trials on a page: it has a module, and is what is made of that."""
+    script = bundler()
     module = module_in(page, script)
-    yield "the module in dist/l6.html", WASM, module[:len(WASM)]
+    yield "the module in dist/l6.html", WASM, module[: len(WASM)]
     yield "dist/l6.html (web/bundle makes it)", page.decode("utf-8"), script.page_of(module).decode("utf-8")
 
 
-def canaries() -> Iterator[Trial]:
-    """A page without its module, and a page of another module."""
-    script, page = bundler(), PAGE.read_bytes()
-    yield "a page without a module", WASM, module_in(page.replace(b"module", b""), script)[:len(WASM)]
-    yield "a page of another module", page, script.page_of(WASM)
+def canaries(page: bytes) -> Iterator[Trial]:
+    """Pages with a defect each: no module, another one, another script, another style."""
+    yield next(trials(page.replace(b"module", b"")))
+    for old, new in ((b"</script>", b";</script>"), (b"</style>", b" </style>"), (b"<title>", b"<title>.")):
+        yield list(trials(page.replace(old, new, 1)))[1]
 
 
 if __name__ == "__main__":
-    sys.exit(report(trials(), canaries()))
+    handed_out = PAGE.read_bytes()
+    sys.exit(report(trials(handed_out), canaries(handed_out)))

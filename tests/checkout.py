@@ -10,13 +10,10 @@ import os
 import shutil
 import subprocess
 import sys
-import tempfile
-from collections.abc import Iterator
 from pathlib import Path
 from typing import Any
 
 from answers import Answer
-from trials import CANARY, Trial
 
 TOP = Path(__file__).resolve().parent.parent
 SCRIPTS = (
@@ -240,17 +237,3 @@ class Checkout:
         os.close(theirs)
         return answer
 
-
-def answers_of_checkouts() -> Iterator[Trial]:
-    """Canaries: answers of a script in a checkout that are wrong in one part each, and an old program's sum."""
-    with tempfile.TemporaryDirectory() as folder:
-        checkout = Checkout(Path(folder) / "checkout")
-        checkout.write("canary", f"#!/bin/sh\n{CANARY}\n")
-        (checkout.top / "canary").chmod(0o755)
-        actual = checkout.run("canary")
-        yield "a wrong standard output of a script", Answer("Out\n", "err\n", 3), actual
-        yield "a wrong standard error of a script", Answer("out\n", "Err\n", 3), actual
-        yield "a wrong status of a script", Answer("out\n", "err\n", 0), actual
-        before = checkout.made_of
-        checkout.write("crates/l6/src/main.rt", "another main\n")
-        yield "a program of other sources", before, checkout.made_of

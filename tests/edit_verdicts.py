@@ -1,8 +1,9 @@
 """Which edits the prover refused before, as this machine has kept it.
 
-A verdict depends on the sources of the crate and of those below it, on the toolchain, on the edit itself and on
-the scripts that try it. All that is summed (SHA-256), and if a byte of it has changed, the edit is tried again. Only
-that an edit is refused is ever kept: one that is not refused, or is a bad edit, is tried each time.
+A verdict depends on the sources of the crate and of those below it, on the toolchain, on the edit itself and
+on the scripts that try it. All that is summed (SHA-256), and if a byte of it has changed, the edit is tried
+again. Only that an edit is refused is ever kept: one that is not refused, or is a bad edit, is tried each
+time.
 
 The folder has a file for each state of a crate, with a line for each edit.
 """
@@ -51,8 +52,10 @@ class Verdicts:
         if self._file is None or sum_of(self._crate) != self._sum:
             return
         self._refused |= {key_of(edit): by_proof for edit, by_proof in refused}
-        lines = [f"refused {name} {total}{' by a proof alone' if by_proof else ''}\n"
-                 for (name, total), by_proof in sorted(self._refused.items())]
+        lines = [
+            f"refused {name} {total}{' by a proof alone' if by_proof else ''}\n"
+            for (name, total), by_proof in sorted(self._refused.items())
+        ]
         with contextlib.suppress(OSError):
             replace(self._file, "".join(lines))
             self._forget_old_states()

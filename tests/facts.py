@@ -1,9 +1,10 @@
 #!/usr/bin/env python3
 """Compares what the pages say of the language with the program and with the model of tests/model/.
 
-facts.py PROGRAM prints each difference, and last 'N passed, M failed'. Limits, ranges, defaults, traps, codes,
-operations, commands, faults and statuses stand in docs/language.md, on the sheet docs/summary.md, in the manual
-page docs/l6.1 and in the program's help. The model has each of them once, written by hand from the manual.
+facts.py PROGRAM prints each difference, and last 'N passed, M failed'. Limits, ranges, defaults, traps,
+codes, operations, commands, faults and statuses stand in docs/language.md, on the sheet docs/summary.md, in
+the manual page docs/l6.1 and in the program's help. The model has each of them once, written by hand from the
+manual.
 
 Tables of which each row is a deck are run.
 """
@@ -15,14 +16,30 @@ from collections.abc import Callable, Iterator
 from pathlib import Path
 
 from answers import answer_of
-from model import arithmetic, cards, characters, command, groups, jobs, operations, printout, programs, state, store
-from page_tables import canary, plain, spans_of, table_with, tables_of, text_of
+from model import (
+    arithmetic,
+    cards,
+    characters,
+    command,
+    groups,
+    jobs,
+    operations,
+    printout,
+    programs,
+    state,
+    store,
+)
+from page_tables import TOP, canary, plain, spans_of, table_with, tables_of, text_of
 from trials import Trial, report
 
 LANGUAGE, SUMMARY, MANUAL = "docs/language.md", "docs/summary.md", "docs/l6.1"
 ROBUSTNESS, DEBUGGER, ALLOCATOR = "docs/robustness.md", "docs/debugger.md", "docs/allocator.md"
 RUNNING = ("run", "load", "debug")
-STRIDE, CHECKPOINTS = 4_096, 16  # states from one checkpoint of the debugger to the next, and how many are kept
+RANDOM_JOBS = 1_000  # numbers of model_jobs.py, each of which makes two
+STRIDE, CHECKPOINTS = (
+    4_096,
+    16,
+)  # states from one checkpoint of the debugger to the next, and how many are kept
 
 
 def number_of(text: str) -> int:
@@ -38,7 +55,9 @@ def written(number: int) -> str:
 def manual() -> str:
     """The words of the manual page, without the requests of its formatter."""
     lines = text_of(MANUAL).splitlines()
-    return " ".join(re.sub(r"^\.[A-Z]\w ?(?:\w+ )?", "", line) for line in lines if not line.startswith('.\\"'))
+    return " ".join(
+        re.sub(r"^\.[A-Z]\w ?(?:\w+ )?", "", line) for line in lines if not line.startswith('.\\"')
+    )
 
 
 # Sentences of the pages with a number, for which # stands; what the number is by the model; and how often the
@@ -73,6 +92,16 @@ SENTENCES: list[tuple[str, str, int, int]] = [
     (LANGUAGE, "begins at place #, so 0 is the place of no block", store.UNIT, 1),
     (LANGUAGE, "at the places 1,024 to # (", 9 * store.UNIT - 1, 1),
     (LANGUAGE, "or was interrupted more than # times", 1_000, 2),
+    (LANGUAGE, "A bug is one of # words", len(characters.LETTERS), 1),
+    (LANGUAGE, "are numbered from 0 to #.", len(characters.NAMES) - 1, 1),
+    (LANGUAGE, "2^k words side by side, k from 0 to #,", 10, 1),
+    (LANGUAGE, "bits of what it leads to: # for a bug", 36, 1),
+    (LANGUAGE, "the last bit (0 to #, in order)", 35, 1),
+    (LANGUAGE, "a bit past #, or bits out of order", 35, 1),
+    (LANGUAGE, "by a word past #,", 1_023, 1),
+    (LANGUAGE, "of no word or of more than # is asked for", operations.SIZE_LIMIT, 1),
+    (LANGUAGE, "fewer than 1 or more than # characters", operations.WORD_CHARACTERS, 1),
+    (LANGUAGE, "a call is made while # calls wait", operations.ENTRIES_LIMIT, 1),
     (SUMMARY, "up to # tests and", programs.ROWS_LIMIT, 1),
     (SUMMARY, "tests and # operations", programs.ROWS_LIMIT, 1),
     (SUMMARY, "on up to # cards", cards.CONTINUATIONS_LIMIT, 1),
@@ -102,6 +131,13 @@ SENTENCES: list[tuple[str, str, int, int]] = [
     (ROBUSTNESS, "or was interrupted for the #st time", 1_001, 1),
     (ROBUSTNESS, "more than # interruptions in one call", 1_000, 1),
     (DEBUGGER, "A number is decimal, at most #.", 1_000_000_000, 1),
+    (
+        "docs/proof.md",
+        "examples and # random jobs as the program does (tests/model_jobs.py)",
+        2 * RANDOM_JOBS,
+        1,
+    ),
+    ("tests/model/README.md", "then gives # random jobs to the model", 2 * RANDOM_JOBS, 1),
     (DEBUGGER, "whose number is a multiple of #.", STRIDE, 1),
     (DEBUGGER, "At most # are kept", CHECKPOINTS, 1),
     (DEBUGGER, "by up to # states costs", (CHECKPOINTS - 1) * STRIDE, 1),
@@ -138,7 +174,13 @@ LIMITS = {
     "an input": [jobs.PART_LIMIT],
     "commands of the debugger": [jobs.PART_LIMIT],
     "an image": [jobs.IMAGE_LIMIT],
-    "a store": [state.Options().store, store.UNIT, store.UNIT, 9 * store.UNIT - 1, *command.RANGES["--store"]],
+    "a store": [
+        state.Options().store,
+        store.UNIT,
+        store.UNIT,
+        9 * store.UNIT - 1,
+        *command.RANGES["--store"],
+    ],
     "entries of each pushdown, and calls that wait": [operations.ENTRIES_LIMIT],
     "steps": [state.Options().steps, *command.RANGES["--steps"]],
     "output": [state.Options().output, *command.RANGES["--output"]],
@@ -147,16 +189,28 @@ LIMITS = {
 
 def limits() -> Iterator[Trial]:
     """Each number of a limit is the model's, wherever a page says it."""
-    texts = {page: manual() if page == MANUAL else plain(text_of(page)) for page in dict.fromkeys(
-        page for page, *_ in SENTENCES)}
+    texts = {
+        page: manual() if page == MANUAL else plain(text_of(page))
+        for page in dict.fromkeys(page for page, *_ in SENTENCES)
+    }
     for page, sentence, number, times in SENTENCES:
         pattern = re.escape(sentence).replace(r"\#", r"(\d[\d,]*\d|\d)")
         found = [number_of(it) for it in re.findall(pattern, texts[page], re.IGNORECASE)]
         yield f"{page}: {sentence}", [number] * times, found
-    rows = {plain(what): [number_of(it) for it in re.findall(r"\d[\d,]*\d|\d", limit)]
-            for what, limit in table_with(text_of(LANGUAGE), "What", "Limit").rows}
+    rows = {
+        plain(what): [number_of(it) for it in re.findall(r"\d[\d,]*\d|\d", limit)]
+        for what, limit in table_with(text_of(LANGUAGE), "What", "Limit").rows
+    }
     for what in {**LIMITS, **rows}:
         yield f"{LANGUAGE}: the limit of {what}", LIMITS.get(what), rows.get(what)
+
+
+def jobs_of_the_model() -> Iterator[Trial]:
+    """How many random jobs are made if no number is given."""
+    text = (TOP / "tests/model_jobs.py").read_text("utf-8")
+    yield "the random jobs of tests/model_jobs.py", [f"{RANDOM_JOBS:_}"], re.findall(
+        r'"--jobs", type=int, default=(\w+)', text
+    )
 
 
 def options(program: str) -> Iterator[Trial]:
@@ -169,14 +223,20 @@ def options(program: str) -> Iterator[Trial]:
         yield f"the options in the help on {verb}", known, {it[0]: tuple(map(int, it[1:])) for it in found}
         yield f"the units in the help on {verb}", [str(store.UNIT)], re.findall(r"Units of (\d+) words", text)
     table = table_with(text_of(LANGUAGE), "Option", "What it sets")
-    of_table = {spans_of(name)[0].split()[0]: (*map(number_of, of.split(" to ")), number_of(it))
-                for name, _, of, it in table.rows}
+    of_table = {
+        spans_of(name)[0].split()[0]: (*map(number_of, of.split(" to ")), number_of(it))
+        for name, _, of, it in table.rows
+    }
     yield f"the options in {LANGUAGE}", known, of_table
     pattern = r"-(\w+) Ar \w The (?:(?!The default).)*?(\d[\d,]*) to (\d[\d,]*)\. The default is (\d[\d,]*)\."
-    of_manual = {f"--{name}": tuple(map(number_of, numbers)) for name, *numbers in re.findall(pattern, manual())}
+    of_manual = {
+        f"--{name}": tuple(map(number_of, numbers)) for name, *numbers in re.findall(pattern, manual())
+    }
     yield f"the options in {MANUAL}", known, of_manual
     said = plain(text_of(SUMMARY)).partition("Options of run, load and debug: ")[2]
-    of_sheet = {name: number_of(it) for name, it in re.findall(r"(--\w+) \w \((?:[^)]*?)(\d[\d,]*\d|\d)\)", said)}
+    of_sheet = {
+        name: number_of(it) for name, it in re.findall(r"(--\w+) \w \((?:[^)]*?)(\d[\d,]*\d|\d)\)", said)
+    }
     yield f"the options in {SUMMARY}", {name: it[2] for name, it in known.items()}, of_sheet
     verbs = {verb for verb in jobs.VERBS if verb in jobs.RUNNING}
     yield "the verbs with options", set(RUNNING), verbs
@@ -196,7 +256,9 @@ def traps() -> Iterator[Trial]:
     said = plain(text_of(LANGUAGE))
     for sentence, numbers in TRAPS_IN_SENTENCES.items():
         found = [it for it in re.findall(sentence, said)]
-        yield f"{LANGUAGE}: traps after {sentence!r}", numbers, [int(n) for it in found for n in pattern.findall(it)]
+        yield f"{LANGUAGE}: traps after {sentence!r}", numbers, [
+            int(n) for it in found for n in pattern.findall(it)
+        ]
     for page in (LANGUAGE, ROBUSTNESS):
         for number, name in re.findall(r"\btrap (\d+), ([A-Z][A-Z ]+[A-Z])\b", plain(text_of(page))):
             yield f"{page}: trap {number}, {name}", (number, name), known[int(number) - 1]
@@ -245,7 +307,18 @@ def codes() -> Iterator[Trial]:
     yield "the number of AB", [tuple(map(str, ab))], numbers
 
 
-SAMPLES = [(0, 0), (5, 3), (3, 5), (7, 9), (12, 10), (2**36 - 1, 1), (1, 35), (2**18, 2**17 + 1), (6, 6), (40, 36)]
+SAMPLES = [
+    (0, 0),
+    (5, 3),
+    (3, 5),
+    (7, 9),
+    (12, 10),
+    (2**36 - 1, 1),
+    (1, 35),
+    (2**18, 2**17 + 1),
+    (6, 6),
+    (40, 36),
+]
 Meaning = Callable[[int, int], int]
 # What the tables say of arithmetic, in words, and what that is.
 RESULTS: dict[str, Meaning] = {
@@ -265,7 +338,9 @@ RESULTS: dict[str, Meaning] = {
     "either, but not both": lambda c, cd: c ^ cd,
     "cd with each bit of the width turned, 0 to 1 and 1 to 0": lambda c, cd: 2**36 - 1 - cd,
     "cd with each bit turned": lambda c, cd: 2**36 - 1 - cd,
-    "c shifted left by cd places; 0 if cd is at least the width": lambda c, cd: c * (1 << cd) if cd < 36 else 0,
+    "c shifted left by cd places; 0 if cd is at least the width": lambda c, cd: c * (1 << cd)
+    if cd < 36
+    else 0,
     "c shifted left by cd": lambda c, cd: c * (1 << cd) if cd < 36 else 0,
     "c shifted right by cd places": lambda c, cd: c // (1 << cd),
     "c shifted right by cd": lambda c, cd: c // (1 << cd),
@@ -290,12 +365,16 @@ def arithmetic_and_tests() -> Iterator[Trial]:
     """What the tables of arithmetic and of tests say of each letter, on some numbers."""
     for page in (LANGUAGE, SUMMARY):
         rows = list(halves(page, "c becomes"))
-        yield f"{page}: the letters of arithmetic", sorted(programs.ARITHMETIC), sorted(letter for letter, _ in rows)
+        yield f"{page}: the letters of arithmetic", sorted(programs.ARITHMETIC), sorted(
+            letter for letter, _ in rows
+        )
         for letter, what in rows:
             meaning = RESULTS.get(re.sub(r" \(trap 5 if cd is 0\)$", "", what))
             samples = [it for it in SAMPLES if it[1] or letter not in "VY"]
             expected = [arithmetic.result(letter, *it, 36) % 2**36 for it in samples]
-            yield f"{page}: {letter} is {what}", expected, meaning and [meaning(*it) % 2**36 for it in samples]
+            yield f"{page}: {letter} is {what}", expected, meaning and [
+                meaning(*it) % 2**36 for it in samples
+            ]
         rows = list(halves(page, "Holds if"))
         yield f"{page}: the letters of tests", sorted(programs.TESTS), sorted(letter for letter, _ in rows)
         for letter, what in rows:
@@ -338,6 +417,7 @@ def canaries(program: str) -> Iterator[Trial]:
 def trials(program: str) -> Iterator[Trial]:
     """All trials."""
     yield from limits()
+    yield from jobs_of_the_model()
     yield from options(program)
     yield from traps()
     yield from codes()

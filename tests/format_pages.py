@@ -1,8 +1,8 @@
 #!/usr/bin/env python3
 """Compares the pages on images, listings, the debugger and what can go wrong with the program and the model.
 
-format_pages.py PROGRAM prints each difference, and last 'N passed, M failed'. It also looks at all large numbers
-of these pages and of the manual: each must be a limit, or be listed here with its reason.
+format_pages.py PROGRAM prints each difference, and last 'N passed, M failed'. It also looks at all large
+numbers of these pages and of the manual: each must be a limit, or be listed here with its reason.
 """
 from __future__ import annotations
 
@@ -27,7 +27,9 @@ IMAGE, LISTING, PAGE = "docs/image.md", "docs/listing.md", "docs/page.md"
 def conditions() -> Iterator[Trial]:
     """What each condition word means: by the model, on all outcomes of three tests."""
     text = text_of(LANGUAGE)
-    for words, decided, then, otherwise in table_with(text, "Word", "It is decided by the first test that").rows:
+    for words, decided, then, otherwise in table_with(
+        text, "Word", "It is decided by the first test that"
+    ).rows:
         for word in spans_of(words):
             known = DECIDED[Condition[word]]
             said = ({"holds": True, "does not hold": False}[decided], then == "true", otherwise == "true")
@@ -35,8 +37,11 @@ def conditions() -> Iterator[Trial]:
     table = table_with(text, "Word", "True if", "Tests")
     of_language = {spans_of(word)[0]: what for word, what, *_ in table.rows if spans_of(word)}
     table = table_with(text_of(SUMMARY), "Condition", "True if", "Exit")
-    of_sheet = {word: what for words, whats, *_ in table.rows
-                for word, what in zip(spans_of(words), whats.split(", "))}
+    of_sheet = {
+        word: what
+        for words, whats, *_ in table.rows
+        for word, what in zip(spans_of(words), whats.split(", "))
+    }
     for page, found in ((LANGUAGE, of_language), (SUMMARY, of_sheet)):
         yield f"{page}: the condition words", sorted(CONDITION_WORDS), sorted(found)
         for word, what in found.items():
@@ -69,10 +74,18 @@ def image_format() -> Iterator[Trial]:
     headers, rows = (table for table in tables_of(text) if table.head == ["Bits", "What they hold"])
     said = {name: int(number) for number, name in re.findall(r"(\d) `([A-Z]+)`", headers.rows[0][1])}
     yield "the numbers of conditions", {word: int(Condition[word]) for word in CONDITION_WORDS}, said
-    said = {name: int(number) for number, name in re.findall(r"(\d) `?(a label|DONE|FAIL)`?", headers.rows[3][1])}
-    yield "the numbers of exits", {"a label": int(Exit.LABEL), "DONE": int(Exit.DONE), "FAIL": int(Exit.FAIL)}, said
+    said = {
+        name: int(number) for number, name in re.findall(r"(\d) `?(a label|DONE|FAIL)`?", headers.rows[3][1])
+    }
+    yield "the numbers of exits", {
+        "a label": int(Exit.LABEL),
+        "DONE": int(Exit.DONE),
+        "FAIL": int(Exit.FAIL),
+    }, said
     said = {name: int(number) for number, name in re.findall(r"(\d) a (chain|number|text)", rows.rows[1][1])}
-    yield "the numbers of kinds", {type_.__name__.lower(): images.KINDS[type_] for type_ in (Chain, Number, Text)}, said
+    yield "the numbers of kinds", {
+        type_.__name__.lower(): images.KINDS[type_] for type_ in (Chain, Number, Text)
+    }, said
     names: dict[str, list[str]] = {"tests": [], "operations": []}
     codes: dict[str, list[int]] = {"tests": [], "operations": []}
     for code, row, _ in table_with(text, "Code", "Row", "Operands").rows:
@@ -81,7 +94,9 @@ def image_format() -> Iterator[Trial]:
         codes[kind] += range(numbers[0], numbers[-1] + 1)
         names[kind] += [re.sub(r"^Df$", "D", span.replace(",", "")) for span in spans_of(row)]
     yield "the codes of tests", dict(enumerate(TESTS, 1)), dict(zip(codes["tests"], names["tests"]))
-    yield "the codes of operations", dict(enumerate(OPERATIONS, 1)), dict(zip(codes["operations"], names["operations"]))
+    yield "the codes of operations", dict(enumerate(OPERATIONS, 1)), dict(
+        zip(codes["operations"], names["operations"])
+    )
     for line, parts, what in table_with(text, "Line", "Its parts", "What it says").rows:
         word = spans_of(line)[0]
         if parts:
@@ -89,9 +104,14 @@ def image_format() -> Iterator[Trial]:
         named = re.search(r"code (\d+)(?:, | is )`(\w+)`", what)
         if named:
             known = TESTS if what.startswith("as a test") else OPERATIONS
-            yield f"the code of {word}", (int(word[:2], 8), known[int(named[1]) - 1]), (int(named[1]), named[2])
+            yield f"the code of {word}", (int(word[:2], 8), known[int(named[1]) - 1]), (
+                int(named[1]),
+                named[2],
+            )
     marks = re.findall(r"`(\d{12})`(?:[^`]*?)says `(L6IMG\d)`", plain_spans(text))
-    yield "the magic words", [f"{images.MARKS[2]:012o}", f"{images.MARKS[1]:012o}"], [word for word, _ in marks]
+    yield "the magic words", [f"{images.MARKS[2]:012o}", f"{images.MARKS[1]:012o}"], [
+        word for word, _ in marks
+    ]
 
 
 def plain_spans(text: str) -> str:
@@ -109,7 +129,7 @@ def listing_format(program: str) -> Iterator[Trial]:
     line = answer_of([program, "list"], input=b"* A\n" * 9 + deck.encode()).stdout.decode().split("\n")[9]
     ranges = list(places)
     yield f"{LISTING}: the ranges of places", [(1, 7), (8, 8), (9, 13), (14, 15), (16, 87)], ranges
-    parts = [line[first - 1:last] for first, last in ranges]
+    parts = [line[first - 1 : last] for first, last in ranges]
     yield f"{LISTING}: a line in these places", ["     10", " ", "    0", "  ", deck.rstrip()], parts
     word = answer_of([program, "list"], input=deck.encode()).stdout.decode().split("\n")[1]
     blanks = re.findall(r"Each has a line: (\d+) blanks", " ".join(text_of(LISTING).split()))
@@ -118,8 +138,11 @@ def listing_format(program: str) -> Iterator[Trial]:
 
 def debugger_answers(program: str) -> Iterator[Trial]:
     """The answers in the table of commands, on a statement 0 and a place 1."""
-    said = [span for _, what in table_with(text_of(DEBUGGER), "Command", "What it does and answers").rows
-            for span in spans_of(what)]
+    said = [
+        span
+        for _, what in table_with(text_of(DEBUGGER), "Command", "What it does and answers").rows
+        for span in spans_of(what)
+    ]
     said += re.findall(r"answer `(\?\? [A-Z ]+)`", " ".join(text_of(DEBUGGER).split()))
     commands = b" (PL)\n$COMMANDS\nbreak 0\nclear 0\nfields\nblock 1\nhop\nbreak 9\nquit\nshow\n"
     lines = answer_of([program, "debug"], input=commands).stdout.decode().splitlines()
@@ -130,7 +153,9 @@ def debugger_answers(program: str) -> Iterator[Trial]:
 def lessons(program: str) -> Iterator[Trial]:
     """What the lessons say of breakpoints: they are reached so often, and then so many letters are linked."""
     for line in text_of(PAGE).splitlines():
-        found = re.search(r"#(\w+)\).*click the (\d+) beside .*press Next break (\w+) times(?:: (\w+) letters)?", line)
+        found = re.search(
+            r"#(\w+)\).*click the (\d+) beside .*press Next break (\w+) times(?:: (\w+) letters)?", line
+        )
         if not found:
             continue
         deck = (Path(__file__).parent.parent / "examples" / f"{found[1]}.deck").read_text()
@@ -149,8 +174,11 @@ COUNTS = ["no", "one", "two", "three", "four", "five", "six", "seven", "eight", 
 
 def statuses() -> Iterator[Trial]:
     """The status of each row of the page on what can go wrong, by the text that the user sees."""
-    of_fault = {re.sub(r"^l6: ", "", span): int(status) for lines, _, status in
-                table_with(text_of(LANGUAGE), "Line", "What it means", "Exit status").rows for span in spans_of(lines)}
+    of_fault = {
+        re.sub(r"^l6: ", "", span): int(status)
+        for lines, _, status in table_with(text_of(LANGUAGE), "Line", "What it means", "Exit status").rows
+        for span in spans_of(lines)
+    }
     of_fault |= {"a word is not UTF-8": 64}
     for table in tables_of(text_of(ROBUSTNESS)):
         if "Status" not in table.head:
@@ -168,7 +196,7 @@ def statuses() -> Iterator[Trial]:
 # Numbers of pages that are no limits: those of examples, of bits, and of what was measured.
 PLACES = {1026, 1027, 1028, 1032, 1040, 1056, 1088, 1152, 1280, 1536}
 OTHERS: dict[str, set[int]] = {
-    # the year; sizes, places and results of examples, which are run; the characters that are left of two lines
+    # the year; sizes, places and results of examples, which are run; characters that are left of two lines
     LANGUAGE: {1966, *PLACES, 128, 512, 75712, 131072, 200000, 262134, 262142, 262143, 600000, 2146, 157},
     SUMMARY: set(),
     # the years and pages of papers
@@ -203,7 +231,9 @@ def large_numbers() -> Iterator[Trial]:
 def canaries(program: str) -> Iterator[Trial]:
     """Pages with a defect each."""
     yield canary(LANGUAGE, "| holds | true | false |", "| holds | false | true |", conditions)
-    yield canary(SUMMARY, "| no test holds, not all tests hold |", "| not all tests hold, no test holds |", conditions)
+    yield canary(
+        SUMMARY, "| no test holds, not all tests hold |", "| not all tests hold, no test holds |", conditions
+    )
     yield canary(IMAGE, "| 24 | `PR` |", "| 24 | `PH` |", image_format)
     yield canary(IMAGE, "2 `DONE`, 3 `FAIL`", "3 `DONE`, 2 `FAIL`", image_format)
     yield canary(LISTING, "| 9 to 13 |", "| 9 to 14 |", lambda: listing_format(program))

@@ -16,21 +16,38 @@ import tempfile
 from collections.abc import Iterator
 from pathlib import Path
 
-from answers import Answer
+from answers import Answer, answer_of
 from checkout import TOP, Checkout
 from trials import ONLY, Trial, report
 
 # The steps of ./test and of the gate, in their order: the words by which each is known.
 STEPS = [
-    "tests/gate.py", "tests/static_checks.py", "tests/memory_words.py", "tests/check_report_trials.py",
-    "tests/verdict_trials.py", "tests/picture_trials.py", "tests/program.py", "tests/model_jobs.py", "bench/run", "tests/documents.py",
-    "tests/facts.py", "tests/table_decks.py", "tests/format_pages.py", "tests/named.py", "tests/launcher.py", "tests/install.py", "tests/scripts.py",
-    "tests/bundled_page.py", "web/tests/all.py",
+    "tests/gate.py",
+    "tests/static_checks.py",
+    "tests/memory_words.py",
+    "tests/check_report_trials.py",
+    "tests/verdict_trials.py",
+    "tests/picture_trials.py",
+    "tests/program.py",
+    "tests/memory_runs.py",
+    "tests/model_jobs.py",
+    "bench/run",
+    "tests/documents.py",
+    "tests/facts.py",
+    "tests/table_decks.py",
+    "tests/format_pages.py",
+    "tests/named.py",
+    "tests/launcher.py",
+    "tests/install.py",
+    "tests/scripts.py",
+    "tests/bundled_page.py",
+    "web/tests/all.py",
 ]
 GATE_STEPS = ["rt ci", *STEPS[:-1], "tests/edits.py", "web/tests/all.py"]
+PACKAGES = {"binaryen", "nodejs", "chromium", "mypy", "shellcheck"}  # without which tests are left out
 NOT_A_STEP = {"hostile.py"}  # scripts of tests/ that ./test does not call
 
-STAND_IN = '''#!/bin/sh
+STAND_IN = """#!/bin/sh
 # A stand-in for python3 and rt: notes its words, and prints a count, which $FAILS and $HOW make a bad one.
 words="${0##*/} $*${L6_ONLY+ of $L6_ONLY}"
 [ "$*" = version ] && exec cat "$STAND_IN/version"
@@ -44,9 +61,10 @@ case $how in
     no-count) echo "99999 passed" ;;
     no-trial) echo "0 passed, 0 failed" ;;
 esac
-'''
+"""
 HOWS = ["a-failed-trial", "a-status", "no-count", "no-trial"]
 NONE = "none of these steps"
+OF_SHELL = "dist"  # the step of the gate that calls no script
 
 
 class Gate:
@@ -54,6 +72,7 @@ class Gate:
 
     def __init__(self, folder: Path) -> None:
         self.checkout = Checkout(folder)
+        self._names: dict[tuple[str, ...], list[str]] = {}
         self.top = self.checkout.top
         (self.top / "bench").mkdir()
         for name in ("test", "bench/run"):
@@ -74,6 +93,17 @@ class Gate:
         actual = self.checkout.run("test", *words, FIRST=str(self.first), FAILS=fails, HOW=how)
         return actual, log.read_text().splitlines() if log.exists() else []
 
+    def names(self, *words: str) -> list[str]:
+        """The names of the steps, as they are said when each begins."""
+        if words not in self._names:
+            said = self.test(*words)[0].stderr
+            self._names[words] = [
+                it
+                for it in re.findall(r"^test: \S+ +\d+ of \d+, (\S+):", said, re.MULTILINE)
+                if it != OF_SHELL
+            ]
+        return self._names[words]
+
 
 def last_line(actual: Answer[str]) -> tuple[str, int | str]:
     """The last line of an answer, and its status."""
@@ -93,6 +123,7 @@ def steps_that_fail(gate: Gate) -> Iterator[Trial]:
         count = 99_999 * len(steps) + (3 if words else 0)
         yield f"{name} with all steps well", (f"{count} passed, 0 failed", 0), last_line(actual)
         yield f"the steps of {name}", steps, known_in(steps, calls)
+        yield f"what {name} says of failures then", [], failures_in(actual)
     for at, step in enumerate(STEPS):
         yield from step_that_fails(gate, (), step, HOWS[at % len(HOWS)])
     for how in HOWS:
@@ -102,12 +133,19 @@ def steps_that_fail(gate: Gate) -> Iterator[Trial]:
 
 
 def step_that_fails(gate: Gate, words: tuple[str, ...], step: str, how: str) -> Iterator[Trial]:
-    """A step fails in some way."""
+    """A step fails in some way. It alone is named at the end."""
     actual, calls = gate.test(*words, fails=step, how=how)
-    failed = last_line(actual)[0].rpartition(", ")[2]
-    is_shown = "\nfailed: " in actual.stdout
-    expected = ("1 failed", 1, True, len(GATE_STEPS if words else STEPS))
-    yield f"./test {' '.join(words)}: {how} of {step}", expected, (failed, actual.status, is_shown, len(calls))
+    count = last_line(actual)[0].rpartition(", ")[2]
+    number = (GATE_STEPS if words else STEPS).index(step)
+    named = failures_in(actual)
+    names = gate.names(*words)
+    expected = ("1 failed", 1, [names[number]], len(names))
+    yield f"./test {' '.join(words)}: {how} of {step}", expected, (count, actual.status, named, len(calls))
+
+
+def failures_in(actual: Answer[str]) -> list[str]:
+    """The titles of the steps that are named as failed at the end."""
+    return re.findall(r"^failed: (.*); status \d+$", actual.stdout, re.MULTILINE)
 
 
 def other_programs(gate: Gate) -> Iterator[Trial]:
@@ -115,10 +153,21 @@ def other_programs(gate: Gate) -> Iterator[Trial]:
     built = gate.top / "crates/l6/out/l6"
     built.write_bytes(built.read_bytes() + b"# another\n")
     actual, _ = gate.test("--prove")
-    yield "another program", (1, True), (actual.status, "dist/l6 is not the program of these sources" in actual.stdout)
+    yield "another program", (1, True), (
+        actual.status,
+        "dist/l6 is not the program of these sources" in actual.stdout,
+    )
     gate.checkout.set_version("another toolchain")
     actual, _ = gate.test("--prove")
     yield "another toolchain", (1, "2 failed"), (actual.status, last_line(actual)[0].rpartition(", ")[2])
+
+
+def no_program(gate: Gate) -> Iterator[Trial]:
+    """If no program belongs to the sources and none can be built, nothing is tested."""
+    gate.checkout.write("crates/l6/src/main.rt", "another main\n")
+    actual, calls = gate.test(fails="tools/prove.py", how="a-status")
+    called = [call.rpartition("/")[2] for call in calls]
+    yield "no program", (1, "", ["prove.py l6"]), (actual.status, actual.stdout.partition("99999")[0], called)
 
 
 def words_of_the_command(gate: Gate) -> Iterator[Trial]:
@@ -145,7 +194,7 @@ def words_of_the_command(gate: Gate) -> Iterator[Trial]:
     yield "--anew", ["python3 tests/edits.py --anew"], [call for call in calls if "edits" in call]
 
 
-HARNESS = f'''
+HARNESS = f"""
 import os, sys
 sys.path.insert(0, {str(TOP / "tests")!r})
 from answers import answer
@@ -154,7 +203,7 @@ right = answer(b"out", b"err", 3)
 made = [("right", right, answer(b"out", b"err", 3)), ("stdout", right, answer(b"on", b"err", 3)),
         ("stderr", right, answer(b"out", b"", 3)), ("status", right, answer(b"out", b"err", 0))]
 sys.exit(report([it for it in made if it[0] in sys.argv[1]], [("a canary", 1, int(sys.argv[2]))]))
-'''
+"""
 SHOWN = {
     "stdout": "stdout\n  stdout: expected b'out', length 3\n          actual   b'on', length 2\n",
     "stderr": "stderr\n  stderr: expected b'err', length 3\n          actual   b'', length 0\n",
@@ -164,8 +213,12 @@ SHOWN = {
 
 def harness(names: str, canary: int, **environment: str) -> Answer[str]:
     """The answer of a script of trials, of which some fail."""
-    ended = subprocess.run([sys.executable, "-c", HARNESS, names, str(canary)], capture_output=True, text=True,
-                           env={"PATH": "/usr/bin:/bin", **environment})
+    ended = subprocess.run(
+        [sys.executable, "-c", HARNESS, names, str(canary)],
+        capture_output=True,
+        text=True,
+        env={"PATH": "/usr/bin:/bin", **environment},
+    )
     return Answer(ended.stdout, ended.stderr, ended.returncode)
 
 
@@ -177,7 +230,13 @@ def harnesses() -> Iterator[Trial]:
     all_of_it = "".join(SHOWN.values()) + "1 passed, 3 failed\n"
     yield "all that is wrong", Answer(all_of_it, "", 1), harness("right stdout stderr status", 2)
     passed = harness("right", 1)
-    yield "a canary that passes", (("0 passed, 1 failed", 1), True), (last_line(passed), "a canary" in passed.stdout)
+    yield "a canary that passes", (("0 passed, 1 failed", 1), True), (
+        last_line(passed),
+        "a canary" in passed.stdout,
+    )
+    room = answer_of(["sh", "-c", "ulimit -v"]).stdout
+    yield "the addresses that a program has, in KiB", b"49152\n", room
+    yield "a program that does not end", "none within 1 seconds", answer_of(["sleep", "60"], seconds=1).status
     only = harness("right stderr", 2, **{ONLY: "stderr"})
     yield "the trials of a name", Answer(f"{SHOWN['stderr']}0 passed, 1 failed\n", "", 1), only
 
@@ -187,13 +246,16 @@ def scripts() -> Iterator[Trial]:
     made = {file.name for file in (TOP / "tests").glob("*.py") if file.read_text("utf-8").startswith("#!")}
     steps = {Path(step).name for step in GATE_STEPS if step.startswith("tests/")}
     yield "the scripts of tests/", sorted(made - NOT_A_STEP), sorted(steps)
-    last = (TOP / ".ci/run").read_text("utf-8").rstrip().splitlines()[-1]
+    text = (TOP / ".ci/run").read_text("utf-8")
+    installed = {package for package in PACKAGES if re.search(rf"\w:{package}[ ;\n]", text)}
+    yield "what .ci/run installs", PACKAGES, installed
+    last = text.rstrip().splitlines()[-1]
     yield "what .ci/run ends in", True, re.fullmatch(r"exec .*/\.\./test\" --prove", last) is not None
 
 
 def trials() -> Iterator[Trial]:
     """All trials, each group on a checkout of its own."""
-    for group in (steps_that_fail, other_programs, words_of_the_command):
+    for group in (steps_that_fail, other_programs, no_program, words_of_the_command):
         with tempfile.TemporaryDirectory() as folder:
             yield from group(Gate(Path(folder) / "checkout"))
     yield from harnesses()

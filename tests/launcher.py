@@ -18,7 +18,7 @@ from pathlib import Path
 from typing import Any
 
 from answers import Answer
-from checkout import PROGRAMS, UNPROVED, Checkout, answers_of_checkouts
+from checkout import PROGRAMS, UNPROVED, Checkout
 from trials import Trial, report
 
 SOURCES = (
@@ -443,4 +443,4 @@ def trials() -> Iterator[Trial]:
 
 
 if __name__ == "__main__":
-    sys.exit(report(trials(), answers_of_checkouts()))
+    sys.exit(report(trials()))

@@ -101,10 +101,74 @@ class Shim:
         return actual, Requests(int(made), was_refused == "refused", int(kept), int(peak), int(total))
 
 
+# A program of which it is known what it requests: three blocks, of which one replaces another and one is kept.
+KNOWN = """
+#include <stdlib.h>
+int main(void) {
+    void *block = malloc(1000), *kept = malloc(500);
+    void *larger = realloc(block, 3000);
+    if (!larger || !kept)
+        return 5;
+    free(larger);
+    return 0;
+}
+"""
+SLACK = 64  # bytes that malloc gives more than it is asked for, at most, in all
+
+
+def known_requests(folder: str) -> Iterator[Trial]:
+    """The trials that the shim of refuse.c counts what a known program requests, and refuses what it is to."""
+    source, program = Path(folder, "known.c"), Path(folder, "known")
+    source.write_text(KNOWN)
+    subprocess.run(["cc", "-O0", "-o", program, source], check=True)
+    shim = Shim(str(program), folder)
+    for refused, status, made, kept in ((0, 0, 3, 1), (1, 0, 3, 1), (2, 5, 3, 1), (3, 5, 3, 2)):
+        ended, counted = shim.run([], b"", refused)
+        assert counted is not None
+        actual = (ended.status, counted.made, counted.kept, counted.was_refused)
+        yield f"a known program, with request {refused} refused", (status, made, kept, refused > 0), actual
+        if not refused:
+            bytes_ = [(1_000 + 500 - 1_000 + 3_000, counted.peak), (1_000 + 500 + 3_000, counted.total)]
+            yield "the bytes of a known program", [True, True], [0 <= it - least < SLACK for least, it in bytes_]
+
+
+class WrongShim:
+    """A shim that finds fault with each run of a program that answers as it must."""
+
+    def __init__(self, right: Answer[bytes], requests: Requests) -> None:
+        self._right, self._requests = right, requests
+
+    def run(
+        self, args: list[str], stdin: bytes, refused: int = 0, has_little_room: bool = True
+    ) -> tuple[Answer[bytes], Requests | None]:
+        """The right answer, and the wrong requests."""
+        return self._right, self._requests
+
+
+def memory_canaries() -> Iterator[Trial]:
+    """Runs that hold too much, request too much in all, or keep a block, as rooms and as cases."""
+    right, room = answer(b"5"), Room("a canary", ["run"], b"", answer(b"5"), 1_000)
+    peak = PIECE + DOUBLED * (room.needed + 1)
+    for what, requests in (
+        ("too much at one time", Requests(1, False, 0, peak + 1, 1)),
+        ("too much in all", Requests(1, False, 0, 1, DOUBLED * peak + 1)),
+        ("a block that is kept", Requests(1, False, 1, 1, 1)),
+    ):
+        name, expected, actual = room.trial(WrongShim(right, requests))
+        yield f"{what}: {name}", expected, actual
+    case = Case('{"name": "a canary", "stdout": "5", "status": 0, "memory": "a group"}')
+    kept = WrongShim(right, Requests(1, False, 1, 1, 1))
+    yield next(refused_memory(kept, case))
+    yield next(equal_requests(kept, [case]))
+    answered = WrongShim(answer(b"4"), Requests(1, True, 0, 1, 1))
+    yield next(refused_memory(answered, case))
+
+
 def memory_trials(program: str, cases: list[Case]) -> Iterator[Trial]:
     """All trials on memory."""
     with tempfile.TemporaryDirectory() as folder:
         shim = Shim(program, folder)
+        yield from known_requests(folder)
         _, requests = shim.run(cases[0].args, cases[0].stdin)
         if requests is None:
             actual = "no report: it was not loaded, or the program was killed"
@@ -118,7 +182,7 @@ def memory_trials(program: str, cases: list[Case]) -> Iterator[Trial]:
             yield room.trial(shim)
 
 
-def refused_memory(shim: Shim, case: Case) -> Iterator[Trial]:
+def refused_memory(shim: Shim | WrongShim, case: Case) -> Iterator[Trial]:
     """The trials on a case with the first, the second and each further request for memory refused.
 
     Where a request was not needed, as for a nicer text, the answer may be the case's own. A debugger's
@@ -148,7 +212,7 @@ def refused_memory(shim: Shim, case: Case) -> Iterator[Trial]:
     yield "refused memory", "an end of the requests", f"more than {MAX_REQUESTS}"
 
 
-def equal_requests(shim: Shim, cases: Iterable[Case]) -> Iterator[Trial]:
+def equal_requests(shim: Shim | WrongShim, cases: Iterable[Case]) -> Iterator[Trial]:
     """The trials that the cases of a group make equally many requests for memory.
 
     So what they differ in makes none: a step of a run, a state that a debugger passes, a checkpoint that
@@ -176,7 +240,7 @@ class Room:
     needed: int
     requested_again: int = 0  # of all bytes requested, those of machines that were made and given back
 
-    def trial(self, shim: Shim) -> Trial:
+    def trial(self, shim: Shim | WrongShim) -> Trial:
         """The trial that the program holds and requests no more than it may."""
         ended, requests = shim.run(self.args, self.stdin, has_little_room=False)
         needed = len(self.stdin) + len(self.expected.stdout) + self.needed

@@ -12,13 +12,13 @@ tests, AllocError is found only in types, and the variant NoMemory of an enum on
   that is given an allocator.
 
 No code leaks memory either: the words forget, leak, ManuallyDrop and into_raw, by which a value is given up
-without its drop, are found nowhere. And the capacity of a new list is a length of what goes into it, a constant
-of the table CONSTANTS, a number of the table COUNTS, or a sum or a product of these; each of the two tables says
-why. No list asks for more room later, by reserve or resize.
+without its drop, are found nowhere. And the capacity of a new list is a length of what goes into it, a
+constant of the table CONSTANTS, a number of the table COUNTS, or a sum or a product of these; each of the two
+tables says why. No list asks for more room later, by reserve or resize.
 
 An allocator that a value keeps is used where the value is made, copied and dropped, and nowhere else: so no
-other call of a region allocates. That, too, no clause can say, since what is taken and freed in one call shows
-in none.
+other call of a region allocates. That, too, no clause can say, since what is taken and freed in one call
+shows in none.
 
 Each place of these words is a trial. The last line is 'N passed, M failed'.
 """
@@ -38,7 +38,9 @@ WRONG = dict.fromkeys(["AllocError", "NoMemory"], "neither from an allocation th
 # By these a value is given up without its drop.
 KEEPING = re.compile(r"\b(?:forget|leak|ManuallyDrop|into_raw)\b")
 # A list with a capacity: a new one, or one of so many equal entries.
-CAPACITY = re.compile(r"\bwith_capacity\b|\bvec!\[in\b|\b(?:try_)?reserve(?:_exact)?\b|\bresize\w*\b|\brepeat\b")
+CAPACITY = re.compile(
+    r"\bwith_capacity\b|\bvec!\[in\b|\b(?:try_)?reserve(?:_exact)?\b|\bresize\w*\b|\brepeat\b"
+)
 CAPACITY_WORD = "with_capacity"
 ENTRIES_WORD = "vec![in"
 # The constants that a capacity may name: what each is, and why it is enough and not too much.
@@ -62,7 +64,7 @@ COUNTS = {
     ("l6_draw/src/blocks.rt", "end as usize"):
         ("let end = end_of(store.units());", "places of the store, each of which may have a block"),
     ("l6_store/src/place_tag.rt", "places"):
-        ("fn new(alloc: Global, places: usize)", "places, at most those of the largest store, as is required"),
+        ("fn new(alloc: Global, places: usize)", "places, as many as the largest store has at most"),
     ("l6_store/src/scan_store.rt", "places"): ("let places = end_of(units) as usize;", "places of the store"),
     ("l6_registers/src/registers.rt", "limits.output"): ("limits: Limits", "bytes that a run may print"),
     ("l6_registers/src/registers.rt", "self.limits.output"): ("limits: Limits", "bytes that a run may print"),
@@ -168,7 +170,7 @@ def parts_in(code: str, separator: str) -> list[str]:
 
 
 def is_count(expression: str, code: str, file: str) -> bool:
-    """Whether an expression is a length, a constant or a number of the tables, or a sum or a product of some."""
+    """Whether an expression is a length, a constant or a number of the tables, or made of some."""
     for operator in (" + ", " / ", " * "):
         if operator in expression and "(" not in expression.replace("()", ""):
             return all(is_count(part, code, file) for part in expression.split(operator))
@@ -218,7 +220,7 @@ REFUSED = [
     "fn f() { vec![in alloc; 0; 1 << 40] }", "fn f() { vec![in alloc; 0; MOST] }",
     "fn f() { let words = Vec::new(Global); }", "fn f() { take(&Global, 5) }",
     "fn f() { forget(words) }", "fn f() { words.leak() }", "fn f() { ManuallyDrop::new(words) }",
-    "struct R {\n    alloc: Global,\n}\nimpl R {\n    fn fill(&self) {\n        take(&self.alloc)\n    }\n}\n",
+    "struct R {\n    alloc: Global,\n}\nimpl R {\n    fn fill(&self) {\n        take(self.alloc)\n    }\n}\n",
     "fn f() { Err(RunFault::NoMemory) }", "fn f() -> u8 { AllocError }",
     "fn f() { match read() { Err(_) => RunFault::NoMemory, } }",
 ]
@@ -239,10 +241,15 @@ def judged(code: str, file: str) -> Iterator[tuple[re.Match[str], bool]]:
     yield from memory_kept(code, file)
 
 
+def wrong_words(text: str) -> list[str]:
+    """The words of a text that are not right."""
+    return [word[0] for word, is_right in judged(code_of(text), "") if not is_right]
+
+
 def canaries() -> Iterator[Trial]:
     """Each text that must be refused."""
     for text in REFUSED:
-        yield f"refused: {text}", [], [word[0] for word, is_right in judged(code_of(text), "") if not is_right]
+        yield f"refused: {text}", [], wrong_words(text)
 
 
 def sources() -> Iterator[Path]:
@@ -262,7 +269,7 @@ def trials() -> Iterator[Trial]:
             wrong = WRONG.get(word[0], "leaks memory, or allocates more than what goes in")
             yield f"{where}: {word[0]!r}", "right", "right" if is_right else wrong
     for text in ALLOWED:
-        yield f"allowed: {text}", [], [word[0] for word, is_right in judged(code_of(text), "") if not is_right]
+        yield f"allowed: {text}", [], wrong_words(text)
     yield from constants()
 
 

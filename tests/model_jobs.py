@@ -19,6 +19,7 @@ import argparse
 import multiprocessing
 import shlex
 import sys
+import tempfile
 from collections.abc import Callable, Iterator
 from dataclasses import dataclass
 from pathlib import Path
@@ -36,6 +37,8 @@ from trials import Trial, report
 EXAMPLES = Path(__file__).resolve().parent.parent / "examples"
 BATCH = 50  # numbers that a process takes at a time
 LONG = 100_000  # bytes of a text of a case
+ODD = b"\0\x7f\x80\xff"
+IMAGE = b"542651554722\n000000000002\n000000000007\n000020000000\n013077000000\n127777777777\n000000000005\n"
 VARIED = 200  # random jobs of each kind that must nearly all differ
 
 
@@ -119,6 +122,7 @@ def trials(given: argparse.Namespace) -> Iterator[Trial]:
     yield from cases(given.long)
     yield from examples()
     yield from variety()
+    yield from hostility()
     yield from random_jobs(beside, range(given.first, given.first + given.jobs), given.processes)
 
 
@@ -133,16 +137,34 @@ def variety() -> Iterator[Trial]:
         yield f"the statuses of {kind} jobs", set(), set("01234") - statuses
 
 
+def hostility() -> Iterator[Trial]:
+    """The trials that hostile jobs are hostile: some decks have bytes that no sound deck has, some images none."""
+    jobs = [hostile_jobs.job_of(number) for number in range(1, 4 * VARIED + 1)]
+    odd = [job for job in jobs if set(job.deck) & set(ODD)]
+    yield "hostile decks with odd bytes", True, len(odd) >= VARIED // 20
+    images = [job.stdin(IMAGE) for job in jobs if job.has_image]
+    marks = [len({job for job in images if IMAGE[:13] not in job}), len({job for job in images if IMAGE in job})]
+    yield "hostile images, altered and whole", [True, True], [count > 0 for count in marks]
+    parts = [sum(mark in job.rest for job in jobs) for mark in (b"$INPUT", b"$COMMANDS")]
+    yield "hostile inputs and commands", [True, True], [count > VARIED // 4 for count in parts]
+
+
 def canaries() -> Iterator[Trial]:
     """The model and a program that answers nothing: each on a case, and beside each other."""
     silent = Beside("/bin/false", None)
     for kind, make in KINDS:
         yield silent.trial(f"a {kind} job of a program that answers nothing", make(1))
     case = next(read_cases())
-    yield "a case of a program that answers nothing", case.expected, program_answer("/bin/false", case.args, b"")
+    with tempfile.TemporaryDirectory() as folder:
+        other = Path(folder, "other")
+        other.write_text("#!/bin/sh\ncat > /dev/null\necho wrong >&2\nexit 4\n")
+        other.chmod(0o755)
+        yield Beside(str(other), None).trial("another line on standard error", Job(["run"], b"5\n"))
+    nothing = program_answer("/bin/false", case.args, b"")
+    yield "a case of a program that answers nothing", case.expected, nothing
     for verb, file in (("run", "first.printout"), ("list", "first.listing")):
-        other = model_answer([verb], b" (A,E,6)(A,PD)\n")
-        yield f"{verb} of another deck", answer((EXAMPLES / file).read_bytes()), other
+        made = model_answer([verb], b" (A,E,6)(A,PD)\n")
+        yield f"{verb} of another deck", answer((EXAMPLES / file).read_bytes()), made
 
 
 def main() -> int:

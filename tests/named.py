@@ -1,8 +1,8 @@
 #!/usr/bin/env python3
 """Checks that what the pages name is there: cases, trials, tests, edits, files, calls, links and pictures.
 
-named.py PROGRAM prints each difference, and last 'N passed, M failed'. It also runs the commands of the pages that
-count something in the sources, and looks for the states and statements that docs/page.md speaks of.
+named.py PROGRAM prints each difference, and last 'N passed, M failed'. It also runs the commands of the pages
+that count something in the sources, and looks for the states and statements that docs/page.md speaks of.
 """
 from __future__ import annotations
 
@@ -27,11 +27,20 @@ import tables
 
 MEASUREMENTS = "docs/measurements.md"
 CONTRACTS, PAGE, DEFINITIONS = "docs/contracts.md", "docs/page.md", "docs/definitions.md"
-OF_TRIALS = ("docs/proof.md", "docs/robustness.md", CONTRACTS)  # pages that name cases and trials in quotation marks
+OF_TRIALS = (
+    "docs/proof.md",
+    "docs/robustness.md",
+    CONTRACTS,
+)  # pages that name cases and trials in quotation marks
 MAKERS = ("program.py", "memory.py", "largest_jobs.py")  # scripts whose trials pages name
 PAGES = [
-    "README.md", *(f"docs/{file.name}" for file in sorted((TOP / "docs").glob("*.md"))), "docs/pictures/README.md",
-    "bench/README.md", "web/README.md", "dist/README.md", "tests/model/README.md",
+    "README.md",
+    *(f"docs/{file.name}" for file in sorted((TOP / "docs").glob("*.md"))),
+    "docs/pictures/README.md",
+    "bench/README.md",
+    "web/README.md",
+    "dist/README.md",
+    "tests/model/README.md",
 ]
 FOLDERS = ("crates", "tests", "tools", "web", "ports", "bench", "examples", "docs", "dist", ".ci")
 SUFFIXES = r"rt|antt|py|mjs|js|jsonl|c|sh|css|html|json|deck|session|transcript|svg|md|edit|1"
@@ -40,6 +49,7 @@ FILE = re.compile(rf"[\w.-]*(?:/[\w.-]+)*\.(?:{SUFFIXES})")
 OF_READERS = re.compile(r"my[.-].*|first\.image|.*\b(?:NAME|SUBJECTS?)\b.*|out/.*|.*/out/.*")
 IDENTIFIER = re.compile(r"[a-z][a-z0-9]*(?:_[a-z0-9]+){2,}")
 WORD = re.compile(r"\w+")
+CALL = re.compile(r"\b[A-Z]\w+(?:::\w+)+")
 LINK = re.compile(r"\]\((?!https?:)([^)#\s]*)(?:#([^)\s]*))?\)")
 # Words in quotation marks that name no trial, and a name that is made up.
 PROSE = {"out of memory", "Proved", "Tested", "Read in the source"}
@@ -54,14 +64,17 @@ def files() -> dict[Path, str]:
     for folder in FOLDERS:
         for file in (TOP / folder).rglob("*"):
             if file.is_file() and not {"out", "__pycache__"} & set(file.parts):
-                is_text = file.suffix[1:] in "rt antt py mjs js c sh md edit json jsonl txt".split() or not file.suffix
+                is_text = (
+                    file.suffix[1:] in "rt antt py mjs js c sh md edit json jsonl txt".split()
+                    or not file.suffix
+                )
                 found[file] = file.read_text("utf-8", "replace") if is_text else ""
     return found
 
 
 @functools.cache
 def words() -> frozenset[str]:
-    """All words of the sources and scripts, and the names of edits; those of pages and of this script are none."""
+    """All words of the sources and scripts, and the names of edits; not those of pages and of this script."""
     sources = [text for file, text in files().items() if file.suffix != ".md" and file != Path(__file__)]
     known = {word for text in sources for word in WORD.findall(text)}
     return frozenset(known | {file.stem for file in files()})
@@ -77,7 +90,10 @@ def templates() -> Iterator[str]:
     for script in MAKERS:
         for node in ast.walk(ast.parse((TOP / "tests" / script).read_text("utf-8"))):
             if isinstance(node, ast.JoinedStr):
-                yield "".join(re.escape(str(part.value)) if isinstance(part, ast.Constant) else ".+" for part in node.values)
+                yield "".join(
+                    re.escape(str(part.value)) if isinstance(part, ast.Constant) else ".+"
+                    for part in node.values
+                )
             elif isinstance(node, ast.Constant) and isinstance(node.value, str):
                 yield re.escape(node.value)
 
@@ -86,14 +102,21 @@ def trial_names() -> Iterator[Trial]:
     """Each name in quotation marks is that of a case, of a trial or of a section."""
     cases = {case.name for case in read_cases()}
     patterns = [re.compile(it) for it in dict.fromkeys(templates()) if it not in (".+", "")]
-    sections = {plain(heading) for page in PAGES for heading in re.findall(r"^#+ (.*)$", text_of(page), re.MULTILINE)}
+    sections = {
+        plain(heading) for page in PAGES for heading in re.findall(r"^#+ (.*)$", text_of(page), re.MULTILINE)
+    }
     for page in OF_TRIALS:
         for name in re.findall(r'"([^"]+)"', plain(text_of(page))):
             wanted = re.compile(".*".join(map(re.escape, name.split(".."))))
             is_there = (
-                name in PROSE or any(map(wanted.fullmatch, cases)) or any(it.startswith(name) for it in sections)
-                or any(pattern.fullmatch(it) and not is_any(pattern.pattern)
-                       for it in (name, f"{name}: CASE") for pattern in patterns)
+                name in PROSE
+                or any(map(wanted.fullmatch, cases))
+                or any(it.startswith(name) for it in sections)
+                or any(
+                    pattern.fullmatch(it) and not is_any(pattern.pattern)
+                    for it in (name, f"{name}: CASE")
+                    for pattern in patterns
+                )
             )
             yield f"{page}: the case or trial {name!r}", True, is_there
 
@@ -104,10 +127,26 @@ def is_any(pattern: str) -> bool:
 
 
 def identifiers() -> Iterator[Trial]:
-    """Each long name of code in a page is a word of the sources: of a function, a test, a definition, an edit."""
+    """Each long name of code in a page is a word of the sources, as of a function, a test or an edit."""
     for page in PAGES:
         for span in dict.fromkeys(it for span in spans_of(text_of(page)) for it in IDENTIFIER.findall(span)):
-            yield f"{page}: the name {span}", True, span in words() or span in MADE_UP or span.startswith(OF_TOOLCHAIN)
+            yield f"{page}: the name {span}", True, span in words() or span in MADE_UP or span.startswith(
+                OF_TOOLCHAIN
+            )
+
+
+def calls_of_types() -> Iterator[Trial]:
+    """Each call that a page names with its type, as in Region::read, and each name in its tables of where."""
+    for page in PAGES:
+        for span in dict.fromkeys(it for span in spans_of(text_of(page)) for it in CALL.findall(span)):
+            yield f"{page}: the call {span}", set(), {
+                word for word in span.split("::") if word not in words()
+            }
+    for page in ("docs/robustness.md", "docs/proof.md", "docs/architecture.md"):
+        for table in tables_of(text_of(page)):
+            for row in table.rows if table.head[-1].startswith(("Where", "Its main calls")) else ():
+                names = {it for span in spans_of(row[-1]) for it in WORD.findall(span) if "/" not in span}
+                yield f"{page}: the names beside {row[0]}", set(), names - words() - {"antt", "rt"}
 
 
 def paths() -> Iterator[Trial]:
@@ -127,7 +166,7 @@ def is_a_command_line(span: str) -> bool:
 
 
 def contracts() -> Iterator[Trial]:
-    """In the contracts each call is a function of the crate, and each clause and edit is there; so is each edit."""
+    """In the contracts each call, clause and edit is one of the crate, and each edit is named."""
     crate, named = "", {file.parent.parent.name: set[str]() for file in files() if file.suffix == ".edit"}
     for table in tables_of(text_of(CONTRACTS)):
         crate = table.section if (TOP / "crates" / table.section).is_dir() else crate
@@ -145,8 +184,12 @@ def contracts() -> Iterator[Trial]:
 
 def calls(table: Table, crate: str) -> Iterator[Trial]:
     """The calls and the clauses of a table of the contracts."""
-    code = "\n".join(text for file, text in files().items() if f"/crates/{crate}/" in f"{file}" and file.suffix == ".rt")
-    traits = "\n".join(text for file, text in files().items() if file.name == "places.rt" or "/l6_device/src/" in f"{file}")
+    code = "\n".join(
+        text for file, text in files().items() if f"/crates/{crate}/" in f"{file}" and file.suffix == ".rt"
+    )
+    traits = "\n".join(
+        text for file, text in files().items() if file.name == "places.rt" or "/l6_device/src/" in f"{file}"
+    )
     functions = {*re.findall(r"\bfn (\w+)", code), *re.findall(r"\bfn (\w+)", traits)}
     types = set(re.findall(r"\b(?:struct|enum|trait|impl|use) [^;{]*", code))
     for cell, clause in zip(table.column("Call"), table.column("Clause")):
@@ -175,15 +218,27 @@ def links() -> Iterator[Trial]:
             yield f"{page}: the link to {path}#{heading}", True, is_there
 
 
+def contents() -> Iterator[Trial]:
+    """A table of contents leads from the name of each section to that section."""
+    for table in tables_of(text_of("docs/gallery.md")):
+        for name, anchor in re.findall(r"\[([^\]]+)\]\(#([^)]+)\)", " ".join(row[-1] for row in table.rows)):
+            slug = re.sub(r"[^\w\- ]", "", name.lower()).replace(" ", "-")
+            yield f"docs/gallery.md: the section {name}", slug, anchor
+
+
 def counting_commands() -> Iterator[Trial]:
-    """The commands of a page that count something: the numbers in what they print last are those of its paragraph."""
+    """Commands of a page that count something: the numbers that they print last are those of its paragraph."""
     for page in PAGES:
         for paragraph in re.split(r"\n\s*\n", text_of(page)):
             for command in re.findall(r"`python3 (tools/reached\.py [^`]+)`", paragraph):
-                ended = subprocess.run([sys.executable, *shlex.split(command)], cwd=TOP, capture_output=True, text=True)
-                counts = re.findall(r"\d[\d,]*", ended.stdout.splitlines()[-1]) if ended.stdout else [ended.stderr]
+                ended = subprocess.run(
+                    [sys.executable, *shlex.split(command)], cwd=TOP, capture_output=True, text=True
+                )
+                counts = (
+                    re.findall(r"\d[\d,]*", ended.stdout.splitlines()[-1]) if ended.stdout else [ended.stderr]
+                )
                 said = re.findall(r"(\d[\d,]*) (?:definitions|lines|files)", paragraph)
-                yield f"{page}: {command}", counts, [it.replace(",", "") for it in said][:len(counts)]
+                yield f"{page}: {command}", counts, [it.replace(",", "") for it in said][: len(counts)]
 
 
 def generated() -> Iterator[Trial]:
@@ -198,7 +253,9 @@ def generated() -> Iterator[Trial]:
 def numbers_of_operations() -> Iterator[Trial]:
     """How many operations and traps the pages say there are."""
     for page in PAGES:
-        for number in re.findall(r"\b(\d+) operations of the language|\ball (\d+) operations", plain(text_of(page))):
+        for number in re.findall(
+            r"\b(\d+) operations of the language|\ball (\d+) operations", plain(text_of(page))
+        ):
             yield f"{page}: the number of operations", str(len(OPERATIONS)), next(filter(None, number))
 
 
@@ -236,7 +293,11 @@ def first_loss(program: str, name: str) -> int:
 def canaries(program: str) -> Iterator[Trial]:
     """Pages with a defect each."""
     yield canary("docs/proof.md", '"the longest input"', '"the longest output"', trial_names)
-    yield canary("docs/proof.md", "`a_host_answers_as_its_device`", "`a_host_answers_as_another`", identifiers)
+    yield canary(
+        "docs/proof.md", "`a_host_answers_as_its_device`", "`a_host_answers_as_another`", identifiers
+    )
+    yield canary("docs/robustness.md", "`perform`, `unwritten`", "`perform`, `unsaid`", calls_of_types)
+    yield canary("docs/architecture.md", "`Window::take`", "`Window::grab`", calls_of_types)
     yield canary("docs/proof.md", "(`tests/hostile.py`,", "(`tests/hostility.py`,", paths)
     yield canary(CONTRACTS, "`word_of_37_bits`", "`word_of_38_bits`", contracts)
     yield canary(CONTRACTS, "| `Region::read` |", "| `Region::look` |", contracts)
@@ -255,9 +316,11 @@ def trials(program: str) -> Iterator[Trial]:
     """All trials."""
     yield from trial_names()
     yield from identifiers()
+    yield from calls_of_types()
     yield from paths()
     yield from contracts()
     yield from links()
+    yield from contents()
     yield from counting_commands()
     yield from generated()
     yield from numbers_of_operations()

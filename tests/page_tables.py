@@ -57,7 +57,7 @@ def tables_of(text: str) -> list[Table]:
             section = line.lstrip("# ")
         elif re.fullmatch(r" *\|[-| ]+\|", line):
             tables.append(Table(section, cells_of(lines[at - 1]), []))
-            for row in lines[at + 1:]:
+            for row in lines[at + 1 :]:
                 if not row.lstrip().startswith("|"):
                     break
                 tables[-1].rows.append(cells_of(row))
@@ -66,13 +66,15 @@ def tables_of(text: str) -> list[Table]:
 
 def cells_of(line: str) -> list[str]:
     """The cells of a row. A bar in a code span divides nothing."""
-    safe = SPAN.sub(lambda found: found[0].replace("|", "\0"), line.strip().removeprefix("|").removesuffix("|"))
+    safe = SPAN.sub(
+        lambda found: found[0].replace("|", "\0"), line.strip().removeprefix("|").removesuffix("|")
+    )
     return [cell.strip().replace("\0", "|") for cell in safe.split("|")]
 
 
 def table_with(text: str, *head: str) -> Table:
     """The first table whose headings begin so."""
-    return next(table for table in tables_of(text) if table.head[:len(head)] == list(head))
+    return next(table for table in tables_of(text) if table.head[: len(head)] == list(head))
 
 
 def spans_of(text: str) -> list[str]:

@@ -12,6 +12,7 @@ from __future__ import annotations
 
 import re
 import sys
+import tempfile
 import xml.etree.ElementTree
 from collections.abc import Iterator
 from itertools import chain, pairwise
@@ -115,6 +116,25 @@ def handmade() -> Iterator[Trial]:
     narrow = texts_of("narrow", NARROW)["narrow.svg"]
     yield "a field of one bit and a text", NARROW_WORDS, drawn_words(narrow)
     yield "numbers of bits that touch", [], touching(narrow)
+
+
+# What is wrong with a transcript, and how the one above becomes it.
+WRONG = {
+    "a map with a gap": ("1028 BLOCK 4 LOST", "1029 BLOCK 4 LOST"),
+    "words that are used, but not there": ("8 WORDS USED 1016", "9 WORDS USED 1016"),
+    "words that are free, but not there": ("USED 1016 FREE", "USED 1017 FREE"),
+    "a block that is not drawn": ("  N -> 1024\n2 BLOCKS", "  N -> 1024\n3 BLOCKS"),
+}
+
+
+def refusals() -> Iterator[Trial]:
+    """The trials that no picture is made of a transcript that contradicts itself."""
+    for what, (old, new) in WRONG.items():
+        try:
+            made = ", ".join(texts_of("wrong", TRANSCRIPT.replace(old, new)))
+        except ValueError:
+            made = "nothing"
+        yield f"pictures of {what}", "nothing", made
 
 
 def touching(picture: str) -> list[tuple[str, str]]:
@@ -222,13 +242,13 @@ def layout(file: Path, text: str) -> Iterator[Trial]:
 
 # How a picture's description begins that says how many words or blocks it shows.
 COUNTED = re.compile(r"^(?:The |A \w+ of )?(\w+) (words?|blocks?)\b(?! of)", re.IGNORECASE)
-NUMBERS = ["no", "one", "two", "three", "four", "five", "six", "seven", "eight", "nine", "ten", "eleven", "twelve"]
+NUMBERS = "no one two three four five six seven eight nine ten eleven twelve".split()
 FIELDS = re.compile(r"\bfields ((?:[A-Z0-9], )*[A-Z0-9] and [A-Z0-9])\b")
 IMAGE = re.compile(r"!\[([^\]\n]+)\]\(([^)\s]+\.svg)\)")
 
 
 def shown() -> Iterator[Trial]:
-    """The trials that each picture is shown in a document, with what it shows, and no document shows another."""
+    """The trials that each picture is shown in a document, with what it shows, and that no other is."""
     places = set()
     for document in DOCS:
         for what, link in IMAGE.findall(document.read_text("utf-8")):
@@ -259,19 +279,35 @@ def described(where: str, what: str, picture: str) -> Iterator[Trial]:
         yield f"{where}: its fields", [], [name for name in named if name not in fields]
 
 
+def pictures_that_are_wrong() -> Iterator[Trial]:
+    """Two fields exchanged, an arrow less, an arrow turned; a map and words of another transcript."""
+    drawn = PICTURES / "tree-draw-1.svg"
+    drawing, text = drawn.read_text("utf-8"), drawn.with_suffix(".dot").read_text("utf-8")
+    exchanged = re.sub(">([LR])</text>", lambda it: f">{'LR'['RL'.index(it[1])]}</text>", drawing)
+    with tempfile.TemporaryDirectory() as folder:
+        file = Path(folder, "wrong.svg")
+        fewer, turned = drawing.replace('class="edge"', "", 1), drawing.replace("&gt;b1026", "&gt;b1030")
+        for number, wrong in ((2, exchanged), (1, fewer), (1, turned)):
+            file.write_text(wrong)
+            yield list(graph(file, text))[number]
+    transcript = (EXAMPLES / "lost.transcript").read_text("ascii")
+    yield next(maps("lost", transcript.replace("1024 BLOCK 2\n1026 BLOCK 2", "1024 BLOCK 4")))
+    transcript = (EXAMPLES / "list.transcript").read_text("ascii")
+    yield list(layout(PICTURES / "list.svg", transcript.replace("1026", "1027")))[1]
+    yield list(layout(PICTURES / "list.svg", transcript.replace("  N -> 1024\n", "", 1)))[2]
+
+
 def canaries() -> Iterator[Trial]:
     """A map, words and arrows that are another transcript's, and a picture with two cells exchanged."""
     texts, others = texts_of("hand", TRANSCRIPT), texts_of("narrow", NARROW)
     yield "words of another picture", drawn_words(texts["hand.svg"]), drawn_words(others["narrow.svg"])
-    turned = TRANSCRIPT.replace("1024 BLOCK 2\n1026 BLOCK 2\n1028 BLOCK 4 LOST", "1024 BLOCK 4 LOST\n1028 BLOCK 2\n"
-                                "1030 BLOCK 2")
+    order = "BLOCK 4 LOST\n1028 BLOCK 2\n1030 BLOCK 2"
+    turned = TRANSCRIPT.replace("BLOCK 2\n1026 BLOCK 2\n1028 BLOCK 4 LOST", order)
     other = texts_of("hand", turned)["hand-store-1.svg"]
     yield "the stretches of another map", STRETCHES, shown_stretches(other)
-    file = PICTURES / "tree-draw-1.svg"
-    drawing, text = file.read_text("utf-8"), file.with_suffix(".dot").read_text("utf-8")
-    exchanged = drawing.replace(">L</text>", ">?</text>").replace(">R</text>", ">L</text>").replace(">?</text>", ">R</text>")
-    yield "a picture with two fields exchanged", words_of(text), drawn_labels(exchanged)
-    yield "a picture with an arrow less", titles(text), drawn_titles(drawing.replace('class="edge"', "", 1))
+    numbers = "".join(f'<text font-size="12" x="{x}" y="5">{x}</text>' for x in (10, 25))
+    yield "numbers that touch", [], touching(f'<svg xmlns="http://www.w3.org/2000/svg">{numbers}</svg>')
+    yield from pictures_that_are_wrong()
     wrong = list(described("a picture", "Four words with the fields C and X", texts["hand.svg"]))
     yield from wrong
     if len(wrong) != 2:
@@ -279,4 +315,4 @@ def canaries() -> Iterator[Trial]:
 
 
 if __name__ == "__main__":
-    sys.exit(report(chain(handmade(), committed(), shown()), canaries()))
+    sys.exit(report(chain(handmade(), refusals(), committed(), shown()), canaries()))

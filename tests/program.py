@@ -1,5 +1,5 @@
 #!/usr/bin/env python3
-"""Runs the built program on cases.jsonl and examples/, on devices that fail, and with memory refused.
+"""Runs the built program on cases.jsonl and examples/, and on devices that fail.
 
 program.py PROGRAM prints each difference, and last 'N passed, M failed'.
 
@@ -20,8 +20,9 @@ from pathlib import Path
 
 from answers import Answer, answer, answer_of, leave_little_room
 from cases import Case, read_cases
-from largest_jobs import debug_job, full_store, longest_image, run_job
-from memory import library_of, memory_trials
+from largest_jobs import MAX_OUTPUT, debug_job, full_store, longest_image, run_job
+from model import command, jobs, programs
+from memory import library_of
 from trials import Trial, at_least, is_asked_for, report
 
 HERE = Path(__file__).resolve().parent
@@ -150,6 +151,20 @@ def cut_images(program: str) -> Iterator[Trial]:
         yield f"an image cut to {count} bytes", answer(stderr=why, status=4), actual
 
 
+def sizes_of_the_largest() -> Iterator[Trial]:
+    """The trials that the parts of the largest job are as long as they may be."""
+    limits = {"deck": jobs.PART_LIMIT, "input": jobs.PART_LIMIT, "commands": jobs.PART_LIMIT,
+              "output": command.RANGES["--output"][1], "statements": programs.STATEMENTS_LIMIT - 1,
+              "units": command.RANGES["--store"][1], "image of the deck": jobs.PART_LIMIT}
+    cards, _, rest = debug_job()[1].partition(b"$COMMANDS\n")
+    commands, _, given = rest.partition(b"$INPUT\n")
+    statements = len(re.findall(rb"^[ A-Z]", cards, re.MULTILINE))
+    sizes = {"deck": len(cards), "input": len(given), "commands": len(commands), "output": MAX_OUTPUT,
+             "statements": statements, "units": MAX_UNITS, "image of the deck": len(longest_image()[0])}
+    for what, size in sizes.items():
+        yield f"the largest {what}", limits[what], size
+
+
 def largest(program: str) -> Iterator[Trial]:
     """The trials on the largest job of all, which has as much room as there is."""
     for job, status in ((run_job(), 2), (debug_job(), 0)):
@@ -199,12 +214,12 @@ def limited_files(program: str, folder: str) -> Iterator[Trial]:
     """
     listing = (EXAMPLES / "first.listing").read_bytes()
     image = answer_of([program, "asm"], input=b" (A,E,5)(A,PD)\n").stdout
-    jobs = [("list", b" (A,E,5)(A,PD)\n", listing), ("asm", b" (A,E,5)(A,PD)\n", image),
+    done = [("list", b" (A,E,5)(A,PD)\n", listing), ("asm", b" (A,E,5)(A,PD)\n", image),
             ("run", b" (A,E,5)(A,PD)\n", b"5\n== DONE AFTER 6 STEPS\n"),
             ("load", image, b"5\n== DONE AFTER 6 STEPS\n"), ("renew", image, image),
             ("debug", b" (A,E,5)(A,PD)\n$COMMANDS\nstep 2\ngo\n",
              b"AT 0.2 AFTER 2 STEPS\n== DONE AFTER 6 STEPS\n")]
-    for verb, job, text in jobs:
+    for verb, job, text in done:
         for most in (0, 1, len(text) // 2, len(text) - 1):
             actual, written = answer_to_file([program, verb], job, Path(folder, "limited"), most)
             why = b"l6: write failed after %d bytes\n" % most
@@ -275,28 +290,30 @@ def trials(program: str) -> Iterator[Trial]:
     yield from at_least(2, "large stores", large_stores(program))
     yield from at_least(130, "cut images", cut_images(program))
     yield from at_least(2, "the largest jobs", largest(program))
+    yield from sizes_of_the_largest()
     yield from at_least(4, "the longest image", longest(program))
     yield from at_least(6, "failing devices", failing_devices(program))
     with tempfile.TemporaryDirectory() as folder:
         yield from at_least(30, "help", helps(program, folder))
         yield from at_least(30, "limited files", limited_files(program, folder))
         yield from at_least(5, "interrupted devices", interrupted_devices(program, folder))
-    yield from at_least(4500, "memory", memory_trials(program, cases))
 
 
-WRONG_PROGRAM = """#!/bin/sh
-echo wrong
-exit 77
-"""
+def script_that(folder: str, name: str, does: str) -> str:
+    """A program that does what these words of the shell say."""
+    program = Path(folder, name)
+    program.write_text(f"#!/bin/sh\n{does}\n")
+    program.chmod(0o755)
+    return str(program)
 
 
 def canaries() -> Iterator[Trial]:
-    """The first trial of each group, on a program that answers to nothing."""
+    """The first trial of each group, on a program that answers to nothing; cases that are wrong in one part."""
     with tempfile.TemporaryDirectory() as folder:
-        program = Path(folder, "wrong")
-        program.write_text(WRONG_PROGRAM)
-        program.chmod(0o755)
-        first = str(program)
+        refused = next(case for case in read_cases() if case.expected.status == 4 and not case.has_free_text)
+        yield from case_trials(script_that(folder, "other-line", "echo wrong >&2; exit 4"), [refused])
+        yield from case_trials(script_that(folder, "other-status", "cat /dev/null; exit 5"), [refused])
+        first = script_that(folder, "wrong", "echo wrong; exit 77")
         groups = [
             case_trials(first, list(islice(read_cases(), 1))), examples(first), sessions(first),
             large_stores(first), cut_images(first), largest(first), longest(first), failing_devices(first),

@@ -1,5 +1,5 @@
 #!/usr/bin/env python3
-"""Tries what launcher.py and install.py leave out of the scripts: words, other systems, checks that are killed.
+"""Tries what launcher.py and install.py leave out: words of scripts, other systems, checks that are killed.
 
 scripts.py prints each difference, and last 'N passed, M failed'. It works on small checkouts of its own
 (checkout.py), with stand-ins for rt and for commands of the system.
@@ -16,7 +16,7 @@ from pathlib import Path
 
 from answers import Answer
 from checkout import TOP, UNPROVED, Checkout
-from trials import Trial, report
+from trials import CANARY, Trial, report
 
 # A stand-in for sort: another order than that of bytes, unless that is asked for.
 SORT = '#!/bin/sh\n[ "${{LC_ALL-}}" = C ] && exec {sort} "$@"\nexec {sort} -r "$@"\n'
@@ -27,6 +27,13 @@ KILLING = """#!/bin/sh
 [ "$1" = version ] && exec cat "$STAND_IN/version"
 echo "$1" >> "$STAND_IN/killed"
 exit 247
+"""
+# A stand-in for rt: a check fails, and says why.
+FAILING_CHECK = """#!/bin/sh
+[ "$1" = version ] && exec cat "$STAND_IN/version"
+echo why
+echo why else >&2
+exit 1
 """
 # A stand-in for rt: a check takes long enough for another one to begin beside it.
 SLOW = """#!/bin/sh
@@ -53,10 +60,12 @@ def first_on_the_path(checkout: Checkout, name: str, **scripts: str) -> str:
 
 
 def words(checkout: Checkout) -> Iterator[Trial]:
-    """Only --prove and --version alone are the script's own; the program has all other words, and its status."""
+    """Only --prove and --version alone are the script's own; all other words are the program's."""
     for given in (("--prove", "x"), ("x", "--prove"), ("--version", "x"), ("--prove", "--version"), ("",)):
         printed = checkout.made_of + "".join(f"<{word}>\n" for word in given)
-        yield f"the words {given}", Answer(printed, "", 7), checkout.run("l6", *given, has_rt=False, STATUS="7")
+        yield f"the words {given}", Answer(printed, "", 7), checkout.run(
+            "l6", *given, has_rt=False, STATUS="7"
+        )
     actual = checkout.run("l6", "--version", has_rt=False, STATUS="64")
     yield "the status of --version", (64, f"{checkout.made_of}<--version>\n"), (actual.status, actual.stdout)
 
@@ -90,6 +99,15 @@ def orders(checkout: Checkout) -> Iterator[Trial]:
         yield f"sources sorted by {language or 'nothing'}", Answer(checkout.made_of, "", 0), actual
 
 
+def what_checks_say(checkout: Checkout) -> Iterator[Trial]:
+    """What a check that fails has written to either output is shown."""
+    checkout.write("crates/l6_word/src/lib.rt", "a text whose check fails\n")
+    first = first_on_the_path(checkout, "failing", rt=FAILING_CHECK)
+    actual = checkout.run("tools/prove.py", "l6_word", FIRST=first)
+    said = [line for line in actual.stderr.splitlines() if line.startswith("why")]
+    yield "a check that fails", (1, ["why", "why else"]), (actual.status, said)
+
+
 def checks_that_are_killed(checkout: Checkout) -> Iterator[Trial]:
     """A check that is killed twice is not made again, and the crate is not proved."""
     checkout.write("crates/l6_word/src/lib.rt", "a text whose check is killed\n")
@@ -98,6 +116,19 @@ def checks_that_are_killed(checkout: Checkout) -> Iterator[Trial]:
     made = (checkout.state / "killed").read_text().split()
     said = ("again, alone" in actual.stderr, actual.stderr.endswith("l6_word is not proved\n"))
     yield "a check that is killed each time", (1, ["lib", "lib"], (True, True)), (actual.status, made, said)
+
+
+def edits_meanwhile(checkout: Checkout) -> Iterator[Trial]:
+    """What was edited while it was proved is proved again, even if the edit is undone: who knows what was read."""
+    checkout.write("crates/l6_word/src/lib.rt", "a text that is edited meanwhile\n")
+    (checkout.state / "edit").write_text(str(checkout.top / "crates/l6_word/src/lib.rt"))
+    first = checkout.run("tools/prove.py", "l6_word")
+    checkout.write("crates/l6_word/src/lib.rt", "a text that is edited meanwhile\n")
+    checkout.calls()
+    actual = checkout.run("tools/prove.py", "l6_word")
+    yield "an edit that is undone", (0, 0, ["lib l6_word"]), (first.status, actual.status, checkout.calls())
+    checkout.run("tools/prove.py", "l6_word")
+    yield "and then nothing", [], checkout.calls()
 
 
 def two_at_once(checkout: Checkout) -> Iterator[Trial]:
@@ -141,22 +172,71 @@ def installing(checkout: Checkout) -> Iterator[Trial]:
     yield "a program that does not run", (1, []), (actual.status, left)
 
 
+def lanes_and_memory(checkout: Checkout) -> Iterator[Trial]:
+    """How many processors and how much memory a control group leaves, and that no more lanes are lent."""
+    for name, text in (
+        ("quota", "150000 100000\n"),
+        ("limit", "5000000\n"),
+        ("held", "file 7\nanon 2000000\n"),
+    ):
+        checkout.write(name, text)
+    script = f"""
+import sys, threading
+sys.path.insert(0, {str(TOP / "tools")!r})
+from pathlib import Path
+import lanes
+lanes.QUOTA, lanes.LIMIT, lanes.HELD = map(Path, ("quota", "limit", "held"))
+print(lanes.processors(), lanes.free_memory(), lanes.usable_memory())
+lent, most, lock = [0], [0], threading.Lock()
+one = lanes.Lanes(2)
+def take():
+    with one.lane(1, 1):
+        with lock:
+            lent[0] += 1
+            most[0] = max(most[0], lent[0])
+        threading.Event().wait(0.01)
+        with lock:
+            lent[0] -= 1
+threads = [threading.Thread(target=take) for _ in range(8)]
+[it.start() for it in threads]
+[it.join() for it in threads]
+print(lent[0], most[0] <= 2)
+"""
+    ended = subprocess.run([sys.executable, "-c", script], cwd=checkout.top, capture_output=True, text=True)
+    yield "lanes", ("1 3000000 2550000\n0 True\n", ""), (ended.stdout, ended.stderr)
+
+
 def tools(_checkout: Checkout) -> Iterator[Trial]:
     """What other tools say of wrong words, and that the tables of pages are made."""
     for command in (
-        ["tools/reached.py", "l6.JobResult", "IsNotThere"], ["tools/tables.py", "--chek"], ["tools/pictures.py", "one"],
-        ["tests/program.py"], ["tests/facts.py"], ["bench/run", "--times", "0"],
+        ["tools/reached.py", "l6.JobResult", "IsNotThere"],
+        ["tools/tables.py", "--chek"],
+        ["tools/pictures.py", "one"],
+        ["tests/program.py"],
+        ["tests/facts.py"],
+        ["bench/run", "--times", "0"],
     ):
         ended = subprocess.run([sys.executable, *command], cwd=TOP, capture_output=True, text=True)
         yield f"wrong words: {' '.join(command)}", (True, ""), (ended.returncode != 0, ended.stdout)
-    ended = subprocess.run([sys.executable, "tools/tables.py", "--check"], cwd=TOP, capture_output=True, text=True)
+    ended = subprocess.run(
+        [sys.executable, "tools/tables.py", "--check"], cwd=TOP, capture_output=True, text=True
+    )
     yield "tools/tables.py --check", (0, ""), (ended.returncode, ended.stdout)
 
 
 # Groups of trials; those of a line share a checkout.
 GROUPS: tuple[tuple[Callable[[Checkout], Iterator[Trial]], ...], ...] = (
     (words, other_systems, orders, installing),
-    (proofs_that_fail, checks_that_are_killed, two_at_once, cut_copies, tools),
+    (
+        proofs_that_fail,
+        edits_meanwhile,
+        what_checks_say,
+        checks_that_are_killed,
+        two_at_once,
+        cut_copies,
+        lanes_and_memory,
+        tools,
+    ),
 )
 
 
@@ -170,5 +250,20 @@ def trials() -> Iterator[Trial]:
                     yield f"{group.__name__}: {name}", expected, actual
 
 
+def canaries() -> Iterator[Trial]:
+    """Answers of a script in a checkout that are wrong in one part each, and the sum of an old program."""
+    with tempfile.TemporaryDirectory() as folder:
+        checkout = Checkout(Path(folder) / "checkout")
+        checkout.write("canary", f"#!/bin/sh\n{CANARY}\n")
+        (checkout.top / "canary").chmod(0o755)
+        actual = checkout.run("canary")
+        yield "a wrong standard output of a script", Answer("Out\n", "err\n", 3), actual
+        yield "a wrong standard error of a script", Answer("out\n", "Err\n", 3), actual
+        yield "a wrong status of a script", Answer("out\n", "err\n", 0), actual
+        before = checkout.made_of
+        checkout.write("crates/l6/src/main.rt", "another main\n")
+        yield "a program of other sources", before, checkout.made_of
+
+
 if __name__ == "__main__":
-    sys.exit(report(trials()))
+    sys.exit(report(trials(), canaries()))

@@ -1,9 +1,9 @@
 #!/usr/bin/env python3
 """Checks the scripts of the repository without running them: the types of Python's, and the shell's.
 
-static_checks.py prints what mypy and shellcheck say, and last 'N passed, M failed'. Each file is a trial. If one
-of the two is not installed, that is said, and a trial of its files is whether Python or the shell can read them.
-Both are Debian's packages.
+static_checks.py prints what mypy and shellcheck say, and last 'N passed, M failed'. Each file is a trial. If
+one of the two is not installed, that is said, and a trial of its files is whether Python or the shell can
+read them. Both are Debian's packages.
 """
 from __future__ import annotations
 
@@ -22,6 +22,7 @@ from trials import Trial, report
 TOP = Path(__file__).resolve().parent.parent
 BAD_PYTHON = "def length(text: str) -> int:\n    return text\n"
 BAD_SHELL = "#!/bin/sh\nrm $1\n"
+NO_SCRIPTS = {".git", "crates", "dist", "docs", "examples"}  # folders
 CLEAN = ""  # what is said of a file without a fault
 
 
@@ -38,13 +39,14 @@ def python_groups() -> list[Group]:
     """All scripts of Python. Those of web/tests have answers of a browser, which are of any type."""
     shared = tuple(sorted([*TOP.glob("tests/*.py"), *TOP.glob("tests/model/*.py"), *TOP.glob("tools/*.py")]))
     bench = tuple(TOP / "bench" / name for name in ("run", "measure.py", "workloads.py"))
-    return [
+    groups = [
         Group(("tests", "tools"), shared),
         Group(("bench", "tests", "tools"), bench),
-        Group(("tools",), (TOP / "web/build",)),
-        Group(("tools",), (TOP / "web/bundle",)),
         Group(("web/tests", "tests", "tools"), tuple(sorted(TOP.glob("web/tests/*.py"))), ()),
     ]
+    known = {file for group in groups for file in group.files}
+    others = [file for file in scripts() if first_line(file).endswith(" python3") and file not in known]
+    return [*groups, *(Group(("tools", str(file.parent.relative_to(TOP))), (file,)) for file in others)]
 
 
 def shell_scripts() -> list[Path]:
@@ -54,11 +56,12 @@ def shell_scripts() -> list[Path]:
 
 
 def scripts() -> Iterator[Path]:
-    """All files that may be run, of the folders that have scripts."""
-    for folder in ("", ".ci", "bench", "tests", "tools", "web", "web/tests"):
-        for file in sorted((TOP / folder).iterdir()):
-            if file.is_file() and first_line(file).startswith("#!"):
-                yield file
+    """All files that may be run."""
+    folders = [it for it in TOP.iterdir() if it.is_dir() and it.name not in NO_SCRIPTS]
+    files = [it for it in TOP.iterdir() if it.is_file()]
+    for folder in folders:
+        files += [it for it in folder.rglob("*") if it.is_file() and not {"out", "__pycache__"} & set(it.parts)]
+    yield from (file for file in sorted(files) if first_line(file).startswith("#!"))
 
 
 def first_line(file: Path) -> str:
@@ -70,11 +73,23 @@ def first_line(file: Path) -> str:
 def said_by_mypy(group: Group) -> dict[Path, str]:
     """What mypy says of each file of a group."""
     path = ":".join(str(TOP / folder) for folder in group.folders)
-    kept = kept_folder(f"mypy-{group.files[0].stem}")  # (what was read before, so that the next time takes a second)
+    # (what was read before is kept, so that the next time takes a second)
+    kept = kept_folder(f"mypy-{group.files[0].stem}")
     cache = kept if kept else Path(os.devnull)
     ended = subprocess.run(
-        ["mypy", *group.flags, "--cache-dir", cache, "--scripts-are-modules", "--no-error-summary", *group.files],
-        env={**os.environ, "MYPYPATH": path}, capture_output=True, text=True, cwd=TOP,
+        [
+            "mypy",
+            *group.flags,
+            "--cache-dir",
+            cache,
+            "--scripts-are-modules",
+            "--no-error-summary",
+            *group.files,
+        ],
+        env={**os.environ, "MYPYPATH": path},
+        capture_output=True,
+        text=True,
+        cwd=TOP,
     )
     said = dict.fromkeys(group.files, CLEAN)
     for line in (ended.stdout + ended.stderr).splitlines():

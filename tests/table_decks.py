@@ -1,9 +1,10 @@
 #!/usr/bin/env python3
 """Runs the tables of the pages of which each row is a deck, a card, a group or a command.
 
-table_decks.py PROGRAM prints each difference, and last 'N passed, M failed'. The examples of docs/language.md and
-docs/summary.md must be read; what its tables say of faults, of arithmetic in a field, of the places of blocks and
-of statements must be what the program answers. Free lists, which no command shows, are those of the model.
+table_decks.py PROGRAM prints each difference, and last 'N passed, M failed'. The examples of docs/language.md
+and docs/summary.md must be read; what its tables say of faults, of arithmetic in a field, of the places of
+blocks and of statements must be what the program answers. Free lists, which no command shows, are those of
+the model.
 """
 from __future__ import annotations
 
@@ -86,13 +87,16 @@ def columns_of_groups(page: str) -> Iterator[tuple[Table, int]]:
     """The columns of a page's tables that have forms of groups."""
     for table in tables_of(text_of(page)):
         for at, cell in enumerate(table.head):
-            if cell in ("Group", "Test", "Arithmetic and logic", "Other operations") and "Width of c" not in table.head:
+            if (
+                cell in ("Group", "Test", "Arithmetic and logic", "Other operations")
+                and "Width of c" not in table.head
+            ):
                 if "Free lists, by the size of their pieces" not in table.head:
                     yield table, at
 
 
 def examples(program: str) -> Iterator[Trial]:
-    """Each example in a table of the manual is read by the program, as the operation, test or word of its row."""
+    """Each example in a table of the manual is read by the program, as what its row is about."""
     for table in tables_of(text_of(LANGUAGE)):
         if "Example" not in table.head:
             continue
@@ -100,8 +104,11 @@ def examples(program: str) -> Iterator[Trial]:
         for first, example in zip(table.column(kind), table.column("Example")):
             for card in spans_of(example):
                 if kind == "Group":
-                    own = [name_of(group_of(form), table.section == "Tests") for form in spans_of(first)
-                           if is_a_form(form)]
+                    own = [
+                        name_of(group_of(form), table.section == "Tests")
+                        for form in spans_of(first)
+                        if is_a_form(form)
+                    ]
                     made = name_of(card, table.section == "Tests")
                     yield f"the example {card} of {first}", True, made in own
                 if kind == "Word" and first != "none":
@@ -109,7 +116,9 @@ def examples(program: str) -> Iterator[Trial]:
                     yield f"the example {card} of {first}", spans_of(first)[0], Condition(condition).name
                 if kind == "Exit" and first != "none":
                     leaving = assemble(f"{card}\n".encode() + LABELS).program[0].exit
-                    yield f"the example {card} of {first}", {"a label": "LABEL"}.get(first, plain(first)), Exit(leaving).name
+                    yield f"the example {card} of {first}", {"a label": "LABEL"}.get(
+                        first, plain(first)
+                    ), Exit(leaving).name
                 test = f" IF {card} THEN\n" if table.section == "Tests" else f" {card}\n"
                 deck = test if card.startswith("(") else f"{card}\n"
                 deck = " (A,E,1)\n" + deck if deck.startswith("+") else deck
@@ -133,9 +142,22 @@ def statements() -> Iterator[Trial]:
     for card, what in table_with(text_of(LANGUAGE), "Statement", "What it says").rows:
         deck = f"{spans_of(card)[0]}\n".encode() + b"LAST (PL)\nIF (PL)\nTHEN (PL)\n"
         statement = assemble(deck).program[0]
-        said = "LABEL" if "exit to" in what or "the same" in what else "FAIL" if "FAIL" in what else "DONE" if "DONE" in what else "NONE"
+        said = (
+            "LABEL"
+            if "exit to" in what or "the same" in what
+            else "FAIL"
+            if "FAIL" in what
+            else "DONE"
+            if "DONE" in what
+            else "NONE"
+        )
         yield f"the exit of {card}", said, Exit(statement.exit).name
-        operations = {"two operations": 2, "no operation": 0, "A is printed": 1, "the same, but A is printed": 1}
+        operations = {
+            "two operations": 2,
+            "no operation": 0,
+            "A is printed": 1,
+            "the same, but A is printed": 1,
+        }
         known = next((count for start, count in operations.items() if what.startswith(start)), 0)
         yield f"the operations of {card}", known, len(statement.operations)
 
@@ -152,9 +174,12 @@ def widths(program: str) -> Iterator[Trial]:
 
 
 def places(program: str) -> Iterator[Trial]:
-    """The two tables of gets and frees: places by the program, free lists by the model, and moves by the lists."""
+    """The two tables of gets and frees: places by the program, free lists and moves by the model."""
     head = "Free lists, by the size of their pieces"
-    rows = [(group, place, lists) for group, place, lists in table_with(text_of(LANGUAGE), "Group", "Place", head).rows]
+    rows = [
+        (group, place, lists)
+        for group, place, lists in table_with(text_of(LANGUAGE), "Group", "Place", head).rows
+    ]
     yield from after_each(program, LANGUAGE, rows)
     rows = []
     names = iter("ABCDE")
@@ -165,7 +190,9 @@ def places(program: str) -> Iterator[Trial]:
             rows.append((f"`({name},GT,1)`", gives, sizes_of_levels(lists)))
         else:
             freed = call.removeprefix("free ")
-            rows.append((f"`({holders.get(freed, '')},FR)`" if freed in holders else "", "", sizes_of_levels(lists)))
+            rows.append(
+                (f"`({holders.get(freed, '')},FR)`" if freed in holders else "", "", sizes_of_levels(lists))
+            )
     yield from after_each(program, ALLOCATOR, rows)
     yield from moves()
 
@@ -191,7 +218,9 @@ def after_each(program: str, page: str, rows: list[tuple[str, str, str]]) -> Ite
                 yield f"{page}: the place of {group}", (place, str(got)), (shown, shown)
             else:
                 model.free(bugs[bug])
-        known = {str(size): ", ".join(map(str, pieces)) for size, pieces in model.free_lists.items() if pieces}
+        known = {
+            str(size): ", ".join(map(str, pieces)) for size, pieces in model.free_lists.items() if pieces
+        }
         lists = dict(re.findall(r"(\d+): (\d+(?:, \d+)*)", said.partition(" and so on")[0]))
         is_cut = " and so on" in said or ".." in said
         expected = dict(islice(known.items(), len(lists))) if is_cut else known
@@ -199,7 +228,7 @@ def after_each(program: str, page: str, rows: list[tuple[str, str, str]]) -> Ite
 
 
 def moves() -> Iterator[Trial]:
-    """How often each call of the allocator's table halved or joined a piece, by how many free pieces there are."""
+    """How often each call of the allocator's table halved or joined a piece: by the number of free pieces."""
     model = store.Store(1)
     table = table_with(text_of(ALLOCATOR), "Call", "Gives", "Halved or joined")
     for call, gives, moved, _ in table.rows[1:]:
@@ -211,7 +240,23 @@ def moves() -> Iterator[Trial]:
             model.free(int(call.split()[1]))
             count = before + 1 - sum(map(len, model.free_lists.values()))
         yield f"{ALLOCATOR}: moves of {call}", moved, str(count)
-    (links,) = [table for table in tables_of(text_of(ALLOCATOR)) if table.head == ["", "Word", "Before", "After"]]
+    model = store.Store(1)
+    places_of = [model.get(1) for _ in range(4)]
+    numbers = []
+    for place in (1027, 1026, 1024, 1025):
+        before = sum(map(len, model.free_lists.values()))
+        model.free(place)
+        numbers.append(before + 1 - sum(map(len, model.free_lists.values())))
+    said = re.search(
+        r"after the fourth get, `moves` would answer (\d+), then (\d+) .*?, then (\d+), .* at last (\d+),",
+        " ".join(text_of(ALLOCATOR).split()),
+    )
+    yield f"{ALLOCATOR}: the moves of four frees", numbers, [
+        int(it) for it in said.groups()
+    ] if said else places_of
+    (links,) = [
+        table for table in tables_of(text_of(ALLOCATOR)) if table.head == ["", "Word", "Before", "After"]
+    ]
     for what, word, before_it, after_it in links.rows[1:]:
         ends = [0 if it == "none" else int(it) for it in (before_it, after_it)]
         yield f"{ALLOCATOR}: the {what}", f"{ends[0] << 18 | ends[1]:012o}", spans_of(word)[0]
@@ -229,20 +274,51 @@ def commands_and_verbs(program: str) -> Iterator[Trial]:
     yield f"the commands of {SUMMARY}", known, sorted(it.split()[0] for it in spans_of(said))
     with_number = sorted(it.split()[0] for it in spans_of(said) if " " in it)
     yield f"the commands with a number of {SUMMARY}", sorted(numbered), with_number
-    yield f"the commands of {MANUAL}", known, sorted(re.findall(r"^\.It Ic (\w+)", text_of(MANUAL), re.MULTILINE))
-    of_help = run(program, "", "debug", "--help")[0].partition("one on a line: ")[2].partition(". The input")[0]
+    yield f"the commands of {MANUAL}", known, sorted(
+        re.findall(r"^\.It Ic (\w+)", text_of(MANUAL), re.MULTILINE)
+    )
+    of_help = (
+        run(program, "", "debug", "--help")[0].partition("one on a line: ")[2].partition(". The input")[0]
+    )
     yield "the commands of the help", known, sorted(it.split()[0] for it in of_help.split(","))
     verbs = sorted(jobs.VERBS)
     of_manual = re.findall(r"^\.It Cm (\w+)", text_of(MANUAL), re.MULTILINE)
     table = table_with(text_of(LANGUAGE), "Words", "What is done", "Options")
     of_language = [spans_of(words)[0].split()[1] for words in table.column("Words")]
-    with_options = [spans_of(words)[0].split()[1] for words, _, options in table.rows if options == "all three"]
+    with_options = [
+        spans_of(words)[0].split()[1] for words, _, options in table.rows if options == "all three"
+    ]
     of_sheet = re.findall(r"`l6 (\w+) < JOB`", text_of(SUMMARY))
-    listed = re.findall(r"^  (\w+) +[A-Z]", run(program, "", "--help")[0].partition("Options:")[0], re.MULTILINE)
+    listed = re.findall(
+        r"^  (\w+) +[A-Z]", run(program, "", "--help")[0].partition("Options:")[0], re.MULTILINE
+    )
     for where, found in ((MANUAL, of_manual), (LANGUAGE, of_language), (SUMMARY, of_sheet)):
         yield f"the verbs of {where}", verbs, sorted(found)
+    for where, listing in (
+        (
+            MANUAL,
+            dict(re.findall(r"^\.It Cm (\w+)\n((?:(?!\.It|\.El).*\n)+)", text_of(MANUAL), re.MULTILINE)),
+        ),
+        (LANGUAGE, {spans_of(row[0])[0].split()[1]: row[1] for row in table.rows}),
+        (SUMMARY, dict(re.findall(r"`l6 (\w+) < JOB` \| ([^|]*) \|", text_of(SUMMARY)))),
+        ("the help", dict(re.findall(r"^  (\w+) +([A-Z].*)$", run(program, "", "--help")[0], re.MULTILINE))),
+    ):
+        for verb, words in WHAT_VERBS_DO.items():
+            what = " ".join(listing.get(verb, "").lower().split())
+            yield f"{where}: what {verb} does", [], [word for word in words if word not in what]
     yield "the verbs of the help", verbs, sorted(it for it in listed if it != "help")
     yield f"the verbs with options in {LANGUAGE}", sorted(jobs.RUNNING), sorted(with_options)
+
+
+# Words of what each verb does, in the words that all pages share.
+WHAT_VERBS_DO = {
+    "asm": ["write", "image"],
+    "list": ["write", "listing"],
+    "run": ["run"],
+    "load": ["run", "image"],
+    "renew": ["rewrit", "image"],
+    "debug": ["command"],
+}
 
 
 # What each exit status means, in the words that all pages share.
@@ -255,26 +331,48 @@ def statuses_and_faults(program: str) -> Iterator[Trial]:
     of_help = dict(re.findall(r"^  (\d+) +(.*)$", said, re.MULTILINE))
     of_manual = dict(re.findall(r"^\.It (\d+)\n((?:(?!\.It|\.El).*\n)+)", text_of(MANUAL), re.MULTILINE))
     table = next(it for it in tables_of(text_of(SUMMARY)) if "Exit status" in it.head)
-    of_sheet = {one: what for numbers, whats in zip(table.column("Exit status"), table.column("Meaning"))
-                for one, what in zip(numbers.split(", "), whats.split(", "))}
+    of_sheet = {
+        one: what
+        for numbers, whats in zip(table.column("Exit status"), table.column("Meaning"))
+        for one, what in zip(numbers.split(", "), whats.split(", "))
+    }
     for where, found in (("the help", of_help), (MANUAL, of_manual), (SUMMARY, of_sheet)):
         yield f"the statuses of {where}", [*map(str, STATUSES), "64"], sorted(found, key=int)
         for status, word in STATUSES.items():
             yield f"status {status} of {where}", True, word.lower() in found.get(str(status), "").lower()
-    endings = {spans_of(line)[0].split()[1]: int(status) for line, status in
-               table_with(text_of(LANGUAGE), "Line", "Exit status").rows}
+    endings = {
+        spans_of(line)[0].split()[1]: int(status)
+        for line, status in table_with(text_of(LANGUAGE), "Line", "Exit status").rows
+    }
+    forms = [spans_of(line)[0] for line, _ in table_with(text_of(LANGUAGE), "Line", "Exit status").rows]
+    yield f"the endings of {MANUAL}", forms, re.findall(r"^\.It (== .*)$", text_of(MANUAL), re.MULTILINE)
     yield f"the statuses of endings in {LANGUAGE}", {"DONE": 0, "FAIL": 1, "TRAP": 2, "LIMIT": 3}, endings
-    faults_of = {line: int(status) for lines, _, status in
-                 table_with(text_of(LANGUAGE), "Line", "What it means", "Exit status").rows for line in spans_of(lines)}
+    faults_of = {
+        line: int(status)
+        for lines, _, status in table_with(text_of(LANGUAGE), "Line", "What it means", "Exit status").rows
+        for line in spans_of(lines)
+    }
     listed = re.findall(r'^\.It "(l6: [^"]+)"', text_of(MANUAL), re.MULTILINE)
     yield f"the faults of {MANUAL}", sorted({*faults_of, "l6: a word is not UTF-8"}), sorted(listed)
-    known = {"no reading", "past a limit", "label given twice", "no such label", "not a word", "not an image",
-             *(f"{part} too long" for part in ("deck", "input", "commands", "image", "job"))}
-    refused = {re.sub(r"^l6: (?:(?:card|line) n: )?", "", line) for line, status in faults_of.items() if status == 4}
+    known = {
+        "no reading",
+        "past a limit",
+        "label given twice",
+        "no such label",
+        "not a word",
+        "not an image",
+        *(f"{part} too long" for part in ("deck", "input", "commands", "image", "job")),
+    }
+    refused = {
+        re.sub(r"^l6: (?:(?:card|line) n: )?", "", line) for line, status in faults_of.items() if status == 4
+    }
     yield f"the faults of status 4 in {LANGUAGE}", sorted(known), sorted(refused)
     failed = sorted(line for line, status in faults_of.items() if status == 5)
     yield f"the faults of status 5 in {LANGUAGE}", [
-        "l6: out of memory", "l6: read failed", "l6: write failed after n bytes"], failed
+        "l6: out of memory",
+        "l6: read failed",
+        "l6: write failed after n bytes",
+    ], failed
 
 
 def canaries(program: str) -> Iterator[Trial]:
@@ -282,15 +380,21 @@ def canaries(program: str) -> Iterator[Trial]:
     yield canary(SUMMARY, "| `(c,PD)`, `(c,PO)` |", "| `(c,PD)` |", forms)
     yield canary(LANGUAGE, "`(c,FR,cd)`", "`(c,FR,c2)`", forms)
     yield canary(LANGUAGE, "`(A,GT,4,AN,FULL)`", "`(A,GT,AN,4,FULL)`", lambda: examples(program))
-    yield canary(LANGUAGE, "| the same, across cards | 2 |", "| the same, across cards | 1 |", lambda: faults(program))
+    yield canary(
+        LANGUAGE, "| the same, across cards | 2 |", "| the same, across cards | 1 |", lambda: faults(program)
+    )
     yield canary(LANGUAGE, "| the exit to a label `IF`,", "| the exit DONE,", statements)
     yield canary(LANGUAGE, "| 131072, which", "| 131071, which", lambda: widths(program))
     yield canary(LANGUAGE, "| 1: 1026, 1024 ·", "| 1: 1024, 1026 ·", lambda: places(program))
-    yield canary(ALLOCATOR, "| get, level 0 | 1026 | 1 |", "| get, level 0 | 1026 | 2 |", lambda: places(program))
+    yield canary(
+        ALLOCATOR, "| get, level 0 | 1026 | 1 |", "| get, level 0 | 1026 | 2 |", lambda: places(program)
+    )
     yield canary(ALLOCATOR, "`002002000000`", "`002000002000`", lambda: places(program))
     yield canary(MANUAL, ".It Ic clear Ar s", ".It Ic delete Ar s", lambda: commands_and_verbs(program))
     yield canary(SUMMARY, "`block p`", "`block`", lambda: commands_and_verbs(program))
-    yield canary(LANGUAGE, "| `l6: not an image` |", "| `l6: no image` |", lambda: statuses_and_faults(program))
+    yield canary(
+        LANGUAGE, "| `l6: not an image` |", "| `l6: no image` |", lambda: statuses_and_faults(program)
+    )
     yield canary(MANUAL, ".It 3\n", ".It 6\n", lambda: statuses_and_faults(program))
 
 

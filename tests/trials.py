@@ -71,7 +71,7 @@ def at_least(least: int, what: str, trials: Iterable[Trial]) -> Iterator[Trial]:
     count = 0
     for count, trial in enumerate(trials, 1):
         yield trial
-    yield f"at least {least} trials: {what}", f"{least} or more", f"{least} or more" if count >= least else f"{count}"
+    yield f"at least {least} trials: {what}", least, min(count, least)
 
 
 def is_chosen(trial: Trial) -> bool:

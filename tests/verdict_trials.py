@@ -1,5 +1,5 @@
 #!/usr/bin/env python3
-"""Tries that an edit which the prover refused is not tried again until something changes that this depends on.
+"""Tries that an edit which was refused is not tried again until something changes that this depends on.
 
 verdict_trials.py prints each difference, and last 'N passed, M failed'. tests/edits.py is called in a small
 checkout with a stand-in for rt, by which a function that answers 2 is not proved.
@@ -30,22 +30,24 @@ if verb == "version":
     sys.exit(0)
 with open(state / "log", "a") as log:
     log.write(f"{{verb}} {{Path.cwd().name}}\\n")
+if verb == "lib" and "UNPROVED" in Path("src/lib.rt").read_text():
+    sys.exit(1)
 if verb == "lib":
     Path("out/rlib").mkdir(parents=True, exist_ok=True)
     Path("out/rlib/stamp").write_text("made")
     sys.exit(0)
-name, wrong = "", False
+name, wrong, unproved = "", False, False
 for line, text in enumerate(Path("src/lib.rt").read_text().splitlines(), 1):
     if text.startswith("fn "):
-        name = text.split()[1].partition("(")[0]
+        name, wrong = text.split()[1].partition("(")[0], False
     elif text == "    2":
-        wrong = True
+        wrong = unproved = True
         print(f"fn l6_word::{{name}}: not proved")
         print(f"note: src/lib.rt:{{line}}:5: it is not proved that it answers 1")
     elif text == "}}":
         print(f"fn l6_word::{{name}}: proved") if not wrong else None
-print("logic=not-proved functions=2" if wrong else "logic=proved functions=2")
-sys.exit(1 if wrong else 0)
+print("logic=not-proved functions=2" if unproved else "logic=proved functions=2")
+sys.exit(1 if unproved else 0)
 '''
 CODE = "fn give() -> u8 {\n    1\n}\n\nfn take() -> u8 {\n    4\n}\n"
 REFUSED = "file: src/lib.rt\nold:     1\nnew:     2\n"
@@ -60,7 +62,9 @@ class Edits:
     def __init__(self, folder: Path) -> None:
         self.checkout = Checkout(folder)
         self.top, self.kept = self.checkout.top, folder / "kept"
-        shutil.copytree(TOP / "tests", self.top / "tests", ignore=shutil.ignore_patterns("__pycache__", "*.jsonl"))
+        shutil.copytree(
+            TOP / "tests", self.top / "tests", ignore=shutil.ignore_patterns("__pycache__", "*.jsonl")
+        )
         self.first = folder / "first"
         self.first.mkdir()
         (self.first / "rt").write_text(RT)
@@ -71,7 +75,10 @@ class Edits:
     def tried(self, *words: str, **environment: str) -> tuple[Answer[str], bool]:
         """What tests/edits.py answers, and whether it had anything checked."""
         self.checkout.calls()
-        where: dict[str, Any] = {"FIRST": str(self.first), **(environment or {"XDG_CACHE_HOME": str(self.kept)})}
+        where: dict[str, Any] = {
+            "FIRST": str(self.first),
+            **(environment or {"XDG_CACHE_HOME": str(self.kept)}),
+        }
         actual = self.checkout.run("tests/edits.py", "l6_word", *words, **where)
         return actual, CHECKED in self.checkout.calls()
 
@@ -86,13 +93,26 @@ def changes(edits: Edits) -> Iterator[Trial]:
     yield edits.trial("all anew", True, "--anew")
     yield edits.trial("after all anew", False)
     for name in (
-        "crates/l6_word/src/lib.rt", "crates/l6_word/specs/Lib.antt", "crates/l6_word/proofs/Lib.antt",
-        "crates/l6_word/edits/give_answers_two.edit", "crates.txt", "tests/check_report.py", "tools/rooms.py",
+        "crates/l6_word/src/lib.rt",
+        "crates/l6_word/specs/Lib.antt",
+        "crates/l6_word/proofs/Lib.antt",
+        "crates/l6_word/edits/give_answers_two.edit",
+        "crates.txt",
+        "tests/check_report.py",
+        "tools/rooms.py",
     ):
         file = edits.top / name
         before = file.read_bytes()
-        file.write_bytes(before + (b"\n" if name.endswith(".edit") else b"# another\n" if name.endswith(
-            (".py", ".txt")) else b"-- another\n"))
+        file.write_bytes(
+            before
+            + (
+                b"\n"
+                if name.endswith(".edit")
+                else b"# another\n"
+                if name.endswith((".py", ".txt"))
+                else b"-- another\n"
+            )
+        )
         if name == "crates.txt":
             file.write_bytes(before + b"l6_more:\n")
         yield edits.trial(f"after a change of {name}", True)
@@ -120,13 +140,19 @@ def verdicts(edits: Edits) -> Iterator[Trial]:
     edits.checkout.write("crates/l6_word/edits/take_is_not_there.edit", NOT_REFUSED.replace("4", "6"))
     for which in ("the first time", "the second time"):
         yield edits.trial(f"an edit that is not refused, {which}", True, count="1 passed, 2 failed")
-    for name in ("take_answers_five", "take_is_not_there"):
+    two = "file: src/lib.rt\nold: u8\nnew: u16\n"  # (a text that is there twice)
+    edits.checkout.write("crates/l6_word/edits/take_is_twice_there.edit", two)
+    actual, _ = edits.tried()
+    yield "what is said of an edit that is not refused", True, "NOT REFUSED: the crate is proved" in actual.stdout
+    yield "an old text that is there twice", True, "BAD EDIT: an old text is in src/lib.rt 2 times" in actual.stdout
+    for name in ("take_answers_five", "take_is_not_there", "take_is_twice_there"):
         (edits.top / f"crates/l6_word/edits/{name}.edit").unlink()
     yield edits.trial("the edit that was refused beside them", False)
     (kept,) = (edits.kept / "l6/edits").iterdir()
     whole = kept.read_text()
     for what, text in (
-        ("half a line", whole[:-9]), ("another verdict", whole.replace("refused", "proved")),
+        ("half a line", whole[:-9]),
+        ("another verdict", whole.replace("refused", "proved")),
         ("one line more", whole + "and more\n"),
     ):
         kept.write_text(text)
@@ -134,6 +160,23 @@ def verdicts(edits: Edits) -> Iterator[Trial]:
     yield edits.trial("once it is kept again", False)
     kept.rename(kept.with_name(kept.name.replace("l6_word-", "l6_word-0")))
     yield edits.trial("what was kept of another state", True)
+
+
+def copies(edits: Edits) -> Iterator[Trial]:
+    """Two edits of one function are tried in copies of it, in one check; a crate that is not proved fails."""
+    edits.checkout.write(
+        "crates/l6_word/edits/give_answers_two_again.edit",
+        REFUSED.replace("old:     1", "old: 1").replace("new:     2", "new: 2"),
+    )
+    actual, _ = edits.tried("--anew")
+    said = "2 of 2 edits refused" in actual.stdout and "in 1 checks" in actual.stdout
+    yield "two edits of one function", ("2 passed, 0 failed", True), (actual.stdout.splitlines()[-1], said)
+    (edits.top / "crates/l6_word/edits/give_answers_two_again.edit").unlink()
+    edits.checkout.write("crates/l6_word/src/lib.rt", CODE + "// UNPROVED\n")
+    actual, was_checked = edits.tried("--anew")
+    failed = actual.stdout.splitlines()[-1]
+    yield "a crate that is not proved", ("0 passed, 1 failed", 1, False), (failed, actual.status, was_checked)
+    edits.checkout.write("crates/l6_word/src/lib.rt", CODE)
 
 
 def folders(edits: Edits) -> Iterator[Trial]:
@@ -174,7 +217,7 @@ def trials() -> Iterator[Trial]:
     yield from scripts()
     with tempfile.TemporaryDirectory() as folder:
         edits = Edits(Path(folder) / "checkout")
-        for group in (verdicts, changes, folders, crates_below):
+        for group in (verdicts, changes, copies, folders, crates_below):
             edits.kept = Path(folder, group.__name__)
             yield from group(edits)
 

@@ -4,8 +4,9 @@
 tables.py writes them, and tables.py --check only says which are not as they would be written. These are
 
 - the crates in docs/measurements.md: how many functions, lines and edits each has. What was measured is kept.
-- the edits of each call in docs/contracts.md. An edit says which call refuses it, by a line `refused by: CALL`,
-  or `refused by: CALL: PROMISE` where a call has several rows; PROMISE is how the row's promise begins.
+- the edits of each call in docs/contracts.md. An edit says which call refuses it, by a line
+  `refused by: CALL`, or `refused by: CALL: PROMISE` where a call has several rows; PROMISE is how the row's
+  promise begins.
 
 The exit status is 1 if something is not as it would be written, or an edit has no row.
 """
@@ -48,8 +49,11 @@ def row_of(crate: Crate, measured: str) -> str:
     """The row of a crate: what is counted, and what was measured."""
     code = "\n".join(file.read_text("utf-8") for file in sources_of(crate))
     counts = [
-        len(FUNCTION.findall(code)), crate.lines, lines_in(crate.folder / "specs", "*.antt"),
-        lines_in(crate.folder / "proofs", "*.antt"), len(list(crate.folder.glob("edits/*.edit"))),
+        len(FUNCTION.findall(code)),
+        crate.lines,
+        lines_in(crate.folder / "specs", "*.antt"),
+        lines_in(crate.folder / "proofs", "*.antt"),
+        len(list(crate.folder.glob("edits/*.edit"))),
     ]
     return f"| `{crate.name}` | {' | '.join(map(str, counts))} | {measured} |"
 
@@ -67,7 +71,9 @@ def measurements(text: str) -> str:
     rule, *rows = after.split("\n\n")[0].splitlines()
     rest = after.partition("\n\n")[2]
     measured = {SPAN.findall(row)[0]: row.split("|")[-2].strip() for row in rows}
-    made = [row_of(crate, measured.get(crate.name, "")) for crate in read_crates().values() if crate.name != TESTS]
+    made = [
+        row_of(crate, measured.get(crate.name, "")) for crate in read_crates().values() if crate.name != TESTS
+    ]
     return "\n".join([f"{before}{HEAD}", rule, *made, "", rest])
 
 
@@ -79,7 +85,9 @@ def contracts(text: str) -> tuple[str, list[str]]:
     wrong = []
     for crate, names in edits.items():
         for name, places in names.items():
-            fitting = {row for row in found if row.crate == crate and any(is_of(row, *place) for place in places)}
+            fitting = {
+                row for row in found if row.crate == crate and any(is_of(row, *place) for place in places)
+            }
             for row in fitting:
                 found[row].add(name)
             if len(fitting) != len(places):
@@ -129,7 +137,9 @@ def calls_in(cell: str) -> tuple[str, ...]:
 
 def cell_of(cell: str, edits: set[str], known: set[str]) -> str:
     """A cell with these edits; it stays as it is if it has just these, and what it says besides stays."""
-    named = [it for it in SPAN.findall(cell) if it in known or re.fullmatch(r"[a-z0-9]+(?:_[a-z0-9]+){2,}", it)]
+    named = [
+        it for it in SPAN.findall(cell) if it in known or re.fullmatch(r"[a-z0-9]+(?:_[a-z0-9]+){2,}", it)
+    ]
     if set(named) == edits:
         return cell
     listed = ", ".join(f"`{name}`" for name in sorted(edits))
@@ -147,7 +157,9 @@ def main() -> int:
     made = {MEASUREMENTS: measurements(MEASUREMENTS.read_text("utf-8")), CONTRACTS: page}
     for file, text in made.items():
         if file.read_text("utf-8") != text and sys.argv[1:]:
-            wrong.append(f"{file.relative_to(TOP)} has a table that is not as it is counted: tools/tables.py writes it")
+            wrong.append(
+                f"{file.relative_to(TOP)} has a table that is not as it is counted: tools/tables.py writes it"
+            )
         elif file.read_text("utf-8") != text:
             file.write_text(text, "utf-8")
     print(*wrong, sep="\n", end="\n" if wrong else "")

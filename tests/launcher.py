@@ -101,6 +101,11 @@ def other_files(checkout: Checkout) -> Iterator[Trial]:
         yield f"beside {name}", expected, checkout.run("l6", has_rt=False)
     (folder / ".#lib.rt").symlink_to("nobody@nowhere.1:1")
     yield "beside an editor's lock", expected, checkout.run("l6", has_rt=False)
+    checkout.run("tools/prove.py")
+    yield "what is proved beside other files", "lib l6_word", checkout.calls()[0]
+    (folder / "lib.rt~").write_text("something else\n")
+    yield "a proof beside other files", 0, checkout.run("tools/prove.py").status
+    yield "what is proved again beside other files", [], checkout.calls()
 
 
 def builds_again(checkout: Checkout, what: str, why: str) -> Iterator[Trial]:

@@ -62,7 +62,8 @@ def versions(program: str) -> Iterator[Trial]:
     said = answer_of([program, "--version"], input=b"").stderr.decode().split(",")[0]
     yield "the version of the program", f"l6 {version}", said
     for name, pattern in (
-        ("README.md", r"Version (\S+) is"), ("docs/l6.1", r"^\.Os L6 (\S+)$"), ("dist/l6.html", r"<p>L6 ([^,<]+),"),
+        ("README.md", r"Version (\S+) is"), ("docs/l6.1", r"^\.Os L6 (\S+)$"),
+        ("dist/l6.html", r"<p>L6 ([^,<]+),"),
         ("docs/command-line.md", r"^l6 ([^,]+), images"), ("CITATION.cff", r'^version: "(.*)"$'),
         ("CHANGELOG.md", r"^## \[(.*)\] - "),
     ):
@@ -79,7 +80,8 @@ def citation() -> Iterator[Trial]:
     yield "keys that the format does not know", set(), keys - known
     yield "the format's version", "1.2.0", found(r"^cff-version: (.*)$", "CITATION.cff")
     yield "who is cited", "The L6 contributors", found(r"^authors:\n  - name: (.*)$", "CITATION.cff")
-    yield "the licences of the citation", "MIT Apache-2.0", " ".join(re.findall(r"^  - (MIT|Apache-2.0)$", text, re.MULTILINE))
+    licensed = re.findall(r"^  - (MIT|Apache-2.0)$", text, re.MULTILINE)
+    yield "the licences of the citation", ["MIT", "Apache-2.0"], licensed
     date = found(rf"^date-released: ({DATE})$", "CITATION.cff")
     yield "the date of the citation", date, datetime.date.fromisoformat(date).isoformat()
     yield "lines of the citation that are no YAML of this kind", [], [
@@ -103,7 +105,8 @@ def licences() -> Iterator[Trial]:
         yield "the words of LICENSE-APACHE", common.read_text().split(), text_of("LICENSE-APACHE").split()
     if KIT.is_dir():
         for name, source in IN_KIT.items():
-            yield f"{name}, as the toolchain has it", (KIT / source).read_text("utf-8"), text_of(f"licenses/{name}.txt")
+            expected = (KIT / source).read_text("utf-8")
+            yield f"{name}, as the toolchain has it", expected, text_of(f"licenses/{name}.txt")
     else:
         print("skipped: licences as the toolchain has them: rt is missing")
     listed = text_of("THIRD-PARTY.md")
@@ -211,8 +214,10 @@ def packages() -> Iterator[Trial]:
         yield "what is made", names, sorted(made)
         for name in names[2:]:
             if shutil.which("lintian"):
-                ran = subprocess.run(["lintian", "--fail-on", "error", folders[0] / name], capture_output=True, text=True)
-                yield f"errors of {name}", (0, []), (ran.returncode, re.findall("^E:.*", ran.stdout, re.MULTILINE))
+                words = ["lintian", "--fail-on", "error", str(folders[0] / name)]
+                ran = subprocess.run(words, capture_output=True, text=True)
+                errors = re.findall("^E:.*", ran.stdout, re.MULTILINE)
+                yield f"errors of {name}", (0, []), (ran.returncode, errors)
             yield from installed(folders[0] / name, Path(room, name.removesuffix(".deb")))
         if not shutil.which("lintian"):
             print("skipped: errors of the packages: lintian is missing")
@@ -224,7 +229,8 @@ def installed(package: Path, root: Path) -> Iterator[Trial]:
     (root / "var/lib/dpkg/info").mkdir(parents=True)
     (root / "var/lib/dpkg/updates").mkdir()
     (root / "var/lib/dpkg/status").touch()
-    dpkg = ["dpkg", f"--root={root}", "--log=/dev/null", "--force-not-root", "--force-architecture", "--force-bad-path"]
+    forced = [f"--force-{it}" for it in ("not-root", "architecture", "bad-path")]
+    dpkg = ["dpkg", f"--root={root}", "--log=/dev/null", *forced]
     ran = subprocess.run([*dpkg, "-i", package], capture_output=True, text=True)
     yield f"{package.name} is installed", 0, ran.returncode
     command = [str(root / "usr/bin/l6"), "run"]
@@ -251,11 +257,21 @@ def unpacked(archive: Path, folder: Path) -> Iterator[Trial]:
     yield "texts of the archive", set(), {"LICENSE-MIT", "LICENSE-APACHE", "THIRD-PARTY.md", "licenses"} - texts
 
 
+def links() -> Iterator[Trial]:
+    """What the pages at the top and beside the programs lead to is there."""
+    pages = [*TOP.glob("*.md"), TOP / "dist/README.md", TOP / "ports/README.md"]
+    for name in (str(page.relative_to(TOP)) for page in pages):
+        targets = re.findall(r"\]\(([^)#:]+)(?:#[^)]*)?\)", text_of(name))
+        missing = [it for it in targets if not (TOP / name).parent.joinpath(it).exists()]
+        yield f"links of {name} that lead nowhere", [], missing
+
+
 def trials(program: str) -> Iterator[Trial]:
     """All trials."""
     yield from versions(program)
     yield from citation()
     yield from licences()
+    yield from links()
     yield from completions()
     yield from packages()
 

@@ -56,6 +56,11 @@ def read_crates() -> dict[str, Crate]:
     return crates
 
 
+def is_source(file: Path) -> bool:
+    """Whether a file of a crate is one that the prover reads: not a hidden one, nor one that an editor left."""
+    return file.suffix in (".rt", ".antt") and not any(part.startswith(".") for part in file.parts)
+
+
 def listed() -> list[str]:
     """The lines of crates.txt, without comments."""
     rows = (TOP / "crates.txt").read_text("utf-8").splitlines()

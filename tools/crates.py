@@ -30,7 +30,7 @@ class Crate:
     def lines(self) -> int:
         """How many lines of code it has, from which the work of its check is estimated."""
         files = (self.folder / "src").rglob("*.rt")
-        return sum(file.read_text("utf-8").count("\n") for file in files)
+        return sum(file.read_text("utf-8").count("\n") for file in files if file.is_file())
 
     @property
     def memory(self) -> int:

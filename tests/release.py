@@ -1,8 +1,9 @@
 #!/usr/bin/env python3
 """Tests what a release has besides the program: version, licences, citation, completions and packages.
 
-release.py PROGRAM prints each difference, and last 'N passed, M failed'. It says what it skips where a tool is
-missing. Packages are made in a folder of their own, and installed into a root of their own.
+release.py PROGRAM [--quick] prints each difference, and last 'N passed, M failed'. It says what it skips where a
+tool is missing. Packages are made in a folder of their own, and installed into a root of their own; with
+--quick they are made once, and not looked through by lintian.
 """
 from __future__ import annotations
 
@@ -196,31 +197,32 @@ def offered(shell: str, line: str, printed: str) -> set[str]:
     return {word.partition("=")[0] for word in words if word.startswith(last)}
 
 
-def packages() -> Iterator[Trial]:
+def packages(is_quick: bool) -> Iterator[Trial]:
     """The packages are made, twice the same, have no error, and are installed and removed."""
     if not shutil.which("dpkg-deb"):
         print("skipped: packages: dpkg-deb is missing")
         return
     with tempfile.TemporaryDirectory(prefix="l6-packages-") as room:
-        folders = [Path(room, name) for name in ("made", "again")]
+        folders = [Path(room, name) for name in (["made"] if is_quick else ["made", "again"])]
         for folder in folders:
             ran = subprocess.run([TOP / "tools/make_deb", folder], capture_output=True, text=True)
             yield f"tools/make_deb: {folder.name}", (0, ""), (ran.returncode, ran.stderr)
-        made, again = ({file.name: file.read_bytes() for file in folder.iterdir()} for folder in folders)
-        yield "packages, made again", True, made == again
+        made, *again = ({file.name: file.read_bytes() for file in folder.iterdir()} for folder in folders)
+        yield "packages, made again", True, all(it == made for it in again)
         version = found(r'^version: "(.*)"$', "CITATION.cff")
         names = [f"l6-{version}-aarch64.tar.gz", f"l6-{version}-x86_64.tar.gz",
                  f"l6_{version}_amd64.deb", f"l6_{version}_arm64.deb"]
         yield "what is made", names, sorted(made)
+        has_lintian = shutil.which("lintian") is not None and not is_quick
         for name in names[2:]:
-            if shutil.which("lintian"):
+            if has_lintian:
                 words = ["lintian", "--fail-on", "error", str(folders[0] / name)]
                 ran = subprocess.run(words, capture_output=True, text=True)
                 errors = re.findall("^E:.*", ran.stdout, re.MULTILINE)
                 yield f"errors of {name}", (0, []), (ran.returncode, errors)
             yield from installed(folders[0] / name, Path(room, name.removesuffix(".deb")))
-        if not shutil.which("lintian"):
-            print("skipped: errors of the packages: lintian is missing")
+        if not has_lintian:
+            print(f"skipped: errors of the packages: {'as was asked' if is_quick else 'lintian is missing'}")
         yield from unpacked(folders[0] / names[1], Path(room, "unpacked"))
 
 
@@ -266,17 +268,17 @@ def links() -> Iterator[Trial]:
         yield f"links of {name} that lead nowhere", [], missing
 
 
-def trials(program: str) -> Iterator[Trial]:
+def trials(program: str, is_quick: bool) -> Iterator[Trial]:
     """All trials."""
     yield from versions(program)
     yield from citation()
     yield from licences()
     yield from links()
     yield from completions()
-    yield from packages()
+    yield from packages(is_quick)
 
 
 if __name__ == "__main__":
-    if len(sys.argv) != 2:
+    if len(sys.argv) < 2 or sys.argv[2:] not in ([], ["--quick"]):
         sys.exit(__doc__)
-    sys.exit(report(trials(sys.argv[1])))
+    sys.exit(report(trials(sys.argv[1], sys.argv[2:] == ["--quick"])))

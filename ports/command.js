@@ -1,8 +1,8 @@
 // The command line of l6 for Node, around the module of the page: the same words, answers and exit statuses
 // as the native program has.
 //
-// `bundle` puts `serve` (web/src/serve.js) before it, and the module after it, in gzip and base 64. The
-// result runs as a module (l6.mjs) and as a script without an ending (bin/l6), so it imports by calls.
+// `bundle` puts the module after it, in gzip and base 64. The result runs as a module (l6.mjs) and as a script
+// without an ending (bin/l6), so it imports by calls.
 
 const MOST_INPUT = 16_777_217;   // bytes: one more than a job may have, so that a longer one is refused
 const MOST_WORDS = 15;           // that the module takes; no right command line has so many
@@ -50,11 +50,31 @@ async function main() {
 // Does a job; one that the system has no memory for is answered as the program answers it.
 function job(module, words, input) {
   try {
-    return serve(module, {words, input, limit: MOST_MEMORY});
+    return answerOf(new WebAssembly.Instance(module).exports, words, input);
   } catch (error) {
     if (!(error instanceof RangeError)) throw error;
     return {status: DEVICE_FAILED, output: new Uint8Array(0), errors: Buffer.from(NO_MEMORY)};
   }
+}
+
+// What a new instance of the module answers: the exit status, and what went to the two outputs, as bytes.
+function answerOf(host, words, input) {
+  const put = (bytes, address) => {
+    if (address === 0) throw new RangeError("there is no memory for this job");
+    new Uint8Array(host.memory.buffer).set(bytes, address >>> 0);
+  };
+  for (const word of ["l6", ...words]) {
+    const bytes = Buffer.from(word);
+    put(bytes, host.host_word(bytes.length));
+  }
+  put(input, host.host_input(input.length));
+  host.host_limit(MOST_MEMORY);
+  const status = host.host_run();
+  const taken = (which) => {
+    const [address, size] = [host.host_output(which) >>> 0, host.host_output_bytes(which) >>> 0];
+    return new Uint8Array(host.memory.buffer).slice(address, address + size);
+  };
+  return {status, output: taken(0), errors: taken(1)};
 }
 
 function refused(files, why, status) {

@@ -48,7 +48,8 @@ hook = state / "edit"
 if hook.exists():
     Path(hook.read_text()).open("a").write("edited while it builds\\n")
     hook.unlink()
-texts = [file.read_text() for part in ("src", "specs", "proofs") for file in (crate / part).rglob("*.*")]
+files = [file for part in ("src", "specs", "proofs") for file in (crate / part).rglob("*.*")]
+texts = [file.read_text() for file in files if file.is_file()]
 if any(UNPROVED in text for text in texts):
     print(f"fn {{crate.name}}::main: not proved")
     sys.exit(1)

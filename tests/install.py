@@ -17,6 +17,7 @@ from answers import Answer
 from checkout import TOP, UNPROVED, Checkout
 from trials import Trial, report
 
+PAGE = TOP / "docs" / "command-line.md"
 USAGE = "usage: ./install [--uninstall] [--program FILE] [PREFIX]\n"
 INSTALLED = {  # the file that is installed, and where it is from
     "bin/l6": "dist/l6",
@@ -52,6 +53,7 @@ def arguments(checkout: Checkout) -> Iterator[Trial]:
     """Help, and wrong arguments."""
     actual = checkout.run("install", "--help", has_rt=False)
     yield "help", (0, USAGE, ""), (actual.status, actual.stdout[:len(USAGE)], actual.stderr)
+    yield "the help in its page", True, f"```figure\n{actual.stdout}```\n" in PAGE.read_text("utf-8")
     wrong: tuple[tuple[str, ...], ...] = (
         ("-x",), ("a", "b"), ("",), ("--program",), ("--program", "nothing"), ("--uninstall", "a", "b"),
     )

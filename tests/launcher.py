@@ -101,6 +101,11 @@ def other_files(checkout: Checkout) -> Iterator[Trial]:
         yield f"beside {name}", expected, checkout.run("l6", has_rt=False)
     (folder / ".#lib.rt").symlink_to("nobody@nowhere.1:1")
     yield "beside an editor's lock", expected, checkout.run("l6", has_rt=False)
+    checkout.run("tools/prove.py")
+    yield "what is proved beside other files", "lib l6_word", checkout.calls()[0]
+    (folder / "lib.rt~").write_text("something else\n")
+    yield "a proof beside other files", 0, checkout.run("tools/prove.py").status
+    yield "what is proved again beside other files", [], checkout.calls()
 
 
 def builds_again(checkout: Checkout, what: str, why: str) -> Iterator[Trial]:
@@ -413,6 +418,13 @@ def making_dist(checkout: Checkout) -> Iterator[Trial]:
     expected = Answer(checkout.made_of, "", 0)
     yield "the new program of dist/", expected, checkout.run("l6", has_rt=False)
     before = {file.name: file.read_bytes() for file in dist.iterdir()}
+    cutting = checkout.folder / "cutting"  # a cp that writes the beginning of a file, and says that all is well
+    cutting.mkdir()
+    (cutting / "cp").write_text('#!/bin/sh\nhead -c 40 "$1" > "$2"\n')
+    (cutting / "cp").chmod(0o755)
+    actual = checkout.run("tools/make_dist", FIRST=str(cutting))
+    again = {file.name: file.read_bytes() for file in dist.iterdir()}
+    yield "copies that are cut", (1, before), (actual.status, again)
     for name in ("web/build", "web/bundle", "ports/build", "ports/bundle"):
         text = (checkout.top / name).read_text()
         checkout.write(name, "#!/bin/sh\nexit 1\n")

@@ -30,7 +30,7 @@ class Crate:
     def lines(self) -> int:
         """How many lines of code it has, from which the work of its check is estimated."""
         files = (self.folder / "src").rglob("*.rt")
-        return sum(file.read_text("utf-8").count("\n") for file in files)
+        return sum(file.read_text("utf-8").count("\n") for file in files if file.is_file())
 
     @property
     def memory(self) -> int:
@@ -54,6 +54,11 @@ def read_crates() -> dict[str, Crate]:
     for name in uses:
         add(name)
     return crates
+
+
+def is_source(file: Path) -> bool:
+    """Whether a file of a crate is one that the prover reads: not a hidden one, nor one that an editor left."""
+    return file.suffix in (".rt", ".antt") and not any(part.startswith(".") for part in file.parts)
 
 
 def listed() -> list[str]:

@@ -11,7 +11,10 @@
 # times, there is no note, and everything is summed.
 
 note=${XDG_CACHE_HOME:-${HOME:+$HOME/.cache}}
-note=${note:+$note/l6/program}
+case $note in
+    /*) note=$note/l6/program ;;
+    *) note='' ;;
+esac
 fresh='3 seconds ago'
 nothing=e3b0c44298fc1c149afbf4c8996fb92427ae41e4649b934ca495991b7852b855 # the sum of no bytes
 

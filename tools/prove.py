@@ -20,7 +20,7 @@ from concurrent.futures import FIRST_COMPLETED, Future, ThreadPoolExecutor, wait
 from pathlib import Path
 
 from commands import Commands, Ended, run_program
-from crates import SOURCES, TOP, Crate, listed, read_crates
+from crates import SOURCES, TOP, Crate, is_source, listed, read_crates
 from lanes import processors, usable_memory
 from rooms import KEPT, LIBRARY, bring_back, room_of
 
@@ -155,7 +155,7 @@ def sources_sum(crate: Crate) -> str:
     for one in (*crate.below, crate):
         for part in SOURCES:
             for file in sorted((one.folder / part).rglob("*")):
-                if file.is_file():
+                if file.is_file() and is_source(file.relative_to(one.folder)):
                     own = hashlib.sha256(file.read_bytes()).hexdigest()
                     total.update(f"{file.relative_to(TOP)} {own}\n".encode())
     return total.hexdigest()

@@ -87,9 +87,9 @@ def locked(folder: Path, lock: int) -> Iterator[None]:
 
 
 def copy_folder(source: Path, target: Path, copy: Callable[[str, str], object]) -> None:
-    """Copies a folder, if it is there."""
+    """Copies a folder, if it is there; not the links to nowhere by which editors lock files."""
     if source.is_dir():
-        shutil.copytree(source, target, copy_function=copy)
+        shutil.copytree(source, target, copy_function=copy, ignore_dangling_symlinks=True)
 
 
 def link(source: str, target: str) -> None:

@@ -26,12 +26,15 @@ const LOST_WIDTH = 220; // of what is said of them
 export class Drawing {
   // `choose` is called with the place of a block that the reader chose, `hide` with the name of a bug.
   constructor(frame, {choose, hide}) {
-    Object.assign(this, {frame, choose, hide});
+    this.frame = frame;
+    this.choose = choose;
+    this.hide = hide;
     this.texts = new Set();   // the fields that hold texts
     this.colours = new Map(); // by names of fields, in the order in which they were met
     this.directions = new Map();
     this.groups = new Map(); // elements of blocks, by their places
     this.detail = "auto";
+    this.zoom = 1;
     this.lit = {blocks: new Set(), arrows: new Set(), end: null};
     this.steady = {cards: null, boxes: null}; // the sizes that stay from state to state
     this.smallFrom = Infinity;                // blocks: at so many they were made small
@@ -246,7 +249,7 @@ export class Drawing {
   // Fits the drawing into its frame, as far as it can be read.
   fit() {
     const {width, height} = this.size ?? {width: 10, height: 10};
-    const scale = (this.scale ?? 1) * (this.zoom ?? 1);
+    const scale = (this.scale ?? 1) * this.zoom;
     this.picture.setAttribute("viewBox", `0 0 ${width} ${height}`);
     this.picture.setAttribute("width", Math.floor(width * scale));
     this.picture.setAttribute("height", Math.floor(height * scale));
@@ -257,7 +260,7 @@ export class Drawing {
     const led = new Set(bugs.filter((it) => it.isChanged).map((it) => it.place));
     const changed = blocks.filter((it) => it.isNew || it.isChanged);
     const wanted = changed.length ? changed : blocks.filter((it) => led.has(it.place));
-    const scale = this.scale * (this.zoom ?? 1);
+    const scale = this.scale * this.zoom;
     const {scrollTop, clientHeight} = this.frame;
     const isSeen = ({y, height}) =>
       y * scale >= scrollTop && (y + height) * scale <= scrollTop + clientHeight;

@@ -196,7 +196,7 @@ class Page {
       const shown = this.view ?? (await session.view(0));
       const found = await find(session, shown.state.number);
       if (session !== this.session || !found) return; // (the deck was changed meanwhile)
-      const {view, before = shown, isStep} = found.view ? found : {view: found};
+      const {view, before = shown, isStep = undefined} = found.view ? found : {view: found};
       const isNear = Math.abs(view.state.number - before.state.number) <= 1;
       this.show(view, this.view || isNear || isStep ? before : null, isStep ?? isNear);
     });

@@ -72,7 +72,7 @@ def made_again(program: Path, is_quick: bool) -> tuple[str, int, int]:
 
 def missing() -> Iterator[str]:
     """The tools that are not there."""
-    for name in ("node", "wasm-opt", "rt"):
+    for name in ("node", "tsc", "wasm-opt", "rt"):
         if shutil.which(name) is None:
             yield name
     if not find_browser():
@@ -92,6 +92,7 @@ def parts(program: Path, is_quick: bool) -> Iterator[Part]:
     yield Part({"node"}, "random jobs in node", random, 3000)
     yield Part({"node"}, "the parts of the page in node", ["node", str(HERE / "parts.mjs")], 700)
     yield Part({"node"}, "the cases in node", ["node", str(HERE / "cases.mjs")], 620)
+    yield Part({"tsc"}, "the types of the scripts", [sys.executable, str(HERE / "check_types.py")], 1)
     yield Part({"firefox"}, "the page in Firefox", [sys.executable, str(HERE / "firefox.py")], 7)
 
 

@@ -14,7 +14,6 @@ from pathlib import Path
 SECONDS = 60
 TO_BEGIN = 20  # seconds in which a page begins
 PROGRAMS = ("chromium", "chromium-browser", "google-chrome", "chrome")
-QUIET = {"stdin": subprocess.DEVNULL, "stdout": subprocess.DEVNULL, "stderr": subprocess.DEVNULL}
 KEYS = {
     "Enter": 13, "Escape": 27, "ArrowLeft": 37, "ArrowRight": 39, "ArrowUp": 38, "ArrowDown": 40,
     "Home": 36, "End": 35, "Tab": 9, " ": 32, "F8": 119, "F9": 120, "Delete": 46,
@@ -29,7 +28,8 @@ MIDDLE = """(() => {
 
 def find_browser() -> str | None:
     """The path of Chromium, or None."""
-    return next((path for path in map(shutil.which, PROGRAMS) if path), None)
+    found = [shutil.which(name) for name in PROGRAMS]
+    return next((path for path in found if path), None)
 
 
 class NotBegun(Exception):
@@ -43,12 +43,13 @@ class Browser:
         self._folder = tempfile.TemporaryDirectory(prefix="l6-browser-", ignore_cleanup_errors=True)
         to_read, self._to = os.pipe()
         self._from, to_write = os.pipe()
-        words = [find_browser(), "--headless=new", "--no-sandbox", "--disable-gpu", "--hide-scrollbars",
+        words = [find_browser() or "", "--headless=new", "--no-sandbox", "--disable-gpu", "--hide-scrollbars",
                  "--remote-debugging-pipe", f"--user-data-dir={self._folder.name}", "--no-first-run",
                  "--disable-background-networking", "--disable-component-update", "about:blank"]
         self._process = subprocess.Popen(
             ["/bin/sh", "-c", f'exec "$@" 3<&{to_read} 4>&{to_write}', "sh", *words],
-            pass_fds=(to_read, to_write), **QUIET,
+            pass_fds=(to_read, to_write),
+            stdin=subprocess.DEVNULL, stdout=subprocess.DEVNULL, stderr=subprocess.DEVNULL,
         )
         os.close(to_read)
         os.close(to_write)

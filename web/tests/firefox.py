@@ -24,7 +24,8 @@ PROGRAMS = ("firefox-esr", "firefox")
 
 def find_firefox() -> str | None:
     """The path of Firefox, or None."""
-    return next((path for path in map(shutil.which, PROGRAMS) if path), None)
+    found = [shutil.which(name) for name in PROGRAMS]
+    return next((path for path in found if path), None)
 
 
 class Firefox:
@@ -37,11 +38,11 @@ class Firefox:
             port = free.getsockname()[1]
         profile = Path(self._folder.name)
         profile.joinpath("user.js").write_text(f'user_pref("marionette.port", {port});\n')
-        words = [find_firefox(), "--headless", "--marionette", "--no-remote", "--profile", str(profile),
+        words = [find_firefox() or "", "--headless", "--marionette", "--no-remote", "--profile", str(profile),
                  "--width", "1400", "--height", "900", "about:blank"]
-        quiet = {"stdin": subprocess.DEVNULL, "stdout": subprocess.DEVNULL, "stderr": subprocess.DEVNULL}
         home = {"HOME": self._folder.name, "PATH": "/usr/bin:/bin"}
-        self._process = subprocess.Popen(words, env=home, **quiet)
+        self._process = subprocess.Popen(
+            words, env=home, stdin=subprocess.DEVNULL, stdout=subprocess.DEVNULL, stderr=subprocess.DEVNULL)
         self._socket = self._connected(port)
         self._number = 0
         self._read()

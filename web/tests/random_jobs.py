@@ -32,18 +32,20 @@ class Module:
     def __init__(self) -> None:
         words = ["node", str(HERE / "serve_lines.mjs")]
         self._node = subprocess.Popen(words, stdin=subprocess.PIPE, stdout=subprocess.PIPE, text=True)
+        assert self._node.stdin and self._node.stdout
+        self._to, self._from = self._node.stdin, self._node.stdout
 
     def answer(self, words: list[str], stdin: bytes) -> Answer:
         """What it answers to a job."""
         job = {"words": words, "input": base64.b64encode(stdin).decode()}
-        self._node.stdin.write(json.dumps(job) + "\n")
-        self._node.stdin.flush()
-        answer = json.loads(self._node.stdout.readline())
+        self._to.write(json.dumps(job) + "\n")
+        self._to.flush()
+        answer = json.loads(self._from.readline())
         return answer["status"], base64.b64decode(answer["output"]), base64.b64decode(answer["errors"])
 
     def end(self) -> None:
         """Ends it."""
-        self._node.stdin.close()
+        self._to.close()
         self._node.wait()
 
 

@@ -222,9 +222,9 @@ def other_ways(page: Page) -> None:
     page.focus("number")
     page.key("n")
     page.same("no letter is a key in a box", page.state(), 14)
-    at = page.value("(({x, y, width, height}) => [x + width / 2, y + height / 2])"
+    x, y = page.value("(({x, y, width, height}) => [x + width / 2, y + height / 2])"
                     "(document.querySelector('#gutter button').getBoundingClientRect())")
-    page.browser.click_at(*at, modifiers=8)
+    page.browser.click_at(x, y, modifiers=8)
     page.browser.wait("!l6.isBusy")
     page.same("Shift and a click run to the statement", [page.state(), page.value("[...l6.editor.breakpoints].length")],
               [21, 1])

@@ -140,8 +140,8 @@ def policy(page: Page) -> None:
     text = page.file.read_text("utf-8")
     parts = runpy.run_path(str(TOP / "web" / "bundle"))
     script = json.loads(parts["part_of"](text.encode(), b"texts"))["script"]
-    loader = re.search(r"<script>([^<]*(?:<(?!/script)[^<]*)*)</script>", text)[1]
-    style = re.search(r"<style>(.*?)</style>", text, re.DOTALL)[1]
+    loader = text.partition("<script>")[2].partition("</script>")[0]
+    style = text.partition("<style>")[2].partition("</style>")[0]
     want = (f"default-src 'none'; script-src {hashed(loader)} {hashed(script)} 'wasm-unsafe-eval'; worker-src blob:; "
             f"style-src {hashed(style)}; base-uri 'none'; form-action 'none'")
     page.open()

@@ -93,7 +93,7 @@ def parts(program: Path, is_quick: bool) -> Iterator[Part]:
     yield Part({"node"}, "the parts of the page in node", ["node", str(HERE / "parts.mjs")], 700)
     yield Part({"node"}, "the cases in node", ["node", str(HERE / "cases.mjs")], 620)
     yield Part({"tsc"}, "the types of the scripts", [sys.executable, str(HERE / "check_types.py")], 1)
-    yield Part({"firefox"}, "the page in Firefox", [sys.executable, str(HERE / "firefox.py")], 7)
+    yield Part({"firefox"}, "the page in Firefox", [sys.executable, str(HERE / "firefox.py")], 10)
 
 
 def main() -> int:

@@ -21,6 +21,7 @@ import trial_decks  # noqa: E402, F401
 import trial_controls  # noqa: E402, F401
 import trial_class  # noqa: E402, F401
 import trial_large  # noqa: E402, F401
+import trial_lesson  # noqa: E402, F401
 import trial_looks  # noqa: E402
 from browser import Browser, NotBegun  # noqa: E402
 from page import TOP, TRIALS, Page  # noqa: E402

@@ -324,8 +324,10 @@ class Page {
     if (this.view?.state.statement !== undefined) this.toggle(this.view.state.statement);
   }
 
+  // Whether there is something to stop. (What takes a moment, as the deck that is assembled while it is
+  // typed, is nothing.)
   get isRunning() {
-    return this.engine.isBusy || this.player.isPlaying;
+    return this.isBusy || this.player.isPlaying || document.body.classList.contains("busy");
   }
 
   play() {

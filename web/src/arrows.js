@@ -79,7 +79,7 @@ function arrowOf({block, link, to}, router, bugs, colourOf) {
 // The name of its field beside an arrow that begins at the edge of a small block.
 function tagOf([start, next], link) {
   const isDown = start.x === next.x;
-  const x = next.x < start.x ? start.x - 11 : start.x + 4;
+  const x = next.x < start.x ? start.x - 10 : start.x + 2;
   return svg("text", {x, y: start.y + (isDown ? 12 : -4), class: "tag"}, link.name);
 }
 

@@ -26,6 +26,7 @@ import {count, withCommas} from "./word.js";
 const SHORT_RUN = 2_000_000; // steps of a run that is made ahead, to know how many states there are
 const LAST_STATE = 1_000_000_001;
 const LONG_DECK = 50_000; // characters; a longer deck is read after the key, and not with it
+const RUNNING = "running ..";
 const READ_AFTER = 400;   // milliseconds
 
 class Page {
@@ -33,6 +34,7 @@ class Page {
     this.engine = engine;
     this.engine.changed = () => this.showBusy();
     this.busyTimer = null;
+    this.noteBefore = "";
     this.session = null;
     this.waiting = null; // what is to be done once the engine has answered
     this.isBusy = false;
@@ -150,7 +152,7 @@ class Page {
       this.busyTimer = null;
       disable("stop", !this.player.isPlaying);
       document.body.classList.remove("busy");
-      if (byId("run-note").textContent === "running ..") byId("run-note").textContent = "";
+      if (byId("run-note").textContent === RUNNING) byId("run-note").textContent = this.noteBefore;
     } else
       this.busyTimer ??= setTimeout(() => this.tellBusy(), 150);
   }
@@ -158,7 +160,8 @@ class Page {
   tellBusy() {
     disable("stop", false);
     document.body.classList.add("busy");
-    byId("run-note").textContent = "running ..";
+    this.noteBefore = byId("run-note").textContent; // (it comes back)
+    byId("run-note").textContent = RUNNING;
   }
 
   trouble(error) {

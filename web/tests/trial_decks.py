@@ -75,8 +75,9 @@ def while_typing(page: Page) -> None:
     page.put("* " + "x" * 70 + "\n")
     fits = "(e => e.scrollWidth <= e.clientWidth)(document.getElementById('deck'))"
     page.right("72 columns fit", page.value(fits))
-    change(page, " (A,PD)\n$INPUT\nAB\n")
-    page.same("a job that was pasted is parted", [page.box("deck"), page.box("input")], [" (A,PD)\n", "AB\n"])
+    change(page, " (A,PD)\n$COMMANDS\nstep 2\n$INPUT\nAB\n")
+    boxes = [page.box(name) for name in ("deck", "input", "commands")]
+    page.same("a job that was pasted is parted", boxes, [" (A,PD)\n", "AB\n", "step 2\n"])
 
 
 @trial
@@ -177,6 +178,9 @@ def files(page: Page) -> None:
     page.click("save")
     saved = page.value("kept[0].arrayBuffer().then(it => [...new Uint8Array(it)])")
     page.same("it is saved as it was", saved, LATIN)
+    page.put(" (A,IN,2)\n", "OK\n")
+    page.click("save")
+    page.same("with its input", page.value("kept.at(-2).text()"), " (A,IN,2)\n$INPUT\nOK\n")
 
 
 @trial

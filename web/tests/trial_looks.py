@@ -6,9 +6,10 @@ import hashlib
 import json
 import re
 import runpy
+import tempfile
 from pathlib import Path
 
-from browser import Browser
+from browser import Browser, NotBegun
 from page import TOP, Page, trial
 
 PICTURES = {  # a state of each deck of the gallery
@@ -156,6 +157,23 @@ def policy(page: Page) -> None:
         page.value("new Promise(done => setTimeout(done, 60))")
         page.same(f"refused: {script[:60]}", page.value("[...new Set(seen)]"), [directive])
         page.right("it was not done", page.value("window.broken === undefined"))
+    page.browser.troubles()
+
+
+@trial
+def a_page_that_cannot_begin(page: Page) -> None:
+    """It says so, and why."""
+    with tempfile.TemporaryDirectory(prefix="l6-page-") as folder:
+        broken = Path(folder, "l6.html")
+        text = page.file.read_text("utf-8")
+        for part in ("texts", "module"):
+            head, tail = text.split(f'id="{part}">')
+            broken.write_text(f'{head}id="{part}">AAAAA{tail[100:]}', "utf-8")
+            try:
+                page.browser.open(broken)
+                page.right(f"a page with damaged {part} does not begin", False)
+            except NotBegun as error:
+                page.has("it says so", str(error), "The page can't begin: ")
     page.browser.troubles()
 
 

@@ -89,8 +89,8 @@ function span({block, to}) {
 }
 
 /**
- * A point at which an arrow may leave a block, the direction in which it runs there, what it costs to take it,
- * and where in the block's window it begins.
+ * A point at which an arrow may leave a block, the direction in which it runs there, what it costs to take
+ * it, and where in the block's window it begins.
  * @typedef {{x: number, y: number, direction: number, cost?: number, inner?: {x: number, y: number}}} Start
  */
 

@@ -3,8 +3,8 @@
 /**
  * An element of the page. What it is follows from its id, so it has what any of these has.
  * @param {string} id
- * @returns {HTMLInputElement & HTMLSelectElement & HTMLTextAreaElement & HTMLDialogElement & HTMLDetailsElement &
- *   HTMLCanvasElement}
+ * @returns {HTMLInputElement & HTMLSelectElement & HTMLTextAreaElement & HTMLDialogElement &
+ *   HTMLDetailsElement & HTMLCanvasElement}
  */
 export function byId(id) {
   return /** @type {any} */ (document.getElementById(id));

@@ -261,11 +261,15 @@ export class Drawing {
     const changed = blocks.filter((it) => it.isNew || it.isChanged);
     const wanted = changed.length ? changed : blocks.filter((it) => led.has(it.place));
     const scale = this.scale * this.zoom;
-    const {scrollTop, clientHeight} = this.frame;
-    const isSeen = ({y, height}) =>
-      y * scale >= scrollTop && (y + height) * scale <= scrollTop + clientHeight;
+    const {scrollLeft, scrollTop, clientWidth, clientHeight} = this.frame;
+    const isBetween = (from, size, begin, room) =>
+      from * scale >= begin && (from + size) * scale <= begin + room;
+    const isSeen = ({x, y, width, height}) =>
+      isBetween(x, width, scrollLeft, clientWidth) && isBetween(y, height, scrollTop, clientHeight);
     if (!wanted.length || wanted.some(isSeen)) return;
-    this.frame.scrollTop = Math.max(0, (wanted[0].y + wanted[0].height / 2) * scale - clientHeight / 2);
+    const [{x, y, width, height}] = wanted;
+    this.frame.scrollLeft = Math.max(0, (x + width / 2) * scale - clientWidth / 2);
+    this.frame.scrollTop = Math.max(0, (y + height / 2) * scale - clientHeight / 2);
   }
 
   // Puts the focus on the block that had it last, or on the first.

@@ -5,8 +5,8 @@
 const LINK = /^#(deck=)?([\w-]+)(?:@(\d{1,10}))?(?:!(\d[\d,]*))?(;lecture)?$/;
 
 /**
- * @param {{example?: string | null, breakpoints: number[], number: number | null, lecture?: boolean,
- *   deck?: string, input?: string, options?: object, exercise?: string, task?: string, printout?: string}} link
+ * @param {{example?: string | null, breakpoints: number[], number: number | null, lecture?: boolean, deck?:
+ *   string, input?: string, options?: object, exercise?: string, task?: string, printout?: string}} link
  */
 export async function linkOf({example, breakpoints, number, lecture = false, ...own}) {
   const tail = `${number === null ? "" : `@${number}`}${

@@ -44,7 +44,9 @@ class Part:
 
 def counted(part: Part) -> tuple[str, int, int]:
     """Runs a part; answers what it prints but its count, and its counts."""
-    ran = subprocess.run(part.command, stdout=subprocess.PIPE, stderr=subprocess.STDOUT, text=True, errors="replace")
+    ran = subprocess.run(
+        part.command, stdout=subprocess.PIPE, stderr=subprocess.STDOUT, text=True, errors="replace"
+    )
     *lines, last = ran.stdout.splitlines() or [""]
     found = COUNT.match(last)
     if not found:
@@ -117,7 +119,8 @@ def main() -> int:
         passed = failed = 0
         for name, future in done:
             text, right, wrong = future.result()
-            print(f"web: {name}: {right} passed, {wrong} failed", *([text] if text else []), sep="\n", flush=True)
+            print(f"web: {name}: {right} passed, {wrong} failed", flush=True)
+            print(f"{text}\n" if text else "", end="", flush=True)
             passed, failed = passed + right, failed + wrong
     print(f"{passed} passed, {failed} failed")
     return 1 if failed else 0

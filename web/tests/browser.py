@@ -136,8 +136,10 @@ class Browser:
     def drag(self, selector: str, dx: float) -> None:
         """Drags an element to the right, or to the left."""
         x, y = self.value(MIDDLE.replace("SELECTOR", json.dumps(selector)))
-        for kind, at, buttons in (("mousePressed", x, 1), ("mouseMoved", x + dx, 1), ("mouseReleased", x + dx, 0)):
-            self._call("Input.dispatchMouseEvent", type=kind, x=at, y=y, button="left", buttons=buttons, clickCount=1)
+        moves = (("mousePressed", x, 1), ("mouseMoved", x + dx, 1), ("mouseReleased", x + dx, 0))
+        for kind, at, buttons in moves:
+            how = {"x": at, "y": y, "button": "left", "buttons": buttons, "clickCount": 1}
+            self._call("Input.dispatchMouseEvent", type=kind, **how)
 
     def picture(self, path: Path) -> None:
         """Writes a picture of the window."""

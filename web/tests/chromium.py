@@ -1,9 +1,10 @@
 #!/usr/bin/env python3
 """Tries the page in headless Chromium, as its readers do.
 
-chromium.py [PAGE] prints what differs, and last 'N passed, M failed'. With --tell it names each trial as it
-begins, and how long it took; with --only NAME it does that one alone, with --part I/N each N-th, from the I-th
-on, and with --quick those of large things are left out. With --pictures FOLDER it writes a picture of each deck of the gallery there, for you to look at.
+chromium.py [PAGE] prints what differs, and last 'N passed, M failed'. With --tell it names each trial, and
+how long it took; with --only NAME it does that one alone, with --part I/N each N-th, from the I-th on, and with
+--quick those of large things are left out. With --pictures FOLDER it writes a picture of each deck of the
+gallery there, for you to look at.
 """
 from __future__ import annotations
 
@@ -32,7 +33,12 @@ def canaries(page: Page) -> None:
     def breaks(_: Page) -> None:
         raise AssertionError("it must be counted")
 
-    looks = [lambda it: it.same("1", 1, 2), lambda it: it.has("2", "ab", "c"), lambda it: it.right("3", False), breaks]
+    looks: list[Callable[[Page], None]] = [
+        lambda it: it.same("1", 1, 2),
+        lambda it: it.has("2", "ab", "c"),
+        lambda it: it.right("3", False),
+        breaks,
+    ]
     with contextlib.redirect_stdout(io.StringIO()):
         for look in looks:
             try_one(page, look)

@@ -89,7 +89,8 @@ def marks_stay_on_their_cards(page: Page) -> None:
     change(page, " (A,E,1)\n* A CARD\n (A,E,1)\n (A,E,2)\n (A,E,3)\n")
     page.same("where a card was put in", page.value("[...l6.editor.breakpoints]"), [2, 4])
     change(page, " (A,E,1)\n (A,E,3)\n")
-    page.same("where the one with the breakpoint was taken out", page.value("[...l6.editor.breakpoints]"), [2])
+    left = page.value("[...l6.editor.breakpoints]")
+    page.same("where the one with the breakpoint was taken out", left, [2])
 
 
 @trial
@@ -138,7 +139,8 @@ def links(page: Page) -> None:
     page.open(page.value("location.hash"))
     page.same("the deck came with the link", page.box("deck"), deck)
     breakpoints = page.value("[...l6.editor.breakpoints]")
-    page.same("and input, option, breakpoint", [page.box("input"), page.box("store"), breakpoints], ["in <b>", "3", [1]])
+    more = [page.box("input"), page.box("store"), breakpoints]
+    page.same("and input, option, breakpoint", more, ["in <b>", "3", [1]])
     page.same("it was not run", page.state(), -1)
     page.browser.click("#empty button")
     page.browser.wait("l6.view?.state.number === 3")

@@ -1,4 +1,4 @@
-"""The plan of docs/page.md for 45 minutes, followed to the letter: at two sizes with the mouse, and by keys alone."""
+"""The plan of docs/page.md for 45 minutes, to the letter: at two sizes with the mouse, and by keys alone."""
 from __future__ import annotations
 
 from page import Page, trial
@@ -31,7 +31,9 @@ class Hand:
             self.page.key("Escape")
         else:
             self.page.browser.click(f"#gutter button[aria-label$=' {statement}']")
-        self.page.same(f"the breakpoint at {statement}", self.page.value("[...l6.editor.breakpoints]"), [statement])
+        self.page.same(
+            f"the breakpoint at {statement}", self.page.value("[...l6.editor.breakpoints]"), [statement]
+        )
 
     def type(self, name: str, text: str) -> None:
         """Types into a box that is reached by a click, or by Tab."""
@@ -94,7 +96,11 @@ def lesson(page: Page, hand: Hand) -> None:
     hand.breakpoint(8, "TURN ")
     for _ in range(9):
         hand.press("mark-next", "g")
-    page.same("nine presses turn all links", page.value("[l6.view.bugs.has('L'), l6.view.bugs.get('R')]"), [False, 1024])
+    page.same(
+        "nine presses turn all links",
+        page.value("[l6.view.bugs.has('L'), l6.view.bugs.get('R')]"),
+        [False, 1024],
+    )
     page.same("the blocks stay", page.count(".block"), 8)
 
     page.open("#lost")
@@ -103,10 +109,15 @@ def lesson(page: Page, hand: Hand) -> None:
             break
         hand.press("step", "n")
     page.same("state 13", page.state(), 13)
-    page.same("the block is red", page.value("getComputedStyle(document.querySelector('.block.lost .top')).fill"),
-              "rgb(185, 56, 21)")
+    page.same(
+        "the block is red",
+        page.value("getComputedStyle(document.querySelector('.block.lost .top')).fill"),
+        "rgb(185, 56, 21)",
+    )
     hand.press("back", "p")
-    page.has("Back says what is undone", page.text("changes"), "Undone: block 1028 is lost: nothing leads to it")
+    page.has(
+        "Back says what is undone", page.text("changes"), "Undone: block 1028 is lost: nothing leads to it"
+    )
 
 
 @trial

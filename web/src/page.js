@@ -27,7 +27,7 @@ const SHORT_RUN = 2_000_000; // steps of a run that is made ahead, to know how m
 const LAST_STATE = 1_000_000_001;
 const LONG_DECK = 50_000; // characters; a longer deck is read after the key, and not with it
 const RUNNING = "running ..";
-const READ_AFTER = 400;   // milliseconds
+const READ_AFTER = 400; // milliseconds
 
 class Page {
   constructor(engine, examples, manual) {
@@ -48,10 +48,19 @@ class Page {
       hide: (name) => this.hideBug(name),
       next: (state) => this.nextOf(state),
     });
+    this.makeTools();
+    this.manual = new Manual(manual);
+    this.library = new Library(this.desk(), examples);
+    byId("reference").append(...referenceOf());
+    this.listen();
+  }
+
+  // What has a task of its own, and of the page just what it needs for that.
+  makeTools() {
     this.papers = new Papers({
       job: () => this.job(),
       ask: (words, input) => this.ask(words, input),
-      words: (verb) => new Session(null, this.job()).words(verb),
+      words: (verb) => new Session(null, this.job(), this.editor.deck).words(verb),
       exchanges: () => this.session?.exchanges ?? [],
     });
     this.checker = new Checker({
@@ -67,15 +76,11 @@ class Page {
       paused: () => this.playEnded(),
     });
     this.panes = new Panes(() => this.viewer.resized());
-    this.manual = new Manual(manual);
-    byId("reference").append(...referenceOf());
-    this.library = new Library(this.desk(), examples);
     this.tasks = new TaskMaker({
       job: () => this.job(),
       printed: () => this.session?.printout?.printed ?? this.view?.output ?? "",
       open: (task) => this.library.openTask(task),
     });
-    this.listen();
   }
 
   // What the library may do with the page.

@@ -375,6 +375,16 @@ same("the change of a field", await run.values.change({place: 1024, field: "N"},
 const fails = session(" (A,DO,B) DONE\nA (PL) FAIL\nB (X,PH)\n");
 same("out of a call that fails", [await fails.steps.over(1), await fails.steps.out(3)], [5, 5]);
 
+const stacked =
+  session(" (A,E,1)(S,FC,A)(A,E,2)(S,FC,A)(R,FC,B)\n+(S,FD,N)(S,FD,V)(R,FD,W)(X,DO)(Y,DO) DONE\nX DONE\nY (PL)\n"
+  );
+const frames = await stacked.frames.of(await stacked.view(13));
+same(
+  "what was taken back is not there",
+  ["returns", "contents", "definitions"].map((name) => frames[name].map((it) => [it.number, it.value])),
+  [[[12, undefined]], [[2, 1]], [[6, null]]]
+);
+
 // ---- Changes, pieces and chains
 
 const at12 = await run.view(12);

@@ -370,6 +370,7 @@ same(
 same("no change before", await run.values.change({chain: "B"}, 12, false), null);
 same("nor after", await run.values.change({chain: "B"}, 13, true), null);
 same("the next change", await run.values.change({chain: "A"}, 0, true), 6);
+same("a change by the very next step", await run.values.change({chain: "B"}, 11, true), 12);
 same("the change of a definition", await run.values.change({definition: "V"}, 20, false), 3);
 same("the change of a field", await run.values.change({place: 1024, field: "N"}, 20, false), 8);
 const fails = session(" (A,DO,B) DONE\nA (PL) FAIL\nB (X,PH)\n");

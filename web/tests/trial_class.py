@@ -56,6 +56,11 @@ TRAPS = {  # decks that trap, and what is said of it
     " (A,PR,9)\n": "The number of characters: 9.",
     f"L ({'A' * 60},PH) L\n": "1,048,560 bytes are printed, and 1,048,576 is the most.",
 }
+# Where each kind of group has the chain that can't be followed, of which it is said that N has no definition.
+CHAINS = [
+    "(AN,E,5)", "(A,E,BN)", "(AN,EO,7)", "(0,DV,AN,35)", "(AN,I,B)", "(S,FC,AN)", "(A,GT,BN)", "(A,DP,BN)",
+    "(AN,FR)", "(AN,IN,1)", "(A,PR,BN)", "(AN,PD)", "(AN,PO)",
+]
 CALLS = (
     "* A CALL IN A CALL\n (0,DN,18,35)(A,E,5)(S,FC,A)(S,FD,N)(S,FD,V)(ONE,DO) DONE\n"
     "ONE (A,E,6)(S,FC,A)(TWO,DO,ONE)(PL)\n+DONE\nTWO (A,E,7)(A,PD) DONE\n"
@@ -295,6 +300,16 @@ def traps_with_values(page: Page) -> None:
         page.browser.wait("!document.getElementById('trap').hidden || !l6.engine.isBusy")
         page.browser.wait("!l6.engine.isBusy")
         page.same(f"the trap of {deck!r}", page.text("trap"), want)
+    for group in CHAINS:
+        page.put(f" {group}\n IF (A,E,0) THEN (PL)\n")
+        page.do("l6.run()")
+        page.browser.wait("!l6.engine.isBusy")
+        chain = next(it for it in group[1:-1].split(",") if it in ("AN", "BN"))
+        page.same(f"the trap of {group}", page.text("trap"), f"{chain}: N has no definition here.")
+    page.put(" IFANY (A,E,1)(A,E,BN)(CN,E,0) THEN\n")
+    page.do("l6.run()")
+    page.browser.wait("!l6.engine.isBusy")
+    page.same("of tests the first", page.text("trap"), "BN: N has no definition here.")
     page.put(GONE)
     page.do("l6.run()")
     page.browser.wait("!document.getElementById('trap').hidden")

@@ -5,8 +5,9 @@ all.py PROGRAM [--quick] makes the page again and compares it byte for byte with
 runs the cases, examples and random jobs through the page's module, in node, against their answers and those
 of the program; and tries the page in headless Chromium, and in Firefox. It says what it skips. Its parts run
 side by side; each says how much it has tried, and less than is written here is a failure.
-With --quick the module is not made again, which takes two minutes, and the trials of large things are left
-out; the page is bundled again with the module that it has. The last line is 'N passed, M failed'.
+With --quick the module is not made again, which takes two minutes, and the trials of large things and of the
+lesson are left out; the page is bundled again with the module that it has. The last line is 'N passed, M
+failed'.
 """
 from __future__ import annotations
 

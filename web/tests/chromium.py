@@ -2,9 +2,9 @@
 """Tries the page in headless Chromium, as its readers do.
 
 chromium.py [PAGE] prints what differs, and last 'N passed, M failed'. With --tell it names each trial, and
-how long it took; with --only NAME it does that one alone, with --part I/N each N-th, from the I-th on, and with
---quick those of large things are left out. With --pictures FOLDER it writes a picture of each deck of the
-gallery there, for you to look at.
+how long it took; with --only NAME it does that one alone, with --part I/N each N-th, from the I-th on, and
+with --quick those of large things and of the lesson are left out. With --pictures FOLDER it writes a picture
+of each deck of the gallery there, for you to look at.
 """
 from __future__ import annotations
 
@@ -83,7 +83,7 @@ def chosen(words: list[str]) -> list[Callable[[Page], None]]:
     only, part = taken("--only"), taken("--part")
     trials = [it for it in TRIALS if it.__name__ == only.replace(" ", "_")] if only else TRIALS
     if "--quick" in words:
-        trials = [it for it in trials if it.__module__ != "trial_large"]
+        trials = [it for it in trials if it.__module__ not in ("trial_large", "trial_lesson")]
     first, step = map(int, part.split("/")) if part else (1, 1)
     return trials[first - 1::step]
 

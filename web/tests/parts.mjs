@@ -376,9 +376,9 @@ same("the change of a field", await run.values.change({place: 1024, field: "N"},
 const fails = session(" (A,DO,B) DONE\nA (PL) FAIL\nB (X,PH)\n");
 same("out of a call that fails", [await fails.steps.over(1), await fails.steps.out(3)], [5, 5]);
 
-const stacked =
-  session(" (A,E,1)(S,FC,A)(A,E,2)(S,FC,A)(R,FC,B)\n+(S,FD,N)(S,FD,V)(R,FD,W)(X,DO)(Y,DO) DONE\nX DONE\nY (PL)\n"
-  );
+const stacked = session(
+  " (A,E,1)(S,FC,A)(A,E,2)(S,FC,A)(R,FC,B)\n+(S,FD,N)(S,FD,V)(R,FD,W)(X,DO)(Y,DO) DONE\nX DONE\nY (PL)\n"
+);
 const frames = await stacked.frames.of(await stacked.view(13));
 same(
   "what was taken back is not there",
@@ -392,6 +392,10 @@ const at12 = await run.view(12);
 const at13 = await run.view(13);
 same("what changed in a step", changesOf(at12, at13, "", {}), [
   "block 1028 is lost: nothing leads to it", "B was 1028, is 0"
+]);
+const found = session(" (A,GT,1)(A,E,0)(A,E,1024)\n");
+same("a block that is found again", changesOf(await found.view(3), await found.view(4), "", {}), [
+  "block 1024 is lost no more", "A was 0, is 1024"
 ]);
 same(
   "a block is got, of a piece of its size", changesOf(await run.view(11), await run.view(12), "", {})[0],

@@ -83,8 +83,9 @@ def letters_of_the_drawing(page: Page) -> None:
     """No letter of a drawing has less than 12 pixels; where there is room, they are larger."""
     for width, height in ((1280, 720), (1024, 768), (1024, 640)):
         page.browser.resize(width, height)
+        page.open()
         for key, state in LECTURES.items():
-            page.open(f"#{key}@{state}")
+            page.example(key, state)
             least = min(page.value(f"{LETTERS}('#drawing')"))
             page.right(f"{key} at {width}x{height}", least >= 12, str(least))
         shares = page.value("['left', 'drawing'].map(it => document.getElementById(it).clientWidth)")

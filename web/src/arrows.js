@@ -79,7 +79,7 @@ function arrowOf({block, link, to}, router, bugs, colourOf) {
 // The name of its field beside an arrow that begins at the edge of a small block.
 function tagOf([start, next], link) {
   const isDown = start.x === next.x;
-  const x = next.x < start.x ? start.x - 11 : start.x + 4;
+  const x = next.x < start.x ? start.x - 10 : start.x + 2;
   return svg("text", {x, y: start.y + (isDown ? 12 : -4), class: "tag"}, link.name);
 }
 
@@ -88,7 +88,16 @@ function span({block, to}) {
   return Math.abs(block.x - to.x) + Math.abs(block.y - to.y);
 }
 
-// Where an arrow may leave its block: at a side that its window touches, or below; elsewhere at a price.
+/**
+ * A point at which an arrow may leave a block, the direction in which it runs there, what it costs to take
+ * it, and where in the block's window it begins.
+ * @typedef {{x: number, y: number, direction: number, cost?: number, inner?: {x: number, y: number}}} Start
+ */
+
+/**
+ * Where an arrow may leave its block: at a side that its window touches, or below; elsewhere at a price.
+ * @returns {Start[]}
+ */
 function startsOf(block, link) {
   const {shape} = block;
   const row = shape.rows.find((it) => it.cells.some((cell) => cell.link === link));
@@ -98,6 +107,7 @@ function startsOf(block, link) {
   return shape.isBox ? startsOfBox(block, middle) : startsOfCard(block, row, cell, middle);
 }
 
+/** @returns {Start[]} */
 function startsOfBox({x, y, shape}, middle) {
   const low = y + shape.height - GRID;
   return [
@@ -107,12 +117,14 @@ function startsOfBox({x, y, shape}, middle) {
   ];
 }
 
+/** @returns {Start[]} */
 function startsOfCard(block, row, cell, middle) {
   const {shape} = block;
   const y = block.y + row.y + ROW / 2;
   const [touchesLeft, touchesRight] = [cell.window.first === 0, cell.window.last === 35];
   const right = {x: block.x + cell.x + cell.width - IN_WINDOW, y};
   const left = {x: block.x + cell.x + IN_WINDOW, y};
+  /** @type {Start[]} */
   const starts = [];
   if (touchesRight || !touchesLeft)
     starts.push({x: block.x + shape.width, y, direction: 0, cost: touchesRight ? 0 : 5, inner: right});

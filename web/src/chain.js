@@ -7,13 +7,21 @@ export const CHAIN = /^[A-Z][A-Z0-9]{0,5}$/;
 /**
  * A state as far as a chain needs it: `wordsAt` answers the words of the block that begins at a place, null
  * where none begins, and undefined where that is not known.
- * @typedef {{bugs: Map<string, number>, fields: Map<string, object>, wordsAt: (place: number) => any}} Glimpse
- * @typedef {{name: string, text: string, value: number, place: number | null, window: object | null}} ChainStep
+ * @typedef {{bugs: Map<string, number>, fields: Map<string, object>,
+ *   wordsAt: (place: number) => any}} Glimpse
+ * @typedef {{name: string, text: string, value: number, place: number | null,
+ *   window: object | null}} ChainStep
  * @typedef {{number: number, name: string, value: number, text: string}} ChainTrap
+ * @typedef {{steps: ChainStep[], trap?: ChainTrap, wrong?: string, missing?: number}} Followed
  */
 
-// The steps of a chain: each has the name, what it is, and the value; `trap` says why the next can't be
-// taken. `missing` is a place whose words must be asked for first.
+/**
+ * The steps of a chain: each has the name, what it is, and the value. `trap` says why the next can't be
+ * taken, `wrong` why it is no chain; `missing` is a place whose words must be asked for first.
+ * @param {string} chain
+ * @param {any} state
+ * @returns {Followed}
+ */
 export function follow(chain, state) {
   const names = [...chain.toUpperCase()];
   if (!CHAIN.test(chain.toUpperCase()))

@@ -13,7 +13,10 @@ const BLAME_AFTER = 1500; // and until a fault of the card that is being typed i
 export class Checker {
   // `assemble` has the engine assemble a deck; while something else is done, `isBusy`, the deck waits.
   constructor({editor, assemble, isBusy, tell}) {
-    Object.assign(this, {editor, assemble, isBusy, tell});
+    this.editor = editor;
+    this.assemble = assemble;
+    this.isBusy = isBusy;
+    this.tell = tell;
     this.typed = -BLAME_AFTER;
   }
 

@@ -14,11 +14,11 @@ export function disable(id, isDisabled) {
 // Shows the number of a state, and that of the last one or null.
 export function showNumber(number, last) {
   const slider = byId("slider");
-  slider.max = last ?? Math.max(SHORT, 2 * number);
-  slider.value = number;
+  slider.max = String(last ?? Math.max(SHORT, 2 * number));
+  slider.value = String(number);
   const end = last === null ? "" : ` of ${withCommas(last)}`;
   slider.setAttribute("aria-valuetext", `state ${withCommas(number)}${end}`);
-  byId("number").value = number;
+  byId("number").value = String(number);
   byId("of").textContent = last === null ? "of ?" : `of ${withCommas(last)}`;
   for (const id of ["step", "end", "statement", "over", "out"]) disable(id, last !== null && number >= last);
   for (const id of ["back", "start"]) disable(id, number === 0);
@@ -27,6 +27,6 @@ export function showNumber(number, last) {
 // No state is shown.
 export function clearNumber() {
   byId("of").textContent = "";
-  byId("slider").max = byId("slider").value = byId("number").value = 0;
+  byId("slider").max = byId("slider").value = byId("number").value = "0";
   for (const id of ["step", "end", "statement", "over", "out", "back", "start"]) disable(id, false);
 }

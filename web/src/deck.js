@@ -149,7 +149,12 @@ function newStatement(label, card) {
 // A statement: its condition word, tests, operations and exit, each with its card and columns.
 class Statement {
   constructor(label, card) {
-    Object.assign(this, {label, card, lastCard: card, plus: 0, phase: "begin", first: null});
+    this.label = label;
+    this.card = card;
+    this.lastCard = card;
+    this.plus = 0;
+    this.phase = "begin";
+    this.first = null;
     this.condition = null;
     this.tests = [];
     this.operations = [];
@@ -276,7 +281,7 @@ function* itemsOf(columns, from, card) {
     const again = columns.indexOf("(", open + 1);
     if (close < 0 || (again >= 0 && again < close))
       throw new Fault(
-        card, "no reading", unclosed(columns, open, close), open, close < 0 ? columns.length : again + 1
+        card, "no reading", unclosed(columns, close), open, close < 0 ? columns.length : again + 1
       );
     yield {isGroup: true, card, from: open, to: close + 1, text: columns.slice(open + 1, close)};
     place = close + 1;
@@ -295,7 +300,7 @@ function* wordOf(columns, from, to, card) {
   yield item;
 }
 
-function unclosed(columns, open, close) {
+function unclosed(columns, close) {
   if (close < 0 && columns.length === COLUMNS)
     return "The group runs past column 72, after which nothing counts. " +
       "Continue the statement on a card with + in column 1.";

@@ -1,7 +1,13 @@
 // Makes elements. What a deck says goes into them as text, and never as markup.
 
+/**
+ * An element of the page. What it is follows from its id, so it has what any of these has.
+ * @param {string} id
+ * @returns {HTMLInputElement & HTMLSelectElement & HTMLTextAreaElement & HTMLDialogElement &
+ *   HTMLDetailsElement & HTMLCanvasElement}
+ */
 export function byId(id) {
-  return document.getElementById(id);
+  return /** @type {any} */ (document.getElementById(id));
 }
 
 // An element with attributes, and children that are elements or texts.

@@ -26,12 +26,15 @@ const LOST_WIDTH = 220; // of what is said of them
 export class Drawing {
   // `choose` is called with the place of a block that the reader chose, `hide` with the name of a bug.
   constructor(frame, {choose, hide}) {
-    Object.assign(this, {frame, choose, hide});
+    this.frame = frame;
+    this.choose = choose;
+    this.hide = hide;
     this.texts = new Set();   // the fields that hold texts
     this.colours = new Map(); // by names of fields, in the order in which they were met
     this.directions = new Map();
     this.groups = new Map(); // elements of blocks, by their places
     this.detail = "auto";
+    this.zoom = 1;
     this.lit = {blocks: new Set(), arrows: new Set(), end: null};
     this.steady = {cards: null, boxes: null}; // the sizes that stay from state to state
     this.smallFrom = Infinity;                // blocks: at so many they were made small
@@ -246,7 +249,7 @@ export class Drawing {
   // Fits the drawing into its frame, as far as it can be read.
   fit() {
     const {width, height} = this.size ?? {width: 10, height: 10};
-    const scale = (this.scale ?? 1) * (this.zoom ?? 1);
+    const scale = (this.scale ?? 1) * this.zoom;
     this.picture.setAttribute("viewBox", `0 0 ${width} ${height}`);
     this.picture.setAttribute("width", Math.floor(width * scale));
     this.picture.setAttribute("height", Math.floor(height * scale));
@@ -257,12 +260,16 @@ export class Drawing {
     const led = new Set(bugs.filter((it) => it.isChanged).map((it) => it.place));
     const changed = blocks.filter((it) => it.isNew || it.isChanged);
     const wanted = changed.length ? changed : blocks.filter((it) => led.has(it.place));
-    const scale = this.scale * (this.zoom ?? 1);
-    const {scrollTop, clientHeight} = this.frame;
-    const isSeen = ({y, height}) =>
-      y * scale >= scrollTop && (y + height) * scale <= scrollTop + clientHeight;
+    const scale = this.scale * this.zoom;
+    const {scrollLeft, scrollTop, clientWidth, clientHeight} = this.frame;
+    const isBetween = (from, size, begin, room) =>
+      from * scale >= begin && (from + size) * scale <= begin + room;
+    const isSeen = ({x, y, width, height}) =>
+      isBetween(x, width, scrollLeft, clientWidth) && isBetween(y, height, scrollTop, clientHeight);
     if (!wanted.length || wanted.some(isSeen)) return;
-    this.frame.scrollTop = Math.max(0, (wanted[0].y + wanted[0].height / 2) * scale - clientHeight / 2);
+    const [{x, y, width, height}] = wanted;
+    this.frame.scrollLeft = Math.max(0, (x + width / 2) * scale - clientWidth / 2);
+    this.frame.scrollTop = Math.max(0, (y + height / 2) * scale - clientHeight / 2);
   }
 
   // Puts the focus on the block that had it last, or on the first.

@@ -10,7 +10,11 @@ const INDENT = 2;
 
 export class Editor {
   constructor({text, under, gutter, ruler}, toggle) {
-    Object.assign(this, {text, under, gutter, ruler, toggle});
+    this.text = text;
+    this.under = under;
+    this.gutter = gutter;
+    this.ruler = ruler;
+    this.toggle = toggle;
     this.breakpoints = new Set();
     this.spot = null; // where the run is
     this.fault = null;

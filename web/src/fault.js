@@ -5,7 +5,11 @@ export const COLUMNS = 72; // of a card that count
 // A fault, which is thrown where it is met.
 export class Fault {
   constructor(card, kind, why, from = 0, to = COLUMNS) {
-    Object.assign(this, {card, kind, why, from, to});
+    this.card = card;
+    this.kind = kind;
+    this.why = why;
+    this.from = from;
+    this.to = to;
   }
 }
 

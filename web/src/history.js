@@ -16,14 +16,18 @@ const LINES = [
 export class History {
   // The graph is in `frame`, and is made while the box is checked.
   constructor(frame, box, {goTo, trouble}) {
-    Object.assign(this, {frame, box, goTo, trouble});
+    this.frame = frame;
+    this.box = box;
+    this.goTo = goTo;
+    this.trouble = trouble;
     this.samples = null;
     box.addEventListener("change", () => this.draw());
   }
 
   show(view, session) {
     if (this.session !== session) this.samples = null;
-    Object.assign(this, {view, session});
+    this.view = view;
+    this.session = session;
     this.draw();
   }
 

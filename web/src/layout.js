@@ -70,8 +70,7 @@ function grow(root, known, seen) {
       for (const link of item.block.links.filter((it) => it.down)) {
         const target = known.get(link.target);
         if (!target || seen.has(target.place)) continue;
-        const below = rowFrom(target, known, seen);
-        below.side = link.side;
+        const below = rowFrom(target, known, seen, link.side);
         item.below.push(below);
         queue.push(below);
       }
@@ -80,8 +79,9 @@ function grow(root, known, seen) {
   return first;
 }
 
-function rowFrom(start, known, seen) {
-  const row = [];
+// A row of blocks; `side` says on which side of the block above it hangs.
+function rowFrom(start, known, seen, side = 0) {
+  const row = Object.assign([], {side});
   for (let block = beginningOf(start, known, seen); block;) {
     seen.add(block.place);
     row.push({block, below: []});

@@ -17,7 +17,8 @@ const TO_BEGIN = "Beside this is what it is to print. Type, and press Run.";
 export class Library {
   // `desk` is what of the page the library may use: its job, its messages, its states.
   constructor(desk, examples) {
-    Object.assign(this, {desk, examples});
+    this.desk = desk;
+    this.examples = examples;
     this.example = null;    // that was opened
     this.exercise = null;   // with its task: one of the examples, or one that came with a link or a file
     this.isChanged = false; // whether the deck or the input was changed since it was opened, saved or linked

@@ -4,6 +4,10 @@
 
 const LINK = /^#(deck=)?([\w-]+)(?:@(\d{1,10}))?(?:!(\d[\d,]*))?(;lecture)?$/;
 
+/**
+ * @param {{example?: string | null, breakpoints: number[], number: number | null, lecture?: boolean, deck?:
+ *   string, input?: string, options?: object, exercise?: string, task?: string, printout?: string}} link
+ */
 export async function linkOf({example, breakpoints, number, lecture = false, ...own}) {
   const tail = `${number === null ? "" : `@${number}`}${
     breakpoints.length ? `!${breakpoints.join(",")}` : ""}${lecture ? ";lecture" : ""}`;
@@ -13,7 +17,11 @@ export async function linkOf({example, breakpoints, number, lecture = false, ...
   return `#deck=${packed}${tail}`;
 }
 
-// What a link says: null where there is none, and {damaged} with the reason where it can't be read.
+/**
+ * What a link says: null where there is none, and `damaged` with the reason where it can't be read.
+ * @param {string} hash
+ * @returns {Promise<any>}
+ */
 export async function readLink(hash) {
   if (hash === "" || hash === "#") return null;
   const found = LINK.exec(hash);

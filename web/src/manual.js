@@ -44,7 +44,7 @@ export class Manual {
     const link = event.target.closest?.("a");
     if (!link) return;
     const found = /^(?:(\w[\w-]*)\.md)?(?:#(.*))?$/.exec(link.getAttribute("href") ?? "");
-    const deck = /l6\.html(#[\w@!,-]+)$/.exec(link.getAttribute("href") ?? "");
+    const deck = /l6\.html(#[\w@!,;-]+)$/.exec(link.getAttribute("href") ?? "");
     event.preventDefault();
     if (deck)
       location.hash = deck[1];

@@ -26,13 +26,15 @@ import {count, withCommas} from "./word.js";
 const SHORT_RUN = 2_000_000; // steps of a run that is made ahead, to know how many states there are
 const LAST_STATE = 1_000_000_001;
 const LONG_DECK = 50_000; // characters; a longer deck is read after the key, and not with it
-const READ_AFTER = 400;   // milliseconds
+const RUNNING = "running ..";
+const READ_AFTER = 400; // milliseconds
 
 class Page {
   constructor(engine, examples, manual) {
     this.engine = engine;
     this.engine.changed = () => this.showBusy();
     this.busyTimer = null;
+    this.noteBefore = "";
     this.session = null;
     this.waiting = null; // what is to be done once the engine has answered
     this.isBusy = false;
@@ -46,10 +48,19 @@ class Page {
       hide: (name) => this.hideBug(name),
       next: (state) => this.nextOf(state),
     });
+    this.makeTools();
+    this.manual = new Manual(manual);
+    this.library = new Library(this.desk(), examples);
+    byId("reference").append(...referenceOf());
+    this.listen();
+  }
+
+  // What has a task of its own, and of the page just what it needs for that.
+  makeTools() {
     this.papers = new Papers({
       job: () => this.job(),
       ask: (words, input) => this.ask(words, input),
-      words: (verb) => new Session(null, this.job()).words(verb),
+      words: (verb) => new Session(null, this.job(), this.editor.deck).words(verb),
       exchanges: () => this.session?.exchanges ?? [],
     });
     this.checker = new Checker({
@@ -65,15 +76,11 @@ class Page {
       paused: () => this.playEnded(),
     });
     this.panes = new Panes(() => this.viewer.resized());
-    this.manual = new Manual(manual);
-    byId("reference").append(...referenceOf());
-    this.library = new Library(this.desk(), examples);
     this.tasks = new TaskMaker({
       job: () => this.job(),
       printed: () => this.session?.printout?.printed ?? this.view?.output ?? "",
       open: (task) => this.library.openTask(task),
     });
-    this.listen();
   }
 
   // What the library may do with the page.
@@ -150,7 +157,7 @@ class Page {
       this.busyTimer = null;
       disable("stop", !this.player.isPlaying);
       document.body.classList.remove("busy");
-      if (byId("run-note").textContent === "running ..") byId("run-note").textContent = "";
+      if (byId("run-note").textContent === RUNNING) byId("run-note").textContent = this.noteBefore;
     } else
       this.busyTimer ??= setTimeout(() => this.tellBusy(), 150);
   }
@@ -158,7 +165,8 @@ class Page {
   tellBusy() {
     disable("stop", false);
     document.body.classList.add("busy");
-    byId("run-note").textContent = "running ..";
+    this.noteBefore = byId("run-note").textContent; // (it comes back)
+    byId("run-note").textContent = RUNNING;
   }
 
   trouble(error) {
@@ -196,7 +204,7 @@ class Page {
       const shown = this.view ?? (await session.view(0));
       const found = await find(session, shown.state.number);
       if (session !== this.session || !found) return; // (the deck was changed meanwhile)
-      const {view, before = shown, isStep} = found.view ? found : {view: found};
+      const {view, before = shown, isStep = undefined} = found.view ? found : {view: found};
       const isNear = Math.abs(view.state.number - before.state.number) <= 1;
       this.show(view, this.view || isNear || isStep ? before : null, isStep ?? isNear);
     });
@@ -324,8 +332,10 @@ class Page {
     if (this.view?.state.statement !== undefined) this.toggle(this.view.state.statement);
   }
 
+  // Whether there is something to stop. (What takes a moment, as the deck that is assembled while it is
+  // typed, is nothing.)
   get isRunning() {
-    return this.engine.isBusy || this.player.isPlaying;
+    return this.isBusy || this.player.isPlaying || document.body.classList.contains("busy");
   }
 
   play() {

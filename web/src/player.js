@@ -7,7 +7,10 @@ const QUICK = 300; // milliseconds from step to step, below which blocks do not 
 export class Player {
   // `step` goes on by a step and answers whether the run has ended; `begin` goes back to the start.
   constructor({step, begin, atEnd, paused}) {
-    Object.assign(this, {step, begin, atEnd, paused});
+    this.step = step;
+    this.begin = begin;
+    this.atEnd = atEnd;
+    this.paused = paused;
     this.timer = null;
   }
 

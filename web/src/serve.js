@@ -13,11 +13,18 @@ export function answered(module, job) {
   return {...answer, output: answer.output.slice(0, begin), digest: DIGESTS[name](text, more)};
 }
 
+/**
+ * What the module exports; addresses and sizes are numbers.
+ * @typedef {{memory: WebAssembly.Memory, host_word(size: number): number, host_input(size: number): number,
+ *   host_limit(bytes: number): void, host_run(): number, host_output(which: number): number,
+ *   host_output_bytes(which: number): number}} Host
+ */
+
 // The words are texts, the input bytes; the limit is the most bytes of memory that the program may have.
 // Answers the exit status and what went to the two outputs, as bytes.
 export function serve(module, {words, input, limit}) {
   const begun = performance.now();
-  const host = new WebAssembly.Instance(module).exports;
+  const host = /** @type {Host} */ (/** @type {unknown} */ (new WebAssembly.Instance(module).exports));
   const put = (bytes, address) => {
     if (address === 0) throw new RangeError("the page has no memory for this job");
     new Uint8Array(host.memory.buffer).set(bytes, address >>> 0);

@@ -33,7 +33,12 @@ export class Session {
   // `ask` has the engine do a job: the words of the command line, the bytes of standard input, and what is to
   // be made of the output. `reading` is what the page reads in the deck.
   constructor(ask, {deck, input, options}, reading = readDeck(deck)) {
-    Object.assign(this, {ask, deck, input, options, reading});
+    this.ask = ask;
+    this.deck = deck;
+    this.input = input;
+    /** @type {{store: number, steps: number, output: number}} */
+    this.options = options;
+    this.reading = reading;
     this.views = new Map();
     this.kept = 0;
     this.printout = null;                                      // what `run` prints, once it was asked
@@ -47,6 +52,10 @@ export class Session {
     this.frames = new Frames(this);
   }
 
+  /**
+   * @param {string} verb
+   * @param {{steps?: number}} more
+   */
   words(verb, more = {}) {
     const {store, steps, output} = {...this.options, ...more};
     return [verb, "--store", String(store), "--steps", String(steps), "--output", String(output)];

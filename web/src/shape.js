@@ -44,7 +44,10 @@ export function shapeOf(block, words, windows, links, isBox) {
   return isBox ? boxOf(block, words, windows, links) : cardOf(block, words, windows, links);
 }
 
+/** @typedef {{word: number, cells: any[], note?: string, y?: number}} Row */
+
 function cardOf(block, words, windows, links) {
+  /** @type {Row[]} */
   const rows = [];
   let left = 0; // words that are not shown
   for (let word = 0; word < block.size; word++) {

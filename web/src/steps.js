@@ -59,7 +59,8 @@ export function hasStacks(deck) {
 
 export class Steps {
   constructor(deck, trail) {
-    Object.assign(this, {deck, trail});
+    this.deck = deck;
+    this.trail = trail;
   }
 
   // The state after the next step that shows something.

@@ -14,7 +14,14 @@ const MOST_SPOKEN = 40;    // pieces that the text of the picture names
 
 export class Strip {
   constructor({text, units, strip, levels, levelsText, bySize, unitBox}, choose) {
-    Object.assign(this, {text, units, strip, levels, levelsText, bySize, unitBox, choose});
+    this.text = text;
+    this.units = units;
+    this.strip = strip;
+    this.levels = levels;
+    this.levelsText = levelsText;
+    this.bySize = bySize;
+    this.unitBox = unitBox;
+    this.choose = choose;
     this.unit = null; // that the reader chose, or null
     this.chosen = null;
     bySize.addEventListener("change", () => this.draw());
@@ -28,7 +35,8 @@ export class Strip {
   }
 
   show(view, before) {
-    Object.assign(this, {view, before});
+    this.view = view;
+    this.before = before;
     const {store} = view;
     const lostText = store.lost ? `, ${withCommas(store.lost)} lost` : "";
     const largest = store.largestFree ? `, largest ${withCommas(store.largestFree)}` : "";
@@ -43,7 +51,10 @@ export class Strip {
   }
 
   forget() {
-    Object.assign(this, {view: null, before: null, unit: null, chosen: null});
+    this.view = null;
+    this.before = null;
+    this.unit = null;
+    this.chosen = null;
     this.text.textContent = "";
     this.units.hidden = this.levelsText.hidden = this.levels.hidden = this.unitBox.parentElement.hidden =
       true;

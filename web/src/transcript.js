@@ -125,7 +125,11 @@ export class Transcript {
 // The blocks that are reached, as `draw` answers them.
 export class Drawn {
   constructor(text, bugs, {places, sizes, offsets}) {
-    Object.assign(this, {text, bugs, places, sizes, offsets});
+    this.text = text;
+    this.bugs = bugs;
+    this.places = places;
+    this.sizes = sizes;
+    this.offsets = offsets;
   }
 
   get count() {

@@ -14,7 +14,7 @@ const FULL = 1024; // entries of a pushdown, and calls that wait
 
 // Puts the explanation into a frame. Answers the chain that could not be followed, or {}; null where there is
 // nothing to be said beyond the trap's own text.
-export async function showTrap(frame, view, session, action, goTo) {
+export async function showTrap(frame, view, session, goTo) {
   const number = Number(/TRAP (\d+)/.exec(view.state.line)[1]);
   const told = number <= 3 ? await chainTrap(number, view, session) : await otherTrap(number, view, session);
   if (!told) return null;

@@ -4,7 +4,13 @@ import {Store} from "./store.js";
 
 export class View {
   constructor({state, bugs, amounts, fields, draw, shown, store, output, cost}) {
-    Object.assign(this, {state, bugs, amounts, fields, draw, shown, cost});
+    this.state = state;
+    this.bugs = bugs;
+    this.amounts = amounts;
+    this.fields = fields;
+    this.draw = draw;
+    this.shown = shown;
+    this.cost = cost;
     this.store = new Store(store);
     this.words = new Map(); // of blocks, by their places
     this.out = output;      // what was printed, from a place on, up to this state or some later one

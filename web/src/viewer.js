@@ -15,11 +15,17 @@ import {showTrap} from "./trap.js";
 import {Values} from "./values.js";
 import {count, withCommas} from "./word.js";
 
+/** @type {import("./chain.js").Followed} */
+const NOWHERE = {
+  steps: []
+}; // where no chain leads
+
 export class Viewer {
   // The editor has the deck. `ask` has what the reader may ask for in what is shown: `goTo` a state, `hide` a
   // bug, and `trouble` where a question to the debugger fails; and `next`, the step that is shown next.
   constructor(editor, ask) {
-    Object.assign(this, {editor, ask});
+    this.editor = editor;
+    this.ask = ask;
     this.session = null;
     this.view = null;     // that is shown
     this.before = null;   // that with which it is compared
@@ -80,7 +86,10 @@ export class Viewer {
   // Shows a view; what is another than before is marked.
   show(view, before, session, isStep) {
     const old = before && before.state.number !== view.state.number ? before : null;
-    Object.assign(this, {view, before: old, session, isStep});
+    this.view = view;
+    this.before = old;
+    this.session = session;
+    this.isStep = isStep;
     this.drawing.texts = textNames(session.reading);
     byId("board").classList.toggle("vacant", view.store.blocks === 0);
     byId("empty").textContent = view.store.used ? "" : "No block is in use.";
@@ -199,8 +208,7 @@ export class Viewer {
     byId("trap").replaceChildren();
     if (view.state.ending !== "TRAP") return;
     try {
-      const told =
-        await showTrap(byId("trap"), view, session, this.action, (number) => this.ask.goTo(number));
+      const told = await showTrap(byId("trap"), view, session, (number) => this.ask.goTo(number));
       if (this.view !== view || !told) return;
       byId("trap").hidden = false;
       this.trapTold = told;
@@ -302,7 +310,7 @@ export class Viewer {
     if (!view) return;
     const chain = byId("chain").value.trim();
     try {
-      const {missing, steps, trap, wrong} = chain ? follow(chain, view) : {};
+      const {missing, steps, trap, wrong} = chain ? follow(chain, view) : NOWHERE;
       if (missing !== undefined) {
         await session.addBlock(view, missing);
         return this.view === view ? this.showDetails() : undefined;

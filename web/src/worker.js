@@ -11,7 +11,8 @@ self.onmessage = ({data}) => {
   }
   try {
     const answer = answered(module, data);
-    self.postMessage({number: data.number, answer}, [answer.output.buffer, answer.errors.buffer]);
+    const transfer = [answer.output.buffer, answer.errors.buffer];
+    self.postMessage({number: data.number, answer}, {transfer});
   } catch (error) {
     self.postMessage({number: data.number, broken: String(error)});
   }

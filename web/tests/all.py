@@ -5,8 +5,9 @@ all.py PROGRAM [--quick] makes the page again and compares it byte for byte with
 runs the cases, examples and random jobs through the page's module, in node, against their answers and those
 of the program; and tries the page in headless Chromium, and in Firefox. It says what it skips. Its parts run
 side by side; each says how much it has tried, and less than is written here is a failure.
-With --quick the module is not made again, which takes two minutes, and the trials of large things are left
-out; the page is bundled again with the module that it has. The last line is 'N passed, M failed'.
+With --quick the module is not made again, which takes two minutes, and the trials of large things and of the
+lesson are left out; the page is bundled again with the module that it has. The last line is 'N passed, M
+failed'.
 """
 from __future__ import annotations
 
@@ -27,7 +28,7 @@ TOP = WEB.parent
 PAGE = TOP / "dist" / "l6.html"
 AT_ONCE = 4  # parts
 SHARDS = 3  # into which the trials in Chromium are parted
-LEAST_IN_CHROMIUM = {"quick": [100, 100, 100], "all": [150, 150, 150]}  # trials of each shard
+LEAST_IN_CHROMIUM = {"quick": [200, 210, 300], "all": [280, 215, 270]}  # trials of each shard
 NEW_MANUAL = ["--new-manual"] if shutil.which("markdown_py") else []
 COUNT = re.compile(r"^(\d+) passed, (\d+) failed$")
 
@@ -44,7 +45,9 @@ class Part:
 
 def counted(part: Part) -> tuple[str, int, int]:
     """Runs a part; answers what it prints but its count, and its counts."""
-    ran = subprocess.run(part.command, stdout=subprocess.PIPE, stderr=subprocess.STDOUT, text=True, errors="replace")
+    ran = subprocess.run(
+        part.command, stdout=subprocess.PIPE, stderr=subprocess.STDOUT, text=True, errors="replace"
+    )
     *lines, last = ran.stdout.splitlines() or [""]
     found = COUNT.match(last)
     if not found:
@@ -72,7 +75,7 @@ def made_again(program: Path, is_quick: bool) -> tuple[str, int, int]:
 
 def missing() -> Iterator[str]:
     """The tools that are not there."""
-    for name in ("node", "wasm-opt", "rt"):
+    for name in ("node", "tsc", "wasm-opt", "rt"):
         if shutil.which(name) is None:
             yield name
     if not find_browser():
@@ -90,9 +93,10 @@ def parts(program: Path, is_quick: bool) -> Iterator[Part]:
         yield Part({"chromium"}, f"the page in Chromium, {number} of {SHARDS}", shard, least)
     random = [sys.executable, str(HERE / "random_jobs.py"), str(program)]
     yield Part({"node"}, "random jobs in node", random, 3000)
-    yield Part({"node"}, "the parts of the page in node", ["node", str(HERE / "parts.mjs")], 700)
+    yield Part({"node"}, "the parts of the page in node", ["node", str(HERE / "parts.mjs")], 740)
     yield Part({"node"}, "the cases in node", ["node", str(HERE / "cases.mjs")], 620)
-    yield Part({"firefox"}, "the page in Firefox", [sys.executable, str(HERE / "firefox.py")], 7)
+    yield Part({"tsc"}, "the types of the scripts", [sys.executable, str(HERE / "check_types.py")], 1)
+    yield Part({"firefox"}, "the page in Firefox", [sys.executable, str(HERE / "firefox.py")], 10)
 
 
 def main() -> int:
@@ -116,7 +120,8 @@ def main() -> int:
         passed = failed = 0
         for name, future in done:
             text, right, wrong = future.result()
-            print(f"web: {name}: {right} passed, {wrong} failed", *([text] if text else []), sep="\n", flush=True)
+            print(f"web: {name}: {right} passed, {wrong} failed", flush=True)
+            print(f"{text}\n" if text else "", end="", flush=True)
             passed, failed = passed + right, failed + wrong
     print(f"{passed} passed, {failed} failed")
     return 1 if failed else 0

@@ -28,7 +28,8 @@ MIDDLE = """(() => {
 
 def find_browser() -> str | None:
     """The path of Chromium, or None."""
-    return next(filter(None, (shutil.which(name) for name in PROGRAMS)), None)
+    found = [shutil.which(name) for name in PROGRAMS]
+    return next((path for path in found if path), None)
 
 
 class NotBegun(Exception):
@@ -42,7 +43,7 @@ class Browser:
         self._folder = tempfile.TemporaryDirectory(prefix="l6-browser-", ignore_cleanup_errors=True)
         to_read, self._to = os.pipe()
         self._from, to_write = os.pipe()
-        words = [find_browser() or PROGRAMS[0], "--headless=new", "--no-sandbox", "--disable-gpu", "--hide-scrollbars",
+        words = [find_browser() or "", "--headless=new", "--no-sandbox", "--disable-gpu", "--hide-scrollbars",
                  "--remote-debugging-pipe", f"--user-data-dir={self._folder.name}", "--no-first-run",
                  "--disable-background-networking", "--disable-component-update", "about:blank"]
         self._process = subprocess.Popen(
@@ -135,8 +136,10 @@ class Browser:
     def drag(self, selector: str, dx: float) -> None:
         """Drags an element to the right, or to the left."""
         x, y = self.value(MIDDLE.replace("SELECTOR", json.dumps(selector)))
-        for kind, at, buttons in (("mousePressed", x, 1), ("mouseMoved", x + dx, 1), ("mouseReleased", x + dx, 0)):
-            self._call("Input.dispatchMouseEvent", type=kind, x=at, y=y, button="left", buttons=buttons, clickCount=1)
+        moves = (("mousePressed", x, 1), ("mouseMoved", x + dx, 1), ("mouseReleased", x + dx, 0))
+        for kind, at, buttons in moves:
+            how = {"x": at, "y": y, "button": "left", "buttons": buttons, "clickCount": 1}
+            self._call("Input.dispatchMouseEvent", type=kind, **how)
 
     def picture(self, path: Path) -> None:
         """Writes a picture of the window."""

@@ -1,9 +1,10 @@
 #!/usr/bin/env python3
 """Tries the page in headless Chromium, as its readers do.
 
-chromium.py [PAGE] prints what differs, and last 'N passed, M failed'. With --tell it names each trial as it
-begins, and how long it took; with --only NAME it does that one alone, with --part I/N each N-th, from the I-th
-on, and with --quick those of large things are left out. With --pictures FOLDER it writes a picture of each deck of the gallery there, for you to look at.
+chromium.py [PAGE] prints what differs, and last 'N passed, M failed'. With --tell it names each trial, and
+how long it took; with --only NAME it does that one alone, with --part I/N each N-th, from the I-th on, and
+with --quick those of large things and of the lesson are left out. With --pictures FOLDER it writes a picture
+of each deck of the gallery there, for you to look at.
 """
 from __future__ import annotations
 
@@ -21,6 +22,7 @@ import trial_decks  # noqa: E402, F401
 import trial_controls  # noqa: E402, F401
 import trial_class  # noqa: E402, F401
 import trial_large  # noqa: E402, F401
+import trial_lesson  # noqa: E402, F401
 import trial_looks  # noqa: E402
 from browser import Browser, NotBegun  # noqa: E402
 from page import TOP, TRIALS, Page  # noqa: E402
@@ -31,7 +33,12 @@ def canaries(page: Page) -> None:
     def breaks(_: Page) -> None:
         raise AssertionError("it must be counted")
 
-    looks = [lambda it: it.same("1", 1, 2), lambda it: it.has("2", "ab", "c"), lambda it: it.right("3", False), breaks]
+    looks: list[Callable[[Page], None]] = [
+        lambda it: it.same("1", 1, 2),
+        lambda it: it.has("2", "ab", "c"),
+        lambda it: it.right("3", False),
+        breaks,
+    ]
     with contextlib.redirect_stdout(io.StringIO()):
         for look in looks:
             try_one(page, look)
@@ -76,7 +83,7 @@ def chosen(words: list[str]) -> list[Callable[[Page], None]]:
     only, part = taken("--only"), taken("--part")
     trials = [it for it in TRIALS if it.__name__ == only.replace(" ", "_")] if only else TRIALS
     if "--quick" in words:
-        trials = [it for it in trials if it.__module__ != "trial_large"]
+        trials = [it for it in trials if it.__module__ not in ("trial_large", "trial_lesson")]
     first, step = map(int, part.split("/")) if part else (1, 1)
     return trials[first - 1::step]
 

@@ -24,7 +24,8 @@ PROGRAMS = ("firefox-esr", "firefox")
 
 def find_firefox() -> str | None:
     """The path of Firefox, or None."""
-    return next(filter(None, (shutil.which(name) for name in PROGRAMS)), None)
+    found = [shutil.which(name) for name in PROGRAMS]
+    return next((path for path in found if path), None)
 
 
 class Firefox:
@@ -37,12 +38,11 @@ class Firefox:
             port = free.getsockname()[1]
         profile = Path(self._folder.name)
         profile.joinpath("user.js").write_text(f'user_pref("marionette.port", {port});\n')
-        words = [find_firefox() or PROGRAMS[0], "--headless", "--marionette", "--no-remote", "--profile", str(profile),
+        words = [find_firefox() or "", "--headless", "--marionette", "--no-remote", "--profile", str(profile),
                  "--width", "1400", "--height", "900", "about:blank"]
         home = {"HOME": self._folder.name, "PATH": "/usr/bin:/bin"}
         self._process = subprocess.Popen(
-            words, env=home, stdin=subprocess.DEVNULL, stdout=subprocess.DEVNULL, stderr=subprocess.DEVNULL
-        )
+            words, env=home, stdin=subprocess.DEVNULL, stdout=subprocess.DEVNULL, stderr=subprocess.DEVNULL)
         self._socket = self._connected(port)
         self._number = 0
         self._read()
@@ -156,6 +156,48 @@ STOPPED = f"""(async () => {{
     await until(() => !l6.isBusy);
     return {text('run-note')};
 }})()"""
+LESSON = f"""(async () => {{
+    const found = [];
+    const element = (id) => document.getElementById(id);
+    const idle = async () => {{
+        do await new Promise(done => setTimeout(done, 30)); while (l6.isBusy || l6.engine.isBusy);
+    }};
+    const press = async (id, times = 1) => {{
+        for (let time = 0; time < times; time++) {{ element(id).click(); await idle(); }}
+    }};
+    const open = async (key, statement) => {{
+        l6.library.isChanged = false;
+        l6.library.openExample(key);
+        await idle();
+        if (statement !== undefined)
+            document.querySelector(`#gutter button[aria-label$=" ${{statement}}"]`).click();
+    }};
+    await open('squares');
+    await press('run'); await press('start'); await press('step', 5);
+    found.push({text('where')});
+    await open('exercise-1');
+    element('deck').value = ' (N,E,10)\\nLOOP (N,PD)(PL)(N,S,1)\\n IF (N,G,0) THEN LOOP\\n';
+    l6.changed();
+    await press('run');
+    found.push({text('verdict')}.slice(0, 8));
+    await open('list', 1);
+    await press('mark-next', 4);
+    element('chain').value = 'LNC';
+    element('chain').dispatchEvent(new Event('input'));
+    await idle();
+    found.push({text('answer')});
+    await open('reverse', 8);
+    await press('mark-next', 9);
+    found.push(document.querySelectorAll('.block').length);
+    await open('lost');
+    while (!document.querySelector('.block.lost')) await press('step');
+    found.push(Number(element('number').value));
+    await press('back');
+    found.push({text('changes')}.slice(0, 27));
+    return found.join('; ');
+}})()"""
+LESSON_ENDS = "AT 1.5 AFTER 8 STEPS; ✓ Solved; = 52 “T”; 8; 13; Undone: block 1028 is lost:"
+WIDE = "(l6.panes.lecture(true), getComputedStyle(document.getElementById('deck')).fontSize)"
 TRIALS = [  # what is tried, the link, a script, and its answer
     ("the first deck", "", f"l6.run().then(() => {text('printed')})", "5\n== DONE AFTER 6 STEPS"),
     ("a step", "", f"l6.step().then(() => {text('where')})", "AT 0.2 AFTER 2 STEPS"),
@@ -164,6 +206,9 @@ TRIALS = [  # what is tried, the link, a script, and its answer
     ("a listing", "", LISTED, "      1     0   (A,E,5)(A,PD)"),
     ("72 columns fit", "#tree", FITS, True),
     ("an endless deck is stopped", "", STOPPED, "stopped"),
+    ("the plan for 45 minutes", "", LESSON, LESSON_ENDS),
+    ("the lecture view", "#tree@137", WIDE, "18px"),
+    ("the manual", "", "(l6.manual.toggle(), document.querySelectorAll('#manual-text h2').length > 5)", True),
 ]
 
 if __name__ == "__main__":

@@ -337,12 +337,65 @@ await session(" (A,E,5\n")
     (it) => same("a deck with a fault", it.message, "l6: card 1: no reading")
   );
 
+// ---- The trail of a run, and steps that show something
+
+const shown = [0, 2, 3, 6, 7, 8, 9, 12, 13, 16, 17, 18, 21]; // of the deck `lost`, by its cards
+const forth = [0];
+while (forth.length < shown.length) forth.push(await run.steps.on(forth.at(-1)));
+same("steps on", forth, shown);
+const backwards = [21];
+while (backwards.at(-1) > 0) backwards.push(await run.steps.back(backwards.at(-1)));
+same("steps back", backwards, [...shown].reverse());
+same("back from between", [await run.steps.back(15), await run.steps.back(14)], [13, 13]);
+same("the last state of the trail", [run.trail.last, await run.trail.at(22)], [21, null]);
+same("a spot", await run.trail.at(15), {statement: 3, action: 1});
+const trails = [];
+for (let number = 0; number <= 21; number++) {
+  const [spot, {state}] = [await run.trail.at(number), await run.view(number)];
+  if (spot.statement !== state.statement || spot.action !== state.action) trails.push(number);
+}
+same("the trail is that of the states", trails, []);
+const long_ = session("L (A,A,1)(S,FC,A)(R,FC,A) L\n", "", {steps: 20_000});
+same("a spot far away", await long_.trail.at(12_345), {statement: 0, action: 12_345 % 5});
+same(
+  "what is saved far away", (await long_.frames.of(await long_.view(12_343))).contents.map((it) => it.value),
+  [2469]
+);
+same("the next statement", [await run.steps.statement(5), await run.steps.statement(19)], [10, 21]);
+same(
+  "the changes of a bug",
+  [await run.values.change({chain: "B"}, 20, false), await run.values.change({chain: "B"}, 13, false)],
+  [13, 12]
+);
+same("no change before", await run.values.change({chain: "B"}, 12, false), null);
+same("nor after", await run.values.change({chain: "B"}, 13, true), null);
+same("the next change", await run.values.change({chain: "A"}, 0, true), 6);
+same("a change by the very next step", await run.values.change({chain: "B"}, 11, true), 12);
+same("the change of a definition", await run.values.change({definition: "V"}, 20, false), 3);
+same("the change of a field", await run.values.change({place: 1024, field: "N"}, 20, false), 8);
+const fails = session(" (A,DO,B) DONE\nA (PL) FAIL\nB (X,PH)\n");
+same("out of a call that fails", [await fails.steps.over(1), await fails.steps.out(3)], [5, 5]);
+
+const stacked = session(
+  " (A,E,1)(S,FC,A)(A,E,2)(S,FC,A)(R,FC,B)\n+(S,FD,N)(S,FD,V)(R,FD,W)(X,DO)(Y,DO) DONE\nX DONE\nY (PL)\n"
+);
+const frames = await stacked.frames.of(await stacked.view(13));
+same(
+  "what was taken back is not there",
+  ["returns", "contents", "definitions"].map((name) => frames[name].map((it) => [it.number, it.value])),
+  [[[12, undefined]], [[2, 1]], [[6, null]]]
+);
+
 // ---- Changes, pieces and chains
 
 const at12 = await run.view(12);
 const at13 = await run.view(13);
 same("what changed in a step", changesOf(at12, at13, "", {}), [
   "block 1028 is lost: nothing leads to it", "B was 1028, is 0"
+]);
+const found = session(" (A,GT,1)(A,E,0)(A,E,1024)\n");
+same("a block that is found again", changesOf(await found.view(3), await found.view(4), "", {}), [
+  "block 1024 is lost no more", "A was 0, is 1024"
 ]);
 same(
   "a block is got, of a piece of its size", changesOf(await run.view(11), await run.view(12), "", {})[0],
@@ -468,6 +521,11 @@ same("in one line", new Set([...both.places.values()].map((it) => it.y)).size, 1
 const big = session(" (0,DN,18,35)\nG (L,GT,1,LN,F) G\nF DONE\n");
 await big.run();
 const chosen = (await big.view(big.last)).shown;
+for (let number = big.last - 100; number <= big.last; number++) await big.view(number);
+tally.count(
+  "large states are dropped, the oldest first",
+  big.views.size < 80 && !big.has(big.last - 100) && big.has(big.last), () => `${big.views.size} are kept`
+);
 same(
   "of 8,192 blocks 150 are shown", [chosen.places.length, chosen.hidden, chosen.places[0]], [150, 8042, 9215]
 );

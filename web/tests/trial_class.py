@@ -1,4 +1,4 @@
-"""Trials of the page in front of a class: sizes of letters, what is in view, steps, calls, traps, exercises."""
+"""Trials of the page in front of a class: letters, what is in view, steps, calls, traps, exercises."""
 from __future__ import annotations
 
 import json
@@ -46,7 +46,8 @@ TRAPS = {  # decks that trap, and what is said of it
     " (0,DN,18,36)\n": "The word: 0; the first bit: 18; the last: 36.",
     " (A,V,B)\n": "The divisor of A: B is 0.",
     " (A,GT,2000)\n": "The size that is asked for: 2000.",
-    " (A,GT,512)\nL (A,GT,1024) L\n": "1,024 words asked for; 512 words free, and the largest free piece has 512.",
+    " (A,GT,512)\nL (A,GT,1024) L\n":
+        "1,024 words asked for; 512 words free, and the largest free piece has 512.",
     " (A,IN,3)\n": "Asked for: 3; left: 0 characters.",
     " (R,FD,N)\n": "No definition is saved here.",
     "L (S,FC,A) L\n": "1,024 contents are saved.",
@@ -55,8 +56,15 @@ TRAPS = {  # decks that trap, and what is said of it
     " (A,PR,9)\n": "The number of characters: 9.",
     f"L ({'A' * 60},PH) L\n": "1,048,560 bytes are printed, and 1,048,576 is the most.",
 }
-CALLS = ("* A CALL IN A CALL\n (0,DN,18,35)(A,E,5)(S,FC,A)(S,FD,N)(S,FD,V)(ONE,DO) DONE\n"
-         "ONE (A,E,6)(S,FC,A)(TWO,DO,ONE)(PL)\n+DONE\nTWO (A,E,7)(A,PD) DONE\n")
+# Where each kind of group has the chain that can't be followed, of which it is said that N has no definition.
+CHAINS = [
+    "(AN,E,5)", "(A,E,BN)", "(AN,EO,7)", "(0,DV,AN,35)", "(AN,I,B)", "(S,FC,AN)", "(A,GT,BN)", "(A,DP,BN)",
+    "(AN,FR)", "(AN,IN,1)", "(A,PR,BN)", "(AN,PD)", "(AN,PO)",
+]
+CALLS = (
+    "* A CALL IN A CALL\n (0,DN,18,35)(A,E,5)(S,FC,A)(S,FD,N)(S,FD,V)(ONE,DO) DONE\n"
+    "ONE (A,E,6)(S,FC,A)(TWO,DO,ONE)(PL)\n+DONE\nTWO (A,E,7)(A,PD) DONE\n"
+)
 
 
 def stacks(page: Page) -> list[str]:
@@ -72,11 +80,12 @@ def change(page: Page, deck: str) -> None:
 
 @trial
 def letters_of_the_drawing(page: Page) -> None:
-    """No letter of a drawing has less than 12 pixels; where there is room for larger ones, they are larger."""
+    """No letter of a drawing has less than 12 pixels; where there is room, they are larger."""
     for width, height in ((1280, 720), (1024, 768), (1024, 640)):
         page.browser.resize(width, height)
+        page.open()
         for key, state in LECTURES.items():
-            page.open(f"#{key}@{state}")
+            page.example(key, state)
             least = min(page.value(f"{LETTERS}('#drawing')"))
             page.right(f"{key} at {width}x{height}", least >= 12, str(least))
         shares = page.value("['left', 'drawing'].map(it => document.getElementById(it).clientWidth)")
@@ -101,7 +110,8 @@ def lecture(page: Page) -> None:
             page.same(f"letters of {key} at {width}x{height}", small, [])
             page.right("the card is in sight", page.value(f"{IN_VIEW}(document.querySelector('.spot.at'))"))
             page.right("the place, too", page.value(f"{IN_VIEW}(document.getElementById('where'))"))
-    gone = "['header', '#store-pane', '.details', '.papers'].filter(it => document.querySelector(it).offsetHeight)"
+    gone = """['header', '#store-pane', '.details', '.papers']
+        .filter(it => document.querySelector(it).offsetHeight)"""
     page.same("nothing else is there", page.value(gone), [])
     page.do("l6.library.makeLink()")
     page.has("a link keeps it", page.value("location.hash"), ";lecture")
@@ -142,7 +152,10 @@ def signs_and_words(page: Page) -> None:
     page.same("three signs", len(set(page.value(SIGNS))), 3)
     shown = """[...document.querySelectorAll('.controls button')].filter(it => it.offsetHeight)
         .filter(it => ![...it.querySelectorAll('span')].every(one => one.offsetWidth > 0)).map(it => it.id)"""
-    for width, without in ((1280, []), (1024, ["statement", "over", "out", "mark-back", "mark-next", "to-cursor"])):
+    for width, without in (
+        (1280, []),
+        (1024, ["statement", "over", "out", "mark-back", "mark-next", "to-cursor"]),
+    ):
         page.browser.resize(width, 720)
         page.same(f"buttons without words at {width}", page.value(shown), without)
     page.browser.resize(1400, 900)
@@ -155,10 +168,12 @@ def a_hand_on_the_run(page: Page) -> None:
     page.fill("speed", 1500, "change")
     begin = "(l6.player.pause(), l6.play(), l6.player.isPlaying)"
     ways = {
-        "Back": "document.getElementById('back').click()", "Step": "document.getElementById('step').click()",
+        "Back": "document.getElementById('back').click()",
+        "Step": "document.getElementById('step').click()",
         "the slider": "(slider.value = 5, slider.dispatchEvent(new Event('input')))",
         "a breakpoint": "document.querySelector('#gutter button').click()",
-        "Over": "document.getElementById('over').click()", "Next change": "l6.change(true)",
+        "Over": "document.getElementById('over').click()",
+        "Next change": "l6.change(true)",
     }
     page.do("l6.state(3)")
     for what, script in ways.items():
@@ -193,11 +208,15 @@ def leaps(page: Page) -> None:
     page.do("l6.over()")
     page.has("over a call", page.text("where"), "AT 0.7 AFTER")
     page.do("l6.state(12)")
-    page.same("in the inner call", [page.text("where"), page.value("l6.view.amounts.returns")],
-              ["AT 2.1 AFTER 12 STEPS", 2])
+    page.same(
+        "in the inner call",
+        [page.text("where"), page.value("l6.view.amounts.returns")],
+        ["AT 2.1 AFTER 12 STEPS", 2],
+    )
     page.do("l6.out()")
-    page.same("out of it", [page.text("where"), page.value("l6.view.amounts.returns")],
-              ["AT 1.4 AFTER 15 STEPS", 1])
+    page.same(
+        "out of it", [page.text("where"), page.value("l6.view.amounts.returns")], ["AT 1.4 AFTER 15 STEPS", 1]
+    )
     page.do("l6.out()")
     page.same("and out of the other", page.value("l6.view.amounts.returns"), 0)
     page.do("l6.out()")
@@ -208,7 +227,11 @@ def leaps(page: Page) -> None:
     for _ in range(3):
         page.click("change-back")
         found.append(page.text("changes"))
-    page.same("its changes, back", found, [f"Changed A was {was}, is {now}" for was, now in ((6, 7), (5, 6), (0, 5))])
+    page.same(
+        "its changes, back",
+        found,
+        [f"Changed A was {was}, is {now}" for was, now in ((6, 7), (5, 6), (0, 5))],
+    )
     page.click("change-back")
     page.has("before the first", page.text("run-note"), "A does not change before this state")
     page.click("change-next")
@@ -241,10 +264,18 @@ def calls_by_name_and_value(page: Page) -> None:
     page.open()
     page.put(CALLS)
     page.do("l6.state(11)")
-    page.same("newest on top", stacks(page), [
-        "TWO from statement 1 ONE(TWO,DO,ONE) FAIL: ONE at 10", "ONE from statement 0(ONE,DO) at 6",
-        "A = 6  at 9", "A = 5  at 3", "V = no definition at 5", "N = word 0, bits 18–35 at 4",
-    ])
+    page.same(
+        "newest on top",
+        stacks(page),
+        [
+            "TWO from statement 1 ONE(TWO,DO,ONE) FAIL: ONE at 10",
+            "ONE from statement 0(ONE,DO) at 6",
+            "A = 6  at 9",
+            "A = 5  at 3",
+            "V = no definition at 5",
+            "N = word 0, bits 18–35 at 4",
+        ],
+    )
     page.do("l6.state(15)")
     page.same("after a return", [it.split(" from")[0] for it in stacks(page)][:2], ["ONE", "A = 6  at 9"])
     page.browser.click("#frames li button.to")
@@ -253,8 +284,11 @@ def calls_by_name_and_value(page: Page) -> None:
     page.put("R (A,A,1)(S,FC,A)(R,DO)\n")
     page.do("l6.run()")
     shown = stacks(page)
-    page.same("of 1,024 calls the newest are shown", [len(shown), shown[0].split("(")[0], shown[24]],
-              [50, "R from statement 0 R", "and 1,000 older ones"])
+    page.same(
+        "of 1,024 calls the newest are shown",
+        [len(shown), shown[0].split("(")[0], shown[24]],
+        [50, "R from statement 0 R", "and 1,000 older ones"],
+    )
     page.has("with their values", shown[25], "A = 1024")
 
 
@@ -267,6 +301,16 @@ def traps_with_values(page: Page) -> None:
         page.browser.wait("!document.getElementById('trap').hidden || !l6.engine.isBusy")
         page.browser.wait("!l6.engine.isBusy")
         page.same(f"the trap of {deck!r}", page.text("trap"), want)
+    for group in CHAINS:
+        page.put(f" {group}\n IF (A,E,0) THEN (PL)\n")
+        page.do("l6.run()")
+        page.browser.wait("!l6.engine.isBusy")
+        chain = next(it for it in group[1:-1].split(",") if it in ("AN", "BN"))
+        page.same(f"the trap of {group}", page.text("trap"), f"{chain}: N has no definition here.")
+    page.put(" IFANY (A,E,1)(A,E,BN)(CN,E,0) THEN\n")
+    page.do("l6.run()")
+    page.browser.wait("!l6.engine.isBusy")
+    page.same("of tests the first", page.text("trap"), "BN: N has no definition here.")
     page.put(GONE)
     page.do("l6.run()")
     page.browser.wait("!document.getElementById('trap').hidden")
@@ -283,7 +327,11 @@ def a_chain_is_lit(page: Page) -> None:
     page.open("#lost@21")
     page.browser.wait("document.querySelectorAll('.block.lit').length > 0")
     page.same("the way of the trap", page.value(lit), ["1024", "1026", "1024 N"])
-    page.same("the block where it ends is marked", page.value("document.querySelector('.stopped').dataset.place"), "1026")
+    page.same(
+        "the block where it ends is marked",
+        page.value("document.querySelector('.stopped').dataset.place"),
+        "1026",
+    )
     page.open("#list@60")
     page.fill("chain", "lnc")
     page.browser.wait("document.getElementById('answer').textContent !== ''")
@@ -304,9 +352,10 @@ def verdicts(page: Page) -> None:
     endless = " (N,E,10)\nLOOP (N,PD)(PL)(N,S,1)\n IF (N,G,0) THEN LOOP\nL L\n"
     answers = {
         " (1,PH)(PL)\n": "Not yet: line 1 is “1”, and not “10”.",
-        endless: "Not yet: the run does not end, and was stopped after 1,000,000 steps; up to there it is right.",
+        endless: "Not yet: the run does not end, and was stopped after 1,000,000 steps; "
+        "up to there it is right.",
         endless.replace("10", "9"): "Not yet: the run does not end, and was stopped after 1,000,000 steps; "
-                                    "line 1 is “9”, and not “10”.",
+        "line 1 is “9”, and not “10”.",
         endless.replace("L L", " (0,PH)(PL)"): "Not yet: more is printed: line 11 is “0”.",
         endless.replace("L L", " FAIL"): "Not yet: all is printed, but the run does not end by DONE.",
     }
@@ -337,9 +386,13 @@ def exercises_last(page: Page) -> None:
     change(page, solved + "* MORE\n")
     page.do("l6.library.makeLink()")
     page.open(page.value("location.hash"))
-    page.same("a link has the task", [page.box("deck"), page.count("#exercise[hidden]")], [solved + "* MORE\n", 0])
+    page.same(
+        "a link has the task", [page.box("deck"), page.count("#exercise[hidden]")], [solved + "* MORE\n", 0]
+    )
     page.has("its text", page.text("exercise"), "Print the numbers from 10 down to 1")
-    page.value("localStorage.clear(), Object.getPrototypeOf(localStorage).setItem = () => { throw new Error(); }")
+    page.value(
+        "localStorage.clear(), Object.getPrototypeOf(localStorage).setItem = () => { throw new Error(); }"
+    )
     page.click("run")
     page.has("where the store is refused that is said", page.text("verdict"), "only until the page is closed")
     page.has("data of one's own is offered", page.text("input-label"), "this deck reads none")
@@ -361,11 +414,15 @@ def tasks(page: Page) -> None:
     page.browser.click("#task-link")
     page.browser.wait("window.copied !== undefined")
     link = page.value("copied")
-    page.value("""window.kept = []; URL.createObjectURL = (it) => { kept.push(it); return 'about:blank#'; };
-        HTMLAnchorElement.prototype.click = function () { kept.push(this.download); }""")
+    page.value(
+        """window.kept = []; URL.createObjectURL = (it) => { kept.push(it); return 'about:blank#'; };
+        HTMLAnchorElement.prototype.click = function () { kept.push(this.download); }"""
+    )
     page.browser.click("#task-file")
     text = page.value("kept[0].text()")
-    page.same("a file", [page.value("kept[1]"), json.loads(text)["task"]], ["my.task", "Print the <b>letter</b>."])
+    page.same(
+        "a file", [page.value("kept[1]"), json.loads(text)["task"]], ["my.task", "Print the <b>letter</b>."]
+    )
     page.browser.click("#task-try")
     page.same("a trial of it", [page.count("dialog[open]"), page.box("deck")], [0, "* YOUR TURN\n"])
     page.fill("task-text", "")
@@ -401,9 +458,13 @@ def for_writers_of_allocators(page: Page) -> None:
     page.browser.wait("!l6.isBusy && document.querySelectorAll('.pill').length === 2")
     page.right("and another shows it", True)
     page.value("document.getElementById('by-size').click()")
-    page.has("pieces a level", page.text("levels-text"), "of 1: 1 block, 1 free · of 2: 1 free · of 4: 1 block")
+    page.has(
+        "pieces a level", page.text("levels-text"), "of 1: 1 block, 1 free · of 2: 1 free · of 4: 1 block"
+    )
     page.open("#join@0")
-    page.right("the examples of the store are by size", page.value("document.getElementById('by-size').checked"))
+    page.right(
+        "the examples of the store are by size", page.value("document.getElementById('by-size').checked")
+    )
     page.example("lost")
     page.right("the next deck is not", not page.value("document.getElementById('by-size').checked"))
 
@@ -413,13 +474,18 @@ def the_store_over_the_run(page: Page) -> None:
     page.open("#buddy@130")
     page.value("document.getElementById('over-states').click()")
     page.browser.wait("document.querySelectorAll('#history polyline').length === 3")
-    page.has("the graph in words", page.value("document.querySelector('#history svg').ariaLabel"),
-             "Over 177 states, of 8,192 words: words in blocks from 0 to 1,024")
+    page.has(
+        "the graph in words",
+        page.value("document.querySelector('#history svg').ariaLabel"),
+        "Over 177 states, of 8,192 words: words in blocks from 0 to 1,024",
+    )
     page.has("and at this state", page.text("history"), "words in blocks: 704")
     points = page.value("document.querySelector('#history .used').getAttribute('points').split(' ').length")
     page.same("its points", points, 60)
-    box = page.value("(({left, top, width}) => [left, top, width])"
-                     "(document.querySelector('#history svg').getBoundingClientRect())")
+    box = page.value(
+        "(({left, top, width}) => [left, top, width])"
+        "(document.querySelector('#history svg').getBoundingClientRect())"
+    )
     page.browser.click_at(box[0] + box[2] / 2, box[1] + 30)
     page.browser.wait("l6.view.state.number === 88")
     page.right("a click goes to a state", True)
@@ -436,7 +502,8 @@ def numbers_and_letters(page: Page) -> None:
     page.put(" (0,DF,0,5)(A,GT,1)(B,IN,1)(AF,E,B)\n", "_\n")
     page.do("l6.run()")
     page.same("but a text is", page.value(cells), ["_"])
-    lines = "(e => e.clientHeight / parseFloat(getComputedStyle(e).lineHeight))(document.getElementById('printed'))"
+    lines = """(e => e.clientHeight / parseFloat(getComputedStyle(e).lineHeight))
+        (document.getElementById('printed'))"""
     for width, height in ((1280, 720), (1400, 900), (375, 667)):
         page.browser.resize(width, height)
         page.right(f"the printout has eight lines at {width}", page.value(lines) >= 8, str(page.value(lines)))
@@ -453,9 +520,13 @@ def the_manual_beside(page: Page) -> None:
     for name in names:
         page.fill("manual-page", name, "change")
         title = (TOP / "docs" / f"{name}.md").read_text("utf-8").split("\n")[0].removeprefix("# ")
-        page.same(f"its page {name}", page.value("document.querySelector('#manual-text h1').textContent"), title)
-        dead = page.value("""[...document.querySelectorAll('#manual-text a[href^="#"]')]
-            .map(it => it.getAttribute('href').slice(1)).filter(it => !document.getElementById(it))""")
+        page.same(
+            f"its page {name}", page.value("document.querySelector('#manual-text h1').textContent"), title
+        )
+        dead = page.value(
+            """[...document.querySelectorAll('#manual-text a[href^="#"]')]
+            .map(it => it.getAttribute('href').slice(1)).filter(it => !document.getElementById(it))"""
+        )
         page.same("its anchors", dead, [])
     page.fill("manual-page", "page", "change")
     page.browser.click("#manual-text a[href$='l6.html#lost']")
@@ -468,7 +539,7 @@ def the_manual_beside(page: Page) -> None:
 
 @trial
 def on_a_small_screen(page: Page) -> None:
-    """After Run the verdict, the fault or the printout is in view; targets are large; an empty drawing folds."""
+    """After Run the answer is in view; targets are large; an empty drawing folds."""
     page.browser.resize(375, 667, phone=True)
     page.open()
     page.put(" (A,GT,1)(HELLO,PH)\n")
@@ -482,13 +553,17 @@ def on_a_small_screen(page: Page) -> None:
     page.click("run")
     page.right("a fault is in view", page.value(f"{IN_VIEW}(document.getElementById('fault'))"))
     page.open("#tree@120")
-    page.has("the card is there", page.text("card"), page.value("l6.editor.lineOf(l6.editor.spot.card)").strip())
+    page.has(
+        "the card is there", page.text("card"), page.value("l6.editor.lineOf(l6.editor.spot.card)").strip()
+    )
     page.right("in sight", page.value(f"{IN_VIEW}(document.getElementById('card'))"))
     page.do("l6.viewer.chooseBlock(1024)")
-    small = page.value("""[...document.querySelectorAll('button, select, summary, input:not([type=file])')]
+    small = page.value(
+        """[...document.querySelectorAll('button, select, summary, input:not([type=file])')]
         .filter(it => it.getClientRects().length && !it.closest('.gutter, .bits, .manual'))
         .filter(it => !/checkbox|range/.test(it.type))
-        .filter(it => it.offsetWidth < 40 || it.offsetHeight < 32).map(it => it.outerHTML.slice(0, 80))""")
+        .filter(it => it.offsetWidth < 40 || it.offsetHeight < 32).map(it => it.outerHTML.slice(0, 80))"""
+    )
     page.same("targets of less than 40 by 32", small, [])
     page.browser.resize(1400, 900)
 
@@ -498,7 +573,9 @@ def focus_and_keys(page: Page) -> None:
     page.open("#lost@20")
     page.focus("step")
     page.click("step")
-    page.same("at the end Step does nothing", page.value("document.getElementById('step').ariaDisabled"), "true")
+    page.same(
+        "at the end Step does nothing", page.value("document.getElementById('step').ariaDisabled"), "true"
+    )
     page.same("but keeps the focus", page.value("document.activeElement.id"), "step")
     page.click("start")
     page.same("so does Start", page.value("document.activeElement.id"), "start")

@@ -25,12 +25,17 @@ WIDTH = "l6.viewer.drawing.picture.getBoundingClientRect().width"
 SESSION = "l6.papers.open('session')"
 TASK = "l6.tasks.open()"
 
-# Of each control: what comes before it, what is done with it (a click; a value and an event; a key), what is looked
-# at, and what that must be then. They begin at state 14 of the deck `lost`, with a breakpoint at statement 3.
+# Of each control: what comes before it, what is done with it (a click; a value and an event; a key), what is
+# looked at, and what that must be then. They begin at state 14 of the deck `lost`, with a breakpoint at
+# statement 3.
 CONTROLS: dict[str, tuple[str, object, str, object]] = {
     "example": ("0", ("list", "change"), "l6.library.example.key", "list"),
-    "open": ("document.getElementById('file').onclick = (it) => { window.asked = 1; it.preventDefault(); }",
-             "click", "window.asked", 1),
+    "open": (
+        "document.getElementById('file').onclick = (it) => { window.asked = 1; it.preventDefault(); }",
+        "click",
+        "window.asked",
+        1,
+    ),
     "file": (PICKED, None, DECK, " (PL)\n"),
     "save": (KEEP, "click", "kept[1]", "lost.deck"),
     "link": (KEEP, "click", "location.hash", "#lost@14!3"),
@@ -39,16 +44,29 @@ CONTROLS: dict[str, tuple[str, object, str, object]] = {
     "store": ("0", (3, "change"), "l6.job().options.store", 3),
     "steps": ("0", (30, "change"), "l6.job().options.steps", 30),
     "output": ("0", (40, "change"), "l6.job().options.output", 40),
-    "memory": ("document.getElementById('memory').value = 1; l6.optionChanged()", (2048, "change"),
-               "document.getElementById('options-note').textContent", ""),
+    "memory": (
+        "document.getElementById('memory').value = 1; l6.optionChanged()",
+        (2048, "change"),
+        "document.getElementById('options-note').textContent",
+        "",
+    ),
     "every-step": ("document.getElementById('options').open = true", "click", "l6.stopsAtEvery", True),
-    "letter-keys": ("document.getElementById('options').open = true", "click", "document.getElementById('letter-keys').checked", False),
+    "letter-keys": (
+        "document.getElementById('options').open = true",
+        "click",
+        "document.getElementById('letter-keys').checked",
+        False,
+    ),
     "task": ("0", "click", OPEN, "task-dialog"),
     "lecture": ("0", "click", "document.body.className", "lecture"),
     "leave-lecture": ("l6.panes.lecture(true)", "click", "document.body.className", ""),
     "manual": ("0", "click", "document.getElementById('manual-pane').hidden", False),
-    "manual-page": ("l6.manual.toggle()", ("language", "change"),
-                    "document.querySelector('#manual-text h1').textContent", "The language"),
+    "manual-page": (
+        "l6.manual.toggle()",
+        ("language", "change"),
+        "document.querySelector('#manual-text h1').textContent",
+        "The language",
+    ),
     "manual-text": ("l6.manual.toggle()", "Escape", "document.getElementById('manual-pane').hidden", True),
     "manual-close": ("l6.manual.toggle()", "click", "document.getElementById('manual-pane').hidden", True),
     "help": ("0", "click", OPEN, "help-dialog"),
@@ -60,17 +78,31 @@ CONTROLS: dict[str, tuple[str, object, str, object]] = {
     "speed": ("0", (40, "change"), "document.getElementById('speed').value", "40"),
     "statement": ("0", "click", STATE, 19),
     "over": ("0", "click", STATE, 16),
-    "out": ("0", "click", "document.getElementById('run-note').textContent", "No call waits for its return here."),
+    "out": (
+        "0",
+        "click",
+        "document.getElementById('run-note').textContent",
+        "No call waits for its return here.",
+    ),
     "mark-back": ("l6.state(20)", "click", STATE, 14),
     "mark-next": ("l6.state(2)", "click", STATE, 14),
-    "to-cursor": ("l6.state(2), document.getElementById('deck').setSelectionRange(110, 110)", "click", STATE, 4),
+    "to-cursor": (
+        "l6.state(2), document.getElementById('deck').setSelectionRange(110, 110)",
+        "click",
+        STATE,
+        4,
+    ),
     "start": ("0", "click", STATE, 0),
     "slider": ("0", (7, "input"), STATE, 7),
     "end": ("0", "click", STATE, 21),
     "number": ("0", (9, "change"), STATE, 9),
     "deck": ("0", (" (PO)\n", "input"), "l6.editor.deck.fault.kind", "no reading"),
-    "input": ("0", ("AB", "input"), "document.getElementById('empty').textContent.slice(0, 22)",
-              "The input has changed."),
+    "input": (
+        "0",
+        ("AB", "input"),
+        "document.getElementById('empty').textContent.slice(0, 22)",
+        "The input has changed.",
+    ),
     "printed": ("0", "focus", "document.activeElement.id", "printed"),
     "splitter": ("l6.panes.share(40)", "ArrowLeft", "document.getElementById('splitter').ariaValueNow", "38"),
     "detail": ("l6.viewer.redraw()", ("boxes", "change"), "l6.viewer.drawing.graph.isBox", True),
@@ -83,15 +115,33 @@ CONTROLS: dict[str, tuple[str, object, str, object]] = {
     "change-back": ("l6.viewer.watch({chain: 'B'})", "click", STATE, 13),
     "change-next": ("l6.viewer.watch({chain: 'AV'})", "click", STATE, 16),
     "tab-printout": (SESSION, "click", "document.getElementById('paper').textContent.slice(0, 3)", "12\n"),
-    "tab-listing": (SESSION, "click", "document.getElementById('paper').textContent.includes('LABELS')", True),
-    "tab-image": (SESSION, "click", "document.getElementById('paper').textContent.slice(0, 12)", "542651554722"),
-    "tab-session": ("l6.papers.open('image')", "click",
-                    "document.getElementById('paper').textContent.slice(0, 20)", "AT 1.0 AFTER 4 STEPS"),
+    "tab-listing": (
+        SESSION,
+        "click",
+        "document.getElementById('paper').textContent.includes('LABELS')",
+        True,
+    ),
+    "tab-image": (
+        SESSION,
+        "click",
+        "document.getElementById('paper').textContent.slice(0, 12)",
+        "542651554722",
+    ),
+    "tab-session": (
+        "l6.papers.open('image')",
+        "click",
+        "document.getElementById('paper').textContent.slice(0, 20)",
+        "AT 1.0 AFTER 4 STEPS",
+    ),
     "tab-asked": (SESSION, "click", "document.getElementById('paper').textContent.slice(0, 5)", "step "),
     "paper": (SESSION, "focus", "document.activeElement.id", "paper"),
     "commands": (SESSION, ("step 2\n", "input"), "document.getElementById('commands').value", "step 2\n"),
-    "obey": (f"document.getElementById('commands').value = 'step 3'; {SESSION}", "click",
-             "document.getElementById('paper').textContent", "AT 0.3 AFTER 3 STEPS\n"),
+    "obey": (
+        f"document.getElementById('commands').value = 'step 3'; {SESSION}",
+        "click",
+        "document.getElementById('paper').textContent",
+        "AT 0.3 AFTER 3 STEPS\n",
+    ),
     "save-session": (f"{KEEP} {SESSION}", "click", "kept[1]", "my.session"),
     "download": (f"{KEEP} {SESSION}", "click", "kept[1]", "transcript.txt"),
     "copy": (f"{KEEP} {SESSION}", "click", "document.getElementById('paper-note').textContent", "copied"),
@@ -99,12 +149,24 @@ CONTROLS: dict[str, tuple[str, object, str, object]] = {
     "task-deck": (TASK, ("* X\n", "input"), "document.getElementById('task-deck').value", "* X\n"),
     "task-printout": (TASK, ("5", "input"), "document.getElementById('task-printout').value", "5"),
     "task-printed": (f"l6.run(); {TASK}", "click", "document.getElementById('task-printout').value", "12\n"),
-    "task-link": (f"{KEEP} l6.run(); {TASK}; document.getElementById('task-text').value = 'Go'", "click",
-                  "document.getElementById('task-note').textContent", "The link is copied."),
-    "task-file": (f"{KEEP} l6.run(); {TASK}; document.getElementById('task-text').value = 'Go'", "click",
-                  "kept[1]", "my.task"),
-    "task-try": (f"{KEEP} l6.run(); {TASK}; document.getElementById('task-text').value = 'Go'", "click",
-                 "document.querySelector('#exercise b').textContent", "Task "),
+    "task-link": (
+        f"{KEEP} l6.run(); {TASK}; document.getElementById('task-text').value = 'Go'",
+        "click",
+        "document.getElementById('task-note').textContent",
+        "The link is copied.",
+    ),
+    "task-file": (
+        f"{KEEP} l6.run(); {TASK}; document.getElementById('task-text').value = 'Go'",
+        "click",
+        "kept[1]",
+        "my.task",
+    ),
+    "task-try": (
+        f"{KEEP} l6.run(); {TASK}; document.getElementById('task-text').value = 'Go'",
+        "click",
+        "document.querySelector('#exercise b').textContent",
+        "Task ",
+    ),
 }
 
 # Of each key: the state before it, what is looked at, and what that must be then.
@@ -112,7 +174,11 @@ KEYS: dict[str, tuple[str, str, object]] = {
     "Ctrl Enter": ("l6.state(3)", STATE, 21),
     "F8": ("0", STATE, 16),
     "Shift F8": ("0", STATE, 13),
-    "F9": ("document.getElementById('deck').setSelectionRange(80, 80)", "[...l6.editor.breakpoints].join()", "3,0"),
+    "F9": (
+        "document.getElementById('deck').setSelectionRange(80, 80)",
+        "[...l6.editor.breakpoints].join()",
+        "3,0",
+    ),
     "Esc": ("l6.play()", "l6.player.isPlaying", False),
     "→": ("0", STATE, 16),
     "N": ("0", STATE, 16),
@@ -195,7 +261,9 @@ def each_control(page: Page) -> None:
 @trial
 def each_key(page: Page) -> None:
     page.open()
-    page.same("the keys that are tried are those that the help names", sorted(set(page.value(NAMED))), sorted(KEYS))
+    page.same(
+        "the keys that are tried are those that the help names", sorted(set(page.value(NAMED))), sorted(KEYS)
+    )
     for name, (before, looks, want) in KEYS.items():
         begin(page)
         page.do(f"({before})")
@@ -222,15 +290,25 @@ def other_ways(page: Page) -> None:
     page.focus("number")
     page.key("n")
     page.same("no letter is a key in a box", page.state(), 14)
-    at = page.value("(({x, y, width, height}) => [x + width / 2, y + height / 2])"
-                    "(document.querySelector('#gutter button').getBoundingClientRect())")
-    page.browser.click_at(*at, modifiers=8)
+    x, y = page.value(
+        "(({x, y, width, height}) => [x + width / 2, y + height / 2])"
+        "(document.querySelector('#gutter button').getBoundingClientRect())"
+    )
+    page.browser.click_at(x, y, modifiers=8)
     page.browser.wait("!l6.isBusy")
-    page.same("Shift and a click run to the statement", [page.state(), page.value("[...l6.editor.breakpoints].length")],
-              [21, 1])
+    page.same(
+        "Shift and a click run to the statement",
+        [page.state(), page.value("[...l6.editor.breakpoints].length")],
+        [21, 1],
+    )
     page.do("l6.state(14)")
     page.key("d")
-    for key, place in (("ArrowDown", "1026"), ("ArrowUp", "1024"), ("ArrowRight", "1026"), ("ArrowLeft", "1024")):
+    for key, place in (
+        ("ArrowDown", "1026"),
+        ("ArrowUp", "1024"),
+        ("ArrowRight", "1026"),
+        ("ArrowLeft", "1024"),
+    ):
         page.browser.key(key)
         page.same(f"{key} in the drawing", page.value("document.activeElement.dataset.place"), place)
     page.browser.key("h")
@@ -239,14 +317,20 @@ def other_ways(page: Page) -> None:
     begin(page)
     page.browser.click("#strip")
     page.browser.wait("true")
-    x, y = page.value("(({x, y}) => [x + 3, y + 10])(document.getElementById('strip').getBoundingClientRect())")
+    x, y = page.value(
+        "(({x, y}) => [x + 3, y + 10])(document.getElementById('strip').getBoundingClientRect())"
+    )
     page.browser.click_at(x, y)
     page.same("a click in the strip chooses a block", page.box("place"), "1024")
-    x, y, width = page.value("(({x, y, width}) => [x, y, width])(document.getElementById('units').getBoundingClientRect())")
+    x, y, width = page.value(
+        "(({x, y, width}) => [x, y, width])(document.getElementById('units').getBoundingClientRect())"
+    )
     page.browser.click_at(x + width * 0.9, y + 5)
     page.same("a click chooses a unit", page.box("unit"), "8")
     page.value("document.getElementById('by-size').click(), l6.viewer.strip.pickUnit(0)")
-    x, y = page.value("(({x, y}) => [x + 60, y + 151])(document.getElementById('levels').getBoundingClientRect())")
+    x, y = page.value(
+        "(({x, y}) => [x + 60, y + 151])(document.getElementById('levels').getBoundingClientRect())"
+    )
     page.browser.click_at(x, y)
     page.same("a click by size", page.box("place"), "1024")
 

@@ -75,8 +75,9 @@ def while_typing(page: Page) -> None:
     page.put("* " + "x" * 70 + "\n")
     fits = "(e => e.scrollWidth <= e.clientWidth)(document.getElementById('deck'))"
     page.right("72 columns fit", page.value(fits))
-    change(page, " (A,PD)\n$INPUT\nAB\n")
-    page.same("a job that was pasted is parted", [page.box("deck"), page.box("input")], [" (A,PD)\n", "AB\n"])
+    change(page, " (A,PD)\n$COMMANDS\nstep 2\n$INPUT\nAB\n")
+    boxes = [page.box(name) for name in ("deck", "input", "commands")]
+    page.same("a job that was pasted is parted", boxes, [" (A,PD)\n", "AB\n", "step 2\n"])
 
 
 @trial
@@ -88,7 +89,8 @@ def marks_stay_on_their_cards(page: Page) -> None:
     change(page, " (A,E,1)\n* A CARD\n (A,E,1)\n (A,E,2)\n (A,E,3)\n")
     page.same("where a card was put in", page.value("[...l6.editor.breakpoints]"), [2, 4])
     change(page, " (A,E,1)\n (A,E,3)\n")
-    page.same("where the one with the breakpoint was taken out", page.value("[...l6.editor.breakpoints]"), [2])
+    left = page.value("[...l6.editor.breakpoints]")
+    page.same("where the one with the breakpoint was taken out", left, [2])
 
 
 @trial
@@ -137,7 +139,8 @@ def links(page: Page) -> None:
     page.open(page.value("location.hash"))
     page.same("the deck came with the link", page.box("deck"), deck)
     breakpoints = page.value("[...l6.editor.breakpoints]")
-    page.same("and input, option, breakpoint", [page.box("input"), page.box("store"), breakpoints], ["in <b>", "3", [1]])
+    more = [page.box("input"), page.box("store"), breakpoints]
+    page.same("and input, option, breakpoint", more, ["in <b>", "3", [1]])
     page.same("it was not run", page.state(), -1)
     page.browser.click("#empty button")
     page.browser.wait("l6.view?.state.number === 3")
@@ -177,6 +180,9 @@ def files(page: Page) -> None:
     page.click("save")
     saved = page.value("kept[0].arrayBuffer().then(it => [...new Uint8Array(it)])")
     page.same("it is saved as it was", saved, LATIN)
+    page.put(" (A,IN,2)\n", "OK\n")
+    page.click("save")
+    page.same("with its input", page.value("kept.at(-2).text()"), " (A,IN,2)\n$INPUT\nOK\n")
 
 
 @trial

@@ -22,8 +22,11 @@ def many_blocks(page: Page) -> None:
     page.has("250,000 blocks", page.text("store-text"), "250,000 blocks; 250,000 words used")
     page.right("of the answers little is sent", page.value("most") <= 100_000, str(page.value("most")))
     page.same("150 are drawn", page.count(".block"), 150)
-    page.has("what is left out is said", page.value("l6.viewer.drawing.layer.notes.textContent"),
-             "Not drawn: 249,850 blocks")
+    page.has(
+        "what is left out is said",
+        page.value("l6.viewer.drawing.layer.notes.textContent"),
+        "Not drawn: 249,850 blocks",
+    )
     page.do("l6.back()")
     page.has("a step back", page.text("where"), "AT 3.0 AFTER 1500002 STEPS")
     page.value("void l6.state(700000)")
@@ -39,9 +42,14 @@ def long_decks(page: Page) -> None:
     page.browser.wait("!l6.engine.isBusy")
     page.focus("deck", 4)
     page.browser.type("B")
-    page.right("a long deck is read after the key", page.value("l6.readText !== document.getElementById('deck').value"))
+    page.right(
+        "a long deck is read after the key",
+        page.value("l6.readText !== document.getElementById('deck').value"),
+    )
     page.browser.wait("l6.readText === document.getElementById('deck').value")
-    page.right("once", page.value("l6.editor.deck.statements.length") == 63_000 or page.value("l6.editor.deck.fault"))
+    page.right(
+        "once", page.value("l6.editor.deck.statements.length") == 63_000 or page.value("l6.editor.deck.fault")
+    )
     page.do("l6.run()")
     page.has("and run", page.text("fault"), "l6: card 1: no reading")
 
@@ -49,11 +57,14 @@ def long_decks(page: Page) -> None:
 @trial
 def long_files(page: Page) -> None:
     page.open()
+    page.browser.wait("!l6.engine.isBusy")
     for what, size, part in (
         ("a file longer than a job", 17 * 2**20, "a job has at most 16,777,216"),
         ("a deck that is too long", 2**20 + 9, "its deck has 1,048,585 bytes, and 1,048,576 is the most"),
     ):
-        page.do(f"l6.library.openFile(new File([' (A,E,1)\\n'.repeat({size} / 9 + 1).slice(0, {size})], 'a.deck'))")
+        page.do(
+            f"l6.library.openFile(new File([' (A,E,1)\\n'.repeat({size} / 9 + 1).slice(0, {size})], 'a'))"
+        )
         page.has(what, page.text("run-note"), part)
         page.same("and is not read into the editor", page.box("deck"), " (A,E,5)(A,PD)\n")
     page.do("l6.library.openFile(new File([' (A,E,1)\\n'.repeat(116508)], 'a.deck'))")
@@ -66,12 +77,19 @@ def long_printouts(page: Page) -> None:
     page.open()
     page.put("L (A,A,1)(A,PD)(PL)\n IF (A,L,50000) THEN L\n")
     page.do("l6.run()")
-    page.right("the end of a long printout is shown", page.text("printed").endswith("\n50000\n== DONE AFTER 350001 STEPS"),
-               page.text("printed")[-80:])
+    page.right(
+        "the end of a long printout is shown",
+        page.text("printed").endswith("\n50000\n== DONE AFTER 350001 STEPS"),
+        page.text("printed")[-80:],
+    )
     page.has("and what is left out", page.text("printed")[:3], ".. ")
     for way in ("back", "back", "back", "back", "step"):
         page.do(f"l6.{way}()")
-    page.same("what came last is marked", page.value("document.querySelector('#printed .fresh').textContent"), "50000")
+    page.same(
+        "what came last is marked",
+        page.value("document.querySelector('#printed .fresh').textContent"),
+        "50000",
+    )
 
 
 @trial
@@ -83,12 +101,23 @@ def damaged_links(page: Page) -> None:
     page.do("l6.library.makeLink()")
     whole = page.value("location.hash")
     page.has("a whole link", whole, "#deck=")
-    for damaged in (whole[:-9], whole[:20], whole + "%", "#deck=", "#nothing", "#tree@99999999999", "#tree!x", "#deck=AAAA@1"):
+    for damaged in (
+        whole[:-9],
+        whole[:20],
+        whole + "%",
+        "#deck=",
+        "#nothing",
+        "#tree@99999999999",
+        "#tree!x",
+        "#deck=AAAA@1",
+    ):
         page.open(damaged)
         page.has(f"the link {damaged[-30:]}", page.text("run-note"), "The link is damaged: ")
         page.same("the first deck is there", page.box("deck"), " (A,E,5)(A,PD)\n")
     page.open("#tree@9999")
-    page.has("a state that there is not", page.text("run-note"), "There is no state 9,999: the last one is 274.")
+    page.has(
+        "a state that there is not", page.text("run-note"), "There is no state 9,999: the last one is 274."
+    )
     page.open("#tree@100000")
     page.same("the last one is shown", page.state(), 274)
 

@@ -6,9 +6,10 @@ import hashlib
 import json
 import re
 import runpy
+import tempfile
 from pathlib import Path
 
-from browser import Browser
+from browser import Browser, NotBegun
 from page import TOP, Page, trial
 
 PICTURES = {  # a state of each deck of the gallery
@@ -105,7 +106,8 @@ def on_a_phone(page: Page) -> None:
         page.do(f"l6.state({state})")
         kinds.append(page.value("l6.viewer.drawing.graph.isBox"))
     page.same("blocks get small once", sum(one != other for one, other in zip(kinds, kinds[1:])), 1)
-    heights = page.value("[...document.querySelectorAll('.controls button')].map(e => e.offsetHeight).filter(it => it)")
+    heights = page.value("[...document.querySelectorAll('.controls button')].map(e => e.offsetHeight)")
+    heights = [it for it in heights if it]
     page.right("buttons are large enough for a thumb", min(heights) >= 36, str(heights))
     page.browser.resize(1400, 900)
 
@@ -114,18 +116,19 @@ def on_a_phone(page: Page) -> None:
 FORBIDDEN = {
     "fetch('https://example.com/').catch(() => {})": "connect-src",
     "new Image().src = 'https://example.com/a.png'": "img-src",
-    "(it => (it.textContent = 'window.broken = 1', document.body.append(it)))(document.createElement('script'))":
-        "script-src-elem",
+    "(it => (it.textContent = 'window.broken = 1', document.body.append(it)))"
+    "(document.createElement('script'))": "script-src-elem",
     "setTimeout('window.broken = 1', 0)": "script-src",
     "document.body.insertAdjacentHTML('beforeend', '<b onclick=1></b>')": "script-src-attr",
     "document.body.insertAdjacentHTML('beforeend', '<b style=color:red></b>')": "style-src-attr",
-    "(it => (it.textContent = 'b {}', document.head.append(it)))(document.createElement('style'))": "style-src-elem",
+    "(it => (it.textContent = 'b {}', document.head.append(it)))(document.createElement('style'))":
+        "style-src-elem",
     "(it => (it.href = 'https://example.com/', document.head.append(it)))(document.createElement('base'))":
         "base-uri",
     "(it => (it.action = 'https://example.com/', document.body.append(it), it.submit()))"
     "(document.createElement('form'))": "form-action",
-    "document.body.insertAdjacentHTML('beforeend', '<iframe src=https://example.com/></iframe>')": "frame-src",
-    "document.body.insertAdjacentHTML('beforeend', '<object data=https://example.com/></object>')": "object-src",
+    "document.body.insertAdjacentHTML('beforeend', '<iframe src=https://a.example></iframe>')": "frame-src",
+    "document.body.insertAdjacentHTML('beforeend', '<object data=https://a.example></object>')": "object-src",
     "(() => { try { new Worker('data:text/javascript,1'); } catch {} })()": "worker-src",
 }
 
@@ -140,10 +143,10 @@ def policy(page: Page) -> None:
     text = page.file.read_text("utf-8")
     parts = runpy.run_path(str(TOP / "web" / "bundle"))
     script = json.loads(parts["part_of"](text.encode(), b"texts"))["script"]
-    loader = re.search(r"<script>([^<]*(?:<(?!/script)[^<]*)*)</script>", text)[1]
-    style = re.search(r"<style>(.*?)</style>", text, re.DOTALL)[1]
-    want = (f"default-src 'none'; script-src {hashed(loader)} {hashed(script)} 'wasm-unsafe-eval'; worker-src blob:; "
-            f"style-src {hashed(style)}; base-uri 'none'; form-action 'none'")
+    loader = text.partition("<script>")[2].partition("</script>")[0]
+    style = text.partition("<style>")[2].partition("</style>")[0]
+    want = (f"default-src 'none'; script-src {hashed(loader)} {hashed(script)} 'wasm-unsafe-eval'; "
+            f"worker-src blob:; style-src {hashed(style)}; base-uri 'none'; form-action 'none'")
     page.open()
     policies = "[...document.querySelectorAll('meta[http-equiv]')].map(it => it.content)"
     page.same("the policy", page.value(policies), [want])
@@ -159,13 +162,31 @@ def policy(page: Page) -> None:
     page.browser.troubles()
 
 
+@trial
+def a_page_that_cannot_begin(page: Page) -> None:
+    """It says so, and why."""
+    with tempfile.TemporaryDirectory(prefix="l6-page-") as folder:
+        broken = Path(folder, "l6.html")
+        text = page.file.read_text("utf-8")
+        for part in ("texts", "module"):
+            head, tail = text.split(f'id="{part}">')
+            broken.write_text(f'{head}id="{part}">AAAAA{tail[100:]}', "utf-8")
+            try:
+                page.browser.open(broken)
+                page.right(f"a page with damaged {part} does not begin", False)
+            except NotBegun as error:
+                page.has("it says so", str(error), "The page can't begin: ")
+    page.browser.troubles()
+
+
 COLOURS = {"block": "rgb(45, 108, 171)", "lost": "rgb(185, 56, 21)", "changed": "rgb(180, 83, 9)",
            "f0": "rgb(11, 107, 95)", "f1": "rgb(123, 45, 142)", "f2": "rgb(163, 74, 6)"}
 BLOCKS = """Object.fromEntries([...document.querySelectorAll('.block')].map(it => [it.dataset.place,
     [it.getAttribute('class'), it.getAttribute('aria-label'),
         getComputedStyle(it.querySelector('.top')).fill]]))"""
-ARROWS = """[...document.querySelectorAll('.arrow')].map(it => [it.dataset.from, it.dataset.field, it.dataset.to,
-    getComputedStyle(it.querySelector('path')).stroke].join(' ')).sort()"""
+ARROWS = """[...document.querySelectorAll('.arrow')].map(it => [
+    it.dataset.from, it.dataset.field, it.dataset.to, getComputedStyle(it.querySelector('path')).stroke
+].join(' ')).sort()"""
 PLACES = "Object.fromEntries(l6.viewer.drawing.graph.blocks.map(({place, x, y}) => [place, [x, y]]))"
 # The stretches that two arrows share, other than the last ones into the same block.
 SHARED = """(() => {
@@ -198,8 +219,8 @@ def what_is_lost(page: Page) -> None:
         "1028": ["block lost", "Block 1028, 4 words, lost. N 0, V 0", COLOURS["lost"]],
     })
     page.same("arrows", page.value(ARROWS), [f"1024 N 1026 {COLOURS['f0']}"])
-    page.same("the lost block says so", page.value("document.querySelector('.lost .size').textContent"), "4 words, lost")
-    page.same("what is said of it", page.value("document.querySelector('.note.lost').textContent"), "Lost: nothing leads to it")
+    notes = "['.lost .size', '.note.lost'].map(it => document.querySelector(it).textContent)"
+    page.same("the lost block says so", page.value(notes), ["4 words, lost", "Lost: nothing leads to it"])
     scale = page.value("l6.viewer.strip.scale")
     lost = page.value(f"{STRIP}({int(6 * scale)}, 20)")[:3]
     page.right("it has its colour in the strip", lost[0] > 180 and lost[0] - lost[2] > 90, str(lost))
@@ -209,10 +230,10 @@ def what_is_lost(page: Page) -> None:
     page.do("l6.state(7)")
     page.do("l6.step()")
     page.same("a link that has changed", page.value(ARROWS), [f"1024 N 1026 {COLOURS['changed']}"])
-    page.same("its field, too", page.value("[...document.querySelectorAll('.cell.changed .name')].map(it => it.textContent)"),
-              ["N"])
-    page.same("a block that is new", page.value("[...document.querySelectorAll('.block.new')].map(it => it.dataset.place)"),
-              ["1026"])
+    names = "[...document.querySelectorAll('.cell.changed .name')].map(it => it.textContent)"
+    page.same("its field, too", page.value(names), ["N"])
+    new = "[...document.querySelectorAll('.block.new')].map(it => it.dataset.place)"
+    page.same("a block that is new", page.value(new), ["1026"])
     stroke = "getComputedStyle(document.querySelector('.block.new .edge')).stroke"
     page.same("and how it is marked", page.value(stroke), COLOURS["changed"])
     page.do("l6.state(1)")
@@ -228,13 +249,16 @@ def how_a_tree_stands(page: Page) -> None:
     page.same("the root", blocks["1024"], [
         "block", "Block 1024, 2 words, T leads here. L leads to 1026, R leads to 1028", COLOURS["block"]])
     arrows = [it.split(" rgb")[0] for it in page.value(ARROWS)]
-    page.same("its arrows", arrows, ["1024 L 1026", "1024 R 1028", "1026 L 1032", "1026 R 1030", "1032 L 1034"])
+    want = ["1024 L 1026", "1024 R 1028", "1026 L 1032", "1026 R 1030", "1032 L 1034"]
+    page.same("its arrows", arrows, want)
     places = page.value(PLACES)
     for parent, left, right in (("1024", "1026", "1028"), ("1026", "1032", "1030"), ("1032", "1034", None)):
-        at = places[parent]
-        page.right(f"what L leads to is on the left of {parent}", places[left][0] < at[0] and places[left][1] > at[1])
+        x, y = places[parent]
+        is_left = places[left][0] < x and places[left][1] > y
+        page.right(f"what L leads to is on the left of {parent}", is_left, str(places))
         if right:
-            page.right(f"what R leads to on the right of {parent}", places[right][0] > at[0] and places[right][1] > at[1])
+            is_right = places[right][0] > x and places[right][1] > y
+            page.right(f"what R leads to is on the right of {parent}", is_right, str(places))
     for name, state in (("tree", 137), ("queue", 99), ("words", 900), ("collect", 87)):
         page.example(name, state)
         page.same(f"no two arrows of {name} run on one another", page.value(SHARED), 0)
@@ -247,11 +271,12 @@ def access(page: Page) -> None:
     live = page.value("[...document.querySelectorAll('[aria-live], [role=status], [role=alert]')].map(it => "
                       "`${it.id} ${it.getAttribute('aria-live') ?? it.getAttribute('role')}`).sort()")
     page.same("what is spoken by itself", live, [
-        "fault status", "led polite", "options-note alert", "paper-note status", "spoken polite", "task-note status"])
+        "fault status", "led polite", "options-note alert", "paper-note status", "spoken polite",
+        "task-note status"])
     page.value("document.activeElement.blur()")
     page.browser.key("Tab")
-    skip = page.value("(it => [it.className, it.getBoundingClientRect().top >= 0, getComputedStyle(it).outlineStyle])"
-                      "(document.activeElement)")
+    skip = page.value("(it => [it.className, it.getBoundingClientRect().top >= 0, "
+                      "getComputedStyle(it).outlineStyle])(document.activeElement)")
     page.same("the first is the skip link, which is seen", skip, ["skip", True, "solid"])
     seen = []
     for _ in range(8):
@@ -273,7 +298,8 @@ def reached_by_all(page: Page) -> None:
         page.same(f"texts can be read, dark {dark}", page.value(CONTRASTS), [])
         hints = page.value("getComputedStyle(document.getElementById('chain'), '::placeholder').color")
         ground = page.value("getComputedStyle(document.getElementById('chain')).backgroundColor")
-        page.right("and hints", contrast(*(hexadecimal(it) for it in (ground, hints))) >= 4.5, f"{hints} on {ground}")
+        ratio = contrast(hexadecimal(ground), hexadecimal(hints))
+        page.right("and hints", ratio >= 4.5, f"{hints} on {ground}")
     page.open("#lost@14")
     page.browser.resize(1400, 900, True)
     page.do("l6.state(14)")

@@ -5,8 +5,8 @@ from page import Page, trial
 
 JOININGS = [  # of the deck "join", as docs/allocator.md has them
     "freed 1 word at 1027 (it was not joined, since its buddy at 1026 is a block)",
-    "freed 1 word at 1026 (it was joined 1 time, to a free piece of 2, and no more, since the buddy of that piece at "
-    "1024 is not free as a whole)",
+    "freed 1 word at 1026 (it was joined 1 time, to a free piece of 2, and no more, since the buddy of that "
+    "piece at 1024 is not free as a whole)",
     "freed 1 word at 1024 (it was not joined, since its buddy at 1025 is a block)",
     "freed 1 word at 1025 (it was joined 10 times, to a free piece of 1,024, which is a whole unit)",
 ]
@@ -89,7 +89,8 @@ def what_is_said_aloud(page: Page) -> None:
     page.has("how it ended", page.text("spoken"), ending)
     page.open("#store@6")
     page.click("step")
-    page.has("why pieces do not join", page.text("spoken"), "it was not joined, since its buddy at 1027 is a block")
+    why = "it was not joined, since its buddy at 1027 is a block"
+    page.has("why pieces do not join", page.text("spoken"), why)
     page.open("#tree@137")
     drawing = "l6.viewer.drawing.picture.getAttribute('aria-label')"
     page.has("the drawing", page.value(drawing), "6 blocks; T leads to 1024")

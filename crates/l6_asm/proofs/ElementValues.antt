@@ -1,5 +1,5 @@
 -- What elements are read as are values: chains are chains, numbers are words, and names are names.
-use Rattle.std.proofs.Common.{◌≡◌, ℕ, ◌+◌, ◌-◌, ◌^◌, ◌≤◌, ◌<◌, List, [], ◌∷◌, length, Bool, true, false, cond, leb, ltb, Option, Some, None, refl, ap, sym, ◌∙◌, arith, codes}
+use Rattle.std.proofs.Common.{◌≡◌, ℕ, ◌+◌, ◌-◌, ◌^◌, List, [], ◌∷◌, length, Bool, true, false, cond, leb, ltb, Option, Some, None, refl, ap, sym, ◌∙◌, arith, codes}
 use Rattle.std.specs.Int.{is_in_range}
 use Rattle.std.specs.Int.Digits.{number_from_digits}
 use Rattle.std.specs.List.{list_all}
@@ -15,7 +15,7 @@ use Rattle.l6_prog.specs.PrintText.{is_print_text}
 use Rattle.l6_prog.specs.Values.{is_operand, is_chain_if_given}
 use Rattle.l6_prog.specs.declared.operand.Operand.{Operand}
 use Rattle.l6_prog.specs.declared.operand.Operand.TheVariants.{Chain, Number}
-use Rattle.l6_group.specs.Character.{is_blank, name_from, name_of}
+use Rattle.l6_group.specs.Character.{is_blank, name_of}
 use Rattle.l6_group.specs.Element.{names_of, chain_from, chain_of, operand_of, field_from, field_of, chain_if_given}
 use Rattle.l6_group.specs.Number.{onto_read, each_read, digit_of, number_from, number_of, decimal_of, octal_of, codes_of, text_from, text_of, print_text_from, print_text_of}
 use Rattle.l6_group.specs.Spelling.{find_spelled}

@@ -1,5 +1,5 @@
 -- The program that a deck spells is one, and has an image.
-use Rattle.std.proofs.Common.{◌≡◌, ℕ, ◌+◌, ◌≤◌, List, [], ◌∷◌, ◌++◌, length, map, Bool, true, is_ok, Option, Some, None, Ok, refl, ap, sym, ◌∙◌, subst, arith, length-append}
+use Rattle.std.proofs.Common.{◌≡◌, ℕ, List, [], ◌∷◌, ◌++◌, length, map, Bool, true, is_ok, Option, Some, None, Ok, refl, ap, sym, ◌∙◌, subst, arith, length-append}
 use Rattle.std.specs.List.{All, list_all}
 use Rattle.std.specs.Option.{option_map, option_and_then}
 use Rattle.std.proofs.lemmas.Bool.{and_from}
@@ -8,12 +8,9 @@ use Rattle.l6_prog.specs.Statement.{Parts, plain_done}
 use Rattle.l6_prog.specs.Program.{program_of}
 use Rattle.l6_prog.specs.Values.{is_test, is_operation, has_values}
 use Rattle.l6_prog.specs.declared.condition.Test.{Test}
-use Rattle.l6_prog.specs.declared.operand.Operand.{Operand}
 use Rattle.l6_prog.specs.declared.operation.Op.{Op}
 use Rattle.l6_prog.specs.declared.operation.Op.TheVariants.{Get, Duplicate, Call, Input, Set, Add, Subtract, Multiply, Divide, Remainder, And, Or, ExclusiveOr, Complement, ShiftLeft, ShiftRight, Exchange, Define, SaveContent, RestoreContent, SaveDefinition, RestoreDefinition, Free, PrintCharacters, PrintDecimal, PrintOctal, PrintText, PrintLine}
 use Rattle.l6_prog.proofs.Programs.{is_program}
-use Rattle.l6_image.specs.Image.{HasImage}
-use Rattle.l6_image.specs.declared.version.Version.TheVariants.{Two}
 use Rattle.l6_group.specs.declared.label.Label.{Label}
 use Rattle.l6_group.specs.Operation.{operation_of}
 use Rattle.l6_group.specs.Test.{test_of}
@@ -22,11 +19,9 @@ use Rattle.l6_card.specs.Laws.{IsSpelled, AreSpelled}
 use Rattle.l6_card.specs.Statement.{DeckStatementParts}
 use Rattle.l6_card.proofs.Settling.{within_limits}
 use Rattle.l6_card.proofs.Spans.{groups_are_at_spans}
-use Rattle.l6_asm.specs.Assembled.{Assembled}
 use Rattle.l6_asm.specs.Labels.{number_of, labels_of}
 use Rattle.l6_asm.specs.Laws.{DecksHaveImages}
 use Rattle.l6_asm.specs.Resolution.{number_if_given, resolved, operation_of as made_operation, each_made, statement_of, statements_of}
-use Rattle.l6_asm.specs.Spells.{Spells}
 use Rattle.l6_asm.proofs.Labels.{went_on}
 use Rattle.l6_asm.proofs.Makings.{both_made, each_made-length}
 use Rattle.l6_asm.proofs.Programs.{found_operation, statement_made, each_good, program_of-made}

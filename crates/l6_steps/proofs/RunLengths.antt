@@ -1,5 +1,5 @@
 -- Every run ends, and only in a last state.
-use Rattle.std.proofs.Common.{◌≡◌, ℕ, ◌+◌, ◌≤◌, Bool, true, false, List, [], ◌∷◌, length, Option, None, Some, Result, Ok, Err, refl, sym, ap, ◌∙◌, subst, arith, eqb, eq-eqb}
+use Rattle.std.proofs.Common.{◌≡◌, ℕ, ◌+◌, ◌≤◌, Bool, true, false, List, [], ◌∷◌, length, Option, None, Some, Result, Ok, Err, refl, sym, ap, ◌∙◌, arith, eq-eqb}
 use Rattle.std.specs.Prelude.{is_some, is_none, ◌||◌, ◌&&◌, ◌==◌}
 use Rattle.l6_store.specs.Scan.{scan_rule}
 use Rattle.l6_store.proofs.Scan.{scan-chooses}
@@ -8,8 +8,8 @@ use Rattle.l6_steps.specs.declared.trap.Trap.{Trap}
 use Rattle.l6_steps.specs.ActionResult.{ActionResult}
 use Rattle.l6_steps.specs.Laws.{RunsEnd, RunsGoOn}
 use Rattle.l6_steps.specs.Run.{IsRun}
-use Rattle.l6_steps.specs.State.{RunContext, State, start, is_last}
-use Rattle.l6_steps.specs.Step.{Step, action_result_at, next, outcome}
+use Rattle.l6_steps.specs.State.{RunContext, State, is_last}
+use Rattle.l6_steps.specs.Step.{action_result_at, next, outcome}
 
 -- a run has so many states before this one, which is no more than it may count; and as many are counted,
 -- where the run has not ended

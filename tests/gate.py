@@ -48,12 +48,16 @@ PACKAGES = {"binaryen", "nodejs", "chromium", "mypy", "shellcheck"}  # without w
 NOT_A_STEP = {"hostile.py"}  # scripts of tests/ that ./test does not call
 
 STAND_IN = """#!/bin/sh
-# A stand-in for python3 and rt: notes its words, and prints a count, which $FAILS and $HOW make a bad one.
+# A stand-in for python3 and rt: notes its words, and prints a count, which $HOW makes a bad one in what $FAILS
+# names, with colons between.
 words="${0##*/} $*${L6_ONLY+ of $L6_ONLY}"
 [ "$*" = version ] && exec cat "$STAND_IN/version"
 echo "$words" >> "$STAND_IN/steps"
 how=well
-case "$words" in *"$FAILS"*) how=$HOW ;; esac
+IFS=:
+for one in $FAILS; do
+    case "$words" in *"$one"*) how=$HOW ;; esac
+done
 case $how in
     well) echo "99999 passed, 0 failed" ;;
     a-failed-trial) echo "99999 passed, 1 failed" ;;
@@ -124,23 +128,24 @@ def steps_that_fail(gate: Gate) -> Iterator[Trial]:
         yield f"{name} with all steps well", (f"{count} passed, 0 failed", 0), last_line(actual)
         yield f"the steps of {name}", steps, known_in(steps, calls)
         yield f"what {name} says of failures then", [], failures_in(actual)
-    for at, step in enumerate(STEPS):
-        yield from step_that_fails(gate, (), step, HOWS[at % len(HOWS)])
+    # (each step fails once, beside others that do not)
+    for which in range(2):
+        yield from steps_fail(gate, (), STEPS[which::2], HOWS[which])
     for how in HOWS:
-        yield from step_that_fails(gate, (), STEPS[0], how)
+        yield from steps_fail(gate, (), STEPS[:1], how)
     for step in (GATE_STEPS[0], *GATE_STEPS[-2:]):
-        yield from step_that_fails(gate, ("--prove",), step, HOWS[1])
+        yield from steps_fail(gate, ("--prove",), [step], HOWS[1])
 
 
-def step_that_fails(gate: Gate, words: tuple[str, ...], step: str, how: str) -> Iterator[Trial]:
-    """A step fails in some way. It alone is named at the end."""
-    actual, calls = gate.test(*words, fails=step, how=how)
+def steps_fail(gate: Gate, words: tuple[str, ...], failing: list[str], how: str) -> Iterator[Trial]:
+    """Some steps fail in some way. They alone are named at the end."""
+    actual, calls = gate.test(*words, fails=":".join(failing), how=how)
+    steps, names = GATE_STEPS if words else STEPS, gate.names(*words)
     count = last_line(actual)[0].rpartition(", ")[2]
-    number = (GATE_STEPS if words else STEPS).index(step)
-    named = failures_in(actual)
-    names = gate.names(*words)
-    expected = ("1 failed", 1, [names[number]], len(names))
-    yield f"./test {' '.join(words)}: {how} of {step}", expected, (count, actual.status, named, len(calls))
+    wrong = [names[steps.index(step)] for step in failing]
+    expected = (f"{len(failing)} failed", 1, wrong, len(names))
+    what = f"./test {' '.join(words)}: {how} of {', '.join(failing)}"
+    yield what, expected, (count, actual.status, failures_in(actual), len(calls))
 
 
 def failures_in(actual: Answer[str]) -> list[str]:
@@ -188,7 +193,7 @@ def words_of_the_command(gate: Gate) -> Iterator[Trial]:
     yield "--only a trial, what is asked for", True, all(call.endswith(" of no word") for call in calls)
     actual, calls = gate.test("--only", "no word", fails="tests/", how="no-trial")
     yield "--only a trial of one step", 0, actual.status
-    actual, _ = gate.test("--only", "no such trial", fails="", how="no-trial")
+    actual, _ = gate.test("--only", "no such trial", fails=" ", how="no-trial")
     yield "--only a trial that is not there", ("0 passed, 1 failed", 1), last_line(actual)
     _, calls = gate.test("--prove", "--anew")
     yield "--anew", ["python3 tests/edits.py --anew"], [call for call in calls if "edits" in call]

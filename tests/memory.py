@@ -101,7 +101,7 @@ class Shim:
         return actual, Requests(int(made), was_refused == "refused", int(kept), int(peak), int(total))
 
 
-# A program of which it is known what it requests: three blocks, of which one replaces another and one is kept.
+# A program of which it is known what it requests: three blocks; one replaces another, and one is kept.
 KNOWN = """
 #include <stdlib.h>
 int main(void) {
@@ -117,7 +117,7 @@ SLACK = 64  # bytes that malloc gives more than it is asked for, at most, in all
 
 
 def known_requests(folder: str) -> Iterator[Trial]:
-    """The trials that the shim of refuse.c counts what a known program requests, and refuses what it is to."""
+    """The trials that the shim of refuse.c counts and refuses what it is to, of a known program."""
     source, program = Path(folder, "known.c"), Path(folder, "known")
     source.write_text(KNOWN)
     subprocess.run(["cc", "-O0", "-o", program, source], check=True)
@@ -128,8 +128,8 @@ def known_requests(folder: str) -> Iterator[Trial]:
         actual = (ended.status, counted.made, counted.kept, counted.was_refused)
         yield f"a known program, with request {refused} refused", (status, made, kept, refused > 0), actual
         if not refused:
-            bytes_ = [(1_000 + 500 - 1_000 + 3_000, counted.peak), (1_000 + 500 + 3_000, counted.total)]
-            yield "the bytes of a known program", [True, True], [0 <= it - least < SLACK for least, it in bytes_]
+            held, total = counted.peak - (500 + 3_000), counted.total - (1_000 + 500 + 3_000)
+            yield "the bytes of a known program", (True, True), (0 <= held < SLACK, 0 <= total < SLACK)
 
 
 class WrongShim:

@@ -138,13 +138,13 @@ def variety() -> Iterator[Trial]:
 
 
 def hostility() -> Iterator[Trial]:
-    """The trials that hostile jobs are hostile: some decks have bytes that no sound deck has, some images none."""
+    """The trials that hostile jobs are hostile: some decks have odd bytes, some images are altered."""
     jobs = [hostile_jobs.job_of(number) for number in range(1, 4 * VARIED + 1)]
     odd = [job for job in jobs if set(job.deck) & set(ODD)]
     yield "hostile decks with odd bytes", True, len(odd) >= VARIED // 20
     images = [job.stdin(IMAGE) for job in jobs if job.has_image]
-    marks = [len({job for job in images if IMAGE[:13] not in job}), len({job for job in images if IMAGE in job})]
-    yield "hostile images, altered and whole", [True, True], [count > 0 for count in marks]
+    kinds = [any(IMAGE not in image for image in images), any(IMAGE in image for image in images)]
+    yield "hostile images, altered and whole", [True, True], kinds
     parts = [sum(mark in job.rest for job in jobs) for mark in (b"$INPUT", b"$COMMANDS")]
     yield "hostile inputs and commands", [True, True], [count > VARIED // 4 for count in parts]
 

@@ -227,7 +227,7 @@ def contents() -> Iterator[Trial]:
 
 
 def counting_commands() -> Iterator[Trial]:
-    """Commands of a page that count something: the numbers that they print last are those of its paragraph."""
+    """Commands of a page that count something: the numbers that they print last are the paragraph's."""
     for page in PAGES:
         for paragraph in re.split(r"\n\s*\n", text_of(page)):
             for command in re.findall(r"`python3 (tools/reached\.py [^`]+)`", paragraph):

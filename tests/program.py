@@ -308,7 +308,7 @@ def script_that(folder: str, name: str, does: str) -> str:
 
 
 def canaries() -> Iterator[Trial]:
-    """The first trial of each group, on a program that answers to nothing; cases that are wrong in one part."""
+    """The first trial of each group, on a program that is wrong; cases that are wrong in one part."""
     with tempfile.TemporaryDirectory() as folder:
         refused = next(case for case in read_cases() if case.expected.status == 4 and not case.has_free_text)
         yield from case_trials(script_that(folder, "other-line", "echo wrong >&2; exit 4"), [refused])

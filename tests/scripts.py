@@ -119,7 +119,7 @@ def checks_that_are_killed(checkout: Checkout) -> Iterator[Trial]:
 
 
 def edits_meanwhile(checkout: Checkout) -> Iterator[Trial]:
-    """What was edited while it was proved is proved again, even if the edit is undone: who knows what was read."""
+    """What was edited while it was proved is proved again, even if the edit is undone."""
     checkout.write("crates/l6_word/src/lib.rt", "a text that is edited meanwhile\n")
     (checkout.state / "edit").write_text(str(checkout.top / "crates/l6_word/src/lib.rt"))
     first = checkout.run("tools/prove.py", "l6_word")

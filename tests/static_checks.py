@@ -23,6 +23,7 @@ TOP = Path(__file__).resolve().parent.parent
 BAD_PYTHON = "def length(text: str) -> int:\n    return text\n"
 BAD_SHELL = "#!/bin/sh\nrm $1\n"
 NO_SCRIPTS = {".git", "crates", "dist", "docs", "examples"}  # folders
+MADE = {"out", "__pycache__"}  # folders of what is made
 CLEAN = ""  # what is said of a file without a fault
 
 
@@ -60,7 +61,7 @@ def scripts() -> Iterator[Path]:
     folders = [it for it in TOP.iterdir() if it.is_dir() and it.name not in NO_SCRIPTS]
     files = [it for it in TOP.iterdir() if it.is_file()]
     for folder in folders:
-        files += [it for it in folder.rglob("*") if it.is_file() and not {"out", "__pycache__"} & set(it.parts)]
+        files += [it for it in folder.rglob("*") if it.is_file() and MADE.isdisjoint(it.parts)]
     yield from (file for file in sorted(files) if first_line(file).startswith("#!"))
 
 

@@ -28,6 +28,7 @@ from pathlib import Path
 from answers import Answer, answer, answer_of
 from cases import read_cases
 from largest_jobs import MAX_OUTPUT, debug_job, longest_image, run_job
+from program import cut_images, examples, failing_devices, helps, limited_files
 from trials import Trial, report
 
 HERE = Path(__file__).resolve().parent
@@ -178,6 +179,19 @@ def refused_memory(program: Program) -> Iterator[Trial]:
     yield "memory refused to an image", expected, answer_of(command, input=image, preexec_fn=leave_room)
 
 
+def as_the_native_one(program: Program) -> Iterator[Trial]:
+    """The trials of program.py on images, help and files of limited length, if nothing else has to run it."""
+    if program.runner:
+        return
+    path = str(DIST / program.name)
+    yield from examples(path)
+    yield from cut_images(path)
+    yield from failing_devices(path)
+    with tempfile.TemporaryDirectory() as folder:
+        yield from helps(path, folder)
+        yield from limited_files(path, folder)
+
+
 def largest(program: Program) -> Iterator[Trial]:
     """The trials on the largest jobs."""
     deck, image, printout = longest_image()
@@ -316,7 +330,7 @@ def trials(is_quick: bool) -> Iterator[Trial]:
     for program in programs(is_quick):
         asked = some(all_jobs, FEW) if is_quick else all_jobs
         yield from known_answers(program, asked, is_quick)
-        groups = [devices, refused_memory] if is_quick else [devices, refused_memory, largest]
+        groups = [devices, refused_memory, as_the_native_one, *([] if is_quick else [largest])]
         for group in groups:
             for name, expected, actual in group(program):
                 yield f"{program.name}: {name}", expected, actual

@@ -4,6 +4,7 @@ from __future__ import annotations
 import base64
 import json
 import os
+import select
 import shutil
 import subprocess
 import sys
@@ -186,6 +187,8 @@ class Browser:
 
     def _read(self) -> dict:
         while b"\0" not in self._buffer:
+            if not select.select([self._from], [], [], SECONDS)[0]:
+                raise AssertionError(f"the browser does not answer within {SECONDS} seconds")
             part = os.read(self._from, 1 << 20)
             if not part:
                 raise AssertionError("the browser has ended")

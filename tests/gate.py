@@ -42,9 +42,14 @@ STEPS = [
     "tests/scripts.py",
     "tests/bundled_page.py",
     "web/tests/all.py",
+    "tests/ports.py",
+    "tests/release.py",
 ]
-GATE_STEPS = ["rt ci", *STEPS[:-1], "tests/edits.py", "web/tests/all.py"]
-PACKAGES = {"binaryen", "nodejs", "chromium", "mypy", "shellcheck"}  # without which tests are left out
+GATE_STEPS = ["rt ci", *STEPS[:-3], "tests/edits.py", *STEPS[-3:]]
+PACKAGES = {  # without which tests are left out
+    "binaryen", "nodejs", "chromium", "mypy", "shellcheck", "qemu-user-static", "busybox-static", "zsh", "fish",
+    "lintian",
+}
 NOT_A_STEP = {"hostile.py"}  # scripts of tests/ that ./test does not call
 
 STAND_IN = """#!/bin/sh
@@ -133,7 +138,7 @@ def steps_that_fail(gate: Gate) -> Iterator[Trial]:
         yield from steps_fail(gate, (), STEPS[which::2], HOWS[which])
     for how in HOWS:
         yield from steps_fail(gate, (), STEPS[:1], how)
-    for step in (GATE_STEPS[0], *GATE_STEPS[-2:]):
+    for step in (GATE_STEPS[0], *GATE_STEPS[-4:]):
         yield from steps_fail(gate, ("--prove",), [step], HOWS[1])
 
 
@@ -189,7 +194,7 @@ def words_of_the_command(gate: Gate) -> Iterator[Trial]:
     actual, _ = gate.test("--only", "install", fails="tests/", how="a-status")
     yield "--only a step that fails", ("99999 passed, 1 failed", 1), last_line(actual)
     actual, calls = gate.test("--only", "no word")
-    yield "--only a trial", (STEPS[1:-1], 0), (known_in(STEPS, calls), actual.status)
+    yield "--only a trial", ([step for step in STEPS[1:] if step != "web/tests/all.py"], 0), (known_in(STEPS, calls), actual.status)
     yield "--only a trial, what is asked for", True, all(call.endswith(" of no word") for call in calls)
     actual, calls = gate.test("--only", "no word", fails="tests/", how="no-trial")
     yield "--only a trial of one step", 0, actual.status

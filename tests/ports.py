@@ -317,7 +317,7 @@ def first_commands(run: Callable[..., Answer[bytes]]) -> Iterator[Trial]:
     yield "its removal", 0, run("./install --uninstall /usr && test ! -e /usr/bin/l6").status
     changed = "crates/l6/src/job.rt"
     actual = run(f"echo >> {changed} && ./l6 run < examples/first.deck")
-    names = f"l6:   {changed} has changed\n".encode()
+    names = f"l6:   {changed} has changed\nl6: dist/l6-static itself runs as it is".encode()
     yield "a changed source is named", (1, True), (actual.status, names in actual.stderr)
     yield "a program that is run by itself", PRINTED, run("dist/l6-static run < examples/first.deck")
 

@@ -131,7 +131,12 @@ explain() {
     else
         complain "dist/$1 was not made from the sources in this checkout"
         explain_sources
-        complain "dist/$1 itself runs as it is, whatever the sources say"
+        for name in "$@"; do
+            if is_whole "$top/dist/$name" && starts "$top/dist/$name"; then
+                complain "dist/$name itself runs as it is, whatever the sources say"
+                break
+            fi
+        done
     fi
 }
 

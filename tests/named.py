@@ -42,7 +42,7 @@ PAGES = [
     "dist/README.md",
     "tests/model/README.md",
 ]
-FOLDERS = ("crates", "tests", "tools", "web", "ports", "bench", "examples", "docs", "dist", ".ci")
+FOLDERS = ("crates", "tests", "tools", "web", "ports", "completions", "licenses", "bench", "examples", "docs", "dist", ".ci")
 SUFFIXES = r"rt|antt|py|mjs|js|jsonl|c|sh|css|html|json|deck|session|transcript|svg|md|edit|1"
 FILE = re.compile(rf"[\w.-]*(?:/[\w.-]+)*\.(?:{SUFFIXES})")
 # Names of files that a reader has, or that a script makes.

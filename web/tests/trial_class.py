@@ -128,8 +128,13 @@ def lecture(page: Page) -> None:
 
 @trial
 def splitter(page: Page) -> None:
-    page.browser.resize(1280, 720)
     page.open("#tree@137")
+    page.browser.resize(1280, 560)
+    seen = f"(it => Boolean(it) && {IN_VIEW}(it))(document.querySelector('.spot.at'))"
+    page.browser.wait("new Promise(done => setTimeout(() => done(true), 400))")
+    page.right("in a smaller window the card is brought into sight", page.value(seen))
+    page.browser.resize(1280, 720)
+    page.browser.wait("new Promise(done => setTimeout(() => done(true), 300))")
     widths = "['left', 'drawing'].map(it => document.getElementById(it).clientWidth)"
     left, right = page.value(widths)
     page.browser.drag("#splitter", -150)

@@ -48,7 +48,7 @@ STEPS = [
 GATE_STEPS = ["rt ci", *STEPS[:-3], "tests/edits.py", *STEPS[-3:]]
 PACKAGES = {  # without which tests are left out
     "binaryen", "nodejs", "chromium", "mypy", "shellcheck", "qemu-user-static", "busybox-static", "zsh", "fish",
-    "lintian",
+    "lintian", "firefox-esr", "node-typescript", "python3-markdown",
 }
 NOT_A_STEP = {"hostile.py"}  # scripts of tests/ that ./test does not call
 

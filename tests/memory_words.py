@@ -97,7 +97,8 @@ TYPE = re.compile(
 ARGUMENTS = r"\((?:[^()]|\((?:[^()]|\((?:[^()]|\([^()]*\))*\))*\))*\)"
 ALLOCATES = rf"(?:\b(?:push|insert){ARGUMENTS}|\b\w+\([^()]*\balloc\b[^()]*\))"
 MADE = r"(?:return )?(?:Err\()?\w+::NoMemory\b"
-ARM = re.compile(rf"[{{}},]\s*(?:Err\()?\w+::NoMemory\)? =>\s*{MADE}")
+# (an error of a device or of clap is OutOfMemory)
+ARM = re.compile(rf"[{{}},]\s*(?:Err\()?\w+::(?:NoMemory|OutOfMemory)\)? =>\s*{MADE}")
 MAPPED = re.compile(rf"{ALLOCATES}\s*\.map_err\(\|_\| \w+::NoMemory\b")
 OF_CALL = re.compile(rf"\bmatch [^{{}};]*{ALLOCATES} \{{[^{{}};]*\bErr\(_\) => {MADE}")
 
@@ -223,6 +224,7 @@ REFUSED = [
     "struct R {\n    alloc: Global,\n}\nimpl R {\n    fn fill(&self) {\n        take(self.alloc)\n    }\n}\n",
     "fn f() { Err(RunFault::NoMemory) }", "fn f() -> u8 { AllocError }",
     "fn f() { match read() { Err(_) => RunFault::NoMemory, } }",
+    "fn f() { match error.kind() { ErrorKind::Other => RunFault::NoMemory, } }",
 ]
 ALLOWED = [
     "fn f() { Vec::with_capacity(alloc, words.len()) }",
@@ -232,6 +234,7 @@ ALLOWED = [
     "fn f(alloc: Global) -> Result<u8, AllocError> { words.push(1) }",
     "fn f() { match list.push(1) { Err(_) => Err(RunFault::NoMemory), } }",
     "fn f() { match it { RunFault::NoMemory => RunFault::NoMemory, } }",
+    "fn f() { match error.kind() { ErrorKind::OutOfMemory => RunFault::NoMemory, } }",
 ]
 
 

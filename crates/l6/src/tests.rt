@@ -51,23 +51,19 @@ fn limits_stop_a_run(rt: HostRuntime) -> Result<(), Fail> {
     ];
     for (deck, steps, output, ending, text) in rows {
         let options = Options::new(64, steps, output).ok_or("out of range")?;
-        deck_runs_so(&rt, deck, options, ending, text);
+        let (result, printout) = run(rt.alloc(), deck, options);
+        assert_eq!(rt; result, Ok(Outcome::Ran(ending)));
+        assert_eq!(rt; printout.as_slice(), text);
     }
     Ok(())
 }
 
-/// The run of a deck under these options ends so, and prints this.
-fn deck_runs_so(rt: &HostRuntime, deck: &[u8], options: Options, ending: Ending, text: &[u8]) {
-    let mut writer = Host::new(Vec::new(rt.alloc()));
-    let result = perform(
-        rt.alloc(),
-        Verb::Run,
-        options,
-        &mut Host::new(deck),
-        &mut writer,
-    );
-    assert_eq!(rt; result, Ok(Outcome::Ran(ending)));
-    assert_eq!(rt; writer.into_inner().as_slice(), text);
+/// What becomes of a deck under these options, and what is printed.
+fn run(alloc: Global, deck: &[u8], options: Options) -> (Result<Outcome, RunFault>, Vec<u8>) {
+    let mut reader = Host::new(deck);
+    let mut writer = Host::new(Vec::new(alloc));
+    let result = perform(alloc, Verb::Run, options, &mut reader, &mut writer);
+    (result, writer.into_inner())
 }
 
 /// What became of a job.

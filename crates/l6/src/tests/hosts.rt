@@ -57,40 +57,27 @@ const FAILURES: [ErrorKind; 41] = [
     ErrorKind::Uncategorized,
 ];
 
-/// A reader and a writer that have this trouble at their second call are asked three times, and answer
-/// so then.
-fn second_call_answers(
-    rt: &HostRuntime,
-    text: &[u8],
-    error: Option<ErrorKind>,
-    answer: Result<usize, Trouble>,
-) -> Result<(), Fail> {
-    let mut buffer = vec![in rt.alloc(); 0; MANY]?;
-    let mut reader = Host::new(Device::new(text, MANY, 2, error));
-    let mut writer = Host::new(Device::new(Vec::new(rt.alloc()), MANY, 2, error));
-    for want in [Ok(MANY), answer, Ok(MANY)] {
-        assert_eq!(rt; reader.read(buffer.as_mut_slice()), want);
-        assert_eq!(rt; writer.write(buffer.as_slice()), want);
-    }
-    // The reader has no more bytes.
-    assert_eq!(rt; reader.read(buffer.as_mut_slice()), Ok(0));
-    assert_eq!(rt; reader.into_inner().calls, 4);
-    let device = writer.into_inner();
-    assert_eq!(rt; device.calls, 3);
-    assert_eq!(rt; device.flushes, 0);
-    assert_eq!(rt; device.bytes.len(), text.len());
-    Ok(())
-}
-
 #[test]
 fn a_host_answers_as_its_device(rt: HostRuntime) -> Result<(), Fail> {
     let text = vec![in rt.alloc(); 7; MANY * 2]?;
-    let text = text.as_slice();
-    second_call_answers(&rt, text, None, Ok(0))?;
-    let interrupted = Err(Trouble::Interrupted);
-    second_call_answers(&rt, text, Some(ErrorKind::Interrupted), interrupted)?;
-    for kind in FAILURES {
-        second_call_answers(&rt, text, Some(kind), Err(Trouble::Failed))?;
+    let mut buffer = vec![in rt.alloc(); 0; MANY]?;
+    let interrupted = (Some(ErrorKind::Interrupted), Err(Trouble::Interrupted));
+    let failures = FAILURES.map(|kind| (Some(kind), Err(Trouble::Failed)));
+    for (error, answer) in [(None, Ok(0)), interrupted].into_iter().chain(failures) {
+        // The second call of each has the trouble.
+        let mut reader = Host::new(Device::new(text.as_slice(), MANY, 2, error));
+        let mut writer = Host::new(Device::new(Vec::new(rt.alloc()), MANY, 2, error));
+        for want in [Ok(MANY), answer, Ok(MANY)] {
+            assert_eq!(rt; reader.read(buffer.as_mut_slice()), want);
+            assert_eq!(rt; writer.write(buffer.as_slice()), want);
+        }
+        // The reader has no more bytes.
+        assert_eq!(rt; reader.read(buffer.as_mut_slice()), Ok(0));
+        assert_eq!(rt; reader.into_inner().calls, 4);
+        let device = writer.into_inner();
+        assert_eq!(rt; device.calls, 3);
+        assert_eq!(rt; device.flushes, 0);
+        assert_eq!(rt; device.bytes.len(), text.len());
     }
     Ok(())
 }

@@ -1,6 +1,7 @@
 //! Runs in a store of one unit.
 
-use super::deck_runs_so;
+use super::run;
+use crate::job::Outcome;
 use l6_run::{Ending, Options};
 use l6_steps::Trap;
 use std::test::Fail;
@@ -27,7 +28,9 @@ fn one_unit_is_soon_full(rt: HostRuntime) -> Result<(), Fail> {
     ];
     for (deck, ending, text) in rows {
         let options = Options::new(1, 1_000, 1_000).ok_or("out of range")?;
-        deck_runs_so(&rt, deck, options, ending, text);
+        let (result, printout) = run(rt.alloc(), deck, options);
+        assert_eq!(rt; result, Ok(Outcome::Ran(ending)));
+        assert_eq!(rt; printout.as_slice(), text);
     }
     Ok(())
 }

@@ -548,6 +548,11 @@ def on_a_small_screen(page: Page) -> None:
     page.browser.resize(375, 667, phone=True)
     page.open()
     page.put(" (A,GT,1)(HELLO,PH)\n")
+    height = "document.getElementById('run').getBoundingClientRect().y"
+    place = page.value(height)
+    page.value("l6.tellBusy()")
+    page.same("the controls stay where they are", page.value(height), place)
+    page.value("l6.showBusy()")
     page.click("run")
     page.right("the printout is in view", page.value(f"{IN_VIEW}(document.getElementById('printed'))"))
     page.open("#exercise-1")

@@ -11,6 +11,10 @@ from browser import Browser
 TOP = Path(__file__).resolve().parent.parent.parent
 TRIALS: list[Callable[[Page], None]] = []
 SHOWN = 600  # characters of what differs
+NOTE = """(async () => {
+    while (document.body.classList.contains('busy')) await new Promise(it => setTimeout(it, 10));
+    return document.getElementById('run-note').textContent;
+})()"""
 
 
 class Page:
@@ -66,6 +70,10 @@ class Page:
     def text(self, name: str) -> str:
         """The text of an element."""
         return self.value(f"{element(name)}.textContent")
+
+    def note(self) -> str:
+        """What the page tells, after what takes longer than a moment."""
+        return self.value(NOTE)
 
     def box(self, name: str) -> str:
         """What a box holds."""

@@ -225,7 +225,7 @@ def leaps(page: Page) -> None:
     page.do("l6.out()")
     page.same("and out of the other", page.value("l6.view.amounts.returns"), 0)
     page.do("l6.out()")
-    page.has("then no call waits", page.text("run-note"), "No call waits")
+    page.has("then no call waits", page.note(), "No call waits")
     page.browser.click("#bugs tr:nth-child(1) button.name")
     page.same("a click on a bug chooses it", page.text("watched"), "of A")
     found = []
@@ -238,7 +238,7 @@ def leaps(page: Page) -> None:
         [f"Changed A was {was}, is {now}" for was, now in ((6, 7), (5, 6), (0, 5))],
     )
     page.click("change-back")
-    page.has("before the first", page.text("run-note"), "A does not change before this state")
+    page.has("before the first", page.note(), "A does not change before this state")
     page.click("change-next")
     page.same("and forward", page.text("changes"), "Changed A was 5, is 6")
 

@@ -3,7 +3,7 @@ from __future__ import annotations
 
 import json
 
-from page import Page, trial
+from page import NOTE, Page, trial
 
 IDS = """[...new Set([...document.querySelectorAll(
     'button[id], select, textarea, input, summary, [tabindex="0"], [role=separator]')]
@@ -81,7 +81,7 @@ CONTROLS: dict[str, tuple[str, object, str, object]] = {
     "out": (
         "0",
         "click",
-        "document.getElementById('run-note').textContent",
+        NOTE,
         "No call waits for its return here.",
     ),
     "mark-back": ("l6.state(20)", "click", STATE, 14),
@@ -187,7 +187,7 @@ KEYS: dict[str, tuple[str, str, object]] = {
     "Space": ("0", "l6.player.isPlaying", True),
     "S": ("0", STATE, 19),
     "V": ("0", STATE, 16),
-    "U": ("0", "document.getElementById('run-note').textContent", "No call waits for its return here."),
+    "U": ("0", NOTE, "No call waits for its return here."),
     "C": ("l6.viewer.watch({chain: 'AV'})", STATE, 16),
     "X": ("l6.viewer.watch({chain: 'B'})", STATE, 13),
     "G": ("l6.state(2)", STATE, 14),

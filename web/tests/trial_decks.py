@@ -135,7 +135,7 @@ def links(page: Page) -> None:
     page.do("l6.state(3)")
     page.value("l6.toggle(1)")
     page.do("l6.library.makeLink()")
-    page.has("what a link from a file is good for is said", page.text("run-note"), "from # on")
+    page.has("what a link from a file is good for is said", page.note(), "from # on")
     page.open(page.value("location.hash"))
     page.same("the deck came with the link", page.box("deck"), deck)
     breakpoints = page.value("[...l6.editor.breakpoints]")
@@ -149,7 +149,7 @@ def links(page: Page) -> None:
     page.same("an example is shown at its state", page.state(), 137)
     page.open("#deck=nothing@@")
     page.same("a damaged link", page.box("deck"), " (A,E,5)(A,PD)\n")
-    page.has("it is said", page.text("run-note"), "The link is damaged")
+    page.has("it is said", page.note(), "The link is damaged")
     page.browser.troubles()
 
 

@@ -65,10 +65,10 @@ def long_files(page: Page) -> None:
         page.do(
             f"l6.library.openFile(new File([' (A,E,1)\\n'.repeat({size} / 9 + 1).slice(0, {size})], 'a'))"
         )
-        page.has(what, page.text("run-note"), part)
+        page.has(what, page.note(), part)
         page.same("and is not read into the editor", page.box("deck"), " (A,E,5)(A,PD)\n")
     page.do("l6.library.openFile(new File([' (A,E,1)\\n'.repeat(116508)], 'a.deck'))")
-    page.has("a shorter one is opened", page.text("run-note"), "opened a.deck")
+    page.has("a shorter one is opened", page.note(), "opened a.deck")
     page.value("l6.library.isChanged = false")
 
 
@@ -112,11 +112,11 @@ def damaged_links(page: Page) -> None:
         "#deck=AAAA@1",
     ):
         page.open(damaged)
-        page.has(f"the link {damaged[-30:]}", page.text("run-note"), "The link is damaged: ")
+        page.has(f"the link {damaged[-30:]}", page.note(), "The link is damaged: ")
         page.same("the first deck is there", page.box("deck"), " (A,E,5)(A,PD)\n")
     page.open("#tree@9999")
     page.has(
-        "a state that there is not", page.text("run-note"), "There is no state 9,999: the last one is 274."
+        "a state that there is not", page.note(), "There is no state 9,999: the last one is 274."
     )
     page.open("#tree@100000")
     page.same("the last one is shown", page.state(), 274)
@@ -128,7 +128,7 @@ def a_job_that_breaks(page: Page) -> None:
     page.open()
     page.value("l6.engine.worker.postMessage({module: 1})")
     page.do("l6.run()")
-    page.has("it is said", page.text("run-note"), "Error")
+    page.has("it is said", page.note(), "Error")
     page.value("l6.engine.stop()")
     page.do("l6.run()")
     page.same("and the next is done", page.text("printed"), "5\n== DONE AFTER 6 STEPS")

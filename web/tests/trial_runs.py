@@ -34,7 +34,7 @@ def an_endless_deck(page: Page) -> None:
     page.browser.wait("document.getElementById('stop').ariaDisabled === 'false'")
     page.same("the page answers while it runs", page.value("1 + 1"), 2)
     page.click("stop")
-    page.same("it is stopped", page.text("run-note"), "stopped")
+    page.same("it is stopped", page.note(), "stopped")
     page.do("l6.state(1000)")
     page.same("and goes on", page.text("where"), "AT 0.1 AFTER 1000 STEPS")
     page.do("l6.state(100000000)")

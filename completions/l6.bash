@@ -11,10 +11,11 @@ _l6() {
         --store | --steps | --output) return ;; # a number
     esac
     case $COMP_CWORD:$verb in
-        1:*) choices='asm list run load renew debug help --help --version' ;;
-        2:help) choices='asm list run load renew debug' ;;
+        1:*) choices='asm list check run load renew debug trace help --help --version' ;;
+        2:help) choices='asm list check run load renew debug trace' ;;
         *:run | *:load | *:debug) choices='--store --steps --output --help' ;;
-        *:asm | *:list | *:renew) choices='--help' ;;
+        *:trace) choices='--store --help' ;;
+        *:asm | *:list | *:check | *:renew) choices='--help' ;;
         *) choices='' ;;
     esac
     mapfile -t COMPREPLY < <(compgen -W "$choices" -- "$word")

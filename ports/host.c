@@ -3,7 +3,7 @@
 //
 // The program calls the functions of the first part, as dist/l6 calls those of the toolchain's own library.
 // They go to the C library, here musl, which is linked with the program. `build` says how the rest is done
-// for each processor.
+// for each processor, and gives the name of the program, PROGRAM.
 
 #include <errno.h>
 #include <signal.h>
@@ -41,10 +41,10 @@ static char **words;
 size_t rattle_arg_count(void) { return word_count; }
 
 // The word of this number: how many bytes it has, -1 past the last, -2 where the room is too small. The first
-// is l6 whatever the file is called, so that its texts are those of its pages.
+// is the program's name whatever the file is called, so that its texts are those of its pages.
 ptrdiff_t rattle_arg(size_t number, unsigned char *into, size_t room) {
     if (number >= word_count) return -1;
-    const char *word = number ? words[number] : "l6";
+    const char *word = number ? words[number] : PROGRAM;
     size_t size = strlen(word);
     if (size > room) return -2;
     memcpy(into, word, size);

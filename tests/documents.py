@@ -13,7 +13,7 @@ A page is read from its top, in a folder of its own, which has copies of example
             small letters are commands, and the others are their answers;
             else a job, which is an example itself
     figure  a drawing, a form or a table, which nothing runs
-    rust    a part of the source that the paragraph before names
+    rust    a part of the source that the paragraph before names; so are c, python and antt
 
 The last example is the commands or the job that were shown last. A job is debugged if it has a line
 $COMMANDS, and run if it has none; after a line that names a verb, as `./l6 list` prints:, it is listed.
@@ -63,9 +63,9 @@ VERB = re.compile(r"`\./l6 ([^`<]+)` (?:prints|says|writes)")
 SPAN = re.compile(r"`([^`]+)`")
 TRIAL = re.compile(r"`([^`]+)` in place of `([^`]+)`|\bWithout `(\([^`]+)`")
 DEBUG = re.compile(r"`(\./l6 debug[^`<]*)`")
-VERBS = ("", "asm", "list", "run", "load", "renew", "debug")
+VERBS = ("", "asm", "list", "run", "load", "renew", "debug", "trace")
 LINK = re.compile(r"\]\((?!https?:)([^)#]*)(?:#([^)]*))?\)")
-SOURCE = re.compile(r"`(crates/[^`]+\.rt)`")
+SOURCE = re.compile(r"`((?:crates|library|examples|tests)/[^`]+\.(?:rt|antt|c|rs|py))`")
 STATUS = re.compile(r"exit status (?:is )?(\d+)")
 
 
@@ -184,7 +184,7 @@ class Page:
             self.read_commands(block)
         elif block.kind == "text":
             self.read_text(block)
-        elif block.kind == "rust":
+        elif block.kind in ("rust", "c", "python", "antt"):
             self.read_source(block)
         else:
             self.judge(block, "a block that is neither run nor excused")

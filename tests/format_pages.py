@@ -199,14 +199,14 @@ OTHERS: dict[str, set[int]] = {
     # the year; sizes, places and results of examples, which are run; characters that are left of two lines
     LANGUAGE: {1966, *PLACES, 128, 512, 75712, 131072, 200000, 262134, 262142, 262143, 600000, 2146, 157},
     SUMMARY: set(),
-    # the years and pages of papers
-    MANUAL: {1965, 1966, 2026, 616, 623},
+    # the years and pages of papers; words and a place of the trace that is shown
+    MANUAL: {1965, 1966, 2026, 616, 623, 600, 1624},
     # bytes of a statement and a limit in bytes of addresses; turns back of a trial; jobs; actions of a case
     ROBUSTNESS: {160, 300, 10_000, 72_005},
     # megabytes and turns that were measured; places of the session, one in octal; what checkpoints reach
     DEBUGGER: {340, 200_000, 1026, 1028, 2002, 61_440},
     # the year, the places of the table, the largest store, instructions that were measured
-    ALLOCATOR: {1965, *PLACES, 261_120, 98_000},
+    ALLOCATOR: {1965, *PLACES, 261_120, 98_000, 128, 166, 186, 730, 732},
     IMAGE: set(),
     LISTING: {128},  # (a byte without a code)
 }

@@ -31,12 +31,16 @@ STEPS = [
     "tests/program.py",
     "tests/memory_runs.py",
     "tests/model_jobs.py",
+    "tests/check_decks.py",
     "bench/run",
+    "tests/traces.py",
+    "tests/library.py",
     "tests/documents.py",
     "tests/facts.py",
     "tests/table_decks.py",
     "tests/format_pages.py",
     "tests/named.py",
+    "tests/l6db.py",
     "tests/launcher.py",
     "tests/install.py",
     "tests/scripts.py",
@@ -50,7 +54,7 @@ PACKAGES = {  # without which tests are left out
     "binaryen", "nodejs", "chromium", "mypy", "shellcheck", "qemu-user-static", "busybox-static", "zsh", "fish",
     "lintian", "firefox-esr", "node-typescript", "python3-markdown",
 }
-NOT_A_STEP = {"hostile.py"}  # scripts of tests/ that ./test does not call
+NOT_A_STEP = {"compiled_edits.py", "hostile.py"}  # scripts of tests/ that ./test does not call
 
 STAND_IN = """#!/bin/sh
 # A stand-in for python3 and rt: notes its words, and prints a count, which $HOW makes a bad one in what $FAILS

@@ -30,6 +30,11 @@ INSTALLED = {  # the file that is installed, and where it is from
     **{f"share/doc/l6/licenses/{it.name}": f"licenses/{it.name}" for it in (TOP / "licenses").iterdir()},
 }
 
+DEBUGGER = (
+    "bin/l6db", "share/man/man1/l6db.1", "share/bash-completion/completions/l6db",
+    "share/zsh/site-functions/_l6db", "share/fish/vendor_completions.d/l6db.fish",
+)
+
 
 def announced(place: str) -> str:
     """What is said of an installation."""
@@ -95,6 +100,23 @@ def staged(checkout: Checkout) -> Iterator[Trial]:
         yield f"a program that does not start here: {chosen}", status, actual.status
         program = (folder / "usr/bin/l6").read_bytes()
         yield f"the program that is then in the stage: {chosen}", other.read_bytes(), program
+
+
+def debuggers(checkout: Checkout) -> Iterator[Trial]:
+    """Beside a program that is named its debugger is installed, with what belongs to it, and removed."""
+    folder = checkout.folder / "with a debugger"
+    named, debugger = checkout.top / "dist/l6-aarch64", checkout.top / "dist/l6db-aarch64"
+    debugger.write_text("a debugger\n")
+    words = ["--program", str(named), "/usr"]
+    actual = checkout.run("install", *words, has_rt=False, DESTDIR=str(folder))
+    yield "a debugger beside a program", (0, ""), (actual.status, actual.stderr)
+    expected = sorted(f"usr/{name}" for name in (*INSTALLED, *DEBUGGER))
+    yield "what is installed with it", expected, names_in(folder)
+    placed = folder / "usr/bin/l6db"
+    yield "the debugger", ("a debugger\n", 0o755), (placed.read_text(), placed.stat().st_mode & 0o777)
+    debugger.unlink()
+    actual = checkout.run("install", "--uninstall", "/usr", has_rt=False, DESTDIR=str(folder))
+    yield "its removal", (0, []), (actual.status, names_in(folder))
 
 
 def removals(checkout: Checkout) -> Iterator[Trial]:
@@ -192,7 +214,9 @@ def damaged_program(checkout: Checkout) -> Iterator[Trial]:
 
 def trials() -> Iterator[Trial]:
     """All trials, each group on a checkout of its own."""
-    for group in (arguments, installations, staged, removals, running_program, refusals, damaged_program):
+    for group in (
+        arguments, installations, staged, debuggers, removals, running_program, refusals, damaged_program,
+    ):
         with tempfile.TemporaryDirectory() as folder:
             for name, expected, actual in group(Checkout(Path(folder) / "checkout")):
                 yield f"{group.__name__}: {name}", expected, actual

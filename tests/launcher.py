@@ -262,6 +262,14 @@ def other_systems(checkout: Checkout) -> Iterator[Trial]:
         path = str(stand_in_for_uname(checkout, system))
         actual = checkout.run("l6", has_rt=False, FIRST=path, REFUSES="l6 l6-static l6-aarch64")
         yield f"no program for {system}", Answer("", why + NO_RT, 1), actual
+    path = str(stand_in_for_uname(checkout, "Plan9 mips"))
+    actual = checkout.run("l6db", has_rt=False, FIRST=path)
+    why = "l6db: dist/ has l6db for Linux on x86_64 and aarch64, and this is Plan9 mips; ./l6 debug is everywhere\n"
+    yield "no debugger for a system", Answer("", why + NO_RT.replace("l6:", "l6db:"), 1), actual
+    path = str(stand_in_for_uname(checkout, "Linux aarch64"))
+    actual = checkout.run("l6db", has_rt=False, FIRST=path)
+    why = "l6db: dist/l6db-aarch64 is not the program that dist/l6db-aarch64.provenance names: "
+    yield "no file of the debugger", (why, 1), (actual.stderr[:len(why)], actual.status)
 
 
 def stand_in_for_uname(checkout: Checkout, system: str) -> Path:

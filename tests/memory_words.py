@@ -47,6 +47,8 @@ ENTRIES_WORD = "vec![in"
 CONSTANTS = {
     "MAX_KEPT": (16, "checkpoints, each of which is kept"),
     "MAX_ENTRIES": (1_024, "entries of a pushdown, all of which a run may save"),
+    "MAX_WATCHED": (8, "chains, all of which may be watched"),
+    "MAX_DISPLAYED": (8, "chains, all of which may be displayed"),
     "LINES_AT_ONCE": (1_024, "lines of an image that go out together"),
     "LINE_BYTES": (13, "bytes of a line of an image, twelve digits and a line feed"),
     "CHUNK": (65_536, "bytes that are read at once"),
@@ -63,9 +65,19 @@ COUNTS = {
         ("fn new(alloc: Global, end: Place, blocks: usize)", "places of the store"),
     ("l6_draw/src/blocks.rt", "end as usize"):
         ("let end = end_of(store.units());", "places of the store, each of which may have a block"),
+    ("l6_history/src/stop.rt", "statements"):
+        ("pub fn new(alloc: Global, statements: usize)", "statements of a program, each of which may have a breakpoint"),
+    ("l6_session/src/session.rt", "statements"):
+        ("let statements = machine.program().statements().len();", "statements of a program"),
     ("l6_store/src/place_tag.rt", "places"):
         ("fn new(alloc: Global, places: usize)", "places, as many as the largest store has at most"),
     ("l6_store/src/scan_store.rt", "places"): ("let places = end_of(units) as usize;", "places of the store"),
+    ("l6_trace/src/map.rt", "end as usize"):
+        ("let end = end_of(store.units());", "places of the store"),
+    ("l6_trace/src/tally.rt", "names"):
+        ("pub fn new(alloc: Global, words: u32, names: usize)", "names of a trace"),
+    ("l6_trace/src/tracer.rt", "names"):
+        ("pub fn new(alloc: Global, units: u32, names: usize)", "names of a trace"),
     ("l6_registers/src/registers.rt", "limits.output"): ("limits: Limits", "bytes that a run may print"),
     ("l6_registers/src/registers.rt", "self.limits.output"): ("limits: Limits", "bytes that a run may print"),
 }
@@ -74,6 +86,7 @@ DIGITS = re.compile(r"\d{1,2}")
 # Where an allocator is kept: in which functions of the file it may be named.
 KEPT_ALLOCATORS = {
     "l6_raw/src/region.rt": {"new", "duplicate", "drop"},
+    "l6_store_c/src/loose.rt": {"of", "into_box"},  # (a box that is taken apart, and made again)
     "l6_card/src/reader.rt": None,  # (a reader makes the lists of a deck, and is gone once the deck is read)
 }
 STRUCT = re.compile(r"^(?:pub(?:\([^)]*\))? )?struct \w+[^;{]*\{.*?^\}", re.M | re.S)
@@ -99,6 +112,8 @@ ALLOCATES = rf"(?:\b(?:push|insert){ARGUMENTS}|\b\w+\([^()]*\balloc\b[^()]*\))"
 MADE = r"(?:return )?(?:Err\()?\w+::NoMemory\b"
 # (an error of a device or of clap is OutOfMemory)
 ARM = re.compile(rf"[{{}},]\s*(?:Err\()?\w+::(?:NoMemory|OutOfMemory)\)? =>\s*{MADE}")
+# (what has no more to say than that memory ran out passes it on as the error of an allocation)
+PLAIN_ARM = re.compile(r"[{},]\s*(?:Err\()?\w+::NoMemory\)? =>\s*(?:return )?Err\(AllocError\b")
 MAPPED = re.compile(rf"{ALLOCATES}\s*\.map_err\(\|_\| \w+::NoMemory\b")
 OF_CALL = re.compile(rf"\bmatch [^{{}};]*{ALLOCATES} \{{[^{{}};]*\bErr\(_\) => {MADE}")
 
@@ -122,7 +137,7 @@ def is_in_pattern(code: str, end: int) -> bool:
 
 def is_allowed(code: str, word: re.Match[str]) -> bool:
     """Whether one of the two words may be where it is."""
-    forms = (TYPE,) if word[0] == "AllocError" else (ARM, MAPPED, OF_CALL)
+    forms = (TYPE, PLAIN_ARM) if word[0] == "AllocError" else (ARM, MAPPED, OF_CALL)
     if any(found.end() == word.end() for form in forms for found in form.finditer(code)):
         return True
     if word[0] == "AllocError":
@@ -224,6 +239,7 @@ REFUSED = [
     "struct R {\n    alloc: Global,\n}\nimpl R {\n    fn fill(&self) {\n        take(self.alloc)\n    }\n}\n",
     "fn f() { Err(RunFault::NoMemory) }", "fn f() -> u8 { AllocError }",
     "fn f() { match read() { Err(_) => RunFault::NoMemory, } }",
+    "fn f() { match it { RunFault::Write => Err(AllocError), } }",
     "fn f() { match error.kind() { ErrorKind::Other => RunFault::NoMemory, } }",
 ]
 ALLOWED = [
@@ -234,6 +250,7 @@ ALLOWED = [
     "fn f(alloc: Global) -> Result<u8, AllocError> { words.push(1) }",
     "fn f() { match list.push(1) { Err(_) => Err(RunFault::NoMemory), } }",
     "fn f() { match it { RunFault::NoMemory => RunFault::NoMemory, } }",
+    "fn f() { match it { RunFault::NoMemory => Err(AllocError), } }",
     "fn f() { match error.kind() { ErrorKind::OutOfMemory => RunFault::NoMemory, } }",
 ]
 

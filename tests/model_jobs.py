@@ -60,8 +60,10 @@ def program_answer(program: str, words: list[str], stdin: bytes) -> Answer[bytes
 
 
 def cases(with_long: bool) -> Iterator[Trial]:
-    """The trials of the model on cases.jsonl."""
+    """The trials of the model on cases.jsonl; what `check` says is no part of the model."""
     for case in read_cases():
+        if case.args[:1] == ["check"]:
+            continue
         stdin, known = case.stdin, case.expected
         expected = without_usage(known.stdout, known.stderr, known.status)
         if with_long or len(stdin) <= LONG and len(expected.stdout) <= LONG:

@@ -1,5 +1,5 @@
 #!/usr/bin/env python3
-"""Checks that docs/pictures/ has just the pictures of the transcripts in examples/, and the docs show them.
+"""Checks that docs/pictures/ has just the pictures of the transcripts and traces in examples/, and the docs show them.
 
 The texts for Graphviz and the other pictures must be those that tools/pictures.py makes. Those pictures
 are read again, as pictures: the blocks of a map must have the order and the widths that the transcript says.
@@ -20,7 +20,7 @@ from pathlib import Path
 
 TOP = Path(__file__).resolve().parent.parent
 sys.path.insert(0, str(TOP / "tools"))
-from pictures import EXAMPLES, PICTURES, texts_of
+from pictures import EXAMPLES, PICTURES, texts_of, texts_of_trace
 from transcripts import drawings_and_maps
 from trials import Trial, report
 
@@ -198,15 +198,28 @@ def committed() -> Iterator[Trial]:
         text = transcript.read_text("ascii")
         for name, picture in texts_of(transcript.stem, text).items():
             names.add(name)
+            yield remade(name, picture)
             file = PICTURES / name
-            there = file.read_text("ascii") if file.exists() else "no file"
-            yield f"{name} (tools/pictures.py makes it)", picture, there
             if file.suffix == ".dot":
                 names.add(file.with_suffix(".svg").name)
                 yield from graph(file.with_suffix(".svg"), picture)
         yield from maps(transcript.stem, text)
         yield from layout(PICTURES / f"{transcript.stem}.svg", text)
+    for answers in sorted(EXAMPLES.glob("*.answers")):
+        text = answers.read_text("ascii")
+        for name, picture in texts_of_trace(answers.stem, text).items():
+            names.add(name)
+            yield remade(name, picture)
+            lines = re.findall(r"^\d+ (?!free)\S+, words (\d+)$", text, re.MULTILINE)
+            shown = [size for kind, size in shown_stretches(picture) if kind == "block"]
+            yield f"the blocks of {name}", list(map(int, lines)), shown
     yield "the files of docs/pictures/", sorted(names), sorted(it.name for it in PICTURES.iterdir())
+
+
+def remade(name: str, picture: str) -> Trial:
+    """The trial that the picture of a name is the one that is made."""
+    file = PICTURES / name
+    return f"{name} (tools/pictures.py makes it)", picture, file.read_text("ascii") if file.exists() else "no file"
 
 
 def graph(file: Path, picture: str) -> Iterator[Trial]:

@@ -3,8 +3,8 @@
 
 ports.py [--quick] makes them again and compares them with those of dist/, byte for byte; runs the cases and
 the examples on each; and tries devices that fail, refused memory, and the largest jobs. It tries the static
-programs in a root that has the shell of busybox and no C library. It says what it skips where a tool is
-missing. With --quick only 500 jobs are run on each program, the static ones are not made again, which takes a
+programs in a root that has the shell of busybox and no C library. On the static debuggers it plays sessions,
+at a terminal and over pipes (l6db.py). It says what it skips where a tool is missing. With --quick only 500 jobs are run on each program, the static ones are not made again, which takes a
 minute, and a program that was not made from the sources in the checkout is passed over.
 It prints each difference, and last 'N passed, M failed'.
 """
@@ -24,9 +24,12 @@ from collections.abc import Callable, Iterable, Iterator
 from concurrent.futures import ThreadPoolExecutor
 from dataclasses import dataclass
 from pathlib import Path
+from unittest import mock
 
+import answers
 from answers import Answer, answer, answer_of
 from cases import read_cases
+from l6db import at_terminal, one_by_one, page_sessions, words
 from largest_jobs import MAX_OUTPUT, debug_job, longest_image, run_job
 from program import cut_images, examples, failing_devices, helps, limited_files
 from trials import Trial, report
@@ -42,7 +45,7 @@ MAX_JOB = 1 << 24
 FIRST = b" (A,E,5)(A,PD)\n"
 PRINTED = answer(b"5\n== DONE AFTER 6 STEPS\n")
 # What the scripts of a checkout need, besides dist/ and the sources that are summed.
-CHECKOUT = ("l6", "install", "tools", "docs/l6.1", "completions", "examples", "dist", "licenses",
+CHECKOUT = ("l6", "install", "tools", "docs/l6.1", "docs/l6db.1", "completions", "examples", "dist", "licenses",
             "LICENSE-MIT", "LICENSE-APACHE", "THIRD-PARTY.md", "crates.txt", "HANDLES")
 
 
@@ -76,6 +79,7 @@ class Program:
         return answer_of([*self.command, *job.words], input=job.stdin, seconds=SECONDS, preexec_fn=None)
 
 
+DEBUGGERS = (Program("l6db-static"), Program("l6db-aarch64", (QEMU,)))
 PROGRAMS = (
     Program("l6-static", room=8 << 20),
     Program("l6-aarch64", (QEMU,), ("-R", "0x2c00000")),
@@ -208,11 +212,11 @@ def belongs(name: str) -> bool:
     return subprocess.run(["sh", "-c", script, "sh", TOP, name]).returncode == 0
 
 
-def programs(is_quick: bool) -> Iterator[Program]:
+def programs(is_quick: bool, all_programs: tuple[Program, ...] = PROGRAMS) -> Iterator[Program]:
     """The programs that can be tried here; it is said which are not."""
-    for program in PROGRAMS:
+    for program in all_programs:
         missing = [it for it in program.runner if not shutil.which(it)]
-        if not missing and program.name == "l6-static" and os.uname().machine != "x86_64":
+        if not missing and program.name.endswith("-static") and os.uname().machine != "x86_64":
             missing = ["a processor for it"]
         if missing:
             print(f"skipped: {program.name}: {missing[0]} is missing")
@@ -232,10 +236,10 @@ def made_again(is_quick: bool) -> Iterator[Trial]:
         elif why := unlike_here():
             print(f"skipped: the static programs made again: {why}")
         else:
-            calls.append([TOP / "ports/build", DIST / "l6", made])
+            calls += [[TOP / "ports/build", DIST / name, made] for name in ("l6", "l6db")]
         for words in calls:
             ran = subprocess.run(words, capture_output=True, text=True)
-            yield f"ports/{Path(words[0]).name} ends well", (0, ""), (ran.returncode, ran.stderr)
+            yield f"ports/{Path(words[0]).name} of {Path(words[1]).name} ends well", (0, ""), (ran.returncode, ran.stderr)
         for program in sorted(made.glob("l6*")):
             if program.suffix != ".made_of":
                 kept = DIST / program.name
@@ -244,7 +248,7 @@ def made_again(is_quick: bool) -> Iterator[Trial]:
                 named = kept.with_name(f"{program.name}.provenance").read_text("utf-8")
                 yield f"what {program.name} was made of", lines, "".join(named.splitlines(keepends=True)[1:-2])
     if not is_quick:
-        for name in ("l6", *(program.name for program in PROGRAMS)):
+        for name in ("l6", "l6db", *(program.name for program in (*PROGRAMS, *DEBUGGERS))):
             yield f"{name} belongs to the sources", True, belongs(name)
 
 
@@ -252,7 +256,10 @@ def unlike_here() -> str:
     """Why the static programs can't be made again here; nothing if they can be."""
     if not shutil.which("rt"):
         return "rt is missing"
-    for name, processor, debian in (("l6-static", "x86_64", "amd64"), ("l6-aarch64", "aarch64", "arm64")):
+    for name, processor, debian in (
+        ("l6-static", "x86_64", "amd64"), ("l6-aarch64", "aarch64", "arm64"),
+        ("l6db-static", "x86_64", "amd64"), ("l6db-aarch64", "aarch64", "arm64"),
+    ):
         library = Path(f"/usr/lib/{processor}-linux-musl/libc.a")
         if not library.is_file():
             return f"Debian's musl-dev:{debian} is missing"
@@ -322,9 +329,26 @@ def first_commands(run: Callable[..., Answer[bytes]]) -> Iterator[Trial]:
     yield "a program that is run by itself", PRINTED, run("dist/l6-static run < examples/first.deck")
 
 
+def sessions(debugger: Program) -> Iterator[Trial]:
+    """The trials on sessions of a debugger, at a terminal and over pipes."""
+    with tempfile.TemporaryDirectory(prefix="l6-sessions-") as room:
+        folder, caller = Path(room), Path(room, "l6db")
+        command = " ".join(shlex.quote(word) for word in debugger.command)
+        caller.write_text(f'#!/bin/sh\nexec {command} "$@"\n', "utf-8")
+        caller.chmod(0o755)
+        # (what runs a program of another processor needs more addresses than the program)
+        room_left = resource.RLIM_INFINITY if debugger.runner else answers.ROOM
+        with mock.patch.object(answers, "ROOM", room_left):
+            for group in (at_terminal, one_by_one, words, page_sessions):
+                yield from group(str(caller), folder)
+
+
 def trials(is_quick: bool) -> Iterator[Trial]:
     """All trials."""
     yield from made_again(is_quick)
+    for debugger in programs(is_quick, DEBUGGERS):
+        for name, expected, actual in sessions(debugger):
+            yield f"{debugger.name}: {name}", expected, actual
     yield from small_root()
     all_jobs = jobs()
     for program in programs(is_quick):

@@ -65,6 +65,9 @@ def examples(program: str) -> Iterator[Trial]:
         yield f"the listing of {listing.stem} in a document", True, is_shown(b"```text\n%b```\n" % text)
     for session in EXAMPLES.glob("*.session"):
         files += [session, session.with_suffix(".transcript")]
+    for trace in EXAMPLES.glob("*.trace"):  # (which traces.py answers)
+        files += [trace, trace.with_suffix(".answers")]
+    files += EXAMPLES.glob("*.c")  # (which traces.py compiles)
     yield "the files of examples/", sorted(files), sorted(EXAMPLES.iterdir())
 
 
@@ -109,7 +112,7 @@ def helps(program: str, folder: str) -> Iterator[Trial]:
     """
     os.symlink(os.path.abspath(program), f"{folder}/l6")
     environment = {**os.environ, "PATH": f"{folder}:{os.environ['PATH']}"}
-    help_words: list[list[str]] = [[], ["asm"], ["list"], ["run"], ["load"], ["renew"], ["debug"]]
+    help_words: list[list[str]] = [[], ["asm"], ["list"], ["check"], ["run"], ["load"], ["renew"], ["debug"]]
     for words in help_words:
         actual = answer_of([program, *words, "--help"], input=b"")
         text = actual.stderr.decode("ascii")
@@ -120,7 +123,8 @@ def helps(program: str, folder: str) -> Iterator[Trial]:
         yield f"an example in the help on {words}", True, bool(examples)
         for example in examples:
             actual = answer_of(["sh", "-c", example], env=environment)
-            expected = answer(actual.stdout or b"(some text)")
+            status = 4 if words == ["check"] else 0  # its example has an error
+            expected = answer(actual.stdout or b"(some text)", status=status)
             yield f"the example {example}", expected, actual
 
 
@@ -215,6 +219,7 @@ def limited_files(program: str, folder: str) -> Iterator[Trial]:
     listing = (EXAMPLES / "first.listing").read_bytes()
     image = answer_of([program, "asm"], input=b" (A,E,5)(A,PD)\n").stdout
     done = [("list", b" (A,E,5)(A,PD)\n", listing), ("asm", b" (A,E,5)(A,PD)\n", image),
+            ("check", b" (A,E,5)(A,PD)\n", b"0 errors, 0 warnings\n"),
             ("run", b" (A,E,5)(A,PD)\n", b"5\n== DONE AFTER 6 STEPS\n"),
             ("load", image, b"5\n== DONE AFTER 6 STEPS\n"), ("renew", image, image),
             ("debug", b" (A,E,5)(A,PD)\n$COMMANDS\nstep 2\ngo\n",

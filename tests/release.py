@@ -111,11 +111,12 @@ def licences() -> Iterator[Trial]:
     else:
         print("skipped: licences as the toolchain has them: rt is missing")
     listed = text_of("THIRD-PARTY.md")
-    links = set(re.findall(r"\((licenses/[^)]+)\)", listed))
+    links = set(re.findall(r"(?:\(|^\[\S+\]: )(licenses/[^)\s]+)", listed, re.MULTILINE))
     yield "texts that THIRD-PARTY.md names", {f"licenses/{it.name}" for it in (TOP / "licenses").iterdir()}, links
     lines = [line.partition("#")[0] for line in text_of("crates.txt").splitlines()]
     used = {name for line in lines for name in line.partition(":")[2].split()}
     own_crates = {line.partition(":")[0].strip() for line in lines}
+    used -= {"core", "std_alloc"}  # parts of Rattle's std
     missing = [name for name in sorted(used - own_crates) if f"| {name}, " not in listed]
     yield "crates that THIRD-PARTY.md does not name", [], missing
     for name in ("dist/l6.html", "dist/l6.mjs"):
@@ -133,6 +134,7 @@ COMPLETIONS: dict[str, set[str]] = {
     "l6 asm --": {"--help"},
     "l6 debug --store 2 --o": {"--output"},
     "l6 help l": {"list", "load"},
+    "l6 trace --": {"--store", "--help"},
 }
 IN_BASH = """
 . completions/l6.bash

@@ -1,9 +1,10 @@
 #!/usr/bin/env python3
-"""Checks the scripts of the repository without running them: the types of Python's, and the shell's.
+"""Checks scripts without running them, the types of Python's and the shell's, and how sources are set out.
 
-static_checks.py prints what mypy and shellcheck say, and last 'N passed, M failed'. Each file is a trial. If
-one of the two is not installed, that is said, and a trial of its files is whether Python or the shell can
-read them. Both are Debian's packages.
+static_checks.py prints what mypy and shellcheck say, and which sources `rt fmt` would set out otherwise, and
+last 'N passed, M failed'. Each script and each crate is a trial. If mypy or shellcheck, both Debian's packages,
+is not installed, that is said, and a trial of its files is whether Python or the shell can read them. Without
+Rattle's toolchain the sources are not looked at.
 """
 from __future__ import annotations
 
@@ -13,6 +14,7 @@ import subprocess
 import sys
 import tempfile
 from collections.abc import Iterable, Iterator
+from concurrent.futures import ThreadPoolExecutor
 from dataclasses import dataclass
 from pathlib import Path
 
@@ -22,6 +24,7 @@ from trials import Trial, report
 TOP = Path(__file__).resolve().parent.parent
 BAD_PYTHON = "def length(text: str) -> int:\n    return text\n"
 BAD_SHELL = "#!/bin/sh\nrm $1\n"
+BAD_SOURCE = "fn one()->u8{1}\n"
 NO_SCRIPTS = {".git", "crates", "dist", "docs", "examples"}  # folders
 MADE = {"out", "__pycache__"}  # folders of what is made
 CLEAN = ""  # what is said of a file without a fault
@@ -122,6 +125,18 @@ def said_by_shell(file: Path) -> str:
     return subprocess.run([shell, "-n", file], capture_output=True, text=True).stderr
 
 
+def said_by_formatter(crate: Path) -> str:
+    """What `rt fmt` says of a crate's sources, which it would change: it runs on a copy of them."""
+    with tempfile.TemporaryDirectory() as room:
+        copy = Path(room, "crates", crate.name)
+        for part in ("src", "specs", "proofs"):
+            if (crate / part).is_dir():
+                shutil.copytree(crate / part, copy / part)
+        Path(room, "crates.txt").write_text(f"{crate.name}:\n")
+        ended = subprocess.run(["rt", "fmt"], capture_output=True, text=True, cwd=copy)
+    return ended.stdout + ended.stderr
+
+
 def is_there(tool: str) -> bool:
     """Whether a tool is there; says if it is not."""
     if shutil.which(tool):
@@ -137,6 +152,10 @@ def trials() -> Iterator[Trial]:
         yield from (trial(f"the types of {name_of(file)}", what) for file, what in said.items())
     judge = said_by_shellcheck if is_there("shellcheck") else said_by_shell
     yield from (trial(f"the shell of {name_of(file)}", judge(file)) for file in shell_scripts())
+    if is_there("rt"):
+        crates = sorted(it.parent for it in TOP.glob("crates/*/src"))
+        with ThreadPoolExecutor(os.cpu_count()) as pool:
+            yield from map(trial, (f"how {it.name} is set out" for it in crates), pool.map(said_by_formatter, crates))
     known = {file for group in python_groups() for file in group.files} | set(shell_scripts())
     yield "scripts that nothing checks", [], [name_of(it) for it in scripts() if it not in known]
 
@@ -161,6 +180,11 @@ def canaries() -> Iterable[Trial]:
         yield "a wrong type", CLEAN, said
         judge = said_by_shellcheck if shutil.which("shellcheck") else said_by_shell
         yield "a wrong word of the shell", CLEAN, judge(shell)
+        if shutil.which("rt"):
+            source = Path(folder, "bad", "src", "lib.rt")
+            source.parent.mkdir(parents=True)
+            source.write_text(BAD_SOURCE)
+            yield "a source that is not set out as the others are", CLEAN, said_by_formatter(Path(folder, "bad"))
 
 
 if __name__ == "__main__":

@@ -281,7 +281,7 @@ def commands_and_verbs(program: str) -> Iterator[Trial]:
         run(program, "", "debug", "--help")[0].partition("one on a line: ")[2].partition(". The input")[0]
     )
     yield "the commands of the help", known, sorted(it.split()[0] for it in of_help.split(","))
-    verbs = sorted(jobs.VERBS)
+    verbs = sorted([*jobs.VERBS, "check", "trace"])  # what these two say is no part of the model of jobs
     of_manual = re.findall(r"^\.It Cm (\w+)", text_of(MANUAL), re.MULTILINE)
     table = table_with(text_of(LANGUAGE), "Words", "What is done", "Options")
     of_language = [spans_of(words)[0].split()[1] for words in table.column("Words")]
@@ -314,10 +314,12 @@ def commands_and_verbs(program: str) -> Iterator[Trial]:
 WHAT_VERBS_DO = {
     "asm": ["write", "image"],
     "list": ["write", "listing"],
+    "check": ["wrong", "deck"],
     "run": ["run"],
     "load": ["run", "image"],
     "renew": ["rewrit", "image"],
     "debug": ["command"],
+    "trace": ["answer", "trace"],
 }
 
 
@@ -335,6 +337,7 @@ def statuses_and_faults(program: str) -> Iterator[Trial]:
         one: what
         for numbers, whats in zip(table.column("Exit status"), table.column("Meaning"))
         for one, what in zip(numbers.split(", "), whats.split(", "))
+        if one
     }
     for where, found in (("the help", of_help), (MANUAL, of_manual), (SUMMARY, of_sheet)):
         yield f"the statuses of {where}", [*map(str, STATUSES), "64"], sorted(found, key=int)

@@ -26,6 +26,11 @@ class Crate:
         """Whether it is a program, and not a library."""
         return (self.folder / "src" / "main.rt").is_file()
 
+    @property
+    def is_static(self) -> bool:
+        """Whether it is a static library, which other languages link, and which no crate here uses."""
+        return any(row.partition(":")[0].split() == [self.name, "staticlib"] for row in listed())
+
     @functools.cached_property
     def lines(self) -> int:
         """How many lines of code it has, from which the work of its check is estimated."""

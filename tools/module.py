@@ -1,7 +1,8 @@
-"""The object file and the LLVM module of the program, from the very build of it.
+"""The object file and the LLVM module of a program, from the very build of it.
 
 What is made for other systems, the page's module (web/build) and the static programs (ports/build), is made
 of these. They are kept in out/module/ with a note of what they were made from, so they are built once for all.
+The program is l6 or l6db; each is that of a crate of its name.
 """
 from __future__ import annotations
 
@@ -21,7 +22,6 @@ from rooms import room_of
 PROGRAMS = (TOP / "dist" / "l6", TOP / "crates" / "l6" / "out" / "l6")
 KEPT = TOP / "out" / "module"
 NATIVE = "x86_64-unknown-linux-gnu"
-ENTRY = '"l6::main+start"'  # the program's own beginning, which its `main` calls
 
 # The compiler of a build: it keeps a copy of what it is given.
 CLANG = """#!/bin/sh
@@ -30,6 +30,11 @@ exec "{clang}" "$@"
 """
 
 Edit = tuple[str, str, int | None]  # a pattern, what takes its place, and how often it is met, if known
+
+
+def entry_of(name: str) -> str:
+    """The name of a program's own beginning, which its `main` calls."""
+    return f'"{name}::main+start"'
 
 
 class Stop(Exception):
@@ -63,22 +68,25 @@ def kit() -> Path:
 def built_again(rattle: Path, program: Path) -> Built:
     """The object file and the module of a program, built again if they are not kept.
 
-    It stops unless the object links, byte for byte, to the program.
+    It stops unless the object links, byte for byte, to the program. The program's file has the name of its
+    crate.
     """
-    built = Built(KEPT / "l6.o", KEPT / "module.bc")
-    note = KEPT / "made_from"
-    crate = read_crates()["l6"]
+    name = program.name
+    kept = KEPT / name
+    built = Built(kept / "program.o", kept / "module.bc")
+    note = kept / "made_from"
+    crate = read_crates()[name]
     with TemporaryDirectory(prefix="l6-module-") as folder:
         if not note.is_file() or note.read_text("utf-8") != note_of(crate, built):
             note.unlink(missing_ok=True)
             build(rattle, crate, Path(folder))
-            KEPT.mkdir(parents=True, exist_ok=True)
-            shutil.move(Path(folder, "l6.o"), built.object)
+            kept.mkdir(parents=True, exist_ok=True)
+            shutil.move(Path(folder, "program.o"), built.object)
             shutil.move(Path(folder, "module.bc"), built.module)
             replace_text(note, note_of(crate, built))
-        linked = Path(folder, "l6")
+        linked = Path(folder, name)
         call(str(rattle / "bin/rattle-link"), "--target", NATIVE, "--toolchain", str(rattle / "toolchain"),
-             "-o", "l6", str(built.object), str(rattle / "c/libos_c.a"), str(rattle / "c/liblibc_c.a"),
+             "-o", name, str(built.object), str(rattle / "c/libos_c.a"), str(rattle / "c/liblibc_c.a"),
              within=Path(folder))
         if linked.read_bytes() != program.read_bytes():
             raise Stop(f"what these sources build is not {program}: prove and build it again (./l6 --help)")
@@ -98,8 +106,8 @@ def build(rattle: Path, crate: Crate, folder: Path) -> None:
     with room_of(crate) as room:
         call(str(rattle / "bin/rattle"), "build", *words_of(crate, rattle, room),
              "--toolchain", str(tools), "--backend", "llvm", "--incremental", "out/incremental",
-             "-o", "l6.o", within=room)
-        shutil.move(room / "l6.o", folder / "l6.o")
+             "-o", "program.o", within=room)
+        shutil.move(room / "program.o", folder / "program.o")
 
 
 def toolchain_that_keeps(bitcode: Path, rattle: Path, folder: Path) -> Path:

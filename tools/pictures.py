@@ -1,5 +1,5 @@
 #!/usr/bin/env python3
-"""Makes pictures of the debugger's transcripts: of its drawings, and of its maps of the store.
+"""Makes pictures of the debugger's transcripts: of its drawings, and of its maps of the store; and of traces.
 
 pictures.py remakes the pictures of all transcripts in examples/, in docs/pictures/.
 pictures.py TRANSCRIPT FOLDER makes the pictures of one transcript in a folder.
@@ -8,11 +8,14 @@ The first answer to `draw` in NAME.transcript becomes NAME-draw-1.dot, a text fo
 answer to `store` becomes the picture NAME-store-1.svg. The second ones have a 2, and so on. An answer
 `0 BLOCKS` has no picture. If Graphviz's program `dot` is installed, it makes NAME-draw-1.svg.
 
+The first map in NAME.answers, which are those to a trace, becomes NAME-trace.svg.
+
 If `fields`, and `block` for each block, were asked in the same state as a drawing, the first such drawing
 also becomes NAME.svg, which shows the blocks word for word.
 """
 from __future__ import annotations
 
+import re
 import shutil
 import subprocess
 import sys
@@ -22,7 +25,7 @@ import layouts
 import strips
 from crates import TOP
 from graphs import dot
-from transcripts import drawings_and_maps
+from transcripts import StoreMap, Stretch, drawings_and_maps
 
 EXAMPLES = TOP / "examples"
 PICTURES = TOP / "docs" / "pictures"
@@ -38,6 +41,19 @@ def texts_of(name: str, transcript: str) -> dict[str, str]:
         texts[f"{name}-store-{at}.svg"] = strips.svg(store, f"{name}, map {at}")
     texts |= {f"{name}.svg": layouts.svg(it, name) for it in drawings[::-1] if layouts.is_whole(it)}
     return texts
+
+
+def texts_of_trace(name: str, answers: str) -> dict[str, str]:
+    """The text of a trace's picture, by file name: the first map that was answered."""
+    lines = re.findall(r"^(\d+) (.*), words (\d+)$", answers, re.MULTILINE)
+    stretches: list[Stretch] = []
+    for place, what, size in lines:
+        if stretches and int(place) < stretches[-1].end:
+            break  # another map
+        stretches.append(Stretch(int(place), int(size), "free" if what == "free" else "block"))
+    used = sum(it.size for it in stretches if it.kind == "block")
+    store = StoreMap(stretches, used, sum(it.size for it in stretches) - used)
+    return {f"{name}-trace.svg": strips.svg(store, f"{name}, the map of a trace")}
 
 
 def draw(file: Path) -> None:
@@ -66,6 +82,9 @@ def main(words: list[str]) -> None:
     else:
         for transcript in sorted(EXAMPLES.glob("*.transcript")):
             make(transcript, PICTURES)
+        for answers in sorted(EXAMPLES.glob("*.answers")):
+            for name, text in texts_of_trace(answers.stem, answers.read_text("ascii")).items():
+                (PICTURES / name).write_text(text, "ascii")
 
 
 if __name__ == "__main__":

@@ -1,6 +1,6 @@
 # shellcheck shell=sh
 # Finds the program l6 that belongs to the sources of this checkout. This file is sourced, with $top set to
-# the top of the repository.
+# the top of the repository; with $program_name set to l6db it finds that program.
 #
 # A program has a provenance beside it, a file that says what it was made from:
 #
@@ -15,12 +15,13 @@
 # dist/ has programs for several systems. Which of them are tried here is said by candidates().
 # dist/l6.sources has the sum of each source, so that those that differ can be named.
 
-distributed=${top:?}/dist/l6
-built=$top/crates/l6/out/l6
+[ "${program_name-}" = l6db ] || program_name=l6
+distributed=${top:?}/dist/$program_name
+built=$top/crates/$program_name/out/$program_name
 source_list=$top/dist/l6.sources
 
 complain() {
-    echo "l6: $1" >&2
+    echo "$program_name: $1" >&2
 }
 
 # The command that prints sums. (macOS has another one, of three words.)
@@ -97,9 +98,12 @@ is_whole() {
 
 # Prints the names of the programs of dist/ that are for this system, those first that are tried first.
 candidates() {
-    case $(uname -sm) in
-        "Linux x86_64") echo l6 l6-static l6.mjs ;;
-        "Linux aarch64") echo l6-aarch64 l6.mjs ;;
+    case $program_name:$(uname -sm) in
+        l6db:"Linux x86_64") echo l6db l6db-static ;;
+        l6db:"Linux aarch64") echo l6db-aarch64 ;;
+        l6db:*) ;;
+        *:"Linux x86_64") echo l6 l6-static l6.mjs ;;
+        *:"Linux aarch64") echo l6-aarch64 l6.mjs ;;
         *) echo l6.mjs ;;
     esac
 }
@@ -116,12 +120,17 @@ start() {
 # later.
 starts() {
     start "$1" --version < /dev/null > /dev/null 2>&1
-    [ $? = 64 ]
+    case $?:$program_name in
+        64:l6 | 0:l6db) return 0 ;;
+    esac
+    return 1
 }
 
 # Says why the programs of dist/ are not run; the arguments are the names of those for this system.
 explain() {
-    if [ "$*" = l6.mjs ] && ! command -v node > /dev/null; then
+    if [ $# = 0 ]; then
+        complain "dist/ has l6db for Linux on x86_64 and aarch64, and this is $(uname -sm); ./l6 debug is everywhere"
+    elif [ "$*" = l6.mjs ] && ! command -v node > /dev/null; then
         complain "dist/ has programs for Linux on x86_64 and aarch64, and this is $(uname -sm)"
         complain "dist/l6.mjs is for every system that has Node (https://nodejs.org), but node is not on the path"
     elif ! is_whole "$top/dist/$1"; then
@@ -196,7 +205,7 @@ prove_program() {
     all_sources=''
     toolchain=$(rt version) && sum_sources || return 1
     before=$all_sources
-    if ! python3 "$top/tools/prove.py" l6; then
+    if ! python3 "$top/tools/prove.py" "$program_name"; then
         complain "the program was not built"
         return 1
     fi

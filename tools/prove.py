@@ -116,11 +116,17 @@ def proved(crate: Crate, jobs: int, commands: Commands) -> Ended:
         finally:
             bring_back(crate, folder, [KEPT])
         if ended.status == 0:
-            made = [f"out/{crate.name}", f"out/{crate.name}.stamp"] if crate.is_program else [LIBRARY]
-            bring_back(crate, folder, made)
+            bring_back(crate, folder, made_by(crate))
     if ended.status == 0 and sources_sum(crate) == before:
         replace_text(crate.folder / STAMP, f"{before} {made_sum(crate)}\n")
     return ended
+
+
+def made_by(crate: Crate) -> list[str]:
+    """What the proof of a crate makes: a program, a static library, or a library for the crates above."""
+    if crate.is_program:
+        return [f"out/{crate.name}", f"out/{crate.name}.stamp"]
+    return [f"out/lib{crate.name}.a"] if crate.is_static else [LIBRARY]
 
 
 def replace_text(file: Path, text: str) -> None:
@@ -162,9 +168,10 @@ def sources_sum(crate: Crate) -> str:
 
 
 def made_sum(crate: Crate) -> str:
-    """A sum of what the proof of a crate made: the program, or the note that rt keeps of a library."""
-    made = crate.folder / (f"out/{crate.name}" if crate.is_program else f"{LIBRARY}/stamp")
-    return hashlib.sha256(made.read_bytes() if made.is_file() else b"").hexdigest()
+    """A sum of what the proof of a crate made; of a library, of the note that rt keeps of it."""
+    made = made_by(crate)[0]
+    file = crate.folder / (f"{made}/stamp" if made == LIBRARY else made)
+    return hashlib.sha256(file.read_bytes()).hexdigest() if file.is_file() else "nothing"
 
 
 def memory_of(crate: Crate, jobs: int) -> int:

@@ -6,7 +6,7 @@ from dataclasses import dataclass
 
 from .characters import number_of_digits
 from .faults import Fault
-from .jobs import RUNNING, VERBS, answer_of_job
+from .jobs import CHECK, RUNNING, VERBS, answer_of_job
 from .state import Options
 
 WRONG_WORDS = 64  # the exit status
@@ -34,7 +34,7 @@ def answer_of(words: list[str], read: Callable[[], bytes]) -> Answer:
 
 def command_of(words: list[str]) -> tuple[str, Options]:
     """The verb and the options that words say."""
-    if not words or words[0] not in VERBS or "--help" in words:
+    if not words or words[0] not in (*VERBS, CHECK) or "--help" in words:
         raise Fault(f"words: {'|'.join(VERBS)} [--store M] [--steps N] [--output N]", WRONG_WORDS)
     verb, *rest = words
     given: dict[str, int] = {}

@@ -17,6 +17,7 @@ IMAGE_LIMIT = 8_388_608
 PART_LIMIT = 1_048_576  # of a deck, an input and commands
 
 VERBS = ("run", "list", "asm", "load", "renew", "debug")
+CHECK = "check"  # a verb of which the model says only whether a deck has an error, and on which card
 RUNNING = ("run", "load", "debug")  # those that have options and take the input
 LOADING = ("load", "renew")  # those for which an image stands in the deck's place
 
@@ -33,6 +34,9 @@ class Job:
 def answer_of_job(verb: str, text: bytes, options: Options) -> tuple[bytes, int]:
     """What goes to standard output for a job, and the exit status."""
     job = job_of(verb, text)
+    if verb == CHECK:
+        card = card_with_error(job.deck)
+        return (b"%d: error\n" % card, 4) if card else (b"", 0)
     if verb == "list":
         return listing_of(assemble(job.deck)), 0
     program = load(job.deck) if verb in LOADING else assemble(job.deck).program
@@ -42,6 +46,15 @@ def answer_of_job(verb: str, text: bytes, options: Options) -> tuple[bytes, int]
     if verb == "debug":
         return Session(program, characters, options).transcript(job.commands), 0
     return printout_of(State(program, characters, options))
+
+
+def card_with_error(deck: bytes) -> int:
+    """The card on which a deck has the error at which its assembly stops, or 0."""
+    try:
+        assemble(deck)
+    except Fault as fault:
+        return fault.card
+    return 0
 
 
 def job_of(verb: str, text: bytes) -> Job:

@@ -28,10 +28,14 @@ class Store:
         self.blocks[place] = [0] * wanted
         return place
 
+    def may_join(self, size: int) -> bool:
+        """Whether a piece of so many words is joined with its buddy if that is free."""
+        return size < UNIT
+
     def free(self, place: int) -> None:
         """Frees the block at a place, and joins the free piece with its buddy, as often as that is free."""
         size = len(self.blocks.pop(place))
-        while size < UNIT:
+        while self.may_join(size):
             # Two buddies are the halves of a piece of twice their size, which begins at a multiple of that.
             joined = place - place % (2 * size)
             buddy = joined if place != joined else joined + size

@@ -1,23 +1,24 @@
-// Has the program assemble the deck while it is typed, and shows its fault: the program's own line, and
-// beside it what is most likely meant. Where there is none, the page says that a card is too long.
+// Has the program check the deck while it is typed, and shows what it finds in its own words: a line for each
+// error and each warning, and marks on their cards.
 
 import {bytesOf} from "./bytes.js";
-import {firstLongCard} from "./deck.js";
+import {linesOf} from "./deck.js";
 import {byId, make} from "./dom.js";
-import {COLUMNS} from "./fault.js";
 import {job} from "./session.js";
 
-const CHECK_AFTER = 300;  // milliseconds without a key, until the deck is assembled
-const BLAME_AFTER = 1500; // and until a fault of the card that is being typed is shown
+const CHECK_AFTER = 300;  // milliseconds without a key, until the deck is checked
+const BLAME_AFTER = 1500; // and until what is wrong with the card that is being typed is shown
+const FINDING = /^(\d+):(\d+): (error|warning): (.*)$/;
 
 export class Checker {
-  // `assemble` has the engine assemble a deck; while something else is done, `isBusy`, the deck waits.
-  constructor({editor, assemble, isBusy, tell}) {
+  // `check` has the engine check a deck; while something else is done, `isBusy`, the deck waits.
+  constructor({editor, check, isBusy, tell}) {
     this.editor = editor;
-    this.assemble = assemble;
+    this.ask = check;
     this.isBusy = isBusy;
     this.tell = tell;
     this.typed = -BLAME_AFTER;
+    this.shown = "";
   }
 
   // The deck was changed by the reader.
@@ -35,38 +36,88 @@ export class Checker {
     if (this.isBusy()) return this.later(CHECK_AFTER);
     const deck = this.editor.text.value;
     try {
-      const answer = await this.assemble(bytesOf(job(deck, null, "")));
+      const answer = await this.ask(bytesOf(job(deck, null, "")));
       if (this.editor.text.value !== deck) return;
-      const line = answer.status === 0 ? "" : answer.errors.trim();
-      const isTyping =
-        performance.now() - this.typed < BLAME_AFTER && cardBlamed(line) === this.editor.cursor().card;
-      this.show(isTyping ? "" : line);
-      if (isTyping) this.later(BLAME_AFTER);
+      const found = findingsOf(answer.output, linesOf(deck));
+      const ready = this.isTyping ? found.filter((it) => it.card !== this.editor.cursor().card) : found;
+      this.show(ready, answer.errors.trim(), ready.length < found.length ? "" : countsOf(answer.output));
+      if (ready.length < found.length) this.later(BLAME_AFTER);
     } catch (error) {
       this.tell(error.message);
     }
   }
 
-  show(line) {
-    const {editor} = this;
+  get isTyping() {
+    return performance.now() - this.typed < BLAME_AFTER;
+  }
+
+  // A job was refused, with this line: the program says more of it, if it is about the deck.
+  refused(line) {
+    this.typed = -BLAME_AFTER;
+    this.show([], line);
+    if (/^l6: card /.test(line)) this.later(0);
+  }
+
+  // The deck was run, so it has no error.
+  ran() {
+    this.show(this.editor.findings.filter((it) => !it.isError));
+  }
+
+  // Shows what was found, or a line of the program, and how much there is.
+  show(findings, line = "", counts = "") {
     const fault = byId("fault");
-    const longCard = line ? -1 : firstLongCard(editor.text.value);
-    const note = longCard < 0 ? "" : `Card ${longCard + 1}: what is past column ${COLUMNS} is ignored.`;
-    fault.hidden = line === "" && note === "";
-    fault.classList.toggle("note", note !== "");
-    const card = cardBlamed(line);
-    const own = editor.deck.fault;
-    const isSame = own && own.card === card && line.endsWith(own.kind);
-    editor.blame(card < 0 ? null : isSame ? own : {card, from: 0, to: COLUMNS});
-    if (note && fault.textContent !== note) fault.textContent = note; // (once, for screen readers)
-    if (!line && !note) fault.replaceChildren();
-    if (!line) return;
-    fault.replaceChildren(make("code", {}, line), isSame ? ` — ${own.why}` : "");
-    if (card >= 0) editor.reveal(card);
+    const what = JSON.stringify([findings, line, counts]);
+    this.editor.mark(findings);
+    if (what === this.shown) return; // (once, for screen readers)
+    this.shown = what;
+    fault.hidden = findings.length === 0 && line === "";
+    fault.classList.toggle("note", line === "" && !findings.some((it) => it.isError));
+    const lines = findings.map((it) => this.lineOf(it));
+    if (line) lines.push(make("p", {}, make("code", {}, line)));
+    if (findings.length > 3 && counts) lines.push(make("p", {}, counts));
+    fault.replaceChildren(...lines);
+    const first = findings.find((it) => it.isError);
+    if (first) this.editor.reveal(first.card);
+  }
+
+  // A finding as a line of its own: where, what and what to write in its place.
+  lineOf({card, from, isError, says, advice}) {
+    const place = `${card + 1}:${from + 1}`;
+    const words = {
+      type: "button",
+      class: "place",
+      title: "Go there",
+      "aria-label": `Card ${card + 1}, column ${from + 1}`,
+      onclick: () => this.editor.goTo(card, from),
+    };
+    const more = advice ? [make("span", {class: "advice"}, ` — ${advice}`)] : [];
+    const kind = isError ? "error" : "warning";
+    return make("p", {class: kind}, make("button", words, place), ` ${kind}: ${says}`, ...more);
   }
 }
 
-// The card that a fault's line names, counted from 0, or -1.
-function cardBlamed(line) {
-  return Number(/^l6: card (\d+): /.exec(line)?.[1] ?? 0) - 1;
+// What the program finds in a deck with these lines, cards and columns counted from 0.
+export function findingsOf(output, lines) {
+  const found = [];
+  for (const line of output.split("\n")) {
+    const [, card, column, kind, says] = FINDING.exec(line) ?? [];
+    if (kind) {
+      const place = {card: Number(card) - 1, from: Number(column) - 1, isError: kind === "error"};
+      found.push({...place, to: endOf(lines[place.card] ?? "", place.from, says), says, advice: ""});
+    } else if (line.startsWith("    ") && found.length > 0)
+      found.at(-1).advice = line.trim();
+  }
+  return found;
+}
+
+// The column after those that a sentence is about: it has what is there between two marks.
+function endOf(line, from, says) {
+  const quoted = [...says.matchAll(/`([^`]+)`/g)].map((it) => it[1]);
+  const lengths = quoted.filter((it) => line.startsWith(it, from)).map((it) => it.length);
+  return from + Math.max(1, ...lengths);
+}
+
+// The last line: how many errors and warnings there are.
+function countsOf(output) {
+  return output.trimEnd().split("\n").at(-1) ?? "";
 }

@@ -1,9 +1,8 @@
 // The deck as a text that is edited, and that is marked where the run is. What is marked lies below the text,
 // and the numbers of cards and statements beside it; of both only what is in sight is made.
 
-import {linesOf} from "./deck.js";
+import {COLUMNS, linesOf} from "./deck.js";
 import {make} from "./dom.js";
-import {COLUMNS} from "./fault.js";
 
 const PAD = 4; // above the first line, in pixels
 const INDENT = 2;
@@ -17,9 +16,9 @@ export class Editor {
     this.toggle = toggle;
     this.breakpoints = new Set();
     this.spot = null; // where the run is
-    this.fault = null;
+    this.findings = []; // what the program finds in the deck
     this.deck = null; // as it was read
-    this.base = null; // the latest deck without a fault, to whose statements the breakpoints belong
+    this.base = null; // the latest deck that was read whole, to whose statements the breakpoints belong
     this.measure();
     text.addEventListener("scroll", () => this.draw());
     new ResizeObserver(() => this.measure()).observe(text);
@@ -52,7 +51,7 @@ export class Editor {
   // The deck was read again after an edit. Breakpoints stay on their cards.
   read(deck) {
     this.deck = deck;
-    if (!deck.fault) {
+    if (deck.isWhole) {
       const base = {deck, lines: linesOf(this.text.value)};
       if (this.base) this.breakpoints = breakpointsAfter(this.breakpoints, this.base, base);
       this.base = base;
@@ -86,7 +85,8 @@ export class Editor {
 
   shades(first, last, top, left) {
     const found = [];
-    for (const [kind, spot] of [["at", this.spot], ["bad", this.fault]]) {
+    const marks = this.findings.map((it) => [it.isError ? "bad" : "odd", it]);
+    for (const [kind, spot] of [["at", this.spot], ...marks]) {
       if (!spot || spot.card < first || spot.card >= last) continue;
       const line = make("div", {class: `line ${kind}`});
       line.style.top = `${top(spot.card)}px`;
@@ -140,8 +140,9 @@ export class Editor {
     return linesOf(this.text.value)[card] ?? "";
   }
 
-  blame(fault) {
-    this.fault = fault && fault.card >= 0 ? fault : null;
+  // Marks what the program finds in the deck.
+  mark(findings) {
+    this.findings = findings;
     this.draw();
   }
 

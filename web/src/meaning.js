@@ -1,6 +1,6 @@
 // What comes next in a run, or is at a column of a card: where it is, and what it does in a few words.
 
-import {COLUMNS} from "./fault.js";
+import {COLUMNS} from "./deck.js";
 import {isSuffix} from "./group.js";
 
 // The action that comes next in a state: its card and columns, and what it is.

@@ -65,7 +65,7 @@ class Page {
     });
     this.checker = new Checker({
       editor: this.editor,
-      assemble: (input) => this.ask(["asm"], input),
+      check: (input) => this.ask(["check"], input),
       isBusy: () => this.isBusy,
       tell: (text) => this.tell(text),
     });
@@ -174,7 +174,7 @@ class Page {
     if (error instanceof Stopped) {
       this.tell("stopped");
     } else if (error instanceof Refused) {
-      this.checker.show(error.message);
+      this.checker.refused(error.message);
       this.clear(error.message);
       this.reveal("fault");
     } else {
@@ -381,7 +381,7 @@ class Page {
   }
 
   show(view, before, isStep = false) {
-    this.checker.show(""); // (a deck with a fault is not run)
+    this.checker.ran();
     this.viewer.show(view, before, this.session, isStep);
     if (!this.player.isPlaying) this.viewer.speak();
     showNumber(view.state.number, this.session.last);
@@ -472,7 +472,7 @@ class Page {
     this.readText = deck;
     this.editor.begin(readDeck(deck), breakpoints);
     this.library.deckRead(this.editor.deck);
-    this.checker.show("");
+    this.checker.show([]);
     this.clear("");
     this.tell("");
     this.checker.check();

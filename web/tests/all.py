@@ -28,7 +28,7 @@ TOP = WEB.parent
 PAGE = TOP / "dist" / "l6.html"
 AT_ONCE = 4  # parts
 SHARDS = 3  # into which the trials in Chromium are parted
-LEAST_IN_CHROMIUM = {"quick": [210, 205, 265], "all": [275, 230, 280]}  # trials of each shard
+LEAST_IN_CHROMIUM = {"quick": [240, 210, 255], "all": [250, 240, 315]}  # trials of each shard
 NEW_MANUAL = ["--new-manual"] if shutil.which("markdown_py") else []
 COUNT = re.compile(r"^(\d+) passed, (\d+) failed$")
 

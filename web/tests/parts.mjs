@@ -8,7 +8,8 @@ import {readdirSync, readFileSync} from "node:fs";
 
 import {follow} from "../src/chain.js";
 import {changesOf, endingOf} from "../src/changes.js";
-import {readDeck} from "../src/deck.js";
+import {findingsOf} from "../src/checker.js";
+import {linesOf, readDeck} from "../src/deck.js";
 import {graphOf, waysOf} from "../src/graph.js";
 import {arrange} from "../src/layout.js";
 import {linkOf, readLink} from "../src/links.js";
@@ -36,7 +37,7 @@ same("the left half", seenThrough(1026 + 2 ** 18 * 5, {word: 0, first: 0, last: 
 same("all of a word", seenThrough(2 ** 36 - 1, {word: 0, first: 0, last: 35}), 2 ** 36 - 1);
 same("AB is 2146", [textOf(2146), likelyText(2146), likelyText(5)], ["AB", "AB", ""]);
 
-// ---- Decks: the reading of the page finds the program's fault
+// ---- Decks: the reading of the page has the program's statements, and each finding has its sentence
 
 function textOfCase(value) {
   if (typeof value === "string") return value;
@@ -50,40 +51,41 @@ function textOfCase(value) {
     .join("");
 }
 
-for (const line of readFileSync(`${TOP}/tests/cases.jsonl`, "utf8").trim().split("\n")) {
-  const one = JSON.parse(line);
+const rowsOf = (name) =>
+  readFileSync(`${TOP}/tests/${name}.jsonl`, "utf8").trim().split("\n").map((line) => JSON.parse(line));
+
+// The lines that findings come from.
+const saidBy = (findings) => findings
+  .map(({card, from, isError, says, advice}) =>
+    `${card + 1}:${from + 1}: ${isError ? "error" : "warning"}: ${says}\n${advice ? `    ${advice}\n` : ""}`)
+  .join("");
+
+for (const one of rowsOf("cases")) {
   const text = textOfCase(one.stdin ?? "");
   if ((one.args ?? ["run"])[0] !== "run" || text.length > 200_000 || text.includes("\u0000")) continue;
   const {deck} = partsOf(text);
-  const answer = serveText(module, ["asm"], deck).errors;
-  if (answer !== "" && !answer.startsWith("l6: card ")) continue;
-  const {fault} = readDeck(deck);
-  same(`the fault of "${one.name}"`, fault ? `l6: card ${fault.card + 1}: ${fault.kind}\n` : "", answer);
+  const {status, output} = serveText(module, ["asm"], deck);
+  if (status === 0) {
+    const [, statements] = output.split("\n").map((line) => parseInt(line, 8));
+    same(`the statements of "${one.name}"`, readDeck(deck).statements.length + 1, statements);
+  }
 }
-
-const slips = {
-  "(A,E,5)\n": "Column 1",
-  "COUNTER (PL)\n": "label COUNTER has 7",
-  " (A,Q,1)\n": "Q is none",
-  " (A,G,5)\n": "is a test",
-  " (A,E,5\n": "not closed",
-  " IF (A,E,0) LAST\n": "THEN is missing",
-  " (PL) LOPO\nLOOP (PL)\n": "Is LOOP meant",
-  " (A,EO,8)\n": "octal",
-  " (A,E,68719476736)\n": "largest",
-  "DONE\n": "put a blank",
-  [` (A,E,1)${" ".repeat(60)}(A,E,22222)\n`]: "column 72",
-  " IFF (A,E,0) THEN DONE\n": "Is IF meant",
-  " IF (A,PD) THEN DONE\n": "is an operation",
-  " IF (A,E,0)\n (PL)\n": "THEN after it",
-  " (A,PD)~\n": "none of those",
-  " (A,E)\n": "2 parts",
-  "$X\n": "boxes",
-};
-for (const [deck, part] of Object.entries(slips)) {
-  const {fault} = readDeck(deck);
-  tally.count(`the slip in ${JSON.stringify(deck)}`, fault?.why.includes(part), () => fault?.why);
+for (const {name, deck, said} of rowsOf("checks")) {
+  const found = findingsOf(said, linesOf(deck));
+  const counts = said.trimEnd().split("\n").at(-1);
+  same(`what is found in ${name}`, saidBy(found), said.slice(0, -counts.length - 1));
+  const areThere = found.every(({from, to, says}) => from < to && says);
+  tally.count(`the columns of what is found in ${name}`, areThere, () => JSON.stringify(found));
 }
+const [, , third] = findingsOf(
+  "1:9: error: no card gives the label `LOPP`\n    is it `LOOP`?\n2:1: warning: an element\n" +
+    "3:2: error: the statement `IF (A)` ends\n3 errors, 1 warning\n",
+  [" (A,PD) LOPP", "X", " IF (A)  "]
+);
+same("a finding without advice", third, {
+  card: 2, from: 1, isError: true, to: 7, says: "the statement `IF (A)` ends", advice: ""
+});
+same("a deck that is being typed", readDeck(" (A,E,5\nB (PL)) X\n?\n+(PL) C\n").cards, [0, 1, -1, 1]);
 
 const lost = readFileSync(`${TOP}/examples/lost.session`, "latin1");
 const lostParts = partsOf(lost);
@@ -224,9 +226,6 @@ for (const [name, value] of Object.entries(DEFAULTS)) {
   const numbers = line.replaceAll(",", "").match(/\d+/g)?.map(Number) ?? [];
   same(`--${name}: range and default`, numbers.slice(-3), [...RANGES[name], value]);
 }
-const long = (count) => readDeck(" \t(PL)\n".repeat(count)).fault;
-same("65,534 statements", long(65_534), null);
-same("and one more", [long(65_535)?.kind, long(65_535)?.card], ["past a limit", 65_534]);
 const texts = textNames(readDeck(" (A,IN,1)(LC,E,A)(LN,E,B)(D,EH,X)(LK,E,5)\n"));
 same("what holds texts", [...texts].sort(), ["C", "bug A", "bug D"]);
 
@@ -579,7 +578,7 @@ for (const {key, deck, input, printout} of JSON.parse(readFileSync(`${WEB}/exerc
   const answer = answers.split(`**${key.slice("exercise-".length)}.**`)[1];
   const parts = partsOf(/```text\n([^]*?)```/.exec(answer)[1]);
   same(`${key}: the answer`, printed(parts.deck, parts.input).trimEnd(), printout);
-  same(`${key}: the deck to begin with has no fault`, readDeck(deck).fault, null);
+  same(`${key}: the deck to begin with has no error`, serveText(module, ["check"], deck).status, 0);
   tally.count(
     `${key}: it is not the answer`, printed(deck, input ?? "").trimEnd() !== printout, () => "it is"
   );

@@ -96,7 +96,7 @@ CONTROLS: dict[str, tuple[str, object, str, object]] = {
     "slider": ("0", (7, "input"), STATE, 7),
     "end": ("0", "click", STATE, 21),
     "number": ("0", (9, "change"), STATE, 9),
-    "deck": ("0", (" (PO)\n", "input"), "l6.editor.deck.fault.kind", "no reading"),
+    "deck": ("0", (" (PO)\n", "input"), "l6.editor.deck.statements.length", 1),
     "input": (
         "0",
         ("AB", "input"),

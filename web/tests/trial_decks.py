@@ -6,14 +6,14 @@ import json
 from page import TOP, Page, trial
 
 FAULTS = {
-    "(A,E,5)\n": ("l6: card 1: no reading", "put a blank in front"),
-    " (A,PD)\n (A,E,5\n": ("l6: card 2: no reading", "not closed"),
-    "COUNTER (PL)\n": ("l6: card 1: no reading", "6 is the most"),
-    " (A,Q,1)\n": ("l6: card 1: no reading", "Q is none"),
-    " (A,E,1)" + " " * 60 + "(A,E,22222)\n": ("l6: card 1: no reading", "column 72"),
-    "X (PL)\nX (PL)\n": ("l6: card 2: label given twice", "Card 1 has the label X"),
-    " (PL) LOPO\nLOOP (PL)\n": ("l6: card 1: no such label", "Is LOOP meant?"),
-    " (A,E,1)\n" + "+\n" * 16: ("l6: card 17: past a limit", "15 cards"),
+    "(A,E,5)\n": ("1:1", "`(` in column 1 begins no card", "put a blank before it"),
+    " (A,PD)\n (A,E,5\n": ("2:2", "no ) closes", "a group ends on its card"),
+    "COUNTER (PL)\n": ("1:1", "more than 6 characters", "has a blank in column 1"),
+    " (A,Q,1)\n": ("1:5", "no operation is spelled", "`Q`"),
+    " (A,E,1)" + " " * 60 + "(A,E,22222)\n": ("1:69", "no ) closes", "past column 72"),
+    "X (PL)\nX (PL)\n": ("2:1", "the label `X` is given by card 1", "too"),
+    " (PL) LOPO\nLOOP (PL)\n": ("1:7", "no card gives the label `LOPO`", "is it `LOOP`?"),
+    " (A,E,1)\n" + "+\n" * 16: ("17:1", "one too many", "15 such cards"),
 }
 SOLVED = " (N,E,10)\nLOOP (N,PD)(PL)(N,S,1)\n IF (N,G,0) THEN LOOP\n"
 FILE = "* \\u00e9\\n (A,IN,2)(A,PR,2)\\n$COMMANDS\\nstep 1\\n$INPUT\\nOK\\n"
@@ -31,18 +31,31 @@ def change(page: Page, deck: str) -> None:
 @trial
 def faults(page: Page) -> None:
     page.open()
-    for deck, (line, why) in FAULTS.items():
+    for deck, (place, says, advice) in FAULTS.items():
         page.put(deck)
-        page.browser.wait("document.querySelector('#fault code') !== null")
+        page.browser.wait("document.querySelector('#fault .error') !== null")
         shown = page.text("fault")
-        page.has("the program's line", shown, line)
-        page.has("and what is meant", shown, why)
-        page.same("the card is marked", page.value("l6.editor.fault.card"), int(line.split()[2][:-1]) - 1)
+        page.has("where it is", shown, f"{place} error: ")
+        page.has("what is wrong", shown, says)
+        page.has("and what to write", shown, advice)
+        marked = page.value("l6.editor.findings.find((it) => it.isError).card")
+        page.same("the card is marked", marked, int(place.split(":")[0]) - 1)
         page.click("run")
-        page.has("a run says it, too", page.text("empty"), line)
+        page.has("a run says it, too", page.text("empty"), f"l6: card {place.split(':')[0]}: ")
     page.put(" (A,E,5)\n")
     page.do("l6.checker.check()")
     page.right("without a fault none is shown", page.value("document.getElementById('fault').hidden"))
+
+
+@trial
+def several_faults(page: Page) -> None:
+    page.open()
+    page.put("(A,E,5)\n (A,PD)\n (A,PRINT)\n IF (A,E,0)\n")
+    page.do("l6.checker.check()")
+    page.same("each has a line", page.value("document.querySelectorAll('#fault .error').length"), 3)
+    page.same("and a mark", page.value("document.querySelectorAll('.spot.bad').length"), 3)
+    page.browser.click("#fault .error:nth-of-type(2) button")
+    page.same("a click leads there", page.value("l6.editor.cursor()"), {"card": 2, "column": 4})
 
 
 @trial
@@ -50,7 +63,8 @@ def a_card_that_is_too_long(page: Page) -> None:
     page.open()
     page.put(" (A,E,5)\n*" + "COMMENT" * 20 + "\n" + " (B,E,1)".ljust(72) + "(A,PD)\n")
     page.do("l6.checker.check()")
-    page.same("the page names the card", page.text("fault"), "Card 3: what is past column 72 is ignored.")
+    said = "3:73 warning: `(A,PD)` is past column 72, and is not read"
+    page.has("the page names the card", page.text("fault"), said)
     page.put(" (A,E,5)\n*" + "COMMENT" * 20 + "\n" + " (B,E,1)".ljust(80) + "\n")
     page.do("l6.checker.check()")
     page.right("comments and blanks are not", page.value("document.getElementById('fault').hidden"))
@@ -65,7 +79,7 @@ def while_typing(page: Page) -> None:
     page.browser.wait("document.getElementById('fault').hidden")
     page.browser.type("(n,q,1)")
     page.browser.wait("!document.getElementById('fault').hidden")
-    page.has("the fault is shown", page.text("fault"), "Q is none")
+    page.has("the fault is shown", page.text("fault"), "no operation is spelled `q`")
     number = "document.querySelector('#gutter button').textContent"
     page.same("a statement has its number", page.value(number), "0")
     page.put(" (A,GT,4)\n")

@@ -30,6 +30,8 @@ class Hand:
             self.page.key("F9")
             self.page.key("Escape")
         else:
+            # (what is found in a deck that was just opened may move its cards)
+            self.page.browser.wait("!l6.isBusy && !l6.engine.isBusy")
             self.page.browser.click(f"#gutter button[aria-label$=' {statement}']")
         self.page.same(
             f"the breakpoint at {statement}", self.page.value("[...l6.editor.breakpoints]"), [statement]

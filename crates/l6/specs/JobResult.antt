@@ -9,9 +9,10 @@ use Rattle.l6_run.specs.Serves.{IsUnwritten, Serves}
 use Rattle.l6_run.specs.Texts.{RefusesCards, RefusesRewriting, RewritesImage, WritesImage, WritesListing}
 use Rattle.l6_debug.specs.Serving as sessions
 use Rattle.l6_debug.specs.Serving.{IsRefused}
+use Rattle.l6.specs.Checks.{ChecksDeck, RefusesCheck}
 use Rattle.l6.specs.JobParts.{commands_of, deck_of, head_of, input_of}
 use Rattle.l6.specs.declared.job.Outcome.{Outcome}
-use Rattle.l6.specs.declared.job.Outcome.TheVariants.{Ran, Written}
+use Rattle.l6.specs.declared.job.Outcome.TheVariants.{Checked, Ran, Written}
 use Rattle.l6.specs.declared.job.Verb.{Verb}
 use Rattle.l6.specs.declared.job.Verb.TheVariants as verbs
 
@@ -20,6 +21,7 @@ use Rattle.l6.specs.declared.job.Verb.TheVariants as verbs
 abbrev pub Answers : Verb → OptionValues → List ℕ → Outcome → List ℕ → Type 0
 Answers verbs.Asm options job Written text = WritesImage (head_of job) text
 Answers verbs.List options job Written text = WritesListing (head_of job) text
+Answers verbs.Check options job (Checked errors) text = ChecksDeck (head_of job) errors text
 Answers verbs.Run options job (Ran ending) text =
     Prints options (head_of job) (input_of job) ending text
 Answers verbs.Load options job (Ran ending) text =
@@ -31,6 +33,7 @@ Answers verb options job outcome text = ⊥
 abbrev pub Refuses : Verb → List ℕ → RunFault → Type 0
 Refuses verbs.Asm job fault = RefusesCards (head_of job) fault
 Refuses verbs.List job fault = RefusesCards (head_of job) fault
+Refuses verbs.Check job fault = RefusesCheck (head_of job) fault
 Refuses verbs.Run job fault = RefusesDeck (head_of job) (input_of job) fault
 Refuses verbs.Load job fault = RefusesImage (head_of job) (input_of job) fault
 Refuses verbs.Renew job fault = RefusesRewriting (head_of job) fault
@@ -40,6 +43,7 @@ Refuses verb job fault = ⊥
 -- before it obeys the next command, so some may have gone out where memory runs out later
 abbrev pub JobOutcome : Verb → OptionValues → List ℕ → Option (List ℕ) → Option (List ℕ) →
     Result Outcome RunFault → Type 0
+JobOutcome verbs.Debug options job taken taken' (Ok (Checked errors)) = ⊥
 JobOutcome verbs.Debug options job taken taken' (Ok (Ran ending)) = ⊥
 JobOutcome verbs.Debug options job taken taken' result =
     sessions.ServesSession options (deck_of (head_of job)) (input_of job) (commands_of (head_of job))

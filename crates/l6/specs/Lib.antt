@@ -1,6 +1,8 @@
 pub mod JobParts
+pub mod Checks
 pub mod JobResult
 pub mod Status
+pub mod TraceStatus
 pub mod Worked
 pub mod inner
 pub mod Exit

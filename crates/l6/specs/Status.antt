@@ -1,5 +1,5 @@
 -- Exit statuses.
-use Rattle.std.specs.Prelude.{ℕ, Result, Ok, Err}
+use Rattle.std.specs.Prelude.{ℕ, ◌==◌, Result, Ok, Err, if◌then◌else◌}
 use Rattle.l6_image.specs.declared.fault.LoadFault.TheVariants as load
 use Rattle.l6_machine.specs.declared.ending.Ending.TheVariants.{Done, Fail, Trap, Limit}
 use Rattle.l6_asm.specs.declared.fault.AsmFault.TheVariants as asm
@@ -8,13 +8,15 @@ use Rattle.l6_device.specs.declared.fault.RunFault.TheVariants.{TooLong, Asm, Lo
 use Rattle.l6.specs.declared.arguments.WordsFault.{WordsFault}
 use Rattle.l6.specs.declared.arguments.WordsFault.TheVariants as words
 use Rattle.l6.specs.declared.job.Outcome.{Outcome}
-use Rattle.l6.specs.declared.job.Outcome.TheVariants.{Ran, Written}
+use Rattle.l6.specs.declared.job.Outcome.TheVariants.{Checked, Ran, Written}
 
--- the exit status of the program: of a text that was written; of a run that ended by DONE or by
+-- the exit status of the program: of a text that was written; of a deck that was checked, by whether it
+-- has errors; of a run that ended by DONE or by
 -- FAIL, trapped, or was stopped at its limit; of a job that was refused; and where memory or a
 -- device failed
 abbrev pub status_of : Result Outcome RunFault → ℕ
 status_of (Ok Written) = 0
+status_of (Ok (Checked errors)) = if errors == 0 then 0 else 4
 status_of (Ok (Ran Done)) = 0
 status_of (Ok (Ran Fail)) = 1
 status_of (Ok (Ran (Trap trap))) = 2

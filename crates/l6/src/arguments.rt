@@ -20,6 +20,15 @@ const VERSION: &str = "1.0, images of version 2";
 
 /// What the words ask for.
 #[derive(Clone, Copy, Debug, PartialEq, Eq)]
+pub enum Task {
+    /// That something is done with a job.
+    Job(Request),
+    /// The answers to a trace of an allocator's calls, by a store of so many units.
+    Trace(u32),
+}
+
+/// What is to be done with a job.
+#[derive(Clone, Copy, Debug, PartialEq, Eq)]
 pub struct Request {
     /// What is to be done with the job.
     pub verb: Verb,
@@ -88,12 +97,18 @@ fn fault_of_reading(error: &io::Error) -> WordsFault
 /// # Errors
 ///
 /// Why they ask for nothing that can be done.
-pub fn request_of(alloc: Global, words: &[String]) -> Result<Request, WordsFault> {
+pub fn task_of(alloc: Global, words: &[String]) -> Result<Task, WordsFault> {
     let mut command = program(alloc)?;
     let matches = command.try_get_matches_from_mut(words)?;
+    if let Some(("trace", chosen)) = matches.subcommand() {
+        if let Some(units) = chosen.get_one::<u32>("store") {
+            return Ok(Task::Trace(units));
+        }
+    }
     let request = match matches.subcommand() {
         Some(("asm", _)) => Some(without_options(Verb::Asm)),
         Some(("list", _)) => Some(without_options(Verb::List)),
+        Some(("check", _)) => Some(without_options(Verb::Check)),
         Some(("renew", _)) => Some(without_options(Verb::Renew)),
         Some(("run", chosen)) => requested(Verb::Run, chosen),
         Some(("load", chosen)) => requested(Verb::Load, chosen),
@@ -101,7 +116,7 @@ pub fn request_of(alloc: Global, words: &[String]) -> Result<Request, WordsFault
         _ => None,
     };
     match request {
-        Some(request) => Ok(request),
+        Some(request) => Ok(Task::Job(request)),
         None => Err(
             command
                 .error(ErrorKind::MissingSubcommand, "no subcommand")?
@@ -117,10 +132,12 @@ fn program<'a>(alloc: Global) -> Result<Command<'a>, AllocError> {
         .subcommand_required(true)
         .subcommand(described(alloc, "asm", help::ASM))?
         .subcommand(described(alloc, "list", help::LIST))?
+        .subcommand(described(alloc, "check", help::CHECK))?
         .subcommand(with_options(described(alloc, "run", help::RUN), alloc)?)?
         .subcommand(with_options(described(alloc, "load", help::LOAD), alloc)?)?
         .subcommand(described(alloc, "renew", help::RENEW))?
-        .subcommand(with_options(described(alloc, "debug", help::DEBUG), alloc)?)
+        .subcommand(with_options(described(alloc, "debug", help::DEBUG), alloc)?)?
+        .subcommand(described(alloc, "trace", help::TRACE).arg(store(alloc)?)?)
 }
 
 /// A command with its name and its help.
@@ -133,12 +150,6 @@ fn described<'a>(alloc: Global, name: &'a str, help: Help) -> Command<'a> {
 
 /// A command with the options of a run.
 fn with_options<'a>(command: Command<'a>, alloc: Global) -> Result<Command<'a>, AllocError> {
-    let store = Arg::new(alloc, "store")
-        .long("store")
-        .value_name("M")
-        .help("Units of 1024 words that the store has, 1 to 255")
-        .value_parser(value_parser!(u32).range(1..=255))
-        .default_value("8");
     let steps = Arg::new(alloc, "steps")
         .long("steps")
         .value_name("N")
@@ -151,7 +162,19 @@ fn with_options<'a>(command: Command<'a>, alloc: Global) -> Result<Command<'a>, 
         .help("Bytes that the run may print, 0 to 16777216")
         .value_parser(value_parser!(u32).range(0..=16_777_216))
         .default_value("1048576");
-    command.arg(store)?.arg(steps)?.arg(output)
+    command.arg(store(alloc)?)?.arg(steps)?.arg(output)
+}
+
+/// The option for the size of a store.
+fn store<'a>(alloc: Global) -> Result<Arg<'a>, AllocError> {
+    Ok(
+        Arg::new(alloc, "store")
+            .long("store")
+            .value_name("M")
+            .help("Units of 1024 words that the store has, 1 to 255")
+            .value_parser(value_parser!(u32).range(1..=255))
+            .default_value("8"),
+    )
 }
 
 /// The request for a verb for which nothing can be chosen.

@@ -20,7 +20,8 @@ pub(crate) const PROGRAM: Help = Help {
 Standard input is one job: a deck of cards and, after a line $INPUT, the input of its program.
 Column 1 of a card is blank or begins a label; groups such as (A,E,5) follow. `load` and `renew`
 take an image in place of the deck. `debug` takes commands after the deck, between a line
-$COMMANDS and the line $INPUT. `l6 run --help` describes `run`, and so on.
+$COMMANDS and the line $INPUT. `trace` takes the calls of an allocator in place of all this.
+`l6 run --help` describes `run`, and so on.
 
 Examples:
   printf ' (A,E,5)(A,PD)\\n' | l6 run
@@ -28,11 +29,12 @@ Examples:
   printf ' (A,E,5)(A,PD)\\n$COMMANDS\\nstep 2\\nshow\\n' | l6 debug
 
 Exit status:
-  0   the run ended by DONE, or an image, a listing or a debugger's answers were written
-  1   the run ended by FAIL
+  0   the run ended by DONE, an image, a listing or answers were written, or the deck that was
+      checked has no error
+  1   the run ended by FAIL, or an answer differs from the one in a trace
   2   the run trapped
   3   the run reached its limit of steps
-  4   the job was refused: its deck or image is faulty, or a part of it is too long
+  4   the job was refused: its deck, image or trace is faulty, or a part is too long
   5   memory ran out, or reading or writing failed
   64  the command line is wrong, or asks for help or for the version",
 };
@@ -64,6 +66,22 @@ Example:
   printf ' (A,E,5)(A,PD)\\n' | l6 list
 
 Exit status: 0 the listing was written, 4 the deck was refused, 5 memory ran out, or reading or
+writing failed, 64 the command line is wrong, or asks for help",
+};
+
+/// The help of `check`.
+pub(crate) const CHECK: Help = Help {
+    usage: "l6 check < JOB",
+    about: "Says what is wrong with a deck: card, column and why",
+    details: "\
+A line for each error and each warning begins with the numbers of its card and its column; a line
+that is indented has advice. At most 100 are shown, and the last line counts them all. An input
+after the deck, from a line $INPUT on, is ignored.
+
+Example:
+  printf ' (A,E,5(A,PD)\\n' | l6 check
+
+Exit status: 0 the deck has no error, 4 it has one, or is too long, 5 memory ran out, or reading or
 writing failed, 64 the command line is wrong, or asks for help",
 };
 
@@ -112,6 +130,22 @@ Example:
 
 Exit status: 0 the image was written, 4 the image was refused, 5 memory ran out, or reading or
 writing failed, 64 the command line is wrong, or asks for help",
+};
+
+/// The help of `trace`.
+pub(crate) const TRACE: Help = Help {
+    usage: "l6 trace [OPTIONS] < TRACE",
+    about: "Answers an allocator's trace, and finds the first answer that differs",
+    details: "\
+Standard input has a call on each line: get NAME WORDS, free NAME, lists, map, stats. Blank lines and
+lines that begin with # are skipped. After a get, = PLACE or = none says what another allocator
+answered, and after a free, = N how often it joined the piece.
+
+Example:
+  printf 'get a 5\\nget b 2048\\nfree a\\nlists\\n' | l6 trace --store 1
+
+Exit status: 0 the answers were written, 1 one differs, 4 the trace was refused, 5 memory ran out, or
+reading or writing failed, 64 the command line is wrong, or asks for help",
 };
 
 /// The help of `debug`.

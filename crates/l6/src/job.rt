@@ -7,6 +7,7 @@ ghost use Rattle.l6_device.specs.Transfer.{GivesAtMost};
 ghost use Rattle.l6_device.specs.declared.fault.Part.TheVariants.{Job};
 ghost use Rattle.l6.specs.JobResult.{JobOutcome, IsUnwrittenBy, JobResult};
 
+use crate::checking::write_deck_check;
 use crate::parts::{parts_of, session_of};
 use l6_debug::debug_deck;
 use l6_run::{
@@ -22,6 +23,8 @@ pub enum Verb {
     Asm,
     /// The head of the job is a deck, of which the listing is written.
     List,
+    /// The head of the job is a deck, of which is said what is wrong with it.
+    Check,
     /// The head of the job is a deck, which is run with the input of the job.
     Run,
     /// The head of the job is the text of an image, which is run with the input of the job.
@@ -38,6 +41,8 @@ pub enum Verb {
 pub enum Outcome {
     /// A text was written, and nothing was run.
     Written,
+    /// It was said what is wrong with a deck, which has so many errors.
+    Checked(u32),
     /// A run was made, ended so, and was printed.
     Ran(Ending),
 }
@@ -96,6 +101,10 @@ fn serve<W: Sink>(
         Verb::List => {
             write_deck_listing(alloc, parts.head, writer, patience)?;
             Ok(Outcome::Written)
+        }
+        Verb::Check => {
+            let errors = write_deck_check(alloc, parts.head, writer, patience)?;
+            Ok(Outcome::Checked(errors))
         }
         Verb::Run => {
             let ending = run_deck(alloc, parts.head, parts.input, writer, options, patience)?;

@@ -3,6 +3,7 @@
 #![tactic(auto)]
 
 mod arguments;
+mod checking;
 mod help;
 mod job;
 mod parts;
@@ -10,16 +11,30 @@ mod program;
 mod status;
 #[cfg(test)]
 mod tests;
+mod tracing;
 mod worked;
 
-use arguments::{Request, WordsFault, request_of};
+use arguments::{Task, WordsFault, task_of};
 use l6_run::Host;
 use program::exit_code;
 use std::env;
 use std::process::ExitCode;
+use tracing::trace_exit_code;
 
 fn main(rt: HostRuntime) -> ExitCode {
-    let asked = request(&rt);
+    let asked = match task(&rt) {
+        Ok(Task::Job(request)) => Ok(request),
+        Ok(Task::Trace(units)) => {
+            return trace_exit_code(
+                rt.alloc(),
+                units,
+                &mut Host::new(rt.stdin()),
+                &mut Host::new(rt.stdout()),
+                &mut rt.stderr(),
+            );
+        }
+        Err(fault) => Err(fault),
+    };
     exit_code(
         rt.alloc(),
         asked,
@@ -30,7 +45,7 @@ fn main(rt: HostRuntime) -> ExitCode {
 }
 
 /// What the words of the command line ask for.
-fn request(rt: &HostRuntime) -> Result<Request, WordsFault> {
+fn task(rt: &HostRuntime) -> Result<Task, WordsFault> {
     let words: Vec<String> = env::args(rt)?.collect(rt.alloc())?;
-    request_of(rt.alloc(), words.as_slice())
+    task_of(rt.alloc(), words.as_slice())
 }

@@ -1,6 +1,6 @@
 //! Exit statuses.
 
-ghost use Rattle.std.specs.Prelude.{◌≡◌};
+ghost use Rattle.std.specs.Prelude.{◌≡◌, ◌==◌, if◌then◌else◌};
 ghost use Rattle.l6.specs.Status as spec;
 
 use crate::arguments::WordsFault;
@@ -10,13 +10,14 @@ use l6_image::LoadFault;
 use l6_run::{Ending, RunFault};
 
 /// The exit status of the program: 0 after DONE or if a text was written, 1 after FAIL, 2 after a
-/// trap, 3 at the limit of steps, 4 if the job was refused, and 5 if memory ran out or a device
-/// failed.
+/// trap, 3 at the limit of steps, 4 if the job was refused or a deck that was checked has errors, and 5
+/// if memory ran out or a device failed.
 pub fn status(answer: &Result<Outcome, RunFault>) -> u8
     ensures { result ≡ spec.status_of answer.now }
 {
     match answer {
         Ok(Outcome::Written | Outcome::Ran(Ending::Done)) => 0,
+        Ok(Outcome::Checked(errors)) => status_of_errors(*errors),
         Ok(Outcome::Ran(Ending::Fail)) => 1,
         Ok(Outcome::Ran(Ending::Trap(_))) => 2,
         Ok(Outcome::Ran(Ending::Limit)) => 3,
@@ -38,6 +39,13 @@ pub fn status(answer: &Result<Outcome, RunFault>) -> u8
             | RunFault::NoMemory,
         ) => 5,
     }
+}
+
+/// The exit status of a deck that was checked and has so many errors.
+fn status_of_errors(errors: u32) -> u8
+    ensures { result ≡ (if errors == 0 then 0 else 4) }
+{
+    if errors == 0 { 0 } else { 4 }
 }
 
 /// The exit status if the words of the command line ask for nothing that can be done: 5 if memory

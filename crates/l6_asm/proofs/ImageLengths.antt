@@ -22,7 +22,7 @@ use Rattle.l6_asm.proofs.Labels.{went_on}
 use Rattle.l6_asm.proofs.StatementLengths.{rise-bytes, statements-few}
 
 -- a number has as many digits as are asked for
-digits-length : (places number : ℕ) → length (octal_digits places number) ≡ places
+pub digits-length : (places number : ℕ) → length (octal_digits places number) ≡ places
 digits-length zero number = refl
 digits-length (suc more) number =
     let front = octal_digits more (number / octal_digit_count) in
@@ -72,7 +72,7 @@ most-in Two = omega arith
 
 -- twice the words of the statements of a program are at most the bytes of its deck, and two for each
 -- statement
-body-few : (version : Version) (deck : List ℕ) (assembly : Assembled) → Spells deck assembly →
+pub body-few : (version : Version) (deck : List ℕ) (assembly : Assembled) → Spells deck assembly →
     2 * length (body version assembly.program) ≤ length deck + 2 * length assembly.program
 body-few version deck assembly spells =
     let written = spells.written in

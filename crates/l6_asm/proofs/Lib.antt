@@ -15,3 +15,5 @@ pub mod ImageLengths
 pub mod ElementValues
 pub mod GroupValues
 pub mod StatementValues
+pub mod CardsLeft
+pub mod ListingLengths

@@ -1,7 +1,7 @@
 -- The lines of a statement's words.
-use Rattle.std.proofs.Common.{◌≡◌, ℕ, ◌+◌, ◌<◌, ◌≤◌, List, [], ◌∷◌, ◌++◌, length, take, get_or, true, ap, sym, ◌∙◌, Some, arith}
+use Rattle.std.proofs.Common.{◌≡◌, ℕ, ◌+◌, ◌<◌, ◌≤◌, List, [], ◌∷◌, ◌++◌, length, map, take, get_or, true, ap, sym, ◌∙◌, Some, arith}
 use Rattle.std.specs.List.{list_all, flat_map}
-use Rattle.std.proofs.lemmas.List.{take_more, flat_map_more}
+use Rattle.std.proofs.lemmas.List.{take_more, flat_map_more, map_more}
 use Rattle.std.proofs.lemmas.Option.{slice_get-get_or, slice_get_past}
 use Rattle.l6_prog.specs.Numerals.{most_statements}
 use Rattle.l6_prog.specs.Statement.{Parts}
@@ -40,3 +40,14 @@ pub targets-known : (program : List Parts) (statement : Parts) → length progra
     list_all (is_below most_statements) (targets_of statement) ≡ true
 targets-known program statement few below =
     below-more (length program) most_statements (targets_of statement) (omega (arith, few)) below
+
+-- the words of one statement more
+pub statement-more : (program : List Parts) (number : ℕ) (statement d : Parts)
+    (words : List ℕ) (made more : List (List ℕ)) → number < length program →
+    statement ≡ get_or program number d → words ≡ statement_words statement →
+    made ≡ map statement_words (take number program) → more ≡ made ++ words ∷ [] →
+    more ≡ map statement_words (take (number + 1) program)
+statement-more program number statement d words made more within is same so_far added =
+    added ∙ ap (λ all. all ++ words ∷ []) so_far
+    ∙ ap (λ w. map statement_words (take number program) ++ w ∷ []) (same ∙ ap statement_words is)
+    ∙ sym (map_more statement_words program number d within)

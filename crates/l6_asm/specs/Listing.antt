@@ -115,11 +115,15 @@ abbrev pub label_line : Label × ℕ → List ℕ
 label_line label =
     left label_places label.0 ++ blanks 1 ++ number_in statement_places (Some label.1) ++ codes "\n"
 
+-- what is listed after the cards: the statement that is added, and the labels
+abbrev pub end_listed : Assembled → List ℕ
+end_listed assembly =
+    added_listed assembly.program ++ codes "LABELS\n" ++ flat_map label_line assembly.labels
+
 -- the listing of a deck that spells this program with these labels
 unfoldable pub listing_of : List ℕ → Assembled → List ℕ
 listing_of deck assembly =
-    cards_listed assembly.program 1 0 (lines_of deck) ++ added_listed assembly.program
-    ++ codes "LABELS\n" ++ flat_map label_line assembly.labels
+    cards_listed assembly.program 1 0 (lines_of deck) ++ end_listed assembly
 
 -- how many statements are complete after the cards of these lines, where so many are complete
 -- before them

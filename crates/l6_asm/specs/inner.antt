@@ -1,1 +1,2 @@
 pub mod MakesOrFails
+pub mod CardsLeft

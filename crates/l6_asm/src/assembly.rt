@@ -48,6 +48,15 @@ impl Assembly {
         program
     }
 
+    /// The program, and the labels.
+    pub fn into_parts(self) -> (Program, Labels)
+        ensures program { result.0 ≡ self.program }
+        ensures labels { result.1.entries ≡ self.labels }
+    {
+        let Assembly { program, labels } = self;
+        (program, labels)
+    }
+
     /// The number of the statement that each label names, in the order of the cards.
     pub fn labels(&self) -> &Labels
         ensures { result.now.entries ≡ self.now.labels }

@@ -1,8 +1,9 @@
 //! The lines of a listing.
 
-ghost use Rattle.std.specs.Prelude.{◌≡◌, ◌≤◌, ◌<◌, ◌^◌, ℕ, ◌++◌, true, length, map, take, drop, codes, decimal, OnOk};
+ghost use Rattle.std.specs.Prelude.{◌≡◌, ◌≤◌, ◌<◌, ◌^◌, ◌+◌, ℕ, ◌++◌, true, length, map, take, drop, codes, decimal, vec_capacity, IsOk, OnOk};
 ghost use Rattle.std.specs.List.{list_all, flat_map};
 ghost use Rattle.l6_word.specs.Word.{is_word};
+ghost use Rattle.l6_card.specs.Numerals.{card_width};
 ghost use Rattle.l6_asm.specs.Listing as spec;
 ghost use Rattle.l6_asm.specs.Numerals.{word_margin};
 
@@ -19,6 +20,12 @@ const STATEMENT_PLACES: usize = 5;
 const LABEL_PLACES: usize = 6;
 /// How many blanks are in front of a word.
 const WORD_MARGIN: usize = 15;
+/// The most digits of a number.
+const MAX_DIGITS: usize = 20;
+/// How many columns a card has.
+const CARD_COLUMNS: usize = 72;
+/// The most bytes of the line of a card, its line feed included. The line of a word is shorter.
+pub const MAX_LINE_BYTES: usize = 2 * MAX_DIGITS + 3 + CARD_COLUMNS + 1;
 
 /// Adds the line of a card: its number, that of the statement which begins on it, and its columns.
 pub(crate) fn push_card(
@@ -27,8 +34,12 @@ pub(crate) fn push_card(
     statement: Option<usize>,
     columns: &[u8],
 ) -> Result<(), AllocError>
-    ensures { OnOk result
+    ensures line { OnOk result
         (text.new.items ≡ text.old.items ++ spec.card_line card statement columns.now) }
+    ensures longer { OnOk result (length text.old.items < length text.new.items) }
+    ensures capacity { vec_capacity text.old ≤ vec_capacity text.new }
+    ensures succeeds { length columns.now ≤ card_width
+        → length text.old.items + MAX_LINE_BYTES ≤ vec_capacity text.old → IsOk result }
 {
     let start = text.len();
     push_number(text, CARD_PLACES, card)?;
@@ -52,8 +63,11 @@ pub(crate) fn push_words(text: &mut Vec<u8>, words: &[u64]) -> Result<(), AllocE
 }
 
 /// Adds the line of a word.
-fn push_word(text: &mut Vec<u8>, word: Word) -> Result<(), AllocError>
-    ensures { OnOk result (text.new.items ≡ text.old.items ++ spec.word_line word) }
+pub(crate) fn push_word(text: &mut Vec<u8>, word: Word) -> Result<(), AllocError>
+    ensures line { OnOk result (text.new.items ≡ text.old.items ++ spec.word_line word) }
+    ensures longer { OnOk result (length text.old.items < length text.new.items) }
+    ensures capacity { vec_capacity text.old ≤ vec_capacity text.new }
+    ensures succeeds { length text.old.items + MAX_LINE_BYTES ≤ vec_capacity text.old → IsOk result }
 {
     let mut line = [b' '; WORD_MARGIN + OCTALS + 1];
     line[WORD_MARGIN..WORD_MARGIN + OCTALS].copy_from_slice(&octal12(word));
@@ -78,7 +92,11 @@ pub(crate) fn push_label(text: &mut Vec<u8>, label: &Label, number: u16) -> Resu
 /// as many columns as blanks in front of a word.
 fn push_number(text: &mut Vec<u8>, places: usize, number: Option<usize>) -> Result<(), AllocError>
     requires { places ≤ word_margin }
-    ensures { OnOk result (text.new.items ≡ text.old.items ++ spec.number_in places number) }
+    ensures digits { OnOk result
+        (text.new.items ≡ text.old.items ++ spec.number_in places number) }
+    ensures count { OnOk result (length text.new.items ≤ length text.old.items + MAX_DIGITS) }
+    ensures capacity { vec_capacity text.old ≤ vec_capacity text.new }
+    ensures succeeds { length text.old.items + MAX_DIGITS ≤ vec_capacity text.old → IsOk result }
 {
     match number {
         None => push_blanks(text, places),
@@ -94,14 +112,23 @@ fn push_number(text: &mut Vec<u8>, places: usize, number: Option<usize>) -> Resu
 /// Adds so many blanks, at most those in front of a word.
 fn push_blanks(text: &mut Vec<u8>, count: usize) -> Result<(), AllocError>
     requires { count ≤ word_margin }
-    ensures { OnOk result (text.new.items ≡ text.old.items ++ spec.blanks count) }
+    ensures blanks { OnOk result (text.new.items ≡ text.old.items ++ spec.blanks count) }
+    ensures count { OnOk result (length text.new.items ≡ length text.old.items + count) }
+    ensures capacity { vec_capacity text.old ≤ vec_capacity text.new }
+    ensures succeeds { length text.old.items + count ≤ vec_capacity text.old → IsOk result }
 {
     text.extend_from_slice(&[b' '; WORD_MARGIN][..count])
 }
 
 /// Adds what the columns of a card show.
 fn push_columns(text: &mut Vec<u8>, columns: &[u8]) -> Result<(), AllocError>
-    ensures { OnOk result (text.new.items ≡ text.old.items ++ map spec.shown columns.now) }
+    ensures columns { OnOk result
+        (text.new.items ≡ text.old.items ++ map spec.shown columns.now) }
+    ensures count { OnOk result
+        (length text.new.items ≡ length text.old.items + length columns.now) }
+    ensures capacity { vec_capacity text.old ≤ vec_capacity text.new }
+    ensures succeeds { length text.old.items + length columns.now ≤ vec_capacity text.old
+        → IsOk result }
 {
     let start = text.len();
     text.extend_from_slice(columns)?;
@@ -121,8 +148,10 @@ fn show(columns: &mut [u8])
 /// Drops the blanks at the end of a text, back to a place in it.
 fn drop_last_blanks(text: &mut Vec<u8>, start: usize)
     requires { start ≤ length text.old.items }
-    ensures { text.new.items
+    ensures line { text.new.items
         ≡ take start text.old.items ++ spec.without_last_blanks (drop start text.old.items) }
+    ensures shorter { length text.new.items ≤ length text.old.items }
+    ensures capacity { vec_capacity text.new ≡ vec_capacity text.old }
 {
     let (front, line) = text.split_at(start);
     let end = front.len() + without_last_blanks(line).len();

@@ -1,17 +1,15 @@
 //! The listing of a deck.
 
-ghost use Rattle.std.specs.Prelude.{◌≡◌, ◌<◌, ◌++◌, List, true, length, IfOk, OnOk};
+ghost use Rattle.std.specs.Prelude.{◌≡◌, ◌<◌, ◌++◌, List, true, codes, length, IfOk, OnOk};
 ghost use Rattle.std.specs.List.{flat_map, list_all};
-ghost use Rattle.l6_word.specs.Lines.{lines_of};
-ghost use Rattle.l6_card.specs.Role.{role_of};
 ghost use Rattle.l6_asm.specs.Listing as spec;
 
 use crate::assembly::{Assembly, Labels};
+use crate::card_lines::CardLines;
 use crate::line::{push_card, push_label, push_words};
-use l6_card::{Role, columns_of, role_of};
+use crate::statement_words::StatementWords;
 use l6_image::statement_words;
 use l6_prog::Program;
-use l6_word::first_line;
 use std::alloc::{AllocError, Global};
 
 /// The listing of a deck, with the program and the labels of its assembly: a line for each card,
@@ -26,38 +24,43 @@ use std::alloc::{AllocError, Global};
 pub fn listing(alloc: Global, assembly: &Assembly, deck: &[u8]) -> Result<Vec<u8>, AllocError>
     ensures { IfOk result (λ text. text.items ≡ spec.listing_of deck.now assembly.now) }
 {
+    let words = StatementWords::of(alloc, assembly.program())?;
     let mut text = Vec::new(alloc);
-    push_cards(alloc, &mut text, assembly.program(), deck)?;
-    push_added(alloc, &mut text, assembly.program())?;
-    text.extend_from_slice(b"LABELS\n")?;
-    push_labels(&mut text, assembly.labels())?;
+    push_cards(&mut text, CardLines::new(deck, &words))?;
+    push_end(alloc, &mut text, assembly)?;
     Ok(text)
 }
 
-/// Adds the lines of a deck's cards, and after the last card of each statement those of its words.
-fn push_cards(
-    alloc: Global,
-    text: &mut Vec<u8>,
-    program: &Program,
-    deck: &[u8],
-) -> Result<(), AllocError>
-    ensures { let listed = spec.cards_listed program.now 1 0 (lines_of deck.now) in
-        OnOk result (text.new.items ≡ text.old.items ++ listed) }
+/// What the listing of a deck has after the lines of its cards: the plain `DONE` that is added, and
+/// the labels.
+///
+/// # Errors
+///
+/// Memory ran out.
+pub fn listing_end(alloc: Global, assembly: &Assembly) -> Result<Vec<u8>, AllocError>
+    ensures { IfOk result (λ text. text.items ≡ spec.end_listed assembly.now) }
 {
-    let mut rest = deck;
-    let mut card: usize = 0;
-    let mut over: usize = 0;
-    while let Some((line, following)) = first_line(rest) {
-        card += 1;
-        let role = role_of(line);
-        push_card(text, Some(card), number_on(role, over), columns_of(line))?;
-        if is_last(role, following) {
-            push_statement(alloc, text, program, over)?;
-            over += 1;
-        }
-        rest = following;
-    }
+    let mut text = Vec::new(alloc);
+    push_end(alloc, &mut text, assembly)?;
+    Ok(text)
+}
+
+/// Adds all lines of a deck's cards.
+fn push_cards(text: &mut Vec<u8>, lines: CardLines<'_>) -> Result<(), AllocError>
+    ensures { OnOk result (text.new.items ≡ text.old.items ++ lines.entry) }
+{
+    let mut lines = lines;
+    while lines.add_line(text)? {}
     Ok(())
+}
+
+/// Adds what is after the lines of the cards.
+fn push_end(alloc: Global, text: &mut Vec<u8>, assembly: &Assembly) -> Result<(), AllocError>
+    ensures { OnOk result (text.new.items ≡ text.old.items ++ spec.end_listed assembly.now) }
+{
+    push_added(alloc, text, assembly.program())?;
+    text.extend_from_slice(b"LABELS\n")?;
+    push_labels(text, assembly.labels())
 }
 
 /// Adds the statement that is added to each deck, and its word.
@@ -95,39 +98,4 @@ fn push_statement(
         push_words(text, &words)?;
     }
     Ok(())
-}
-
-/// The number of the statement that begins on a card, which shows it.
-fn number_on(role: Role, number: usize) -> Option<usize>
-    ensures { result ≡ spec.number_on role number }
-{
-    match role {
-        Role::First => Some(number),
-        _ => None,
-    }
-}
-
-/// Whether a card is the last of its statement, with this text after it.
-fn is_last(role: Role, following: &[u8]) -> bool
-    ensures { result ≡ spec.is_last role (spec.goes_on (lines_of following.now)) }
-{
-    match role {
-        Role::First | Role::Further => !goes_on(following),
-        _ => false,
-    }
-}
-
-/// Whether a statement goes on in a text: the first of its cards that is not skipped continues it.
-fn goes_on(text: &[u8]) -> bool
-    ensures { result ≡ spec.goes_on (lines_of text.now) }
-{
-    let mut rest = text;
-    while let Some((line, following)) = first_line(rest) {
-        match role_of(line) {
-            Role::Skipped => rest = following,
-            Role::Further => return true,
-            _ => return false,
-        }
-    }
-    false
 }

@@ -12,6 +12,7 @@ use Rattle.l6_card.specs.Form.{are_prefix, are_whole, are_within_limits}
 use Rattle.l6_card.specs.Pieces.{Piece, ends, begins, label, item, pieces_of_cards}
 use Rattle.l6_card.specs.Fault as determined
 use Rattle.l6_card.specs.Fault.{Begun, Known, nothing_known, and_then, fault_in, fault_of}
+use Rattle.l6_card.specs.ReadAlone.{fault_of_cards}
 use Rattle.l6_card.specs.inner.StatementBuilder.{StatementBuilder, new_builder, is_whole, statement_from, with_item, builder_then, builder_of}
 use Rattle.l6_card.specs.inner.Pass.{Stage, first_stage, stage_if, when_over, when_begun, when_continued, when_labelled, when_built, after_pieces, pass_of}
 use Rattle.l6_card.proofs.Steps.{builder_of-append}
@@ -314,3 +315,11 @@ pub fault_of_pass : (deck : List ℕ) → fault_of deck ≡ fault_in (pass_of de
 fault_of_pass deck =
     one_fault (pass_of deck) (determined.after_pieces nothing_known (pieces_of_cards (cards_of deck)))
     (cards_agree (cards_of deck) first_stage nothing_known (refl, refl))
+
+-- the same of cards that are read as a deck of their own
+pub fault_of_cards_pass : (cards : List Card) →
+    fault_of_cards cards ≡ fault_in (after_pieces first_stage (pieces_of_cards cards))
+fault_of_cards_pass cards =
+    one_fault (after_pieces first_stage (pieces_of_cards cards))
+    (determined.after_pieces nothing_known (pieces_of_cards cards))
+    (cards_agree cards first_stage nothing_known (refl, refl))

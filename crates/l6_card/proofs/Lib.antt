@@ -18,6 +18,9 @@ pub mod Beginnings
 pub mod WholeItems
 pub mod Settling
 pub mod Passes
+pub mod PartPasses
+pub mod Composing
+pub mod Shifting
 pub mod Offsets
 pub mod Spans
 pub mod Examples

@@ -10,6 +10,7 @@ pub mod Pieces
 pub mod Fault
 pub mod Denotes
 pub mod ReadsAs
+pub mod ReadAlone
 pub mod Laws
 pub mod Worked
 pub mod inner

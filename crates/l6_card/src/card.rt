@@ -93,7 +93,7 @@ pub(crate) fn kind_of(card: u32, offset: usize, columns: &[u8]) -> Kind<'_>
 }
 
 /// The longest run of letters and digits that columns begin with, and what follows it.
-fn split_label(columns: &[u8]) -> (&[u8], &[u8])
+pub fn split_label(columns: &[u8]) -> (&[u8], &[u8])
     ensures label { result.0.now ≡ run_of columns.now }
     ensures body { result.1.now ≡ following_run columns.now }
     ensures whole { columns.now ≡ result.0.now ++ result.1.now }

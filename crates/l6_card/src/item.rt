@@ -8,7 +8,7 @@ ghost use Rattle.l6_card.specs.inner.Token.{BeginsWith, IsUnclosed, ClosesFirst,
 use l6_group::is_blank;
 
 /// What a body begins with.
-pub(crate) enum Token<'a> {
+pub enum Token<'a> {
     /// Nothing: no item is left.
     End,
     /// A group with these columns between its parentheses, and what follows it.
@@ -20,7 +20,7 @@ pub(crate) enum Token<'a> {
 }
 
 /// What a body begins with, blanks aside.
-pub(crate) fn first_item(body: &[u8]) -> Token<'_>
+pub fn first_item(body: &[u8]) -> Token<'_>
     ensures first { BeginsWith result body.now }
     ensures shorter { IsShorter result body.now }
 {

@@ -2,6 +2,7 @@
 
 ghost use Rattle.std.specs.Prelude.{◌≡◌};
 ghost use Rattle.l6_card.specs.Numerals.{card_width, most_deck_bytes, most_deck_statements, most_continuations};
+ghost use Rattle.l6_card.specs.ReadAlone.{PartsCompose, StatementsObjectAlone};
 ghost use Rattle.l6_card.specs.Laws.{ReadsOnlyWithoutFault, ReadsWithoutFault, ReadsInOneWay, GroupsAreAtSpans, SpansRise, PrefixesBecomeWhole, BeginningsArePrefixes, WholeItemsDenote, ItemsThatDenoteAreWhole, ItemsDenoteOneStatement, GroupsAreInParentheses, BlanksVanish, LettersMakeWords, LettersBeginWords, OpeningsNeedClosings, OpeningsDoNotNest};
 
 use crate::limits::{CARD_WIDTH, MAX_CONTINUATIONS, MAX_DECK_BYTES, MAX_DECK_STATEMENTS};
@@ -18,6 +19,13 @@ pub fn reading_is_settled()
 pub fn groups_have_their_spans()
     ensures are_prefix { GroupsAreAtSpans }
     ensures rise { SpansRise }
+{}
+
+/// A deck can be read in parts, each as a deck of its own, where each begins with the first card of a
+/// statement.
+pub fn parts_are_read_alone()
+    ensures compose { PartsCompose }
+    ensures alone { StatementsObjectAlone }
 {}
 
 /// Items are a prefix exactly if further items after them can make them a whole statement.

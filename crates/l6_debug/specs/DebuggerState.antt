@@ -1,10 +1,11 @@
 -- Sessions: at which state of a run one is, and where commands lead.
-use Rattle.std.specs.Prelude.{ℕ, suc, ◌+◌, ◌-◌, ◌==◌, min, nat_lt, Bool, true, false, ◌&&◌, List, length, replicate, slice_index_or, slice_set, unwrap_or}
+use Rattle.std.specs.Prelude.{ℕ, suc, ◌+◌, ◌-◌, min, nat_lt, Bool, true, false, ◌&&◌, List, length, replicate, slice_set, unwrap_or}
 use Rattle.l6_store.specs.Least.{least}
 use Rattle.l6_store.specs.Rule.{Rule}
 use Rattle.l6_steps.specs.Configuration.{state_at}
 use Rattle.l6_steps.specs.Numbering.{last_number}
-use Rattle.l6_steps.specs.State.{RunContext, State}
+use Rattle.l6_steps.specs.State.{RunContext}
+use Rattle.l6_history.specs.Stop.{is_at_breakpoint}
 use Rattle.l6_debug.specs.declared.command.Command.{Command}
 use Rattle.l6_debug.specs.declared.command.Command.TheVariants.{Step, Go, Back, Break, Clear}
 
@@ -18,12 +19,8 @@ abbrev pub first_debugger_state : RunContext → DebuggerState
 first_debugger_state context =
     record { number = 0; breakpoints = replicate (length context.program) false }
 
--- a state is at the condition of a statement that has a breakpoint
-abbrev pub is_at_breakpoint : List Bool → State → Bool
-is_at_breakpoint breakpoints state =
-    state.at.action == 0 && slice_index_or breakpoints state.at.statement false
-
--- the number of the first later state that is there, or of the last state
+-- the number of the first later state that is at the condition of a statement with a breakpoint, or
+-- of the last state
 unfoldable pub next_breakpoint : Rule → RunContext → DebuggerState → ℕ
 next_breakpoint rule context debugger_state =
     unwrap_or

@@ -1,6 +1,5 @@
 pub mod Numerals
 pub mod Command
-pub mod History
 pub mod DebuggerState
 pub mod Answer
 pub mod Transcript

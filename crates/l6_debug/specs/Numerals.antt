@@ -8,10 +8,3 @@ most_number = 1000000000
 -- in how many places the number of a word is
 abbrev pub index_places : ℕ
 index_places = 4
-
--- how many checkpoints a history keeps at most, and of how many states one is tried at one
-abbrev pub most_kept : ℕ
-most_kept = 16
-
-abbrev pub stride : ℕ
-stride = 4096

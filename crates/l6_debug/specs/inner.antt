@@ -1,3 +1,1 @@
-pub mod NumberedMachine
-pub mod Ring
 pub mod DebuggerRun

@@ -2,7 +2,7 @@
 
 /// What may be asked of a session.
 #[derive(Clone, Copy, Debug, PartialEq, Eq)]
-pub(crate) enum Command {
+pub enum Command {
     /// Go so many states on, at most to the last one.
     Step(u64),
     /// Go to the next state that is at a statement with a breakpoint, or to the last one.

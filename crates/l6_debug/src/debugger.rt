@@ -1,30 +1,29 @@
 //! The debugger: a session at the states of a run.
 
-ghost use Rattle.std.specs.Prelude.{◌≡◌, ◌≤◌, slice_index_or, slice_set, true, false, IfOk};
-ghost use Rattle.std.specs.List.{list_any};
-ghost use Rattle.l6_steps.specs.Configuration.{first_configuration, state_at};
-ghost use Rattle.l6_steps.specs.Numbering.{last_number};
-ghost use Rattle.l6_steps.specs.Numerals.{most_steps};
-ghost use Rattle.l6_debug.specs.History.{number_to, run_state_at};
-ghost use Rattle.l6_debug.specs.DebuggerState.{after, first_debugger_state, is_at_breakpoint, next_breakpoint};
+ghost use Rattle.std.specs.Prelude.{◌≡◌, slice_set, IfOk};
+ghost use Rattle.l6_steps.specs.Configuration.{first_configuration};
+ghost use Rattle.l6_history.specs.History.{number_to, run_state_at};
+ghost use Rattle.l6_debug.specs.DebuggerState.{after, first_debugger_state, next_breakpoint};
 
 use crate::command::Command;
-use crate::history::History;
+use l6_history::{History, Stop};
 use l6_machine::Machine;
 use l6_store::Places;
 use std::alloc::{AllocError, Global};
 use std::marker::Model;
 
-/// A session: a state of a run, and for each statement of the program whether it has a breakpoint.
+/// A session: a state of a run, and for each statement of the program whether it has a breakpoint,
+/// by which alone it stops.
 #[derive(Drop)]
 pub(crate) struct Debugger<S: Places> {
     history: History<S>,
-    breakpoints: Vec<bool>,
+    stop: Stop,
 }
 
 impl<S: Places> Model for Debugger<S> {
     ghost use Rattle.std.specs.Coded.{codes};
-    ghost use Rattle.l6_debug.specs.inner.DebuggerRun.{DebuggerRun};
+    ghost use Rattle.std.specs.Prelude.{◌≡◌};
+    ghost use Rattle.l6_debug.specs.inner.DebuggerRun.{DebuggerRun, stop_at};
 
     ghost Value = { DebuggerRun };
 
@@ -32,8 +31,10 @@ impl<S: Places> Model for Debugger<S> {
 
     ghost view = { λ debugger. record {
       context = debugger.history.context;
-      debugger_state = record { number = debugger.history.number; breakpoints = debugger.breakpoints.items };
+      debugger_state = record { number = debugger.history.number; breakpoints = debugger.stop.breakpoints };
     } };
+
+    ghost invariant = { λ debugger. debugger.stop ≡ stop_at debugger.stop.breakpoints };
 }
 
 impl<S: Places> Debugger<S> {
@@ -47,10 +48,10 @@ impl<S: Places> Debugger<S> {
         ensures debugger_state { IfOk result (λ debugger.
             debugger.debugger_state ≡ first_debugger_state machine.context) }
     {
-        let breakpoints = vec![in alloc; false; machine.program().statements().len()]?;
+        let stop = Stop::new(alloc, machine.program().statements().len())?;
         Ok(Debugger {
             history: History::new(alloc, machine),
-            breakpoints,
+            stop,
         })
     }
 
@@ -88,7 +89,6 @@ impl<S: Places> Debugger<S> {
         ensures debugger_state { self.new.debugger_state ≡ record self.old.debugger_state {
           number = number_to S.rule self.old.context number;
         } }
-        ensures bound { last_number S.rule self.old.context ≤ most_steps }
     {
         self.history.to(alloc, number);
     }
@@ -102,14 +102,7 @@ impl<S: Places> Debugger<S> {
           number = next_breakpoint S.rule self.old.context self.old.debugger_state;
         } }
     {
-        if !self.has_breakpoints() {
-            return self.go_to(alloc, u64::MAX);
-        }
-        while self.history.step(alloc) {
-            if self.is_at_breakpoint() {
-                return;
-            }
-        }
+        self.history.to_next(alloc, &self.stop);
     }
 
     /// Sets the breakpoint of a statement, or removes it, if there is such a statement.
@@ -119,34 +112,6 @@ impl<S: Places> Debugger<S> {
           breakpoints = slice_set self.old.debugger_state.breakpoints statement has_breakpoint;
         } }
     {
-        if let Some(breakpoint) = self.breakpoints.get_mut(statement as usize) {
-            *breakpoint = has_breakpoint;
-        }
-    }
-
-    /// Whether a statement has a breakpoint.
-    fn has_breakpoints(&self) -> bool
-        ensures { result ≡ list_any (λ breakpoint. breakpoint) self.now.debugger_state.breakpoints }
-    {
-        self.breakpoints.iter().any(|breakpoint| *breakpoint)
-    }
-
-    /// Whether the state is at the condition of a statement with a breakpoint.
-    fn is_at_breakpoint(&self) -> bool
-        ensures { result ≡ is_at_breakpoint self.now.debugger_state.breakpoints
-            (state_at S.rule self.now.context self.now.debugger_state.number) }
-    {
-        let at = self.machine().at();
-        at.action == 0 && self.has_breakpoint(at.statement)
-    }
-
-    /// Whether a statement has a breakpoint.
-    fn has_breakpoint(&self, statement: u16) -> bool
-        ensures { result ≡ slice_index_or self.now.debugger_state.breakpoints statement false }
-    {
-        self.breakpoints
-            .get(usize::from(statement))
-            .copied()
-            .unwrap_or(false)
+        self.stop.set_breakpoint(statement, has_breakpoint);
     }
 }

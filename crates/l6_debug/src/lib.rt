@@ -4,16 +4,16 @@
 mod command;
 mod debugger;
 mod debugging;
-mod history;
 mod laws;
-mod numbered_machine;
 mod obeying;
 mod reading;
-mod ring;
 mod showing;
 mod worked;
 
+pub use command::Command;
 pub use debugging::{debug, debug_deck};
-pub use history::History;
-pub use laws::{checkpoints_have_their_places, numbers_have_their_limit};
+pub use l6_history::History;
+pub use laws::numbers_have_their_limit;
+pub use reading::{first_word, number_of};
+pub use showing::push_answer;
 pub use worked::{others_are_wrong, words_are_separated};

@@ -70,8 +70,8 @@ fn command_with(verb: &[u8], digits: &[u8]) -> Option<Command>
     }
 }
 
-/// The number that digits write, if it is no greater than a command may give.
-fn number_of(digits: &[u8]) -> Option<u64>
+/// The number that digits write, if it is no greater than a command may give: 1,000,000,000.
+pub fn number_of(digits: &[u8]) -> Option<u64>
     ensures { result ≡ spec.number_of digits.now }
 {
     let number = decimal_of(digits)?.get();
@@ -82,8 +82,9 @@ fn number_of(digits: &[u8]) -> Option<u64>
     }
 }
 
-/// The first word of a line, and what follows it; `None` where it has none.
-fn first_word(line: &[u8]) -> Option<(&[u8], &[u8])>
+/// The first word of a line, and what follows it; `None` where it has none. Words are between blanks
+/// and tabs.
+pub fn first_word(line: &[u8]) -> Option<(&[u8], &[u8])>
     ensures { let words = spec.words_in line.now in
         MatchOption result (words ≡ []) (λ parts. words ≡ parts.0.now ∷ spec.words_in parts.1.now) }
 {

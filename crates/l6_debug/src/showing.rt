@@ -23,7 +23,11 @@ use std::alloc::{AllocError, Global};
 const INDEX_PLACES: usize = 4;
 
 /// Adds what is answered to a command, of the state at which the machine is.
-pub(crate) fn push_answer<S: Places>(
+///
+/// # Errors
+///
+/// Memory ran out.
+pub fn push_answer<S: Places>(
     alloc: Global,
     text: &mut Vec<u8>,
     machine: &Machine<S>,

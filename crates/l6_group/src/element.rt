@@ -29,8 +29,8 @@ pub(crate) fn name_of(byte: u8) -> Option<Name>
     }
 }
 
-/// The chain that an element spells.
-pub(crate) fn chain_of(element: &[u8]) -> Option<Chain>
+/// The chain that an element spells: 1 to 6 letters and digits, the first a letter. Blanks are left out.
+pub fn chain_of(element: &[u8]) -> Option<Chain>
     ensures { result ≡ chain_of element.now }
 {
     let mut names: ArrayVec<Name, MAX_NAMES> = ArrayVec::new();

@@ -12,7 +12,7 @@ mod test;
 mod value;
 mod word;
 
-pub use element::{are_blank, is_letter};
+pub use element::{are_blank, chain_of, is_letter};
 pub use l6_word::is_blank;
 pub use label::{Label, MAX_LABEL_CHARACTERS, label_of};
 pub use laws::labels_have_their_limit;

@@ -1,3 +1,4 @@
 pub mod Advancing
 pub mod Stepping
 pub mod Arrivals
+pub mod Leading

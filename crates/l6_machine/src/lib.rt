@@ -12,12 +12,13 @@ mod options;
 mod printing;
 mod progress;
 mod returning;
+mod views;
 
 pub use decimal::push_decimal;
 pub use ending::Ending;
 pub use fault::MachineFault;
 pub use l6_registers::Depths;
-pub use l6_steps::{Halt, Limits, Position, StepResult, Trap};
+pub use l6_steps::{Halt, Limits, Position, Return, StepResult, Trap};
 pub use machine::Machine;
 pub use options::{Options, machine_under};
-pub use printing::{ending_line, ending_of, printout, push_whole_lines};
+pub use printing::{ending_line, ending_of, into_printout, printout, push_whole_lines};

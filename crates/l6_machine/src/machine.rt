@@ -40,7 +40,7 @@ fn shared(alloc: Global, code: CompiledProgram) -> Result<Rc<CompiledProgram, Gl
 pub struct Machine<S: Places> {
     // it never changes, so the copies of a machine share it
     code: Rc<CompiledProgram, Global>,
-    registers: Registers<S>,
+    pub(crate) registers: Registers<S>,
     progress: Progress,
 }
 
@@ -343,6 +343,16 @@ impl<S: Places> Machine<S> {
         ensures bound { length result.now ≤ most_output }
     {
         self.registers.output()
+    }
+
+    /// What has been printed, for which the machine is given up.
+    pub fn into_output(self) -> Vec<u8>
+    where
+        S: Drop,
+        ensures { result.items ≡ self.configuration.state.memory.output }
+    {
+        let Machine { registers, .. } = self;
+        registers.into_output()
     }
 
     /// How the run has ended, if it has.

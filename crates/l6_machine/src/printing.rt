@@ -60,6 +60,28 @@ pub fn printout<S: Places>(alloc: Global, machine: &Machine<S>) -> Result<Vec<u8
     Ok(text)
 }
 
+/// All that a machine's run prints, for which the machine is given up: so the output is not copied. The
+/// caller owes a last state.
+///
+/// # Errors
+///
+/// Memory ran out.
+pub fn into_printout<S: Places>(alloc: Global, machine: Machine<S>) -> Result<Vec<u8>, AllocError>
+where
+    S: Drop,
+    requires { is_last machine.context machine.configuration.state ≡ true }
+    ensures { IfOk result (λ text. text.items ≡ printout machine.configuration.state) }
+{
+    let line = ending_line(alloc, &machine)?;
+    let mut text = machine.into_output();
+    if lacks_line_feed(text.as_slice()) {
+        text.push(b'\n')?;
+    }
+    text.extend_from_slice(line.as_slice())?;
+    text.push(b'\n')?;
+    Ok(text)
+}
+
 /// Adds an output, and the line feed that it lacks.
 ///
 /// # Errors

@@ -1,4 +1,4 @@
 pub mod Numerals
 pub mod Words
 pub mod Room
-pub mod inner
+pub mod Pages

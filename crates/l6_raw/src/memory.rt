@@ -1,8 +1,9 @@
-//! A piece of raw memory for words. The raw pointer is in this module alone: its five functions are
+//! A piece of raw memory for words. The raw pointer is in this module alone: its six functions are
 //! proved by hand, and everything else in the crate is safe code over them.
 
-ghost use Rattle.std.specs.Prelude.{[], ℕ, List, ◌≡◌, ◌+◌, ◌<◌, ◌≤◌, ◌^◌, ◌++◌, ◌∷◌, length, slice_set, IfOk};
+ghost use Rattle.std.specs.Prelude.{[], ℕ, List, ◌≡◌, ◌+◌, ◌<◌, ◌≤◌, ◌^◌, ◌++◌, ◌∷◌, length, replicate, slice_set, IfOk};
 ghost use denote.RawPtr.{Ptr};
+ghost use Rattle.l6_raw.specs.Words.{overwritten};
 ghost use Rattle.l6_raw.specs.Room.{row_of, words_and_room, words_lent};
 
 use std::alloc::{AllocError, Allocator};
@@ -101,6 +102,21 @@ impl RawMemory {
             × (self.new.start ≡ self.old.start) }
     {
         unsafe { *self.start.add(index) = word };
+    }
+
+    /// Makes so many words from an index on 0.
+    pub(crate) fn clear(&mut self, index: usize, count: usize)
+        requires { index + count ≤ length self.old.words }
+        ensures { (self.new.words ≡ overwritten self.old.words index (replicate count 0))
+            × (self.new.room ≡ self.old.room)
+            × (self.new.start ≡ self.old.start) }
+    {
+        let first = unsafe { self.start.add(index) };
+        let mut done = 0;
+        while done < count {
+            unsafe { *first.add(done) = 0 };
+            done += 1;
+        }
     }
 
     /// The words that are written, borrowed and not copied.

@@ -1,35 +1,25 @@
 //! The region: a list of words, as its callers see it.
 
-ghost use Rattle.std.specs.Prelude.{◌≡◌, ◌+◌, ◌<◌, ◌≤◌, ◌^◌, ◌%◌, ◌⊎◌, ◌++◌, length, replicate, slice_index, slice_range, slice_set, IfOk};
+ghost use Rattle.std.specs.Prelude.{◌≡◌, ◌+◌, ◌-◌, ◌<◌, ◌≤◌, ◌^◌, ◌⊎◌, ◌++◌, length, min, replicate, slice_index, slice_range, slice_set, IfOk};
 ghost use Rattle.l6_raw.specs.Numerals.{most_words, word_bits};
 ghost use Rattle.l6_raw.specs.Words.{AreWords, overwritten};
-ghost use Rattle.l6_raw.specs.inner.Pages.{most_pages, page_size, AreUnused};
+ghost use Rattle.l6_raw.specs.Pages.{most_pages, page_size, AreUnused};
 
 use crate::memory::{DeallocToken, RawMemory};
 use std::alloc::{AllocError, Global};
 use std::marker::Model;
 
-/// How many pages the largest region has.
-const PAGES: usize = 256;
-
 /// So many words in one piece of raw memory, 1 to `MOST_WORDS`. A word is below 2^36.
-///
-/// The words are counted off in pages of `PAGE_SIZE`. A page is used once one of its words is written
-/// by another call than `write_first`; all but the first word of an unused page are 0. So `take_from`
-/// leaves the pages out that are unused in both regions.
 pub struct Region {
     memory: RawMemory,
     token: DeallocToken<Global>,
     alloc: Global,
-    // whether each page is used
-    used: [bool; PAGES],
 }
 
 impl Model for Region {
     ghost use Rattle.std.specs.Prelude.{List, ℕ, length, ◌≡◌, ◌≤◌};
     ghost use Rattle.l6_raw.specs.Numerals.{most_words};
     ghost use Rattle.l6_raw.specs.Words.{AreWords};
-    ghost use Rattle.l6_raw.specs.inner.Pages.{AreUnused};
 
     ghost Value = { List ℕ };
 
@@ -41,8 +31,7 @@ impl Model for Region {
         × (region.token.room ≡ region.memory.room)
         × (region.token.alloc ≡ region.alloc)
         × (length region.memory.words ≤ most_words)
-        × AreWords region.memory.words
-        × AreUnused region.memory.words region.used };
+        × AreWords region.memory.words };
 }
 
 /// Gives the memory back. That can happen only once, since `RawMemory` and `DeallocToken` can be
@@ -53,7 +42,6 @@ impl Drop for Region {
             memory,
             token,
             alloc,
-            used: _,
         } = self;
         memory.free(token, &alloc);
     }
@@ -66,7 +54,7 @@ impl Region {
     /// How many bits a word has.
     pub const WORD_BITS: u32 = 36;
 
-    /// How many words a page has.
+    /// How many words a page has. By pages `take_from` leaves out what is the same already.
     pub const PAGE_SIZE: usize = 1024;
 
     /// So many words, all 0.
@@ -85,7 +73,6 @@ impl Region {
             memory,
             token,
             alloc,
-            used: [false; PAGES],
         })
     }
 
@@ -98,24 +85,13 @@ impl Region {
         self.memory.words()[index]
     }
 
-    /// Puts a word at an index. Its page is used from then on.
+    /// Puts a word at an index.
     pub fn write(&mut self, index: usize, word: u64)
         requires index { index < length self.old }
         requires word { word < 2 ^ word_bits }
         ensures { self.new ≡ slice_set self.old index word }
     {
-        self.used[index / Self::PAGE_SIZE] = true;
         self.memory.write(index, word);
-    }
-
-    /// Puts a word at the first index of a page. An unused page stays unused.
-    pub fn write_first(&mut self, first: usize, word: u64)
-        requires index { first < length self.old }
-        requires page { first % page_size ≡ 0 }
-        requires word { word < 2 ^ word_bits }
-        ensures { self.new ≡ slice_set self.old first word }
-    {
-        self.memory.write(first, word);
     }
 
     /// So many words from an index on, borrowed and not copied.
@@ -132,7 +108,7 @@ impl Region {
         requires { index + count ≤ length self.old }
         ensures { self.new ≡ overwritten self.old index (replicate count 0) }
     {
-        clear(&mut self.memory, index, count);
+        self.memory.clear(index, count);
     }
 
     /// Copies so many words from one index on to another on. The caller owes that the two ranges
@@ -162,28 +138,24 @@ impl Region {
         let words = self.memory.words();
         let (mut memory, token) = RawMemory::take(&alloc, words.len())?;
         append_words(&mut memory, words);
-        let mut used = [false; PAGES];
-        used.copy_from_slice(&self.used);
         Ok(Region {
             memory,
             token,
             alloc,
-            used,
         })
     }
 
-    /// Takes over the words of another region. The caller owes that it has as many.
-    pub fn take_from(&mut self, other: &Region)
-        requires { length self.old ≡ length other.now }
+    /// Takes over the words of another region, of which the caller owes that it has as many. Of a page
+    /// that is used in neither only the first word is taken: the caller owes that all its others are 0
+    /// in both.
+    pub fn take_from(&mut self, other: &Region, used: &[bool], other_used: &[bool])
+        requires long { length self.old ≡ length other.now }
+        requires pages { (length used.now ≡ most_pages) × (length other_used.now ≡ most_pages) }
+        requires unused { AreUnused self.old used.now }
+        requires other_unused { AreUnused other.now other_used.now }
         ensures { self.new ≡ other.now }
     {
-        overwrite(
-            &mut self.memory,
-            other.memory.words(),
-            &self.used,
-            &other.used,
-        );
-        self.used.copy_from_slice(&other.used);
+        overwrite(&mut self.memory, other.memory.words(), used, other_used);
     }
 }
 
@@ -201,14 +173,27 @@ fn overwrite(memory: &mut RawMemory, words: &[u64], used: &[bool], other_used: &
 {
     for page in 0..words.len().div_ceil(Region::PAGE_SIZE) {
         let first = page * Region::PAGE_SIZE;
-        let left = words.len() - first;
-        let count = if used[page] || other_used[page] {
-            left.min(Region::PAGE_SIZE)
+        if used[page] || other_used[page] {
+            put_page(memory, first, words);
         } else {
-            1
-        };
-        put(memory, first, &words[first..first + count]);
+            memory.write(first, words[first]);
+        }
     }
+}
+
+/// Overwrites the page that begins at an index with that of others, as far as there are words. It is a
+/// function of its own so that the loop over pages, most of which are unused, is short.
+#[inline(never)]
+fn put_page(memory: &mut RawMemory, first: usize, words: &[u64])
+    requires long { length memory.old.words ≡ length words.now }
+    requires within { first ≤ length words.now }
+    ensures words { memory.new.words ≡ overwritten memory.old.words first
+        (slice_range words.now first (first + min page_size (length words.now - first))) }
+    ensures room { memory.new.room ≡ memory.old.room }
+    ensures start { memory.new.start ≡ memory.old.start }
+{
+    let count = Region::PAGE_SIZE.min(words.len() - first);
+    put(memory, first, &words[first..first + count]);
 }
 
 /// Overwrites the words from an index on with others.
@@ -244,17 +229,5 @@ fn append_words(memory: &mut RawMemory, words: &[u64])
 {
     for &word in words {
         memory.append(word);
-    }
-}
-
-/// Makes so many words from an index on 0.
-fn clear(memory: &mut RawMemory, index: usize, count: usize)
-    requires { index + count ≤ length memory.old.words }
-    ensures words { memory.new.words ≡ overwritten memory.old.words index (replicate count 0) }
-    ensures room { memory.new.room ≡ memory.old.room }
-    ensures start { memory.new.start ≡ memory.old.start }
-{
-    for done in 0..count {
-        memory.write(index + done, 0);
     }
 }

@@ -4,4 +4,5 @@ pub mod Exchanging
 pub mod Definitions
 pub mod Fields
 pub mod Freeing
+pub mod Getting
 pub mod Upcoming

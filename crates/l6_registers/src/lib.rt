@@ -18,6 +18,7 @@ mod row;
 mod saved;
 mod stack;
 mod upcoming;
+mod views;
 
 pub use laws::registers_have_their_limits;
 pub use registers::Registers;

@@ -1,6 +1,6 @@
 //! Stacks of what was saved.
 
-ghost use Rattle.std.specs.Prelude.{◌≡◌, ◌<◌, ◌≤◌, [], ◌∷◌, length, slice_get, IfOk, MatchOption};
+ghost use Rattle.std.specs.Prelude.{◌≡◌, ◌<◌, ◌≤◌, [], ◌∷◌, length, reverse, slice_get, IfOk, MatchOption};
 ghost use Rattle.l6_steps.specs.Numerals.{most_entries};
 ghost use Rattle.l6_steps.specs.Stack.{has_room};
 
@@ -85,6 +85,13 @@ impl<T: Copy> Stack<T> {
         ensures { self.new ≡ entry ∷ self.old }
     {
         let _ = self.entries.push(entry);
+    }
+
+    /// The entries, the latest last.
+    pub(crate) fn entries(&self) -> &[T]
+        ensures { reverse result.now ≡ self.now }
+    {
+        self.entries.as_slice()
     }
 
     /// The entry that was saved last, if there is one.

@@ -1,3 +1,4 @@
 pub mod Printouts
 pub mod Servings
 pub mod WordLines
+pub mod Listings

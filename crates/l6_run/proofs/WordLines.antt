@@ -1,9 +1,8 @@
--- Lemmas on the lines of an image's words: how many bytes they have, and what has gone out of them.
+-- Lemmas on texts that are written in pieces: how many bytes they have, and what has gone out of them.
 use Rattle.std.proofs.Common.{◌≡◌, ℕ, ◌+◌, ◌^◌, ◌≤◌, List, [], ◌++◌, length, take, Option, None, Some, arith, refl, sym, ap, ◌∙◌, subst, append_assoc, append-nil, length-append}
 use Rattle.std.specs.Prelude.{min}
 use Rattle.std.proofs.Math.Seq.{take-append-add}
 use Rattle.std.proofs.lemmas.List.{take-append-le}
-use Rattle.std.proofs.lemmas.List.Concat.{flat_map-append}
 use Rattle.std.specs.Io.KnownBytes.{Appends}
 use Rattle.std.proofs.KnownBytes.{Appends-trans}
 use Rattle.std.proofs.lemmas.Bool.{and_parts, ltb-true}
@@ -11,7 +10,7 @@ use Rattle.l6_word.specs.Numerals.{word_bits}
 use Rattle.l6_word.specs.Word.{is_word}
 use Rattle.l6_prog.specs.Statement.{Parts}
 use Rattle.l6_image.specs.Image.{body, words_in, HasImage}
-use Rattle.l6_image.specs.Text.{text_of, text_of_words, word_line}
+use Rattle.l6_image.specs.Text.{text_of}
 use Rattle.l6_image.specs.Version.{magic}
 use Rattle.l6_image.specs.declared.version.Version.TheVariants.{Two}
 use Rattle.l6_image.proofs.Fitness.{words_in-words}
@@ -22,16 +21,16 @@ use Rattle.l6_device.specs.declared.fault.RunFault.{RunFault}
 use Rattle.l6_device.specs.declared.fault.RunFault.TheVariants.{TooLong, Asm, Load, Read, Write, NoMemory}
 use Rattle.l6_run.specs.Texts.{RewritesImage, WritesImage}
 
--- the lines of the words before these have gone out, and their bytes are counted
-pub record WrittenTo (words rest : List ℕ) (before : ℕ) (old new : Option (List ℕ)) : Type 0 where
+-- the front of a text has gone out, this is left of it, and the bytes that went out are counted
+pub record WrittenTo (text left : List ℕ) (before : ℕ) (old new : Option (List ℕ)) : Type 0 where
   pub front : List ℕ
-  pub are : words ≡ front ++ rest
-  pub out : Appends old new (text_of_words front)
-  pub counted : before ≡ min (length (text_of_words front)) most_counted
+  pub are : text ≡ front ++ left
+  pub out : Appends old new front
+  pub counted : before ≡ min (length front) most_counted
 
--- none has gone out
-pub written_none : (words : List ℕ) (old : Option (List ℕ)) → WrittenTo words words 0 old old
-written_none words old = record {
+-- nothing has gone out
+pub written_none : (text : List ℕ) (old : Option (List ℕ)) → WrittenTo text text 0 old old
+written_none text old = record {
   front = [];
   are = refl;
   out = appended_none old;
@@ -41,80 +40,65 @@ written_none words old = record {
   appended_none None = tt
   appended_none (Some bytes) = sym (append-nil bytes)
 
-module _ (words rest first later : List ℕ) (before : ℕ) (old mid new : Option (List ℕ))
-    (so_far : WrittenTo words rest before old mid) (are : rest ≡ first ++ later) where
-  -- the text is that of the words before, of these first ones, and of those after
-  parts : text_of_words words
-      ≡ text_of_words so_far.front ++ (text_of_words first ++ text_of_words later)
-  parts =
-      ap text_of_words so_far.are
-      ∙ flat_map-append word_line so_far.front rest
-      ∙ ap (λ text. text_of_words so_far.front ++ text)
-      (ap text_of_words are ∙ flat_map-append word_line first later)
+module _ (text left first later : List ℕ) (before : ℕ) (old mid new : Option (List ℕ))
+    (so_far : WrittenTo text left before old mid) (are : left ≡ first ++ later) where
+  -- the text is what went out before, the first part of what is left, and what is after that
+  parts : text ≡ so_far.front ++ (first ++ later)
+  parts = so_far.are ∙ ap (λ more. so_far.front ++ more) are
 
-  -- the lines of the first ones have gone out
-  pub written_on : (after : ℕ) → Appends mid new (text_of_words first) →
-      after ≡ min (before + length (text_of_words first)) most_counted →
-      WrittenTo words later after old new
-  written_on after out counted =
-      let front = so_far.front ++ first in
-      let text : text_of_words front ≡ text_of_words so_far.front ++ text_of_words first =
-      flat_map-append word_line so_far.front first in
-      record {
-        front = front;
-        are = so_far.are
-            ∙ ap (λ ws. so_far.front ++ ws) are
-            ∙ sym (append_assoc so_far.front first later);
-        out = subst (Appends old new) (sym text)
-            (Appends-trans old mid new (text_of_words so_far.front) (text_of_words first) so_far.out out);
-        counted = omega (
-          arith,
-          counted,
-          so_far.counted,
-          ap length text,
-          length-append (text_of_words so_far.front) (text_of_words first),
-        );
-      }
+  -- the first part has gone out
+  pub written_on : (after : ℕ) → Appends mid new first →
+      after ≡ min (before + length first) most_counted → WrittenTo text later after old new
+  written_on after out counted = record {
+    front = so_far.front ++ first;
+    are = parts ∙ sym (append_assoc so_far.front first later);
+    out = Appends-trans old mid new so_far.front first so_far.out out;
+    counted = omega (arith, counted, so_far.counted, length-append so_far.front first);
+  }
 
-  -- they have not gone out whole
-  pub written_front : (fault : RunFault) → EndsWriting (text_of_words first) before mid new fault →
-      EndsWriting (text_of_words words) 0 old new fault
+  -- it has not gone out whole
+  pub written_front : (fault : RunFault) → EndsWriting first before mid new fault →
+      EndsWriting text 0 old new fault
   written_front (TooLong _) ends = absurd ends
   written_front (Asm _) ends = absurd ends
   written_front (Load _) ends = absurd ends
   written_front (Read _) ends = absurd ends
   written_front NoMemory ends = absurd ends
   written_front (Write n) ends =
-      let done = text_of_words so_far.front in
-      let more = text_of_words first ++ text_of_words later in
-      let taken : take (length done + ends.count) (text_of_words words)
-      ≡ done ++ take ends.count (text_of_words first) =
+      let done = so_far.front in
+      let taken : take (length done + ends.count) text ≡ done ++ take ends.count first =
       ap (take (length done + ends.count)) parts
-      ∙ take-append-add done more ends.count
-      ∙ ap (λ text. done ++ text)
-      (take-append-le ends.count (text_of_words first) (text_of_words later) (omega (arith, ends.short)))
-      in
+      ∙ take-append-add done (first ++ later) ends.count
+      ∙ ap (λ more. done ++ more)
+      (take-append-le ends.count first later (omega (arith, ends.short))) in
       record {
         count = length done + ends.count;
         short = omega (
           arith,
           ends.short,
           ap length parts,
-          length-append done more,
-          length-append (text_of_words first) (text_of_words later),
+          length-append done (first ++ later),
+          length-append first later,
         );
         front = subst (Appends old new) (sym taken)
-            (Appends-trans old mid new done (take ends.count (text_of_words first)) so_far.out
-            ends.front);
+            (Appends-trans old mid new done (take ends.count first) so_far.out ends.front);
         counted = omega (arith, ends.counted, so_far.counted);
       }
 
--- all have gone out
-pub written_whole : (words rest : List ℕ) (before : ℕ) (old new : Option (List ℕ)) → rest ≡ [] →
-    WrittenTo words rest before old new → Appends old new (text_of_words words)
-written_whole words rest before old new none so_far =
-    subst (λ ws. Appends old new (text_of_words ws))
-    (sym (so_far.are ∙ ap (λ ws. so_far.front ++ ws) none ∙ append-nil so_far.front)) so_far.out
+-- all has gone out
+pub written_whole : (text left : List ℕ) (before : ℕ) (old new : Option (List ℕ)) → left ≡ [] →
+    WrittenTo text left before old new → Appends old new text
+written_whole text left before old new none so_far =
+    subst (Appends old new)
+    (sym (so_far.are ∙ ap (λ more. so_far.front ++ more) none ∙ append-nil so_far.front)) so_far.out
+
+-- and its bytes are counted
+pub written_count : (text left : List ℕ) (before : ℕ) (old new : Option (List ℕ)) → left ≡ [] →
+    WrittenTo text left before old new → before ≡ min (length text) most_counted
+written_count text left before old new none so_far =
+    so_far.counted
+    ∙ ap (λ front. min (length front) most_counted)
+    (sym (so_far.are ∙ ap (λ more. so_far.front ++ more) none ∙ append-nil so_far.front))
 
 -- an image says how many words follow, and in a word, so the bytes of its text can be counted
 text-counted : (program : List Parts) → HasImage Two program →

@@ -1,13 +1,15 @@
-//! Writing the text of an image, some lines at a time.
+//! Writing the lines of an image or of a listing, some at a time.
 
-ghost use Rattle.std.specs.Prelude.{◌≡◌, ◌*◌, ◌≤◌, vec_capacity, true, OnOk, IfOk, IfErr};
+ghost use Rattle.std.specs.Prelude.{◌≡◌, ◌*◌, ◌≤◌, vec_capacity, true, length, min, OnOk, IfOk, IfErr};
 ghost use Rattle.std.specs.Io.KnownBytes.{Appends};
 ghost use Rattle.std.specs.List.{list_all};
 ghost use Rattle.l6_word.specs.Word.{is_word};
 ghost use Rattle.l6_image.specs.Text.{text_of_words};
+ghost use Rattle.l6_device.specs.Numerals.{most_counted};
 ghost use Rattle.l6_device.specs.Patience.{WriterRetries};
 ghost use Rattle.l6_device.specs.Transfer.{EndsWriting};
 
+use l6_asm::{CardLines, MAX_LINE_BYTES};
 use l6_device::{Patience, RunFault, Sink, write_text};
 use l6_image::{LINE_BYTES, push_lines};
 use std::alloc::{AllocError, Global};
@@ -17,7 +19,8 @@ const LINES_AT_ONCE: usize = 1024;
 
 /// A list with room for the lines that are made at once.
 pub(crate) fn room_for_lines(alloc: Global) -> Result<Vec<u8>, AllocError>
-    ensures { IfOk result (λ lines. LINES_AT_ONCE * LINE_BYTES ≤ vec_capacity lines) }
+    ensures words { IfOk result (λ lines. LINES_AT_ONCE * LINE_BYTES ≤ vec_capacity lines) }
+    ensures cards { IfOk result (λ lines. MAX_LINE_BYTES ≤ vec_capacity lines) }
 {
     Vec::with_capacity(alloc, LINES_AT_ONCE * LINE_BYTES)
 }
@@ -57,4 +60,39 @@ pub(crate) fn write_words<W: Sink>(
         rest = later;
     }
     Ok(())
+}
+
+/// Writes the lines of a deck's cards, and answers how many bytes that was. The caller owes a list
+/// with room for a line.
+///
+/// # Errors
+///
+/// `Write` if the writer has failed or was interrupted when no retry was left, with how many bytes
+/// went out.
+// Nothing is allocated here either.
+pub(crate) fn write_card_lines<W: Sink>(
+    writer: &mut W,
+    cards: CardLines<'_>,
+    lines: &mut Vec<u8>,
+    patience: &mut Patience,
+) -> Result<u64, RunFault>
+    requires room { MAX_LINE_BYTES ≤ vec_capacity lines.old }
+    ensures ok { OnOk result
+        (Appends (W.taken writer.old) (W.taken writer.new) cards.entry) }
+    ensures count { IfOk result (λ count. count ≡ min (length cards.entry) most_counted) }
+    ensures err { IfErr result
+        (EndsWriting cards.entry 0 (W.taken writer.old) (W.taken writer.new)) }
+    ensures retries { WriterRetries (W.health writer.old) (W.health writer.new)
+        patience.old patience.new result }
+{
+    let mut cards = cards;
+    let mut sent = 0;
+    let mut is_over = false;
+    while !is_over {
+        lines.clear();
+        is_over = !cards.fill(lines);
+        write_text(writer, lines.as_slice(), sent, patience)?;
+        sent = sent.saturating_add(lines.len() as u64);
+    }
+    Ok(sent)
 }

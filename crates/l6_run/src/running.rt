@@ -11,7 +11,7 @@ ghost use Rattle.l6_run.specs.Serves.{IsUnwritten, Serves};
 
 use l6_asm::assemble;
 use l6_device::{Part, Patience, RunFault, Sink, write_text};
-use l6_machine::{Ending, Options, ending_of, machine_under, printout};
+use l6_machine::{Ending, Options, ending_of, into_printout, machine_under};
 use l6_prog::Program;
 use std::alloc::Global;
 
@@ -72,6 +72,7 @@ pub(crate) fn printout_under(
 {
     let mut machine = machine_under(alloc, program, input, options)?;
     machine.run();
-    let text = printout(alloc, &machine)?;
-    Ok((ending_of(&machine), text))
+    let ending = ending_of(&machine);
+    let text = into_printout(alloc, machine)?;
+    Ok((ending, text))
 }

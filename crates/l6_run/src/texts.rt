@@ -12,8 +12,8 @@ ghost use Rattle.l6_run.specs.Serves.{IsUnwritten, Serves};
 ghost use Rattle.l6_run.specs.Texts.{RefusesCards, RefusesRewriting, RewritesImage, WritesImage, WritesListing};
 ghost use Rattle.l6_run.specs.inner.Running.{HasNoText};
 
-use crate::lines::{room_for_lines, write_words};
-use l6_asm::{assemble, listing};
+use crate::lines::{room_for_lines, write_card_lines, write_words};
+use l6_asm::{CardLines, StatementWords, assemble, listing_end};
 use l6_device::{Part, Patience, RunFault, Sink, write_text};
 use l6_image::{load, words_of};
 use std::alloc::Global;
@@ -71,19 +71,13 @@ pub fn write_deck_listing<W: Sink>(
         patience.old patience.new result }
 {
     Part::Deck.check(deck)?;
-    let text = listing_of(alloc, deck)?;
-    write_text(writer, text.as_slice(), 0, patience)
-}
-
-/// The listing of a deck.
-fn listing_of(alloc: Global, deck: &[u8]) -> Result<Vec<u8>, RunFault>
-    requires { length deck.now ≤ most_deck_bytes }
-    ensures listing { IfOk result (λ text. WritesListing deck.now text.items) }
-    ensures refuses { IfErr result (HasNoText (RefusesCards deck.now)) }
-{
     let assembly = assemble(alloc, deck)?;
-    let text = listing(alloc, &assembly, deck)?;
-    Ok(text)
+    let words = StatementWords::of(alloc, assembly.program())?;
+    let end = listing_end(alloc, &assembly)?;
+    let mut lines = room_for_lines(alloc)?;
+    let cards = CardLines::new(deck, &words);
+    let sent = write_card_lines(writer, cards, &mut lines, patience)?;
+    write_text(writer, end.as_slice(), sent, patience)
 }
 
 /// Rewrites an image in the current version, the second one.

@@ -20,6 +20,7 @@ use Rattle.l6_store.proofs.ListedPieces.{the_one, another, in_front-listed, take
 use Rattle.l6_store.proofs.Chains.{with_before-at, with_before-none, with_after-at, with_after-none, linked_along, length-words_linked, linked_others}
 use Rattle.l6_store.proofs.Unlinking.{length-words_unlinked, unlinked_others, around, around_within}
 use Rattle.l6_store.proofs.PlaceLists.{first_or-within, AreWithin}
+use Rattle.l6_store.proofs.Lists.{few}
 use Rattle.l6_store.proofs.Linking.{lists_within, lists_show, lists-linked, lists-unlinked}
 use Rattle.l6_store.proofs.Tagged.{block_here, tagged_lies, same_blocks}
 
@@ -125,6 +126,12 @@ sound units words heads place_tags laid = record {
   are_at_their_places = λ place live.
       let here = block_here units place_tags words laid.filled laid.are_blocks.is_aligned place live in
       here.words_are ∙ ap (λ (n : ℕ). slice_range words place (place + n)) (sym here.size);
+  levels = laid.are_lists.levels;
+  distinct = laid.are_lists.distinct;
+  few = λ level.
+      few (length words) (listed (order_of words heads) level) (laid.are_lists.distinct level)
+      (lists_within words heads place_tags (order_of words heads) laid.are_lists
+      (laid.count ∙ sym laid.filled) level);
 }
 
 -- a tag changes, and no other
@@ -195,6 +202,9 @@ module _ (units : ℕ) (words heads : List ℕ) (place_tags : List PlaceTag)
         (tagged_lies units place_tags words were.filled were.are_blocks.is_aligned k place
         place is (omega arith) (omega (arith, pow_pos k)))
 
+    pub none_begins : tag_of (place_tag_at place_tags place) ≡ Free
+    none_begins = no_block_tag place_tags place (place_tag_at place_tags place) refl not_block
+
     linked_tags : (q : ℕ) → tag_of (place_tag_at (set place_tags place (Listed level)) q)
         ≡ tag_of (place_tag_at place_tags q)
     linked_tags q =
@@ -206,7 +216,7 @@ module _ (units : ℕ) (words heads : List ℕ) (place_tags : List PlaceTag)
               ∙ ap tag_of (get_or-set_same place_tags place (Listed level) Inner
               (omega (arith, were.count)))
               ∙ sym (ap (λ (p : ℕ). tag_of (place_tag_at place_tags p)) same
-              ∙ no_block_tag place_tags place (place_tag_at place_tags place) refl not_block)
+              ∙ none_begins)
           | inr other ↦ ap tag_of (place_tag_same place_tags place q (Listed level) other)
         ]
 

@@ -170,7 +170,7 @@ module _ (units : ℕ) (words heads : List ℕ) (place_tags : List PlaceTag)
 
   -- ---- one word is read or written
   module _ (place : ℕ) (found : LiesIn (blocks_of place_tags words) place) where
-    from : Tagged place_tags words found.start found.words
+    pub from : Tagged place_tags words found.start found.words
     from = with_tag place_tags words found.start found.words found.is
 
     inside : found.start + 2 ^ from.level ≤ length words
@@ -198,7 +198,7 @@ module _ (units : ℕ) (words heads : List ℕ) (place_tags : List PlaceTag)
         ∙ ap (λ (i : ℕ). get_or words i 0) index_is)
 
     module _ (value : ℕ) (small : value < 2 ^ word_bits) where
-      written_same : (at : ℕ) → (found.start ≤ at → at < found.start + 2 ^ from.level → ⊥)
+      pub written_same : (at : ℕ) → (found.start ≤ at → at < found.start + 2 ^ from.level → ⊥)
           → get_or (set words place value) at 0 ≡ get_or words at 0
       written_same at not = get_or-set_other words place at value 0
           (λ same. not (omega (arith, found.from)) (omega (arith, found.below, found_size)))
@@ -237,7 +237,7 @@ module _ (units : ℕ) (words heads : List ℕ) (place_tags : List PlaceTag)
     one : BlockHere units place_tags words source
     one = block_here units place_tags words were.filled were.are_blocks.is_aligned source live
 
-    two : BlockHere units place_tags words target
+    pub two : BlockHere units place_tags words target
     two = block_here units place_tags words were.filled were.are_blocks.is_aligned target live_target
 
     size_one : size ≡ 2 ^ one.level
@@ -288,7 +288,7 @@ module _ (units : ℕ) (words heads : List ℕ) (place_tags : List PlaceTag)
     copy_count = length-overwritten words target (slice_range words source (source + size))
         (omega (arith, part_size, target_within))
 
-    copy_same : (at : ℕ) → (target ≤ at → at < target + 2 ^ two.level → ⊥)
+    pub copy_same : (at : ℕ) → (target ≤ at → at < target + 2 ^ two.level → ⊥)
         → get_or (overwritten words target (slice_range words source (source + size))) at 0
         ≡ get_or words at 0
     copy_same at not = outside words target (slice_range words source (source + size)) at

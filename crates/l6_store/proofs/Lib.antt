@@ -1,7 +1,6 @@
 pub mod Least
 pub mod Scan
 pub mod Ranges
-pub mod Inclusive
 pub mod Gathered
 pub mod Kept
 pub mod Changes
@@ -22,6 +21,7 @@ pub mod PlaceLists
 pub mod Chains
 pub mod Unlinking
 pub mod Lists
+pub mod NextPlaces
 pub mod Linking
 pub mod FreeLists
 pub mod Tagged
@@ -35,3 +35,5 @@ pub mod Stores
 pub mod Fitting
 pub mod TagSizes
 pub mod UsedUnits
+pub mod KeptArenas
+pub mod Heads

@@ -32,7 +32,7 @@ distinct_in_std [] are = tt
 distinct_in_std (first ∷ rest) are = (none_same first rest are.0, distinct_in_std rest are.1)
 
 -- distinct places below a bound are no more than the bound
-few : (bound : ℕ) (places : List ℕ) → AreDistinct places → AreWithin bound places
+pub few : (bound : ℕ) (places : List ℕ) → AreDistinct places → AreWithin bound places
     → length places ≤ bound
 few bound places are within =
     length-le_from_distinct_below places bound (distinct_in_std places are)

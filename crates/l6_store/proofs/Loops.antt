@@ -2,14 +2,13 @@
 use Rattle.std.proofs.Common.{◌≡◌, ℕ, zero, suc, ◌+◌, ◌-◌, ◌*◌, ◌%◌, ◌^◌, ◌<◌, ◌≤◌, Bool, true, false, min, Option, Some, None, refl, ap, sym, ◌∙◌, subst, arith, inl, inr, ◌&&◌, nat_le}
 use Rattle.std.proofs.lemmas.Bool.{cases_lt, le-leb, lt-leb}
 use Rattle.std.proofs.lemmas.Nat.{pow_pos}
-use Rattle.std.specs.Option.{is_some}
+use Rattle.std.specs.Option.{MatchOption, is_some}
 use Rattle.l6_word.specs.Numerals.{largest_level, unit_size}
 use Rattle.l6_store.specs.Blocks.{Blocks, IsAlignedPlace, end_of}
 use Rattle.l6_store.specs.Rule.{Order}
 use Rattle.l6_store.specs.Buddy.{DetachedPiece, has, listed, IsListed, buddy_of, first_of, halved, halved_often, joined, joined_often, level_found, whole_of}
 use Rattle.l6_store.specs.Least.{least}
 use Rattle.l6_store.specs.inner.Detached.{HalvesPiece, IsDetached, JoinsPiece}
-use Rattle.l6_store.proofs.Inclusive.{IsFirst}
 use Rattle.l6_store.proofs.Least.{Answers, least-answers, answers-alone}
 use Rattle.l6_store.proofs.Multiples.{is_lower, is_upper, which_half, same_multiple, multiple_down, multiple_next, times_size, double, buddy_of-lower, buddy_of-upper, whole_of-lower, whole_of-upper}
 use Rattle.l6_store.proofs.Detached.{holds_halved, holds_joined}
@@ -212,6 +211,12 @@ found_none order level none =
     not_yet order level k (λ le. none k le (omega arith)) in
     answers-alone (suc largest_level) test None (least (suc largest_level) test) answer
     (least-answers (suc largest_level) test)
+
+-- the first of the numbers from one to another that passes, or none does
+abbrev IsFirst : (ℕ → Type 0) → (ℕ → Type 0) → ℕ → ℕ → Option ℕ → Type 0
+IsFirst Passes Fails start end found =
+    MatchOption found ((k : ℕ) → start ≤ k → k ≤ end → Fails k)
+    (λ n. (start ≤ n) × (n ≤ end) × Passes n × ((k : ℕ) → start ≤ k → k < n → Fails k))
 
 -- so it is the first one with a free piece
 pub found_first : (order : Order) (level : ℕ) (found : Option ℕ)

@@ -2,6 +2,7 @@
 use Rattle.std.proofs.Common.{◌≡◌, ℕ, suc, ◌+◌, ◌-◌, ◌*◌, ◌/◌, ◌%◌, ◌^◌, ◌<◌, ◌≤◌, Bool, false, ◌==◌, if◌then◌else◌, ap, sym, ◌∙◌, arith, inl, inr}
 use Rattle.std.proofs.lemmas.Bool.{cases_lt, eq-eqb, ne_eqb}
 use Rattle.std.proofs.lemmas.Nat.{pow_pos, pow-add, div_below, le-div, mod_low, mod_below, div-add-mod', mod-pow-add, mul-le}
+use Rattle.std.specs.Int.Bits.{bit_xor, xor_assoc, xor_self, xor_shifted, xor_zero_r}
 use Rattle.l6_store.specs.Buddy.{buddy_of, whole_of}
 
 -- the size of the next level is twice that of a level
@@ -129,6 +130,31 @@ buddy_of-upper level lower multiple =
     let back : lower + 2 ^ level - 2 ^ level ≡ lower = omega arith in
     ap (λ (b : Bool). if b then lower + 2 ^ level + 2 ^ level else lower + 2 ^ level - 2 ^ level)
     (upper_test level lower multiple) ∙ back
+
+-- so its place differs in one bit
+one_bit : (level place : ℕ) → place % 2 ^ suc level ≡ 0
+    → bit_xor place (2 ^ level) ≡ place + 2 ^ level
+one_bit level place multiple =
+    let number : ℕ = place / 2 ^ suc level in
+    let is : place ≡ number * 2 ^ suc level
+    = omega (arith, div-add-mod' place (2 ^ suc level), multiple) in
+    let small : 2 ^ level < 2 ^ suc level = omega (arith, double level, pow_pos level) in
+    ap (λ (p : ℕ). bit_xor p (2 ^ level)) is
+    ∙ xor_shifted number (suc level) (2 ^ level) small
+    ∙ ap (λ (p : ℕ). p + 2 ^ level) (sym is)
+
+pub buddy_of-bit : (level place : ℕ) → place % 2 ^ level ≡ 0
+    → bit_xor place (2 ^ level) ≡ buddy_of level place
+buddy_of-bit level place aligned =
+    elim (which_half level place aligned) as (λ _. bit_xor place (2 ^ level) ≡ buddy_of level place) [
+      | is_lower lower ↦ one_bit level place lower ∙ sym (buddy_of-lower level place lower)
+      | is_upper lower multiple at ↦
+          ap (λ (p : ℕ). bit_xor p (2 ^ level)) (at ∙ sym (one_bit level lower multiple))
+          ∙ xor_assoc lower (2 ^ level) (2 ^ level)
+          ∙ ap (bit_xor lower) (xor_self (2 ^ level))
+          ∙ xor_zero_r lower
+          ∙ sym (ap (buddy_of level) at ∙ buddy_of-upper level lower multiple)
+    ]
 
 pub whole_of-upper : (level lower : ℕ) → lower % 2 ^ suc level ≡ 0
     → whole_of level (lower + 2 ^ level) ≡ lower

@@ -1,5 +1,5 @@
 -- A place is taken out of a list that words link: what becomes of the words and of the list's head.
-use Rattle.std.proofs.Common.{◌≡◌, ◌≢◌, ℕ, ◌^◌, ◌<◌, ◌≤◌, Bool, true, false, if◌then◌else◌, List, [], ◌∷◌, ◌++◌, length, get_or, set, ap, sym, ◌∙◌, subst, arith}
+use Rattle.std.proofs.Common.{◌≡◌, ◌≢◌, ℕ, ◌^◌, ◌<◌, ◌≤◌, Bool, true, false, if◌then◌else◌, List, [], ◌∷◌, ◌++◌, length, get_or, set, refl, ap, sym, ◌∙◌, subst, arith}
 use Rattle.std.proofs.lemmas.Bool.{eq-eqb, ne_eqb}
 use Rattle.std.proofs.lemmas.List.{get_or-set_same}
 use Rattle.l6_store.specs.Numerals.{place_bits}
@@ -9,7 +9,7 @@ use Rattle.l6_store.specs.inner.Chains.{before_in, after_in, with_before, with_a
 use Rattle.l6_store.specs.inner.ArenaLayout.{AreDistinct}
 use Rattle.l6_store.proofs.Counts.{has-first, has-more}
 use Rattle.l6_store.proofs.PlaceLists.{has-front, has-back, last_or, has-last_or, AreWithin, within-rest, first_or-within, Split, split, distinct-front, distinct-back, distinct-apart}
-use Rattle.l6_store.proofs.Chains.{before_of, after_of, before-others, after-others, length-with_before, length-with_after, linked_parts, linked_whole, linked_along, last_renamed, first_renamed}
+use Rattle.l6_store.proofs.Chains.{before_of, after_of, with_after-none, before-others, after-others, length-with_before, length-with_after, linked_parts, linked_whole, linked_along, last_renamed, first_renamed}
 
 -- what its link says
 pub record Around (words : List ℕ) (place : ℕ) (places : List ℕ) : Type 0 where
@@ -243,3 +243,19 @@ words_unlinked-by words one two place before after is_before is_after first seco
     ∙ ap (λ (b : ℕ). with_before (with_after words b after) after b) is_before
     ∙ ap (λ (a : ℕ). with_before (with_after words (before_in (get_or words place 0)) a) a
     (before_in (get_or words place 0))) is_after
+
+-- of the first place of a list, with none before it, only the one after it changes, and the head
+pub words_unlinked-first : (words : List ℕ) (place : ℕ) → before_in (get_or words place 0) ≡ 0
+    → with_before words (after_in (get_or words place 0)) 0 ≡ words_unlinked words place
+unfolding words_unlinked
+words_unlinked-first words place first =
+    let word : ℕ = get_or words place 0 in
+    sym (ap (λ (b : ℕ). with_before (with_after words b (after_in word)) (after_in word) b) first
+    ∙ ap (λ (ws : List ℕ). with_before ws (after_in word) 0)
+    (with_after-none words 0 (after_in word) refl))
+
+pub with_head-first : (heads : List ℕ) (level before after : ℕ) → before ≡ 0
+    → set heads level after ≡ with_head heads level before after
+unfolding with_head
+with_head-first heads level before after first =
+    sym (ap (λ (b : Bool). if b then set heads level after else heads) (eq-eqb before 0 first))

@@ -2,7 +2,7 @@
 -- is free lies in pieces of the sizes of blocks. For each level there is a list of its free pieces, by
 -- their first places. A get takes the first piece of the least level that serves, and halves it as
 -- often as needed; a free joins the piece with its buddy as often as that one is free and whole.
-use Rattle.std.specs.Prelude.{◌≡◌, ℕ, zero, suc, ◌+◌, ◌-◌, ◌%◌, ◌^◌, Bool, true, false, ◌||◌, ◌&&◌, ◌==◌, nat_le, List, [], ◌∷◌, ◌++◌, length, replicate, slice_index_or, slice_set, Option, Some, None, is_some, option_map, unwrap_or, if◌then◌else◌}
+use Rattle.std.specs.Prelude.{◌≡◌, ◌≢◌, ℕ, zero, suc, ◌+◌, ◌-◌, ◌*◌, ◌%◌, ◌^◌, ◌<◌, ◌≤◌, Bool, true, false, ◌||◌, ◌&&◌, ◌==◌, nat_le, List, [], ◌∷◌, ◌++◌, length, replicate, slice_index_or, slice_set, Option, Some, None, is_some, option_map, unwrap_or, if◌then◌else◌}
 use Rattle.l6_word.specs.Numerals.{largest_level, unit_size}
 use Rattle.l6_store.specs.Blocks.{Blocks, block_at}
 use Rattle.l6_store.specs.Rule.{Order, Rule}
@@ -26,6 +26,11 @@ first_of (place ∷ places) = Some place
 abbrev pub first_or : List ℕ → ℕ → ℕ
 first_or [] none = none
 first_or (place ∷ places) none = place
+
+-- the place after one in a list, if it is in the list and not the last
+unfoldable pub next_in : ℕ → List ℕ → Option ℕ
+next_in place [] = None
+next_in place (first ∷ rest) = if place == first then first_of rest else next_in place rest
 
 -- the list of a level
 abbrev pub listed : Order → ℕ → List ℕ
@@ -82,6 +87,22 @@ joined_often zero detached = detached
 joined_often (suc times) detached =
     if has (buddy_of detached.level detached.place) (listed detached.order detached.level)
     then joined_often times (joined detached) else detached
+
+-- how many words the free pieces of the levels below one have, and those of all levels
+unfoldable pub free_words_below : ℕ → Order → ℕ
+free_words_below zero order = 0
+free_words_below (suc level) order =
+    2 ^ level * length (listed order level) + free_words_below level order
+
+unfoldable pub free_words : Order → ℕ
+free_words order = free_words_below (suc largest_level) order
+
+-- the largest level with a free piece, or none if no level has one
+abbrev pub IsLargestFree : Order → Option ℕ → Type 0
+IsLargestFree order (Some level) =
+    (level ≤ largest_level) × (listed order level ≢ [])
+    × ((higher : ℕ) → level < higher → listed order higher ≡ [])
+IsLargestFree order None = (level : ℕ) → listed order level ≡ []
 
 -- the least level with a free piece that is at least the level asked for
 unfoldable pub level_found : Order → ℕ → Option ℕ

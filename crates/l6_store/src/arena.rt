@@ -1,19 +1,19 @@
 //! The arena: a region of words with the blocks and the lists of free pieces that are in it.
 
-ghost use Rattle.std.specs.Prelude.{[], ℕ, ◌≡◌, ◌≢◌, ◌↔◌, ◌+◌, ◌<◌, ◌≤◌, ◌^◌, length, replicate, slice_get, slice_set, option_map, IsSome, IfSome, IfOk};
+ghost use Rattle.std.specs.Prelude.{[], ℕ, ◌≡◌, ◌≢◌, ◌↔◌, ◌+◌, ◌%◌, ◌<◌, ◌≤◌, ◌^◌, length, replicate, slice_get, slice_set, option_map, IsSome, IfSome, IfOk};
 ghost use Rattle.std.specs.List.{All};
 ghost use Rattle.std.specs.FinMap as map;
 ghost use Rattle.l6_word.specs.Numerals.{largest_level, unit_size, word_bits};
 ghost use Rattle.l6_store.specs.Numerals.{most_units};
 ghost use Rattle.l6_store.specs.Blocks.{IsLive, LiesIn, IsAlignedPlace, block_at, end_of, index_in, word_at};
-ghost use Rattle.l6_store.specs.Buddy.{IsListed, first_of, first_or, has, in_front, first_order, level_at, listed, taken_out};
+ghost use Rattle.l6_store.specs.Buddy.{IsListed, first_of, first_or, has, in_front, first_order, level_at, level_found, listed, next_in, taken_out};
 ghost use Rattle.l6_store.specs.inner.ArenaLayout.{IsSoundLayout};
 
 use crate::level::size_of;
-use crate::link::{link, pop, unlink};
+use crate::link::{link, neighbors_at, pop, unlink};
 use crate::place_tag::{PlaceTag, PlaceTags};
 use crate::places::{Level, Place};
-use crate::units::end_of;
+use crate::units::{UNIT_PLACES, UNITS, end_of};
 use l6_raw::Region;
 use l6_word::{LARGEST_LEVEL, UNIT_SIZE, Word};
 use std::alloc::{AllocError, Global};
@@ -32,6 +32,9 @@ pub(crate) struct Arena {
     place_tags: PlaceTags,
     // the first place of each level's list, 0 where it is empty
     heads: [Place; LEVELS],
+    // whether each unit is used: of an unused one all words but the first are 0, no block begins in
+    // it, and no piece after its first place
+    used: [bool; UNITS],
 }
 
 impl Model for Arena {
@@ -41,11 +44,12 @@ impl Model for Arena {
 
     ghost coded = { layout_code };
 
-    ghost use Rattle.l6_store.specs.inner.ArenaLayout.{layout_of, IsArena};
+    ghost use Rattle.l6_store.specs.inner.ArenaLayout.{layout_of};
+    ghost use Rattle.l6_store.specs.inner.Units.{IsKeptArena};
 
     ghost view = { λ a. layout_of a.units a.words a.place_tags a.heads };
 
-    ghost invariant = { λ a. IsArena a.units a.words a.place_tags a.heads };
+    ghost invariant = { λ a. IsKeptArena a.units a.words a.place_tags a.heads a.used };
 }
 
 impl Arena {
@@ -64,6 +68,7 @@ impl Arena {
             words: Region::new(alloc, places)?,
             place_tags: PlaceTags::new(alloc, places)?,
             heads: [0; LEVELS],
+            used: [false; UNITS],
         };
         arena.list_units();
         Ok(arena)
@@ -79,7 +84,7 @@ impl Arena {
         ensures sound { IsSoundLayout self.new }
     {
         for unit in (1..=self.units).rev() {
-            self.link(LARGEST_LEVEL, unit * u32::from(UNIT_SIZE));
+            self.link_unit(unit * u32::from(UNIT_SIZE));
         }
     }
 
@@ -111,6 +116,32 @@ impl Arena {
         if place == 0 { None } else { Some(place) }
     }
 
+    /// The least level with a free piece that is at least the level asked for.
+    pub(crate) fn least_level(&self, level: Level) -> Option<Level>
+        requires { level ≤ largest_level }
+        ensures { result ≡ level_found self.now.order level }
+    {
+        let mut found = usize::from(level);
+        while self.heads[found] == 0 {
+            if found == usize::from(LARGEST_LEVEL) {
+                return None;
+            }
+            found += 1;
+        }
+        Some(found as Level)
+    }
+
+    /// The place after this one in a level's list, if it is in that list and not the last.
+    pub(crate) fn next(&self, level: Level, place: Place) -> Option<Place>
+        ensures { result ≡ next_in place (listed self.now.order level) }
+    {
+        if end_of(self.units) <= place || !self.is_listed(level, place) {
+            return None;
+        }
+        let next = neighbors_at(&self.words, place).after;
+        if next == 0 { None } else { Some(next) }
+    }
+
     /// Whether a place is in a level's list.
     pub(crate) fn is_listed(&self, level: Level, place: Place) -> bool
         requires { place < end_of self.now.units }
@@ -119,7 +150,7 @@ impl Arena {
         self.place_tags.at(place) == PlaceTag::Listed(level)
     }
 
-    /// Puts a free piece in front of its level's list.
+    /// Puts a free piece in front of its level's list. Its unit is used from then on.
     pub(crate) fn link(&mut self, level: Level, place: Place)
         requires level { level ≤ largest_level }
         requires some { 1 ≤ place }
@@ -131,8 +162,26 @@ impl Arena {
         ensures order { self.new.order ≡ in_front self.old.order level place }
         ensures sound { IsSoundLayout self.new }
     {
+        let unit = place as usize / UNIT_PLACES;
+        self.used[unit] = true;
         link(&mut self.words, &mut self.heads, level, place);
-        self.place_tags.set(place, PlaceTag::Listed(level));
+        self.place_tags.list(place, level);
+    }
+
+    /// Puts a whole unit in front of the list of the largest level. It stays as unused as it was.
+    fn link_unit(&mut self, place: Place)
+        requires some { 1 ≤ place }
+        requires within { place < end_of self.old.units }
+        requires whole { place % unit_size ≡ 0 }
+        requires fresh { (k : ℕ) → IsListed self.old.order k place → ⊥ }
+        requires beside { LiesIn self.old.blocks place → ⊥ }
+        ensures units { self.new.units ≡ self.old.units }
+        ensures blocks { self.new.blocks ≡ self.old.blocks }
+        ensures order { self.new.order ≡ in_front self.old.order largest_level place }
+        ensures sound { IsSoundLayout self.new }
+    {
+        link(&mut self.words, &mut self.heads, LARGEST_LEVEL, place);
+        self.place_tags.list(place, LARGEST_LEVEL);
     }
 
     /// Takes a free piece out of its level's list.
@@ -145,7 +194,7 @@ impl Arena {
         ensures sound { IsSoundLayout self.new }
     {
         unlink(&mut self.words, &mut self.heads, level, place);
-        self.place_tags.set(place, PlaceTag::Inner);
+        self.place_tags.take_out(place);
     }
 
     /// Takes the first free piece out of a level's list.
@@ -159,7 +208,7 @@ impl Arena {
         ensures sound { IsSoundLayout self.new }
     {
         let place = pop(&mut self.words, &mut self.heads, level);
-        self.place_tags.set(place, PlaceTag::Inner);
+        self.place_tags.take_out(place);
         place
     }
 
@@ -174,7 +223,7 @@ impl Arena {
     }
 
     /// The level of the block that begins at a place.
-    fn block_level(&self, place: Place) -> Level
+    pub(crate) fn block_level(&self, place: Place) -> Level
         requires { IsLive self.now.blocks place }
         ensures small { result ≤ largest_level }
         ensures size { 2 ^ result ≡ length (block_at self.now.blocks place) }
@@ -210,23 +259,20 @@ impl Arena {
         ensures order { self.new.order ≡ self.old.order }
         ensures sound { IsSoundLayout self.new }
     {
+        self.used[place as usize / UNIT_PLACES] = true;
         self.words.fill(place as usize, size_of(level));
-        self.place_tags.set(place, PlaceTag::Block(level));
+        self.place_tags.open(place, level);
     }
 
-    /// Takes out a block, which leaves a piece of this level.
-    pub(crate) fn close(&mut self, place: Place) -> Level
+    /// Takes out a block, which leaves a detached piece.
+    pub(crate) fn close(&mut self, place: Place)
         requires { IsLive self.old.blocks place }
-        ensures small { result ≤ largest_level }
-        ensures level { 2 ^ result ≡ length (block_at self.old.blocks place) }
         ensures units { self.new.units ≡ self.old.units }
         ensures blocks { self.new.blocks ≡ map.remove self.old.blocks place }
         ensures order { self.new.order ≡ self.old.order }
         ensures sound { IsSoundLayout self.new }
     {
-        let level = self.block_level(place);
-        self.place_tags.set(place, PlaceTag::Inner);
-        level
+        self.place_tags.close(place);
     }
 
     /// The word at a place.
@@ -282,9 +328,12 @@ impl Arena {
         requires { self.old.units ≡ other.now.units }
         ensures { self.new ≡ other.now }
     {
-        self.words.take_from(&other.words);
-        self.place_tags.take_from(&other.place_tags);
+        let (used, other_used) = (&self.used, &other.used);
+        self.words.take_from(&other.words, used, other_used);
+        self.place_tags
+            .take_from(&other.place_tags, used, other_used);
         self.heads.copy_from_slice(&other.heads);
+        self.used.copy_from_slice(&other.used);
     }
 
     /// A copy of the arena, in memory of its own.
@@ -296,6 +345,7 @@ impl Arena {
             words: self.words.duplicate(alloc)?,
             place_tags: self.place_tags.duplicate(alloc)?,
             heads: self.heads,
+            used: self.used,
         })
     }
 }

@@ -1,17 +1,18 @@
 //! The buddy system: a store whose free pieces are listed by their level. `docs/allocator.md`
 //! explains it to those who write allocators.
 
-ghost use Rattle.std.specs.Prelude.{◌≡◌, ◌↔◌, ◌⊎◌, ◌<◌, ◌≤◌, length, IfOk, OnOk, IsErrOf};
+ghost use Rattle.std.specs.Prelude.{◌≡◌, ◌↔◌, ◌⊎◌, ◌<◌, ◌≤◌, ◌^◌, true, false, length, IfOk, OnOk, IsErrOf};
+ghost use Rattle.l6_word.specs.Numerals.{largest_level};
 ghost use Rattle.l6_store.specs.Numerals.{most_units};
-ghost use Rattle.l6_store.specs.Blocks.{end_of};
-ghost use Rattle.l6_store.specs.Buddy.{buddy_rule};
+ghost use Rattle.l6_store.specs.Blocks.{IsLive, block_at, end_of};
+ghost use Rattle.l6_store.specs.Buddy.{IsLargestFree, buddy_rule, first_of, free_words, listed, next_in};
 ghost use Rattle.l6_store.specs.Links.{AreAtTheirPlaces, Links};
-ghost use Rattle.l6_store.specs.Store.{fresh, IsSound};
+ghost use Rattle.l6_store.specs.Store.{after_free, fresh, IsSound};
 ghost use Rattle.l6_store.specs.Tiles.{Tiles};
 
 use crate::arena::Arena;
 use crate::fault::StoreFault;
-use crate::piece::{halve, join, least_level};
+use crate::piece::{count_free_words, count_pieces, halve, join, largest_free_level};
 use crate::places::{Level, Place, Places};
 use crate::units::MAX_UNITS;
 use l6_word::Word;
@@ -97,6 +98,72 @@ impl Buddy {
         })
     }
 
+    /// The first free piece of a level's list: the next one that a get takes from it.
+    pub fn first_free(&self, level: Level) -> Option<Place>
+        requires { level ≤ largest_level }
+        ensures { result ≡ first_of (listed self.now.store.order level) }
+    {
+        self.arena.first(level)
+    }
+
+    /// The free piece after this one in a level's list, or `None` where the place is the last in that
+    /// list or not in it.
+    pub fn next_free(&self, level: Level, place: Place) -> Option<Place>
+        ensures { result ≡ next_in place (listed self.now.store.order level) }
+    {
+        self.arena.next(level, place)
+    }
+
+    /// How many free pieces a level has. It goes through their list.
+    pub fn pieces(&self, level: Level) -> u32
+        requires { level ≤ largest_level }
+        ensures { result ≡ length (listed self.now.store.order level) }
+    {
+        count_pieces(&self.arena, level)
+    }
+
+    /// How many words lie in free pieces, which is in no block. It goes through all lists.
+    pub fn free_words(&self) -> u32
+        ensures { result ≡ free_words self.now.store.order }
+    {
+        count_free_words(&self.arena)
+    }
+
+    /// The largest level with a free piece: that of the largest block that can be got.
+    pub fn largest_free_level(&self) -> Option<Level>
+        ensures { IsLargestFree self.now.store.order result }
+    {
+        largest_free_level(&self.arena)
+    }
+
+    /// Frees the block that begins at a place, if one does, and answers whether one did. If not,
+    /// nothing changes.
+    pub fn try_free(&mut self, place: Place) -> bool
+        ensures live { result ≡ true ↔ IsLive self.old.store.blocks place }
+        ensures after { result ≡ true
+            → self.new.store ≡ after_free buddy_rule self.old.store place }
+        ensures none { result ≡ false → self.new ≡ self.old }
+        ensures sound { IsSound buddy_rule self.new.store }
+    {
+        let Some(level) = self.arena.level_at(place as usize) else {
+            return false;
+        };
+        self.take_out(level, place);
+        true
+    }
+
+    /// Frees the block of a level that begins at a place.
+    fn take_out(&mut self, level: Level, place: Place)
+        requires live { IsLive self.old.store.blocks place }
+        requires small { level ≤ largest_level }
+        requires level { 2 ^ level ≡ length (block_at self.old.store.blocks place) }
+        ensures after { self.new.store ≡ after_free buddy_rule self.old.store place }
+        ensures sound { IsSound buddy_rule self.new.store }
+    {
+        self.arena.close(place);
+        self.moves = join(&mut self.arena, level, place);
+    }
+
     /// Of each buddy store, whatever calls made it what it is: its words and its heads hold its free
     /// lists, by the links in the first words of the free pieces. There is a word for each place, and the
     /// words of a block are those at its places.
@@ -139,12 +206,12 @@ impl Places for Buddy {
     }
 
     fn peek(&self, level: Level) -> Option<Place> {
-        self.arena.first(least_level(&self.arena, level)?)
+        self.arena.first(self.arena.least_level(level)?)
     }
 
     fn get(&mut self, level: Level) -> Option<Place> {
         self.moves = 0;
-        let found = least_level(&self.arena, level)?;
+        let found = self.arena.least_level(level)?;
         let place = self.arena.pop(found);
         self.moves = halve(&mut self.arena, found, level, place);
         self.arena.open(level, place);
@@ -152,8 +219,8 @@ impl Places for Buddy {
     }
 
     fn free(&mut self, place: Place) {
-        let level = self.arena.close(place);
-        self.moves = join(&mut self.arena, level, place);
+        let level = self.arena.block_level(place);
+        self.take_out(level, place);
     }
 
     fn copy(&mut self, from: Place, to: Place) {

@@ -22,5 +22,11 @@ pub fn level_for(words: u32) -> Option<Level>
     ensures least { IfSome result (λ level. (lower : ℕ) → lower < level → 2 ^ lower < words) }
     ensures none { IfNone result (2 ^ largest_level < words) }
 {
-    (0..=LARGEST_LEVEL).find(|level| words as usize <= size_of(*level))
+    if 1 << LARGEST_LEVEL < words {
+        return None;
+    }
+    // how many bits the index of the last of so many words has: one fewer than twice it and 1
+    let last = words.saturating_sub(1);
+    let bits = u32::BITS - (2 * last + 1).leading_zeros() - 1;
+    Some(bits as Level)
 }

@@ -44,12 +44,7 @@ fn set_neighbors(words: &mut Region, place: Place, neighbors: Neighbors)
         ≡ slice_set words.old place (link_word neighbors.before neighbors.after) }
 {
     let word = (u64::from(neighbors.before) << PLACE_BITS) + u64::from(neighbors.after);
-    // a unit that is free as a whole has a link in its first word alone, and so stays unused
-    if place as usize % Region::PAGE_SIZE == 0 {
-        words.write_first(place as usize, word);
-    } else {
-        words.write(place as usize, word);
-    }
+    words.write(place as usize, word);
 }
 
 /// Makes `before` the place before this one in its list. Place 0 is the end of a list and has none.
@@ -127,8 +122,8 @@ pub(crate) fn unlink(words: &mut Region, heads: &mut [Place], level: Level, plac
 pub(crate) fn pop(words: &mut Region, heads: &mut [Place], level: Level) -> Place
     requires level { level < length heads.old }
     requires place { slice_index heads.old level < length words.old }
-    requires before { let place = slice_index heads.old level in
-        before_in (slice_index words.old place) < length words.old }
+    requires first { let place = slice_index heads.old level in
+        before_in (slice_index words.old place) ≡ 0 }
     requires after { let place = slice_index heads.old level in
         after_in (slice_index words.old place) < length words.old }
     requires small { length words.old ≤ 2 ^ place_bits }
@@ -141,6 +136,8 @@ pub(crate) fn pop(words: &mut Region, heads: &mut [Place], level: Level) -> Plac
         (after_in (slice_index words.old result)) }
 {
     let place = heads[usize::from(level)];
-    unlink(words, heads, level, place);
+    let next = neighbors_at(words, place).after;
+    heads[usize::from(level)] = next;
+    set_before(words, next, 0);
     place
 }

@@ -1,10 +1,10 @@
 //! How a free piece is found, halved and joined with its buddy.
 
-ghost use Rattle.std.specs.Prelude.{◌≡◌, ◌+◌, ◌-◌, ◌%◌, ◌^◌, ◌<◌, ◌≤◌};
+ghost use Rattle.std.specs.Prelude.{◌≡◌, ◌+◌, ◌-◌, ◌%◌, ◌^◌, ◌<◌, ◌≤◌, length};
 ghost use Rattle.l6_word.specs.Numerals.{largest_level, unit_size};
-ghost use Rattle.l6_store.specs.Numerals.{most_units};
+ghost use Rattle.l6_store.specs.Numerals.{most_units, place_bits};
 ghost use Rattle.l6_store.specs.Blocks.{end_of};
-ghost use Rattle.l6_store.specs.Buddy.{buddy_of, halved_often, level_found, piece_freed, put_back};
+ghost use Rattle.l6_store.specs.Buddy.{IsLargestFree, buddy_of, free_words, halved_often, listed, piece_freed, put_back};
 ghost use Rattle.l6_store.specs.inner.Detached.{IsDetached};
 ghost use Rattle.l6_store.specs.inner.ArenaLayout.{IsSoundLayout};
 
@@ -12,11 +12,49 @@ use crate::arena::Arena;
 use crate::places::{Level, Place};
 use l6_word::LARGEST_LEVEL;
 
-/// The least level with a free piece that is at least the level asked for.
-pub(crate) fn least_level(arena: &Arena, level: Level) -> Option<Level>
-    ensures { result ≡ level_found arena.now.order level }
+/// The largest level with a free piece.
+pub(crate) fn largest_free_level(arena: &Arena) -> Option<Level>
+    requires sound { IsSoundLayout arena.now }
+    ensures { IsLargestFree arena.now.order result }
 {
-    (level..=LARGEST_LEVEL).find(|found| arena.first(*found).is_some())
+    let mut level = LARGEST_LEVEL;
+    while arena.first(level).is_none() {
+        if level == 0 {
+            return None;
+        }
+        level -= 1;
+    }
+    Some(level)
+}
+
+/// How many free pieces a level has.
+pub(crate) fn count_pieces(arena: &Arena, level: Level) -> u32
+    requires sound { IsSoundLayout arena.now }
+    requires level { level ≤ largest_level }
+    ensures count { result ≡ length (listed arena.now.order level) }
+    ensures few { result ≤ 2 ^ place_bits }
+{
+    let mut count = 0;
+    let mut place = arena.first(level);
+    while let Some(piece) = place {
+        count += 1;
+        place = arena.next(level, piece);
+    }
+    count
+}
+
+/// How many words all free pieces have.
+pub(crate) fn count_free_words(arena: &Arena) -> u32
+    requires sound { IsSoundLayout arena.now }
+    ensures { result ≡ free_words arena.now.order }
+{
+    let mut words = 0;
+    let mut level = 0;
+    while level <= LARGEST_LEVEL {
+        words += count_pieces(arena, level) << level;
+        level += 1;
+    }
+    words
 }
 
 /// Halves a detached piece until it has the level asked for, and answers how often. Each upper half
@@ -35,28 +73,21 @@ pub(crate) fn halve(arena: &mut Arena, from: Level, level: Level, place: Place) 
     ensures sound { IsSoundLayout arena.new }
 {
     let mut now = from;
-    let mut moves = 0;
     while level < now {
         now -= 1;
         arena.link(now, place + (1 << now));
-        // one halving
-        moves += 1;
     }
-    moves
+    u32::from(from - level)
 }
 
-/// The other half of the piece of which a piece of a level is one half.
+/// The other half of the piece of which a piece of a level is one half: their places differ in the bit
+/// of the level.
 fn buddy_of(level: Level, place: Place) -> Place
     requires level { level < largest_level }
-    requires above { unit_size ≤ place }
-    requires within { place < end_of most_units }
+    requires aligned { place % 2 ^ level ≡ 0 }
     ensures { result ≡ buddy_of level place }
 {
-    if place % (1 << (level + 1)) == 0 {
-        place + (1 << level)
-    } else {
-        place - (1 << level)
-    }
+    place ^ (1 << level)
 }
 
 /// Joins a detached piece with its buddy as long as that one is free, puts the result in front of
@@ -72,7 +103,6 @@ pub(crate) fn join(arena: &mut Arena, level: Level, mut place: Place) -> u32
     ensures sound { IsSoundLayout arena.new }
 {
     let mut now = level;
-    let mut moves = 0;
     while now < LARGEST_LEVEL {
         let buddy = buddy_of(now, place);
         if !arena.is_listed(now, buddy) {
@@ -81,9 +111,7 @@ pub(crate) fn join(arena: &mut Arena, level: Level, mut place: Place) -> u32
         arena.unlink(now, buddy);
         place = place.min(buddy);
         now += 1;
-        // one joining
-        moves += 1;
     }
     arena.link(now, place);
-    moves
+    u32::from(now - level)
 }

@@ -1,16 +1,18 @@
 //! What is at the places of a buddy store.
 
-ghost use Rattle.std.specs.Prelude.{◌≡◌, ◌<◌, ◌≤◌, length, replicate, slice_set, IfOk};
+ghost use Rattle.std.specs.Prelude.{◌≡◌, ◌+◌, ◌<◌, ◌≤◌, length, replicate, slice_set, IfOk};
 ghost use Rattle.l6_word.specs.Numerals.{largest_level};
-ghost use Rattle.l6_store.specs.declared.place_tag.PlaceTag.TheVariants.{Inner};
+ghost use Rattle.l6_store.specs.declared.place_tag.PlaceTag.TheVariants.{Inner, Block, Listed};
+ghost use Rattle.l6_store.specs.declared.tag.Tag.TheVariants.{Free};
 ghost use Rattle.l6_store.specs.Blocks.{end_of};
 ghost use Rattle.l6_store.specs.Numerals.{most_units};
 ghost use Rattle.l6_store.specs.inner.Tags.{level_of, size_by};
-ghost use Rattle.l6_store.specs.inner.ArenaLayout.{place_tag_at, tag_of, IsPlaceTag};
+ghost use Rattle.l6_store.specs.inner.ArenaLayout.{place_tag_at, tag_of};
+ghost use Rattle.l6_store.specs.inner.Units.{AreUnitsUnused};
 
 use crate::level::size_of;
 use crate::places::{Level, Place};
-use crate::units::{UNIT_PLACES, UNITS, take_units};
+use crate::units::take_units;
 use std::alloc::{AllocError, Global};
 use std::marker::Model;
 
@@ -25,17 +27,6 @@ pub(crate) enum PlaceTag {
     Listed(Level),
 }
 
-/// How many words the block has that begins at a place with this tag, 0 where none begins.
-fn size_at(place_tag: PlaceTag) -> u16
-    requires { IsPlaceTag place_tag }
-    ensures { result ≡ size_by (tag_of place_tag) }
-{
-    match place_tag {
-        PlaceTag::Block(level) => size_of(level) as u16,
-        PlaceTag::Inner | PlaceTag::Listed(_) => 0,
-    }
-}
-
 /// The tag of each place.
 #[derive(Drop)]
 pub(crate) struct PlaceTags {
@@ -43,8 +34,6 @@ pub(crate) struct PlaceTags {
     // how many words the block has that begins at each place, 0 where none begins: so one
     // comparison decides whether a block begins there and has a word of some index
     sizes: Vec<u16>,
-    // whether each unit is used: in an unused one no block begins, and nothing after its first place
-    used: [bool; UNITS],
 }
 
 impl Model for PlaceTags {
@@ -53,14 +42,12 @@ impl Model for PlaceTags {
     ghost use Rattle.l6_store.specs.Numerals.{most_units};
     ghost use Rattle.l6_store.specs.declared.place_tag.PlaceTag.{PlaceTag as OneTag};
     ghost use Rattle.l6_store.specs.inner.ArenaLayout.{AreTagSizes};
-    ghost use Rattle.l6_store.specs.inner.Units.{AreUnitsUnused};
 
     ghost Value = { List OneTag };
 
     ghost view = { λ m. m.place_tags.items };
 
     ghost invariant = { λ m. AreTagSizes m.place_tags.items m.sizes.items
-        × AreUnitsUnused m.place_tags.items m.used
         × (length m.place_tags.items ≤ end_of most_units) };
 }
 
@@ -73,7 +60,6 @@ impl PlaceTags {
         Ok(PlaceTags {
             place_tags: vec![in alloc; PlaceTag::Inner; places]?,
             sizes: vec![in alloc; 0; places]?,
-            used: [false; UNITS],
         })
     }
 
@@ -83,7 +69,6 @@ impl PlaceTags {
     {
         self.place_tags.fill(PlaceTag::Inner);
         self.sizes.fill(0);
-        self.used = [false; UNITS];
     }
 
     /// The tag of a place.
@@ -94,17 +79,44 @@ impl PlaceTags {
         self.place_tags[place as usize]
     }
 
-    /// Tags a place.
-    pub(crate) fn set(&mut self, place: Place, place_tag: PlaceTag)
+    /// Tags a place: a free piece of a level begins there, and is listed. The caller owes that no block
+    /// does.
+    pub(crate) fn list(&mut self, place: Place, level: Level)
         requires place { place < length self.old }
-        requires place_tag { IsPlaceTag place_tag }
-        ensures { self.new ≡ slice_set self.old place place_tag }
+        requires beside { tag_of (place_tag_at self.old place) ≡ Free }
+        ensures { self.new ≡ slice_set self.old place (Listed level) }
+    {
+        self.place_tags[place as usize] = PlaceTag::Listed(level);
+    }
+
+    /// Tags a place: the free piece that begins there is listed no more. The caller owes that no block
+    /// begins there.
+    pub(crate) fn take_out(&mut self, place: Place)
+        requires place { place < length self.old }
+        requires beside { tag_of (place_tag_at self.old place) ≡ Free }
+        ensures { self.new ≡ slice_set self.old place Inner }
+    {
+        self.place_tags[place as usize] = PlaceTag::Inner;
+    }
+
+    /// Tags a place: a block of a level begins there.
+    pub(crate) fn open(&mut self, place: Place, level: Level)
+        requires place { place < length self.old }
+        requires level { level ≤ largest_level }
+        ensures { self.new ≡ slice_set self.old place (Block level) }
     {
         let place = place as usize;
-        let size = size_at(place_tag);
-        self.used[place / UNIT_PLACES] |= place % UNIT_PLACES != 0 || size != 0;
-        self.sizes[place] = size;
-        self.place_tags[place] = place_tag;
+        self.sizes[place] = size_of(level) as u16;
+        self.place_tags[place] = PlaceTag::Block(level);
+    }
+
+    /// Tags a place: the block that began there is taken out.
+    pub(crate) fn close(&mut self, place: Place)
+        requires { place < length self.old }
+        ensures { self.new ≡ slice_set self.old place Inner }
+    {
+        self.sizes[place as usize] = 0;
+        self.place_tags[place as usize] = PlaceTag::Inner;
     }
 
     /// The level of the block that begins at a place, if one does.
@@ -124,26 +136,19 @@ impl PlaceTags {
         self.sizes.get(place).copied().unwrap_or(0)
     }
 
-    /// Takes over the tags of as many other places.
-    pub(crate) fn take_from(&mut self, other: &PlaceTags)
-        requires { length self.old ≡ length other.now }
+    /// Takes over the tags of as many other places. Of a unit that is used in neither only the first
+    /// is taken: the caller owes that nothing else begins in it.
+    pub(crate) fn take_from(&mut self, other: &PlaceTags, used: &[bool], other_used: &[bool])
+        requires long { length self.old ≡ length other.now }
+        requires units { (length used.now ≡ most_units + 1)
+            × (length other_used.now ≡ most_units + 1) }
+        requires unused { AreUnitsUnused self.old used.now }
+        requires other_unused { AreUnitsUnused other.now other_used.now }
         ensures { self.new ≡ other.now }
     {
-        take_units(
-            &mut self.place_tags,
-            &other.place_tags,
-            &self.used,
-            &other.used,
-            true,
-        );
-        take_units(
-            &mut self.sizes,
-            &other.sizes,
-            &self.used,
-            &other.used,
-            false,
-        );
-        self.used = other.used;
+        let tags = &mut self.place_tags;
+        take_units(tags, &other.place_tags, used, other_used, true);
+        take_units(&mut self.sizes, &other.sizes, used, other_used, false);
     }
 
     /// A copy of the tags, in memory of its own.
@@ -153,7 +158,6 @@ impl PlaceTags {
         Ok(PlaceTags {
             place_tags: self.place_tags.to_vec(alloc)?,
             sizes: self.sizes.to_vec(alloc)?,
-            used: self.used,
         })
     }
 }

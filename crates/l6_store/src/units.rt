@@ -1,6 +1,7 @@
 //! Units: how many a store may have, where they end, and lists with an entry for each of their places.
 
-ghost use Rattle.std.specs.Prelude.{◌≡◌, ◌+◌, ◌≤◌, length};
+ghost use Rattle.std.specs.Prelude.{◌≡◌, ◌+◌, ◌-◌, ◌≤◌, length, min};
+ghost use Rattle.l6_word.specs.Numerals.{unit_size};
 ghost use Rattle.l6_store.specs.Blocks.{end_of};
 ghost use Rattle.l6_store.specs.Numerals.{most_units};
 ghost use Rattle.l6_store.specs.inner.Units.{AreAlike, AreCopied};
@@ -43,19 +44,22 @@ pub(crate) fn take_units<T: Copy>(
     for unit in 0..others.len().div_ceil(UNIT_PLACES) {
         let place = unit * UNIT_PLACES;
         if used[unit] || other_used[unit] {
-            let count = UNIT_PLACES.min(others.len() - place);
-            copy_entries(entries, others, place, count);
+            copy_unit(entries, others, place);
         } else if first_too {
             entries[place] = others[place];
         }
     }
 }
 
-/// Copies so many entries from a place on.
-fn copy_entries<T: Copy>(entries: &mut [T], others: &[T], place: usize, count: usize)
+/// Copies the entries of the unit that begins at a place, as far as there are any. It is a function of its
+/// own so that the loop over units, most of which are unused, is short.
+#[inline(never)]
+fn copy_unit<T: Copy>(entries: &mut [T], others: &[T], place: usize)
     requires long { length entries.old ≡ length others.now }
-    requires within { place + count ≤ length others.now }
-    ensures { AreCopied others.now entries.old entries.new place count }
+    requires within { place ≤ length others.now }
+    ensures { AreCopied others.now entries.old entries.new place
+        (min unit_size (length others.now - place)) }
 {
-    entries[place..place + count].copy_from_slice(&others[place..place + count]);
+    let end = place + UNIT_PLACES.min(others.len() - place);
+    entries[place..end].copy_from_slice(&others[place..end]);
 }

@@ -17,6 +17,8 @@ mod drawings;
 #[cfg(test)]
 mod faults;
 #[cfg(test)]
+mod free_lists;
+#[cfg(test)]
 mod histories;
 #[cfg(test)]
 mod images;

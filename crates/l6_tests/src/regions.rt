@@ -4,6 +4,7 @@ use l6_raw::Region;
 use std::test::Fail;
 
 #[test]
+#[tactic(auto, using(l6_raw::proofs::Pages::all_used))]
 fn a_copy_keeps_its_words(rt: HostRuntime) -> Result<(), Fail> {
     let mut region = Region::new(rt.alloc(), 4)?;
     region.write(1, 7);
@@ -16,8 +17,9 @@ fn a_copy_keeps_its_words(rt: HostRuntime) -> Result<(), Fail> {
     region.fill(1, 2);
     assert_eq!(rt; region.words(0, 4), [0, 0, 0, 8].as_slice());
     assert_eq!(rt; copy.words(0, 4), [0, 7, 0, 0].as_slice());
-    region.take_from(&copy);
-    region.write_first(0, 9);
+    let used = [true; 256];
+    region.take_from(&copy, &used, &used);
+    region.write(0, 9);
     assert_eq!(rt; region.words(0, 4), [9, 7, 0, 0].as_slice());
     Ok(())
 }

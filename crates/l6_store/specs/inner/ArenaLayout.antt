@@ -26,12 +26,6 @@ tag_of Inner = Free
 tag_of (Block level) = First level
 tag_of (Listed level) = Free
 
--- a tag that a place may have: a block has one of the levels
-abbrev pub IsPlaceTag : PlaceTag → Type 0
-IsPlaceTag Inner = Unit {0}
-IsPlaceTag (Block level) = level ≤ largest_level
-IsPlaceTag (Listed level) = Unit {0}
-
 -- the sizes are those of the blocks that begin at the places
 pub record AreTagSizes (place_tags : List PlaceTag) (sizes : List ℕ) : Type 0 where
   pub count : length sizes ≡ length place_tags
@@ -115,6 +109,9 @@ pub record IsSoundLayout (layout : ArenaLayout) : Type 0 where
   pub links : Links layout.words layout.heads layout.order
   pub filled : length layout.words ≡ end_of layout.units
   pub are_at_their_places : AreAtTheirPlaces layout.words layout.blocks
+  pub levels : length layout.order ≡ suc largest_level
+  pub distinct : (level : ℕ) → AreDistinct (listed layout.order level)
+  pub few : (level : ℕ) → length (listed layout.order level) ≤ length layout.words
 
 -- the order while units are listed, the last first: those after one are
 unfoldable pub order_from : ℕ → ℕ → Order

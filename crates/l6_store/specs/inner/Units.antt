@@ -1,9 +1,10 @@
 -- The units of a store, and which of them are used: what is known of the places of the others.
 use Rattle.std.specs.Prelude.{◌≡◌, ℕ, ◌+◌, ◌/◌, ◌%◌, ◌<◌, ◌≤◌, List, Bool, true, false, length, slice_get, slice_index_or}
 use Rattle.l6_word.specs.Numerals.{unit_size}
+use Rattle.l6_raw.specs.Pages.{AreUnused}
 use Rattle.l6_store.specs.declared.place_tag.PlaceTag.{PlaceTag}
 use Rattle.l6_store.specs.declared.place_tag.PlaceTag.TheVariants.{Inner}
-use Rattle.l6_store.specs.inner.ArenaLayout.{place_tag_at, tag_of}
+use Rattle.l6_store.specs.inner.ArenaLayout.{IsArena, place_tag_at, tag_of}
 use Rattle.l6_store.specs.inner.Tags.{size_by}
 
 -- whether the unit of a place is used
@@ -30,3 +31,10 @@ pub record AreCopied {A : Type 0} (others old new : List A) (place count : ℕ) 
   pub copied : (at : ℕ) → place ≤ at → at < place + count → slice_get new at ≡ slice_get others at
   pub before : (at : ℕ) → at < place → slice_get new at ≡ slice_get old at
   pub following : (at : ℕ) → place + count ≤ at → slice_get new at ≡ slice_get old at
+
+-- what is true of each arena, with the units that are used: of the others all words but the first are 0
+pub record IsKeptArena (units : ℕ) (words : List ℕ) (place_tags : List PlaceTag) (heads : List ℕ)
+    (used : List Bool) : Type 0 where
+  pub laid : IsArena units words place_tags heads
+  pub units_unused : AreUnitsUnused place_tags used
+  pub words_unused : AreUnused words used

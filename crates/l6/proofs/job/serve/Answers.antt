@@ -1,7 +1,7 @@
 use Rattle.std.proofs.Common.{ap, ◌∙◌}
 use Rattle.std.proofs.lemmas.Result.{err_from_is_err_and}
 use Rattle.l6.specs.JobParts.{commands_of, deck_of}
-use Rattle.l6.proofs.Serving.{debug_refused, image_refused, load_refused, renewal_refused, run_refused}
+use Rattle.l6.proofs.Serving.{check_refused, debug_refused, image_refused, load_refused, renewal_refused, run_refused}
 use Rattle.l6.proofs.job.serve.Goals as goal
 
 pub returns-in_err-write_deck_image-in-Asm-clause-done :
@@ -10,6 +10,20 @@ returns-in_err-write_deck_image-in-Asm-clause-done g c =
     let p = err_from_is_err_and c.from_residual.result c.from_residual.ensures.1 in
     rw (p.1, p.2) (image_refused _ _ c.args.job.now _ _ _ _ c.in-Asm.is
     c.parts_of-parts.ensures.head c.in_err-write_deck_image-in-Asm.ensures.done)
+
+pub returns-in_err-errors-in-Check-clause-done : goal.returns-in_err-errors-in-Check-clause-done
+returns-in_err-errors-in-Check-clause-done g c =
+    let p = err_from_is_err_and c.from_residual-in_err-errors-in-Check.result
+    c.from_residual-in_err-errors-in-Check.ensures.1 in
+    rw (p.1, p.2) (check_refused _ _ c.args.job.now _ _ _ _ c.in-Check.is
+    c.parts_of-parts.ensures.head c.in_err-errors-in-Check.ensures.done)
+
+pub returns-in_err-errors-in-Check-clause-retries :
+    goal.returns-in_err-errors-in-Check-clause-retries
+returns-in_err-errors-in-Check-clause-retries g c =
+    let p = err_from_is_err_and c.from_residual-in_err-errors-in-Check.result
+    c.from_residual-in_err-errors-in-Check.ensures.1 in
+    rw (p.1, p.2) (c.in_err-errors-in-Check.ensures.retries)
 
 pub returns-in_err-ending-in-Run-clause-done : goal.returns-in_err-ending-in-Run-clause-done
 returns-in_err-ending-in-Run-clause-done g c =

@@ -2,8 +2,8 @@ use Rattle.std.proofs.Common.{◌≡◌, ◌∙◌, drop, take, rules, refl}
 use Rattle.l6_asm.proofs.Blanks.{cut-following}
 use Rattle.l6_asm.proofs.line.drop_last_blanks.Goals as goal
 
-pub returns : goal.returns
-returns c =
+pub returns-clause-line : goal.returns-clause-line
+returns-clause-line c =
     let text = c.args.text.now.items in
     let front = c.split_at.result.0.now in
     let kept = c.without_last_blanks.result.now in

@@ -8,12 +8,21 @@ use Rattle.l6_store.proofs.Detached.{detached_beside, detached_unlisted}
 use Rattle.l6_store.proofs.Loops.{halves_first, halves_more, halves_done}
 use Rattle.l6_store.proofs.piece.halve.Goals as goal
 
+-- it was halved no time
+none : (level : ℕ) → 0 ≡ level - level
+none level = omega arith
+
 pub loop-now-init : goal.loop-now-init
 loop-now-init c = (
   record { units = refl; blocks = refl; sound = c.requires.sound },
-  halves_first c.args.arena.now.units c.args.arena.now.blocks c.args.level
+  subst (λ (moves : ℕ). HalvesPiece c.args.arena.now.units c.args.arena.now.blocks c.args.level
+      c.args.from
       (record { order = c.args.arena.now.order; level = c.args.from; place = c.args.place })
-      c.requires.enough c.requires.held,
+      (record { order = c.args.arena.now.order; level = c.args.from; place = c.args.place }) moves)
+      (none c.args.from)
+      (halves_first c.args.arena.now.units c.args.arena.now.blocks c.args.level
+      (record { order = c.args.arena.now.order; level = c.args.from; place = c.args.place })
+      c.requires.enough c.requires.held),
 )
 
 -- where the upper half begins
@@ -48,6 +57,8 @@ link-requires-clause-beside c = λ lies.
 pub loop-now-preserved : goal.loop-now-preserved
 loop-now-preserved c =
     let was = c.loop-now.invariant in
+    let more : c.args.from - c.loop-now.now + 1 ≡ c.args.from - (c.loop-now.now - 1)
+    = omega (arith, was.1.counted, c.loop-now-test.true) in
     let size : c.args.place + 1 * 2 ^ (c.loop-now.now - 1) % 2 ^ 32
     ≡ c.args.place + 2 ^ (c.loop-now.now - 1)
     = ap (λ (size : ℕ). c.args.place + size)
@@ -70,11 +81,20 @@ loop-now-preserved c =
                 c.args.place;
           })
           (record { order = o; level = c.loop-now.now - 1; place = c.args.place })
-          (c.loop-now.moves + 1)) (sym order)
+          (c.args.from - (c.loop-now.now - 1))) (sym order)
+          (subst (λ (moves : ℕ). HalvesPiece c.args.arena.now.units c.args.arena.now.blocks
+          c.args.level c.args.from
+          (record { order = c.args.arena.now.order; level = c.args.from; place = c.args.place })
+          (record {
+            order = in_front c.loop-now.arena.order (c.loop-now.now - 1)
+                (c.args.place + 2 ^ (c.loop-now.now - 1));
+            level = c.loop-now.now - 1;
+            place = c.args.place;
+          }) moves) more
           (halves_more c.args.arena.now.units c.args.arena.now.blocks c.args.level c.args.from
           (record { order = c.args.arena.now.order; level = c.args.from; place = c.args.place })
           (record { order = c.loop-now.arena.order; level = c.loop-now.now; place = c.args.place })
-          c.loop-now.moves c.loop-now-test.true was.1),
+          (c.args.from - c.loop-now.now) c.loop-now-test.true was.1)),
     )
 
 pub returns-clause-order : goal.returns-clause-order
@@ -83,4 +103,4 @@ returns-clause-order c =
     (halves_done c.args.arena.now.units c.args.arena.now.blocks c.args.level c.args.from
     (record { order = c.args.arena.now.order; level = c.args.from; place = c.args.place })
     (record { order = c.loop-now.arena.order; level = c.loop-now.now; place = c.args.place })
-    c.loop-now.moves c.loop-now-test.false c.loop-now.invariant.1)
+    (c.args.from - c.loop-now.now) c.loop-now-test.false c.loop-now.invariant.1)

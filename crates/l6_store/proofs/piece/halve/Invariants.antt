@@ -1,3 +1,4 @@
+use Rattle.std.proofs.Common.{◌-◌}
 use Rattle.l6_store.specs.inner.ArenaLayout.{IsBeside}
 use Rattle.l6_store.specs.inner.Detached.{HalvesPiece}
 use Rattle.l6_store.proofs.piece.halve.Given as goal
@@ -8,7 +9,7 @@ invariant-loop-now l =
     IsBeside l.fn.arena l.arena
     × HalvesPiece l.fn.arena.units l.fn.arena.blocks l.level l.from
     (record { order = l.fn.arena.order; level = l.from; place = l.place })
-    (record { order = l.arena.order; level = l.now; place = l.place }) l.moves
+    (record { order = l.arena.order; level = l.now; place = l.place }) (l.from - l.now)
 
 abbrev pub decreases-loop-now : goal.decreases-loop-now
 decreases-loop-now l = l.now

@@ -10,7 +10,7 @@ invariant-loop-now l =
     IsBeside l.fn.arena l.arena
     × JoinsPiece l.fn.arena.units l.fn.arena.blocks l.level
     (record { order = l.fn.arena.order; level = l.level; place = l.fn.place })
-    (record { order = l.arena.order; level = l.now; place = l.place }) l.moves
+    (record { order = l.arena.order; level = l.now; place = l.place }) (l.now - l.level)
 
 abbrev pub decreases-loop-now : goal.decreases-loop-now
 decreases-loop-now l = largest_level - l.now

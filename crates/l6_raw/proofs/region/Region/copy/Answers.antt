@@ -1,5 +1,4 @@
 use Rattle.std.proofs.Common.{ℕ, ◌+◌, List, length, get_or, set, slice_range, ap, ◌∙◌, arith}
-use Rattle.l6_raw.specs.Words.{overwritten}
 use Rattle.l6_raw.proofs.Overwriting.{copied_more, length-overwritten, length-range}
 use Rattle.l6_raw.proofs.region.Region.copy.Goals as goal
 

@@ -12,7 +12,7 @@ here : (c : goal.After-size_of)
     → BlockHere c.self.inside.units c.self.inside.place_tags c.self.inside.words c.args.place
 here c =
     block_here c.self.inside.units c.self.inside.place_tags c.self.inside.words
-    c.self.invariant.filled c.self.invariant.are_blocks.is_aligned c.args.place (live c)
+    c.self.invariant.laid.filled c.self.invariant.laid.are_blocks.is_aligned c.args.place (live c)
 
 size : (c : goal.After-size_of) → c.size_of.result ≡ 2 ^ (here c).level
 size c =
@@ -32,7 +32,7 @@ here_then : (c : goal.After-words)
     → BlockHere c.self.inside.units c.self.inside.place_tags c.self.inside.words c.args.place
 here_then c =
     block_here c.self.inside.units c.self.inside.place_tags c.self.inside.words
-    c.self.invariant.filled c.self.invariant.are_blocks.is_aligned c.args.place (live_then c)
+    c.self.invariant.laid.filled c.self.invariant.laid.are_blocks.is_aligned c.args.place (live_then c)
 
 size_then : (c : goal.After-words) → c.size_of.result ≡ 2 ^ (here_then c).level
 size_then c =

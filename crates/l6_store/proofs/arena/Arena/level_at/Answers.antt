@@ -27,12 +27,12 @@ pub returns-clause-size : goal.returns-clause-size
 returns-clause-size c =
     ap (option_map (λ (level : ℕ). 2 ^ level)) (determined c)
     ∙ tagged_size c.self.inside.units c.self.inside.place_tags c.self.inside.words
-    c.self.invariant.filled c.self.invariant.are_blocks.is_aligned c.args.place
+    c.self.invariant.laid.filled c.self.invariant.laid.are_blocks.is_aligned c.args.place
     ∙ ap (λ (l : ArenaLayout). option_map (λ (block : List ℕ). length block)
     (map.get l.blocks c.args.place)) c.self.view_is
 
 pub returns-clause-level : goal.returns-clause-level
 returns-clause-level c =
     subst (λ (o : Option ℕ). IfSome o (λ level. level ≤ largest_level)) (sym (determined c))
-    (tagged_small c.self.inside.units c.self.inside.place_tags c.self.invariant.are_blocks.is_aligned
+    (tagged_small c.self.inside.units c.self.inside.place_tags c.self.invariant.laid.are_blocks.is_aligned
     c.args.place)

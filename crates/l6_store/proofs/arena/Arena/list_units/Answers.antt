@@ -22,7 +22,7 @@ loop-unit-init c =
           ∙ ap (order_from c.args.self.now.units) (sym units);
       sound = subst IsSoundLayout c.self.view_is
           (sound c.self.inside.units c.self.inside.words c.self.inside.heads
-          c.self.inside.place_tags c.self.invariant);
+          c.self.inside.place_tags c.self.invariant.laid);
     }
 
 place : (c : goal.After-from) → c.loop-unit.unit * c.from.result ≡ c.loop-unit.unit * unit_size
@@ -32,42 +32,42 @@ pub overflow_mul-unit : goal.overflow_mul-unit
 overflow_mul-unit c =
     omega (arith, place c, c.loop-unit.invariant.most, c.loop-unit.invariant.sound.most)
 
-pub link-requires-clause-some : goal.link-requires-clause-some
-link-requires-clause-some c = omega (arith, place c)
+pub link_unit-requires-clause-some : goal.link_unit-requires-clause-some
+link_unit-requires-clause-some c = omega (arith, place c)
 
-pub link-requires-clause-within : goal.link-requires-clause-within
-link-requires-clause-within c = omega (arith, place c, c.loop-unit.invariant.most)
+pub link_unit-requires-clause-within : goal.link_unit-requires-clause-within
+link_unit-requires-clause-within c = omega (arith, place c, c.loop-unit.invariant.most)
 
-pub link-requires-clause-fresh : goal.link-requires-clause-fresh
-link-requires-clause-fresh c = λ k is.
+pub link_unit-requires-clause-fresh : goal.link_unit-requires-clause-fresh
+link_unit-requires-clause-fresh c = λ k is.
     from_fresh c.loop-unit.self.units c.loop-unit.unit k
     (subst (λ (p : ℕ). IsListed (order_from c.loop-unit.self.units c.loop-unit.unit) k p) (place c)
     (subst (λ (o : Order). IsListed o k (c.loop-unit.unit * c.from.result))
     c.loop-unit.invariant.order is))
 
-pub link-requires-clause-beside : goal.link-requires-clause-beside
-link-requires-clause-beside c = λ lies.
+pub link_unit-requires-clause-beside : goal.link_unit-requires-clause-beside
+link_unit-requires-clause-beside c = λ lies.
     no_block_lies (c.loop-unit.unit * c.from.result)
     (subst (λ (b : Blocks). LiesIn b (c.loop-unit.unit * c.from.result))
     c.loop-unit.invariant.blocks lies)
 
-place_then : (c : goal.After-link) → c.loop-unit.unit * c.from.result ≡ c.loop-unit.unit * unit_size
+place_then : (c : goal.After-link_unit) → c.loop-unit.unit * c.from.result ≡ c.loop-unit.unit * unit_size
 place_then c = ap (λ (n : ℕ). c.loop-unit.unit * n) c.from.ensures
 
 pub loop-unit-preserved : goal.loop-unit-preserved
 loop-unit-preserved c =
     let was = c.loop-unit.invariant in
     record {
-      most = omega (arith, c.link.ensures.units, was.most);
-      units = c.link.ensures.units ∙ was.units;
-      blocks = c.link.ensures.blocks ∙ was.blocks;
-      order = c.link.ensures.order
+      most = omega (arith, c.link_unit.ensures.units, was.most);
+      units = c.link_unit.ensures.units ∙ was.units;
+      blocks = c.link_unit.ensures.blocks ∙ was.blocks;
+      order = c.link_unit.ensures.order
           ∙ ap (λ (o : Order). in_front o largest_level (c.loop-unit.unit * c.from.result)) was.order
           ∙ ap (in_front (order_from c.loop-unit.self.units c.loop-unit.unit) largest_level)
           (place_then c)
           ∙ from_more c.loop-unit.self.units c.loop-unit.unit c.loop-unit-test.true was.most
-          ∙ ap (λ (n : ℕ). order_from n (c.loop-unit.unit - 1)) (sym c.link.ensures.units);
-      sound = c.link.ensures.sound;
+          ∙ ap (λ (n : ℕ). order_from n (c.loop-unit.unit - 1)) (sym c.link_unit.ensures.units);
+      sound = c.link_unit.ensures.sound;
     }
 
 pub returns-clause-units : goal.returns-clause-units

@@ -1,4 +1,4 @@
-use Rattle.std.proofs.Common.{◌≡◌, ℕ, suc, List, length, replicate, refl, sym, ap, ◌∙◌, subst}
+use Rattle.std.proofs.Common.{◌≡◌, ℕ, suc, Bool, false, List, length, replicate, refl, sym, ap, ◌∙◌, subst}
 use Rattle.l6_store.specs.inner.ArenaLayout.{place_tag_at}
 use Rattle.l6_store.specs.declared.place_tag.PlaceTag.{PlaceTag}
 use Rattle.l6_store.specs.declared.place_tag.PlaceTag.TheVariants.{Inner}
@@ -8,6 +8,8 @@ use Rattle.l6_store.specs.Blocks.{end_of}
 use Rattle.l6_raw.proofs.Overwriting.{are_words-zeros}
 use Rattle.l6_store.proofs.Arenas.{AreWords}
 use Rattle.l6_store.proofs.Fresh.{cleared_laid, cleared_blocks, cleared_order, all_alike, zero_heads}
+use Rattle.l6_raw.specs.Pages.{AreUnused}
+use Rattle.l6_store.proofs.KeptArenas.{all_inner, all_zero}
 use Rattle.l6_store.proofs.arena.Arena.new.Goals as goal
 
 places : (c : goal.In_ok-new-2) → c.end_of-places.result ≡ end_of c.args.units
@@ -37,9 +39,15 @@ are_words c = subst AreWords (sym c.in_ok-new.ensures)
 
 pub invariant_of-arena : goal.invariant_of-arena
 invariant_of-arena c =
-    cleared_laid c.args.units c.in_ok-new.field-0 (replicate (suc largest_level) 0)
-    c.in_ok-new-2.field-0 c.requires.some c.requires.most (filled c) (count c) (inner c) refl
-    zero_heads (are_words c)
+    let used : List Bool = replicate 256 false in
+    record {
+      laid = cleared_laid c.args.units c.in_ok-new.field-0 (replicate (suc largest_level) 0)
+          c.in_ok-new-2.field-0 c.requires.some c.requires.most (filled c) (count c) (inner c) refl
+          zero_heads (are_words c);
+      units_unused = all_inner c.in_ok-new-2.field-0 used (inner c);
+      words_unused = subst (λ (words : List ℕ). AreUnused words used) (sym c.in_ok-new.ensures)
+          (all_zero c.end_of-places.result used);
+    }
 
 places_then : (c : goal.After-arena-2-1) → c.end_of-places.result ≡ end_of c.args.units
 places_then c = c.end_of-places.ensures

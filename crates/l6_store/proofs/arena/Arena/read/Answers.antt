@@ -18,11 +18,11 @@ read_is units words heads place_tags were now view place =
 pub read-requires : goal.read-requires
 read-requires c =
     found_within c.self.inside.units c.self.inside.words c.self.inside.heads
-    c.self.inside.place_tags c.self.invariant c.args.place
+    c.self.inside.place_tags c.self.invariant.laid c.args.place
     (subst (λ (l : ArenaLayout). LiesIn l.blocks c.args.place) (sym c.self.view_is) c.requires)
 
 pub returns : goal.returns
 returns c = λ found.
     c.from_value.ensures ∙ c.read.ensures.value
     ∙ read_is c.self.inside.units c.self.inside.words c.self.inside.heads
-    c.self.inside.place_tags c.self.invariant c.args.self.now c.self.view_is c.args.place found
+    c.self.inside.place_tags c.self.invariant.laid c.args.self.now c.self.view_is c.args.place found

@@ -7,6 +7,8 @@ use Rattle.l6_word.specs.Numerals.{word_bits}
 use Rattle.l6_store.specs.Blocks.{LiesIn, index_in}
 use Rattle.l6_store.proofs.Arenas.{sound}
 use Rattle.l6_store.proofs.Changed.{found_within, written_laid, written_blocks, written_order}
+use Rattle.l6_store.specs.inner.Units.{IsKeptArena}
+use Rattle.l6_store.proofs.KeptArenas.{written_kept}
 use Rattle.l6_store.proofs.arena.Arena.write.Goals as goal
 
 found : (c : goal.After-write)
@@ -37,31 +39,39 @@ blocks_by units words heads place_tags were now view place value small =
 pub write-requires-clause-index : goal.write-requires-clause-index
 write-requires-clause-index c =
     found_within c.self.inside.units c.self.inside.words c.self.inside.heads
-    c.self.inside.place_tags c.self.invariant c.args.place
+    c.self.inside.place_tags c.self.invariant.laid c.args.place
     (subst (λ (l : ArenaLayout). LiesIn l.blocks c.args.place) (sym c.self.view_is) c.requires)
 
-pub invariant_of-self : goal.invariant_of-self
-invariant_of-self c =
+laid : (c : goal.After-write) →
+    IsArena c.self.inside.units c.write.new.self c.self.inside.place_tags c.self.inside.heads
+laid c =
     subst (λ (words : List ℕ). IsArena c.self.inside.units words c.self.inside.place_tags
     c.self.inside.heads) (sym (written c))
     (written_laid c.self.inside.units c.self.inside.words c.self.inside.heads
-    c.self.inside.place_tags c.self.invariant c.args.place (found c) c.args.word (small c))
+    c.self.inside.place_tags c.self.invariant.laid c.args.place (found c) c.args.word (small c))
+
+pub invariant_of-self : goal.invariant_of-self
+invariant_of-self c =
+    subst (λ (words : List ℕ). IsKeptArena c.self.inside.units words c.self.inside.place_tags
+    c.self.inside.heads c.self.inside.used) (sym (written c))
+    (written_kept c.self.inside.units c.self.inside.words c.self.inside.heads
+    c.self.inside.place_tags c.self.inside.used c.self.invariant c.args.place (found c) c.args.word (small c))
 
 pub returns-clause-blocks : goal.returns-clause-blocks
 returns-clause-blocks c = λ there.
     ap (blocks_of c.self.inside.place_tags) (written c)
     ∙ blocks_by c.self.inside.units c.self.inside.words c.self.inside.heads
-    c.self.inside.place_tags c.self.invariant c.args.self.now c.self.view_is c.args.place
+    c.self.inside.place_tags c.self.invariant.laid c.args.self.now c.self.view_is c.args.place
     c.args.word (small c) there
 
 pub returns-clause-order : goal.returns-clause-order
 returns-clause-order c =
     ap (λ (words : List ℕ). order_of words c.self.inside.heads) (written c)
     ∙ written_order c.self.inside.units c.self.inside.words c.self.inside.heads
-    c.self.inside.place_tags c.self.invariant c.args.place (found c) c.args.word (small c)
+    c.self.inside.place_tags c.self.invariant.laid c.args.place (found c) c.args.word (small c)
     ∙ ap (λ (l : ArenaLayout). l.order) c.self.view_is
 
 pub returns-clause-sound : goal.returns-clause-sound
 returns-clause-sound c =
     sound c.self.inside.units c.write.new.self c.self.inside.heads c.self.inside.place_tags
-    (invariant_of-self c)
+    (laid c)

@@ -1,0 +1,13 @@
+pub mod CardSteps
+pub mod FieldSteps
+pub mod Flat
+pub mod Keeping
+pub mod LabelSteps
+pub mod Marking
+pub mod MissingParts
+pub mod MissingSteps
+pub mod Reaching
+pub mod StatementParts
+pub mod TargetSteps
+pub mod Verdicts
+pub mod WaySteps

@@ -1,0 +1,98 @@
+use Rattle.std.proofs.Common.{◌+◌, List, [], take, length-take, is_some, refl, sym, ap, subst, arith}
+use Rattle.std.proofs.Math.Logic.{inl, inr}
+use Rattle.std.specs.List.{flat_map}
+use Rattle.l6_word.specs.Lines.{lines_of}
+use Rattle.l6_card.specs.DeckFault.{form, limit}
+use Rattle.l6_card.specs.ReadAlone.{fault_of_lines, LinesReadAs}
+use Rattle.l6_card.specs.Statement.{DeckStatementParts}
+use Rattle.l6_check.specs.Faults.{fault_of_finding}
+use Rattle.l6_check.specs.Missing.{missing_in}
+use Rattle.l6_check.proofs.Keeping.{fault_said}
+use Rattle.l6_check.proofs.MissingParts.{part_is_fit, part_is_short}
+use Rattle.l6_check.proofs.MissingSteps.{say_none}
+use Rattle.l6_check.proofs.reading.add_errors.Goals as goal
+
+pub add_missing-requires-clause-fit : goal.add_missing-requires-clause-fit
+add_missing-requires-clause-fit c =
+    let lines = take c.args.count (lines_of c.args.part.text.now) in
+    let number = c.args.part.before + 1 in
+    let reads = subst (λ (s : List DeckStatementParts). LinesReadAs number lines s)
+    (sym c.statements.ensures) c.in-Ok.ensures.reads in
+    part_is_fit number lines c.statements.result.now reads
+
+pub add_missing-requires-clause-room : goal.add_missing-requires-clause-room
+add_missing-requires-clause-room c =
+    let all = lines_of c.args.part.text.now in
+    let lines = take c.args.count all in
+    let number = c.args.part.before + 1 in
+    let reads = subst (λ (s : List DeckStatementParts). LinesReadAs number lines s)
+    (sym c.statements.ensures) c.in-Ok.ensures.reads in
+    let short = part_is_short number lines c.statements.result.now reads in
+    omega (arith, short, length-take c.args.count all, c.requires.missing_room)
+
+pub returns-in_ok-add_missing-in-Ok-clause-missing :
+    goal.returns-in_ok-add_missing-in-Ok-clause-missing
+returns-in_ok-add_missing-in-Ok-clause-missing c =
+    let lines = take c.args.count (lines_of c.args.part.text.now) in
+    let number = c.args.part.before + 1 in
+    record {
+      here = flat_map (missing_in c.args.given.now.entries) c.statements.result.now;
+      are = inl (record {
+        statements = c.statements.result.now;
+        reads = subst (λ (s : List DeckStatementParts). LinesReadAs number lines s)
+            (sym c.statements.ensures) c.in-Ok.ensures.reads;
+        named = refl;
+      });
+      said = c.in_ok-add_missing-in-Ok.ensures.said;
+    }
+
+pub returns-in_ok-add_missing-in-Ok-clause-missing_count :
+    goal.returns-in_ok-add_missing-in-Ok-clause-missing_count
+returns-in_ok-add_missing-in-Ok-clause-missing_count c =
+    let all = lines_of c.args.part.text.now in
+    let lines = take c.args.count all in
+    let number = c.args.part.before + 1 in
+    let reads = subst (λ (s : List DeckStatementParts). LinesReadAs number lines s)
+    (sym c.statements.ensures) c.in-Ok.ensures.reads in
+    let short = part_is_short number lines c.statements.result.now reads in
+    omega (arith, short, length-take c.args.count all, c.in_ok-add_missing-in-Ok.ensures.count)
+
+pub returns-in_ok-add_error-in-Err-Form-clause-missing :
+    goal.returns-in_ok-add_error-in-Err-Form-clause-missing
+returns-in_ok-add_error-in-Err-Form-clause-missing c = record {
+  here = [];
+  are = inr (record {
+    fault = ap is_some (rw c.in-Err-Form.field-0-is at c.in-Err-Form.ensures.fault);
+    none = refl;
+  });
+  said = say_none [] c.args.missing.now refl;
+}
+
+pub returns-in_ok-add_error-in-Err-Form-clause-reading :
+    goal.returns-in_ok-add_error-in-Err-Form-clause-reading
+returns-in_ok-add_error-in-Err-Form-clause-reading c faults says =
+    let lines = take c.args.count (lines_of c.args.part.text.now) in
+    fault_said fault_of_finding faults (fault_of_lines (c.args.part.before + 1) lines)
+    (form c.in-Err-Form.card) c.args.reading.now c.add_error.new.found
+    (rw c.in-Err-Form.field-0-is at c.in-Err-Form.ensures.fault)
+    c.in_ok-add_error-in-Err-Form.ensures.said says
+
+pub returns-in_ok-add_error-in-Err-Limit-clause-missing :
+    goal.returns-in_ok-add_error-in-Err-Limit-clause-missing
+returns-in_ok-add_error-in-Err-Limit-clause-missing c = record {
+  here = [];
+  are = inr (record {
+    fault = ap is_some (rw c.in-Err-Limit.field-0-is at c.in-Err-Limit.ensures.fault);
+    none = refl;
+  });
+  said = say_none [] c.args.missing.now refl;
+}
+
+pub returns-in_ok-add_error-in-Err-Limit-clause-reading :
+    goal.returns-in_ok-add_error-in-Err-Limit-clause-reading
+returns-in_ok-add_error-in-Err-Limit-clause-reading c faults says =
+    let lines = take c.args.count (lines_of c.args.part.text.now) in
+    fault_said fault_of_finding faults (fault_of_lines (c.args.part.before + 1) lines)
+    (limit c.in-Err-Limit.card) c.args.reading.now c.add_error-in-Err-Limit.new.found
+    (rw c.in-Err-Limit.field-0-is at c.in-Err-Limit.ensures.fault)
+    c.in_ok-add_error-in-Err-Limit.ensures.said says

@@ -1,0 +1,34 @@
+use Rattle.std.proofs.Common.{ℕ, Bool, List, sym, subst}
+use Rattle.std.specs.List.{flat_map}
+use Rattle.l6_word.specs.Lines.{lines_of}
+use Rattle.l6_prog.specs.Target.{targets_of}
+use Rattle.l6_check.specs.Kept.{Say}
+use Rattle.l6_check.specs.Warnings.{condition_card}
+use Rattle.l6_check.specs.Ways.{AreReached, unnamed_card}
+use Rattle.l6_check.specs.inner.Marks.{AreMarks, is_marked}
+use Rattle.l6_check.proofs.Keeping.{if_ok}
+use Rattle.l6_check.proofs.WaySteps.{conditions_same, unnamed_same}
+use Rattle.l6_check.proofs.ways.statement_warnings.Goals as goal
+
+pub returns-clause-conditions : goal.returns-clause-conditions
+returns-clause-conditions c =
+    if_ok c.warnings_by.result c.warnings_by.ensures.conditions (λ found says.
+    subst (λ (l : List ℕ). Say condition_card l found.conditions)
+    (conditions_same 0 1 (lines_of c.args.deck.now)) says)
+
+pub returns-clause-unnamed : goal.returns-clause-unnamed
+returns-clause-unnamed c =
+    let program = c.args.program.now in
+    let are = subst (λ (m : List Bool). AreMarks (flat_map targets_of program) m)
+    (sym c.deref.ensures.value) c.in_ok-named.ensures in
+    if_ok c.warnings_by.result c.warnings_by.ensures.unnamed (λ found says.
+    subst (λ (l : List ℕ). Say unnamed_card l found.unnamed)
+    (unnamed_same program c.deref.result.now are (lines_of c.args.deck.now)) says)
+
+pub returns-clause-unreached : goal.returns-clause-unreached
+returns-clause-unreached c =
+    let marks = c.deref-2.result.now in
+    let are = subst (λ (m : List Bool). AreReached c.args.program.now (is_marked m))
+    (sym c.deref-2.ensures.value) c.in_ok-reached.ensures in
+    if_ok c.warnings_by.result c.warnings_by.ensures.unreached (λ found says.
+    record { reached = is_marked marks; are = are; said = says })

@@ -1,0 +1,14 @@
+pub mod Kept
+pub mod OnCard
+pub mod Faults
+pub mod Statements
+pub mod Labels
+pub mod Missing
+pub mod Warnings
+pub mod Ways
+pub mod Fields
+pub mod JobText
+pub mod Verdict
+pub mod Report
+pub mod Counted
+pub mod inner

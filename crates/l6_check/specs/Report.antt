@@ -1,0 +1,78 @@
+-- What a report says of a deck.
+use Rattle.std.specs.Prelude.{◌≡◌, ℕ, List, Option, Some, None}
+use Rattle.l6_prog.specs.Statement.{Parts}
+use Rattle.l6_check.specs.declared.finding.Finding.{Finding}
+use Rattle.l6_check.specs.declared.report.Report.{Report}
+use Rattle.l6_check.specs.declared.cards.CardWarnings.{CardWarnings}
+use Rattle.l6_check.specs.declared.report.ProgramWarnings.{ProgramWarnings}
+use Rattle.l6_check.specs.Kept.{HasNone, Say}
+use Rattle.l6_check.specs.OnCard.{AreOnTheirCards}
+use Rattle.l6_check.specs.Faults.{fault_of_finding}
+use Rattle.l6_check.specs.Statements.{statement_faults}
+use Rattle.l6_check.specs.Labels.{labels_given, twice_labelled, twice_said}
+use Rattle.l6_check.specs.Missing.{SayMissing}
+use Rattle.l6_check.specs.Warnings.{condition_card, condition_cards, past_card, past_cards}
+use Rattle.l6_check.specs.JobText.{image_card, image_cards, mark_card, mark_cards}
+use Rattle.l6_check.specs.Ways.{unnamed_card, unnamed_cards, SayUnreached}
+use Rattle.l6_check.specs.Fields.{field_said, undefined_fields}
+use Rattle.l6_check.specs.Verdict.{IsProgramOf, IsErrorOf}
+
+-- the report has no errors
+pub record HasNoErrors (report : Report) : Type 0 where
+  pub first : report.first ≡ None
+  pub reading : HasNone report.reading
+  pub twice : HasNone report.twice
+  pub missing : HasNone report.missing
+
+-- the warnings are those of a deck that spells this program: of labels that are spelled as conditions
+-- are, of labels that no statement names, of statements that no way leads to, and of fields that are used
+-- and not defined
+pub record WarnsOf (deck : List ℕ) (program : List Parts) (warnings : ProgramWarnings) : Type 0 where
+  pub conditions : Say condition_card (condition_cards deck) warnings.conditions
+  pub unnamed : Say unnamed_card (unnamed_cards program deck) warnings.unnamed
+  pub unreached : SayUnreached program deck warnings.unreached
+  pub fields : Say field_said (undefined_fields program) warnings.fields
+
+-- the report has no errors, and the warnings of the program that the deck spells
+pub record IsClean (deck : List ℕ) (report : Report) : Type 0 where
+  pub program : List Parts
+  pub spelled : IsProgramOf deck program
+  pub none : HasNoErrors report
+  pub warnings : WarnsOf deck program report.program
+
+-- the report has this first error and these warnings, and: each statement's error as a deck of its own;
+-- each card whose label an earlier card gives, with that card; and each label that is named and that no
+-- card gives
+pub record HasErrors (deck : List ℕ) (first : Finding) (cards : CardWarnings) (report : Report) :
+    Type 0 where
+  pub first_is : report.first ≡ Some first
+  pub reading : Say fault_of_finding (statement_faults deck) report.reading
+  pub reading_places : AreOnTheirCards report.reading
+  pub twice : Say twice_said (twice_labelled deck) report.twice
+  pub twice_places : AreOnTheirCards report.twice
+  pub missing : SayMissing (labels_given deck) deck report.missing
+  pub missing_places : AreOnTheirCards report.missing
+  pub cards_are : report.cards ≡ cards
+
+-- the report of a deck whose first error is this
+pub record IsFaulty (deck : List ℕ) (first : Finding) (report : Report) : Type 0 where
+  pub error : IsErrorOf deck first
+  pub others : HasErrors deck first report.cards report
+
+-- the errors of a report whose first error is this
+abbrev pub ErrorsOf : List ℕ → Report → Option Finding → Type 0
+ErrorsOf deck report None = IsClean deck report
+ErrorsOf deck report (Some first) = IsFaulty deck first report
+
+-- the warnings are those of the deck's cards: of what is past the columns that count, of lines that
+-- separate the parts of a job, and of a beginning as that of an image
+pub record WarnsOfCards (deck : List ℕ) (warnings : CardWarnings) : Type 0 where
+  pub columns : Say past_card (past_cards deck) warnings.columns
+  pub marks : Say mark_card (mark_cards deck) warnings.marks
+  pub image : Say image_card (image_cards deck) warnings.image
+
+-- the report of a deck: its first error, and then the others, or that it spells a program, and then the
+-- warnings of that; and the warnings of its cards
+pub record IsReport (deck : List ℕ) (report : Report) : Type 0 where
+  pub errors : ErrorsOf deck report report.first
+  pub cards : WarnsOfCards deck report.cards

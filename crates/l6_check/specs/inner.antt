@@ -1,0 +1,5 @@
+pub mod Marks
+pub mod CardTests
+pub mod StatementTests
+pub mod Names
+pub mod Reading

@@ -1,0 +1,44 @@
+//! The elements of a group.
+
+ghost use Rattle.std.specs.Prelude.{◌≡◌, ◌+◌, ◌≤◌, length, IfSome};
+
+use l6_word::split_once;
+
+/// An element of a group.
+#[derive(Clone, Copy, Debug)]
+pub(crate) struct Element<'a> {
+    /// How many columns of the group are before it.
+    pub(crate) start: usize,
+    /// Its columns.
+    pub(crate) text: &'a [u8],
+}
+
+/// The element of this number, from 0 on, of a group with these columns between its parentheses.
+pub(crate) fn nth_element(columns: &[u8], number: usize) -> Option<Element<'_>> {
+    let mut start: usize = 0;
+    let mut rest = columns;
+    let mut left = number;
+    while let Some((first, following)) = split_once(rest, b',') {
+        if left == 0 {
+            return Some(Element { start, text: first });
+        }
+        start = start.saturating_add(first.len()).saturating_add(1);
+        rest = following;
+        left -= 1;
+    }
+    if left == 0 {
+        return Some(Element { start, text: rest });
+    }
+    None
+}
+
+/// How many elements a group with these columns has.
+pub(crate) fn element_count(columns: &[u8]) -> usize {
+    let mut count: usize = 1;
+    for column in columns {
+        if *column == b',' {
+            count = count.saturating_add(1);
+        }
+    }
+    count
+}

@@ -1,0 +1,130 @@
+//! Where a deck uses fields first.
+
+use crate::columns::is_comment;
+use crate::element::nth_element;
+use crate::group::{MAX_ELEMENTS, shapes_of};
+use crate::label_places::body_start;
+use crate::reason::Shape;
+use crate::scan::columns_from;
+use l6_card::{Token, columns_of, first_item};
+use l6_group::chain_of;
+use l6_prog::{NAMES, Name};
+use l6_word::first_line;
+
+/// Columns of a card.
+#[derive(Clone, Copy, Debug)]
+pub(crate) struct Place<'a> {
+    /// The card's number, from 1 on.
+    pub(crate) card: u32,
+    /// How many columns are before it.
+    pub(crate) from: usize,
+    /// How many are before what follows it.
+    pub(crate) to: usize,
+    /// What these columns have.
+    pub(crate) text: &'a [u8],
+}
+
+/// The first place of each field, by the number of its name.
+#[derive(Clone, Copy, Debug)]
+pub(crate) struct FieldPlaces<'a> {
+    places: [Option<Place<'a>>; NAMES as usize],
+}
+
+impl<'a> FieldPlaces<'a> {
+    /// No places.
+    pub(crate) fn none() -> Self {
+        FieldPlaces {
+            places: [None; NAMES as usize],
+        }
+    }
+
+    /// The first place of the field of this number; if there is none, all of card 1.
+    pub(crate) fn of(&self, number: u8) -> Place<'a> {
+        match self.places.get(usize::from(number)) {
+            Some(Some(place)) => *place,
+            _ => Place {
+                card: 1,
+                from: 0,
+                to: usize::MAX,
+                text: b"",
+            },
+        }
+    }
+
+    /// Adds the place of a field, unless it has an earlier one.
+    fn add(&mut self, field: Name, place: Place<'a>) {
+        let number = usize::from(field.number());
+        if number < self.places.len() && self.places[number].is_none() {
+            self.places[number] = Some(place);
+        }
+    }
+
+    /// Adds the place of a chain's fields, if this is the place of a chain.
+    fn add_chain(&mut self, place: Place<'a>) {
+        let Some(chain) = chain_of(place.text) else {
+            return;
+        };
+        if let Some((_, fields)) = chain.names().split_first() {
+            for field in fields {
+                self.add(*field, place);
+            }
+        }
+    }
+
+    /// Adds the places of fields in a group, which has these columns between its parentheses. So many
+    /// columns of the card are before them.
+    fn add_group(&mut self, card: u32, start: usize, inside: &'a [u8]) {
+        let shapes = shapes_of(inside);
+        for number in 0..MAX_ELEMENTS {
+            if number < shapes.len() && may_be_chain(shapes[number]) {
+                if let Some(element) = nth_element(inside, number) {
+                    let from = start.saturating_add(element.start);
+                    self.add_chain(Place {
+                        card,
+                        from,
+                        to: from.saturating_add(element.text.len()),
+                        text: element.text,
+                    });
+                }
+            }
+        }
+    }
+
+    /// Adds the places of fields on a card with these columns.
+    fn add_card(&mut self, card: u32, columns: &'a [u8]) {
+        let mut rest = columns_from(columns, body_start(columns));
+        loop {
+            match first_item(rest) {
+                Token::End | Token::Other => return,
+                Token::Word(_, following) => rest = following,
+                Token::Group(inside, following) => {
+                    let end = columns.len().saturating_sub(following.len());
+                    let start = end.saturating_sub(inside.len()).saturating_sub(1);
+                    self.add_group(card, start, inside);
+                    rest = following;
+                }
+            }
+        }
+    }
+}
+
+/// Whether an element of this shape may be a chain.
+fn may_be_chain(shape: Shape) -> bool {
+    matches!(shape, Shape::Chain | Shape::Operand | Shape::OptionalChain)
+}
+
+/// Where a deck uses each field first.
+pub(crate) fn field_places(deck: &[u8]) -> FieldPlaces<'_> {
+    let mut places = FieldPlaces::none();
+    let mut rest = deck;
+    let mut card: u32 = 0;
+    while let Some((line, following)) = first_line(rest) {
+        card = card.saturating_add(1);
+        let columns = columns_of(line);
+        if !is_comment(columns) {
+            places.add_card(card, columns);
+        }
+        rest = following;
+    }
+    places
+}

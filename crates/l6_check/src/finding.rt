@@ -1,0 +1,72 @@
+//! What is found on a card.
+
+ghost use Rattle.std.specs.Prelude.{◌≡◌, ◌≤◌};
+ghost use Rattle.l6_check.specs.OnCard.{IsOnCard};
+
+use crate::reason::Reason;
+
+/// How many columns of a card count.
+const WIDTH: usize = 72;
+
+/// How bad a finding is.
+#[derive(Clone, Copy, Debug, PartialEq, Eq)]
+pub enum Severity {
+    /// The deck spells no program.
+    Error,
+    /// The deck may spell a program, but perhaps not the one that was meant.
+    Warning,
+}
+
+/// Columns of a card, counted from 0.
+#[derive(Clone, Copy, Debug, PartialEq, Eq)]
+pub struct Span {
+    /// The first one.
+    pub from: usize,
+    /// The one after the last.
+    pub to: usize,
+}
+
+impl Span {
+    /// All columns of a card that count.
+    #[tactic(auto, unfolding(l6_card::specs::Numerals::card_width))]
+    pub(crate) fn whole() -> Self
+        ensures { IsOnCard result }
+    {
+        Span { from: 0, to: WIDTH }
+    }
+
+    /// The columns from one to before another, as far as they are on a card, and at least one.
+    #[tactic(auto, unfolding(l6_card::specs::Numerals::card_width))]
+    pub(crate) fn on_card(from: usize, to: usize) -> Self
+        ensures { IsOnCard result }
+    {
+        let from = from.min(WIDTH - 1);
+        Span {
+            from,
+            to: to.min(WIDTH).max(from + 1),
+        }
+    }
+}
+
+/// What is found on a card.
+#[derive(Clone, Copy, Debug)]
+pub struct Finding<'a> {
+    /// The card's number, from 1 on.
+    pub card: u32,
+    /// The columns that it is about.
+    pub span: Span,
+    /// What these columns have.
+    pub text: &'a [u8],
+    /// What is wrong there.
+    pub reason: Reason,
+}
+
+impl Finding<'_> {
+    /// How bad it is.
+    pub fn severity(&self) -> Severity {
+        match self.reason {
+            Reason::Warning(_) => Severity::Warning,
+            _ => Severity::Error,
+        }
+    }
+}

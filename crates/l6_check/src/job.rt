@@ -1,0 +1,103 @@
+//! The warnings of what is no deck: marks of a job, and images.
+
+ghost use Rattle.std.specs.Prelude.{◌≡◌, false, Some, IfOk};
+ghost use Rattle.l6_group.specs.Character.{spelled};
+ghost use Rattle.l6_check.specs.Kept.{Say};
+ghost use Rattle.l6_check.specs.JobText as spec;
+
+use crate::finding::{Finding, Span};
+use crate::findings::Findings;
+use crate::reason::{Reason, WarningReason};
+use crate::scan::without_last_blanks;
+use l6_card::columns_of;
+use l6_group::{Spelling, is_blank, spelled};
+use l6_word::{OCTALS, first_line, read_octal12, without_return};
+use std::alloc::{AllocError, Global};
+
+/// How many characters the longest mark has.
+const MAX_MARK: usize = 9;
+
+/// Whether a line reads as one that separates the parts of a job.
+pub(crate) fn is_mark(line: &[u8]) -> bool
+    ensures { result ≡ spec.is_mark line.now }
+{
+    let columns = columns_of(line);
+    if !may_be_mark(columns) {
+        return false;
+    }
+    let characters: Option<Spelling<'_, MAX_MARK>> = spelled(columns);
+    match characters {
+        None => false,
+        Some(characters) => are_mark(characters.as_slice()),
+    }
+}
+
+/// Whether columns may be those of a mark, by the first of them that is not blank.
+fn may_be_mark(columns: &[u8]) -> bool
+    ensures { result ≡ false → spec.are_mark (spelled columns.now) ≡ false }
+{
+    let mut rest = columns;
+    while let Some((first, following)) = rest.split_first() {
+        if !is_blank(*first) {
+            return *first == b'$';
+        }
+        rest = following;
+    }
+    false
+}
+
+/// Whether characters are those of a mark.
+fn are_mark(characters: &[u8]) -> bool
+    ensures { result ≡ spec.are_mark characters.now }
+{
+    match characters {
+        b"$INPUT" => true,
+        b"$COMMANDS" => true,
+        _ => false,
+    }
+}
+
+/// The warning of a card that is such a line.
+pub(crate) fn mark_on(card: u32, line: &[u8]) -> Finding<'_>
+    ensures { spec.mark_card result ≡ Some card }
+{
+    let text = without_last_blanks(columns_of(line));
+    Finding {
+        card,
+        span: Span::on_card(0, text.len()),
+        text,
+        reason: Reason::Warning(WarningReason::JobMark),
+    }
+}
+
+/// The warning of a deck that begins as the text of an image does, if it does.
+pub(crate) fn image_text<'a>(alloc: Global, deck: &'a [u8]) -> Result<Findings<'a>, AllocError>
+    ensures { IfOk result (Say spec.image_card (spec.image_cards deck.now)) }
+{
+    let mut found = Findings::new(alloc);
+    if let Some((line, _)) = first_line(deck) {
+        if is_image_line(line) {
+            found.add(image_on(line))?;
+        }
+    }
+    Ok(found)
+}
+
+/// Whether a line looks like one of an image.
+fn is_image_line(line: &[u8]) -> bool
+    ensures { result ≡ spec.is_image_line line.now }
+{
+    read_octal12(without_return(line)).is_some()
+}
+
+/// The warning of a first line that looks so.
+fn image_on(line: &[u8]) -> Finding<'_>
+    ensures { spec.image_card result ≡ Some 1 }
+{
+    Finding {
+        card: 1,
+        span: Span::on_card(0, OCTALS),
+        text: without_return(line),
+        reason: Reason::Warning(WarningReason::ImageText),
+    }
+}

@@ -1,0 +1,49 @@
+//! What is wrong with a deck, in words: its errors, and what else is worth a warning.
+#![tactic(auto)]
+
+mod advice;
+mod cards;
+mod columns;
+mod conditions;
+mod element;
+mod explain;
+mod fault;
+mod field_places;
+mod fields;
+mod finding;
+mod findings;
+mod group;
+mod job;
+mod label_places;
+mod labels;
+mod marks;
+mod names;
+mod nearest;
+mod reached;
+mod reading;
+mod reason;
+mod report;
+mod scan;
+mod shape;
+mod slips;
+mod targets;
+mod texts;
+mod verdict;
+mod walk;
+mod ways;
+mod writing;
+
+pub use cards::{CardWarnings, card_warnings};
+pub use fault::OutOfMemory;
+pub use fields::undefined_fields;
+pub use finding::{Finding, Severity, Span};
+pub use findings::{Findings, MAX_FINDINGS};
+pub use labels::{Labels, LabelsFound, labels_of};
+pub use reading::{StatementErrors, statement_errors};
+pub use reason::{
+    FormReason, GroupFault, LabelText, LimitReason, MissingLabel, Reason, Shape, WarningReason,
+};
+pub use report::{ProgramWarnings, Report, check};
+pub use verdict::first_error;
+pub use ways::{StatementWarnings, statement_warnings};
+pub use writing::{CheckedText, checked_text};

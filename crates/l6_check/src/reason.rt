@@ -1,0 +1,157 @@
+//! Why something is found.
+
+use l6_group::MAX_LABEL_CHARACTERS;
+
+/// Why something is found on a card.
+#[derive(Clone, Copy, Debug)]
+pub enum Reason {
+    /// Something has no reading, or the statement that ends here is not whole.
+    Form(FormReason),
+    /// There is too much of something.
+    Limit(LimitReason),
+    /// The card of this number gives the label, too, and comes first.
+    TwiceLabelled(u32),
+    /// No card gives the label.
+    NoLabel(MissingLabel),
+    /// A warning.
+    Warning(WarningReason),
+}
+
+/// A label that no card gives.
+#[derive(Clone, Copy, Debug)]
+pub struct MissingLabel {
+    /// The label.
+    pub label: LabelText,
+    /// One that a card gives and that is nearly the same, if there is one.
+    pub near: Option<LabelText>,
+}
+
+/// The characters of a label. Unlike a `Label` it can be copied.
+#[derive(Clone, Copy, Debug)]
+pub struct LabelText {
+    /// The characters, and places that are not used.
+    pub characters: [u8; MAX_LABEL_CHARACTERS],
+    /// How many characters there are.
+    pub count: usize,
+}
+
+/// Why something has no reading.
+#[derive(Clone, Copy, Debug)]
+pub enum FormReason {
+    /// Column 1 has something that begins no card.
+    Column,
+    /// A card with `+` in column 1 has no statement before it.
+    ContinuesNothing,
+    /// A label has too many characters.
+    LabelTooLong,
+    /// A label is `DONE` or `FAIL`.
+    LabelBarred,
+    /// A `(` has no `)`.
+    Unclosed,
+    /// A `)` has no `(`.
+    Unopened,
+    /// A group is no operation, where an operation stands.
+    NoOperation(GroupFault),
+    /// A group is no test, where a test stands.
+    NoTest(GroupFault),
+    /// A group is a test, where an operation stands.
+    TestForOperation,
+    /// The same, in a statement whose label is spelled as a condition.
+    ConditionInColumn1,
+    /// A group is an operation, where the first test stands.
+    OperationForTest,
+    /// A group is an operation, where a test or THEN stands.
+    ThenMissing,
+    /// IF or NOT has a second test.
+    SecondTest,
+    /// An item follows an exit.
+    AfterExit,
+    /// A group follows a first word that is no condition.
+    NoCondition,
+    /// A word is no exit.
+    NoExit,
+    /// A word stands where THEN must stand.
+    NoThen,
+    /// The statement ends after its tests.
+    Unfinished,
+    /// Nothing more is known.
+    Unread,
+}
+
+/// Why a group is no operation, or no test.
+#[derive(Clone, Copy, Debug)]
+pub enum GroupFault {
+    /// Nothing is spelled so.
+    Spelling,
+    /// An element is empty.
+    EmptyElement,
+    /// It has too few elements.
+    TooFew,
+    /// It has too many elements.
+    TooMany,
+    /// A comma is in a text.
+    CommaInText,
+    /// It looks like a definition, and begins with the field.
+    FieldFirst,
+    /// An element is not what stands there.
+    Element(Shape),
+    /// Nothing more is known.
+    Unread,
+}
+
+/// What an element has to be.
+#[derive(Clone, Copy, Debug, PartialEq, Eq)]
+pub enum Shape {
+    /// The spelling of the operation or the test.
+    Spelling,
+    /// A chain.
+    Chain,
+    /// A chain or a number.
+    Operand,
+    /// An octal number.
+    Octal,
+    /// A text that denotes a number.
+    Text,
+    /// A text that is printed.
+    LongText,
+    /// A label.
+    Label,
+    /// A field.
+    Field,
+    /// A chain, or nothing.
+    OptionalChain,
+    /// Nothing.
+    Nothing,
+    /// `S` or `R`.
+    SaveOrRestore,
+}
+
+/// What there is too much of.
+#[derive(Clone, Copy, Debug, PartialEq, Eq)]
+pub enum LimitReason {
+    /// Of statements.
+    Statements,
+    /// Of cards that continue a statement.
+    Continuations,
+    /// Of tests or of operations.
+    Groups,
+}
+
+/// What is worth a warning.
+#[derive(Clone, Copy, Debug, PartialEq, Eq)]
+pub enum WarningReason {
+    /// The card has something past the columns that count.
+    PastColumns,
+    /// The label is spelled as a condition is.
+    LabelIsCondition,
+    /// No statement names the label.
+    UnnamedLabel,
+    /// No way leads to the statement.
+    UnreachedStatement,
+    /// Nothing in the deck defines the field whose name has this number, from 0 to 35.
+    UndefinedField(u8),
+    /// The card is a line that separates the parts of a job.
+    JobMark,
+    /// The deck begins as the text of an image does.
+    ImageText,
+}

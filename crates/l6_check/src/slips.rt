@@ -1,0 +1,72 @@
+//! Words that people bring from other languages, and what to write in their place.
+
+/// A row of a table of words.
+macro_rules! advised {
+    ($characters:expr; $($($word:literal)|+ => $advice:literal,)+) => {
+        match $characters {
+            $($($word)|+ => $advice,)+
+            _ => "",
+        }
+    };
+}
+
+/// What to write in place of an operation that is spelled so, if that is known.
+pub(crate) fn operation_advice(characters: &[u8]) -> &'static str {
+    advised! {
+        characters;
+        b"EQ" | b"SET" | b"LET" | b"MOVE" | b"MOV" | b"=" | b":=" | b"IS" => "(c,E,cd) makes c equal to cd",
+        b"ADD" | b"PLUS" | b"INC" | b"+" | b"+=" => "(c,A,cd) adds cd to c",
+        b"SUB" | b"MINUS" | b"DEC" | b"-" | b"-=" => "(c,S,cd) subtracts cd from c",
+        b"MUL" | b"MULT" | b"TIMES" | b"*" => "(c,M,cd) multiplies c by cd",
+        b"DIV" | b"D" | b"/" => "(c,V,cd) divides c by cd",
+        b"MOD" | b"REM" | b"%" => "(c,Y,cd) makes c the remainder of c by cd",
+        b"AND" | b"&" => "(c,N,cd) is the operation AND",
+        b"OR" | b"|" => "(c,O,cd) is the operation OR",
+        b"XOR" | b"^" => "(c,X,cd) is the operation exclusive OR",
+        b"NOT" | b"~" => "(c,C,cd) makes c the complement of cd",
+        b"SHL" | b"SL" | b"<<" => "(c,L,cd) shifts c to the left",
+        b"SHR" | b"SR" | b">>" => "(c,R,cd) shifts c to the right",
+        b"PRINT" | b"P" | b"WRITE" | b"OUT" | b"PUT" | b"SAY" | b"DISPLAY" =>
+            "(c,PD) prints a number in decimal, (c,PO) in octal, (text,PH) a text",
+        b"NL" | b"CR" | b"LF" | b"NEWLINE" => "(PL) ends a line",
+        b"READ" | b"INPUT" | b"GETC" => "(c,IN,cd) takes cd characters of the input",
+        b"GOTO" | b"GO" | b"JMP" | b"JUMP" | b"BR" =>
+            "an exit is the label alone, after the groups and outside of them",
+        b"CALL" | b"JSR" | b"GOSUB" => "(L,DO) calls the statement L",
+        b"RET" | b"RETURN" => "the exit DONE returns from a call",
+        b"STOP" | b"END" | b"HALT" | b"EXIT" | b"DONE" | b"FAIL" =>
+            "an exit is a word after the groups and outside of them",
+        b"SWAP" | b"XCHG" | b"EX" => "(c,I,c) exchanges two contents",
+        b"NEW" | b"ALLOC" | b"MALLOC" | b"GET" => "(c,GT,cd) gets a block of cd words",
+        b"FREE" | b"DEL" | b"DELETE" => "(c,FR) frees the block at c",
+        b"COPY" | b"DUP" => "(c,DP,cd) gets a copy of the block at cd",
+        b"PUSH" | b"SAVE" => "(S,FC,c) saves the content of c",
+        b"POP" | b"RESTORE" => "(R,FC,c) restores the content of c",
+        b"DEF" | b"DEFINE" | b"FIELD" => "(cd,Df,cd,cd) defines the field f",
+        b"G" | b"Z" => "this is a test: IF or another condition goes before it, and THEN after it",
+    }
+}
+
+/// What to write in place of a test that is spelled so, if that is known.
+pub(crate) fn test_advice(characters: &[u8]) -> &'static str {
+    advised! {
+        characters;
+        b"EQ" | b"=" | b"==" | b"IS" => "(c,E,cd) asks whether c is cd",
+        b"NE" | b"NEQ" | b"!=" | b"<>" | b"/=" | b"NOT" => "(c,N,cd) asks whether c is not cd",
+        b"GR" | b">" => "(c,G,cd) asks whether c is greater than cd",
+        b"LS" | b"LT" | b"<" => "(c,L,cd) asks whether c is less than cd",
+        b"GE" | b">=" | b"=>" => "NOT (c,L,cd) asks whether c is not less than cd",
+        b"LE" | b"<=" | b"=<" => "NOT (c,G,cd) asks whether c is not greater than cd",
+    }
+}
+
+/// What to write in place of an exit to a label that is spelled so, if that is known.
+pub(crate) fn exit_word_advice(characters: &[u8]) -> &'static str {
+    advised! {
+        characters;
+        b"RETURN" | b"RET" => "the exit DONE returns from a call",
+        b"STOP" | b"END" | b"HALT" | b"EXIT" | b"QUIT" => "the exit DONE ends a run",
+        b"ELSE" | b"ENDIF" | b"FI" => "there is no such word: a condition holds for its own statement alone",
+        b"NEXT" | b"SKIP" | b"NOP" | b"PASS" => "without an exit the next statement follows",
+    }
+}

@@ -1,0 +1,137 @@
+//! How a report is written.
+
+ghost use Rattle.std.specs.Prelude.{◌≡◌, ◌≤◌, ◌<◌, MatchOption, length, IfOk};
+ghost use Rattle.l6_card.specs.Numerals.{most_deck_bytes};
+ghost use Rattle.l6_check.specs.Counted as spec;
+
+use crate::fault::OutOfMemory;
+use crate::finding::Finding;
+use crate::findings::{Findings, MAX_FINDINGS};
+use crate::reason::Reason;
+use crate::report::{Report, check};
+use std::alloc::{AllocError, Global};
+
+/// What is said of a deck.
+#[derive(Drop)]
+pub struct CheckedText {
+    /// A line for each finding, with its advice on a line of its own, in the order of the deck, at most
+    /// 100; and a line that counts the errors and the warnings.
+    pub text: String,
+    /// How many errors there are.
+    pub errors: u32,
+}
+
+/// What is said of a deck of at most 1,048,576 bytes.
+///
+/// # Errors
+///
+/// Memory ran out.
+pub fn checked_text(alloc: Global, deck: &[u8]) -> Result<CheckedText, OutOfMemory>
+    requires { length deck.now ≤ most_deck_bytes }
+    ensures { IfOk result (λ checked. spec.CountsErrors deck.now checked.errors) }
+{
+    let report = check(alloc, deck)?;
+    let errors = error_count(&report);
+    let text = text_of(alloc, &report, errors)?;
+    Ok(CheckedText { text, errors })
+}
+
+/// How many errors a report has: none exactly if the deck spells a program.
+fn error_count(report: &Report<'_>) -> u32
+    ensures { MatchOption report.now.first (result ≡ 0) (λ _. 0 < result) }
+{
+    match report.first {
+        None => 0,
+        Some(first) => {
+            let found = report
+                .reading
+                .count
+                .saturating_add(report.twice.count)
+                .saturating_add(report.missing.count);
+            if is_in_detail(report, &first) {
+                found.max(1)
+            } else {
+                found.saturating_add(1)
+            }
+        }
+    }
+}
+
+/// Whether another error of a report is its first one in detail.
+fn is_in_detail(report: &Report<'_>, first: &Finding<'_>) -> bool {
+    has_same(&report.reading, first)
+        || has_same(&report.twice, first)
+        || has_same(&report.missing, first)
+}
+
+/// Whether findings have one on the same card and of the same kind.
+fn has_same(findings: &Findings<'_>, first: &Finding<'_>) -> bool {
+    findings.kept.iter().any(|one| one.card == first.card && is_same_kind(one.reason, first.reason))
+}
+
+/// Whether two reasons are of one kind.
+fn is_same_kind(one: Reason, other: Reason) -> bool {
+    matches!(
+        (one, other),
+        (Reason::Form(_), Reason::Form(_))
+            | (Reason::Limit(_), Reason::Limit(_))
+            | (Reason::TwiceLabelled(_), Reason::TwiceLabelled(_))
+            | (Reason::NoLabel(_), Reason::NoLabel(_))
+    )
+}
+
+/// The text of a report that has so many errors.
+fn text_of(alloc: Global, report: &Report<'_>, errors: u32) -> Result<String, AllocError> {
+    let mut findings = Vec::new(alloc);
+    if let Some(first) = report.first {
+        if !is_in_detail(report, &first) {
+            findings.push(first)?;
+        }
+    }
+    add_all(&mut findings, &report.reading)?;
+    add_all(&mut findings, &report.twice)?;
+    add_all(&mut findings, &report.missing)?;
+    add_all(&mut findings, &report.cards.columns)?;
+    add_all(&mut findings, &report.cards.marks)?;
+    add_all(&mut findings, &report.cards.image)?;
+    add_all(&mut findings, &report.program.conditions)?;
+    add_all(&mut findings, &report.program.unnamed)?;
+    add_all(&mut findings, &report.program.unreached)?;
+    add_all(&mut findings, &report.program.fields)?;
+    findings.sort_by_key(|finding| (finding.card, finding.span.from))?;
+    let mut text = String::new(alloc);
+    for finding in findings.iter().take(MAX_FINDINGS) {
+        write!(text, "{finding}\n")?;
+    }
+    let warnings = warning_count(report);
+    let error_word = if errors == 1 { "error" } else { "errors" };
+    let warning_word = if warnings == 1 { "warning" } else { "warnings" };
+    write!(text, "{errors} {error_word}, {warnings} {warning_word}\n")?;
+    Ok(text)
+}
+
+/// Adds all findings that are kept.
+fn add_all<'a>(all: &mut Vec<Finding<'a>>, findings: &Findings<'a>) -> Result<(), AllocError> {
+    for finding in &findings.kept {
+        all.push(*finding)?;
+    }
+    Ok(())
+}
+
+/// How many warnings a report has.
+fn warning_count(report: &Report<'_>) -> u32 {
+    let cards = &report.cards;
+    let program = &report.program;
+    let mut count = cards.columns.count;
+    for list in [
+        &cards.marks,
+        &cards.image,
+        &program.conditions,
+        &program.unnamed,
+        &program.unreached,
+        &program.fields,
+    ] {
+        count = count.saturating_add(list.count);
+    }
+    count
+}

@@ -1,0 +1,4 @@
+pub mod NumberedMachines
+pub mod Rings
+pub mod Sights
+pub mod Sought

@@ -1,0 +1,372 @@
+-- Where seeking ends.
+use Rattle.std.proofs.Common.{◌≡◌, ℕ, zero, suc, ◌+◌, ◌-◌, ◌<◌, ◌≤◌, Bool, true, false, List, [], ◌∷◌, Option, Some, None, if◌then◌else◌, length, refl, sym, ap, ◌∙◌, subst, arith, inl, inr}
+use Rattle.std.specs.Prelude.{◌==◌, ◌&&◌, ◌||◌, is_none, nat_lt, not, slice_index_or, unwrap_or}
+use Rattle.std.specs.List.{list_any}
+use Rattle.std.proofs.Math.Bool.{and-false, or-false}
+use Rattle.std.proofs.lemmas.Bool.{and_parts, cases_lt, eqb-true, le-ltb, lt-ltb, not-true, or_parts}
+use Rattle.std.proofs.lemmas.List.{length-map}
+use Rattle.l6_store.proofs.Least.{Answers, answers-alone, least-answers}
+use Rattle.l6_store.specs.Least.{least}
+use Rattle.l6_store.specs.Rule.{Rule}
+use Rattle.l6_steps.specs.Configuration.{state_at}
+use Rattle.l6_steps.specs.Numbering.{last_number}
+use Rattle.l6_steps.specs.RunState.{RunState}
+use Rattle.l6_steps.specs.State.{RunContext, State}
+use Rattle.l6_history.specs.History.{number_to, run_state_at}
+use Rattle.l6_history.specs.Stop.{Stop, changes_between, differs, some_differ, stops_at, stops_nowhere, value_of, values_of}
+use Rattle.l6_history.specs.Seeking.{greatest, next_stop, previous_stop, stops_back, stops_forward}
+use Rattle.l6_history.specs.inner.Seeking.{IsLast, IsLastIn, NoneAfter, NoneIn, Sight, later_of, sight_of}
+use Rattle.l6_history.proofs.Sights.{same-value}
+
+-- ---- what is seen
+pub sight-at : (rule : Rule) (context : RunContext) (number : ℕ) (stop : Stop) (there : RunState)
+    (sight : Sight) → there ≡ run_state_at rule context number →
+    sight ≡ sight_of stop there.configuration.state →
+    sight ≡ sight_of stop (state_at rule context number)
+sight-at rule context number stop there sight is seen =
+    seen ∙ ap (λ (s : RunState). sight_of stop s.configuration.state) is
+
+-- as many values are seen as chains are watched
+pub sight-length : (stop : Stop) (state : State) (sight : Sight) → sight ≡ sight_of stop state →
+    length sight.values ≡ length stop.watched
+sight-length stop state sight seen =
+    ap (λ (s : Sight). length s.values) seen ∙ length-map stop.watched (value_of state.memory)
+
+pub forward-is : (rule : Rule) (context : RunContext) (stop : Stop) (n : ℕ) (from there : Sight)
+    (differ : Bool) → from ≡ sight_of stop (state_at rule context n) →
+    there ≡ sight_of stop (state_at rule context (n + 1)) →
+    differ ≡ some_differ from.values there.values →
+    stops_forward rule context stop (n + 1) ≡ (there.stops || differ)
+unfolding stops_forward
+forward-is rule context stop n from there differ seen_from seen is =
+    let before : n + 1 - 1 ≡ n = omega arith in
+    ap (λ k. stops_at stop (state_at rule context (n + 1))
+    || changes_between stop (state_at rule context k) (state_at rule context (n + 1))) before
+    ∙ ap (λ (s : Sight). s.stops || changes_between stop (state_at rule context n)
+    (state_at rule context (n + 1))) (sym seen)
+    ∙ ap (λ (b : Bool). there.stops || b)
+    (sym (is ∙ ap (λ (s : Sight). some_differ s.values there.values) seen_from
+    ∙ ap (λ (s : Sight). some_differ (values_of stop.watched (state_at rule context n).memory)
+    s.values) seen))
+
+pub back-is : (rule : Rule) (context : RunContext) (stop : Stop) (n : ℕ) (there following : Sight)
+    (differ : Bool) → there ≡ sight_of stop (state_at rule context n) →
+    following ≡ sight_of stop (state_at rule context (n + 1)) →
+    differ ≡ some_differ there.values following.values →
+    stops_back rule context stop n ≡ (there.stops || differ)
+unfolding stops_back
+back-is rule context stop n there following differ seen seen_following is =
+    ap (λ (s : Sight). s.stops || changes_between stop (state_at rule context n)
+    (state_at rule context (n + 1))) (sym seen)
+    ∙ ap (λ (b : Bool). there.stops || b)
+    (sym (is ∙ ap (λ (s : Sight). some_differ s.values following.values) seen
+    ∙ ap (λ (s : Sight). some_differ (values_of stop.watched (state_at rule context n).memory)
+    s.values) seen_following))
+
+-- ---- forward
+pub none-yet : (test : ℕ → Bool) (from : ℕ) → NoneAfter test from from
+none-yet test from =
+    record { on = omega arith; none = λ k later within. absurd (omega (arith, later, within)) }
+
+pub none-more : (test : ℕ → Bool) (from number : ℕ) → NoneAfter test from number →
+    test (number + 1) ≡ false → NoneAfter test from (number + 1)
+none-more test from number passed other = record {
+  on = omega (arith, passed.on);
+  none = λ k later within. elim (cases_lt number k) as (λ _. test k ≡ false) [
+    | inl past ↦ (let same : k ≡ number + 1 = omega (arith, past, within) in ap test same ∙ other)
+    | inr up_to ↦ passed.none k later up_to
+  ];
+}
+
+not-later : (test : ℕ → Bool) (from k : ℕ) → (from < k → test k ≡ false) →
+    (nat_lt from k && test k) ≡ false
+not-later test from k none = elim (cases_lt from k) as (λ _. (nat_lt from k && test k) ≡ false) [
+  | inl later ↦ ap (λ b. nat_lt from k && b) (none later) ∙ and-false (nat_lt from k)
+  | inr earlier ↦ ap (λ b. b && test k) (le-ltb from k earlier)
+]
+
+pub next-found : (rule : Rule) (context : RunContext) (stop : Stop) (from number : ℕ) →
+    NoneAfter (stops_forward rule context stop) from number → number < last_number rule context →
+    stops_forward rule context stop (number + 1) ≡ true →
+    next_stop rule context stop from ≡ number + 1
+unfolding next_stop Answers
+next-found rule context stop from number passed below is =
+    let last = last_number rule context in
+    let stops = stops_forward rule context stop in
+    let test : ℕ → Bool = λ n. nat_lt from n && stops n in
+    let later = lt-ltb from (number + 1) (omega (arith, passed.on)) in
+    let found : least (suc last) test ≡ Some (number + 1) =
+    answers-alone (suc last) test (least (suc last) test) (Some (number + 1))
+    (least-answers (suc last) test) (
+      omega (arith, below),
+      ap (λ b. b && stops (number + 1)) later ∙ is,
+      λ k before. not-later stops from k
+          (λ following. passed.none k following (omega (arith, before))),
+    ) in
+    ap (λ answer. unwrap_or answer last) found
+
+pub next-ends : (rule : Rule) (context : RunContext) (stop : Stop) (from number : ℕ) →
+    NoneAfter (stops_forward rule context stop) from number → last_number rule context ≤ number →
+    next_stop rule context stop from ≡ last_number rule context
+unfolding next_stop Answers
+next-ends rule context stop from number passed past =
+    let last = last_number rule context in
+    let stops = stops_forward rule context stop in
+    let test : ℕ → Bool = λ n. nat_lt from n && stops n in
+    let found : least (suc last) test ≡ None =
+    answers-alone (suc last) test (least (suc last) test) None (least-answers (suc last) test)
+    (λ k within. not-later stops from k
+    (λ following. passed.none k following (omega (arith, within, past)))) in
+    ap (λ answer. unwrap_or answer last) found
+
+-- ---- back
+pub last-more : (test : ℕ → Bool) (begin end : ℕ) (last : Option ℕ) (passes : Bool) → begin ≤ end →
+    IsLastIn test begin end last → test end ≡ passes →
+    IsLastIn test begin (end + 1) (later_of passes end last)
+last-more test begin end last true on before is = record {
+  begins = on;
+  ends = omega arith;
+  passes = is;
+  none = λ k from below. absurd (omega (arith, from, below));
+}
+last-more test begin end None false on before is = λ k from below.
+    elim (cases_lt k end) as (λ _. test k ≡ false) [
+      | inl earlier ↦ before k from earlier
+      | inr not_earlier ↦ (let same : k ≡ end = omega (arith, not_earlier, below) in ap test same ∙ is)
+    ]
+last-more test begin end (Some n) false on before is = record {
+  begins = before.begins;
+  ends = omega (arith, before.ends);
+  passes = before.passes;
+  none = λ k from below. elim (cases_lt k end) as (λ _. test k ≡ false) [
+    | inl earlier ↦ before.none k from earlier
+    | inr not_earlier ↦ (let same : k ≡ end = omega (arith, not_earlier, below) in ap test same ∙ is)
+  ];
+}
+
+greatest-found : (bound n : ℕ) (test : ℕ → Bool) → n < bound → test n ≡ true →
+    NoneIn test (n + 1) bound → greatest bound test ≡ Some n
+unfolding greatest
+greatest-found zero n test below is none = absurd (omega (arith, below))
+greatest-found (suc bound) n test below is none =
+    elim (cases_lt n bound) as (λ _. greatest (suc bound) test ≡ Some n) [
+      | inl less ↦
+          ap (λ b. if b then Some bound else greatest bound test)
+          (none bound (omega (arith, less)) (omega arith))
+          ∙ greatest-found bound n test less is (λ k from under. none k from (omega (arith, under)))
+      | inr not_less ↦
+          (let same : bound ≡ n = omega (arith, not_less, below) in
+          ap (λ b. if b then Some bound else greatest bound test) (ap test same ∙ is)
+          ∙ ap (λ (k : ℕ). Some k) same)
+    ]
+
+greatest-none : (bound : ℕ) (test : ℕ → Bool) → NoneIn test 0 bound → greatest bound test ≡ None
+unfolding greatest
+greatest-none zero test none = refl
+greatest-none (suc bound) test none =
+    ap (λ b. if b then Some bound else greatest bound test) (none bound (omega arith) (omega arith))
+    ∙ greatest-none bound test (λ k from under. none k from (omega (arith, under)))
+
+pub previous-found : (rule : Rule) (context : RunContext) (stop : Stop) (number begin end n : ℕ) →
+    IsLast (stops_back rule context stop) begin end n → end ≤ number →
+    NoneIn (stops_back rule context stop) end number →
+    previous_stop rule context stop number ≡ n
+unfolding previous_stop
+previous-found rule context stop number begin end n last on none =
+    let test = stops_back rule context stop in
+    let found : greatest number test ≡ Some n =
+    greatest-found number n test (omega (arith, last.ends, on)) last.passes
+    (λ k from below. elim (cases_lt k end) as (λ _. test k ≡ false) [
+      | inl earlier ↦ last.none k from earlier
+      | inr not_earlier ↦ none k not_earlier below
+    ]) in
+    ap (λ answer. unwrap_or answer 0) found
+
+pub previous-none : (rule : Rule) (context : RunContext) (stop : Stop) (number end : ℕ) →
+    NoneIn (stops_back rule context stop) end number → end ≤ 0 →
+    previous_stop rule context stop number ≡ 0
+unfolding previous_stop
+previous-none rule context stop number end none start =
+    let found = greatest-none number (stops_back rule context stop)
+    (λ k from below. none k (omega (arith, start)) below) in
+    ap (λ answer. unwrap_or answer 0) found
+
+pub none-nearer : (test : ℕ → Bool) (begin end number : ℕ) → NoneIn test begin end →
+    NoneIn test end number → NoneIn test begin number
+none-nearer test begin end number first rest k from below =
+    elim (cases_lt k end) as (λ _. test k ≡ false) [
+      | inl earlier ↦ first k from earlier
+      | inr not_earlier ↦ rest k not_earlier below
+    ]
+
+-- ---- a step
+-- a state more, which is the next one, and what is seen of it
+pub record StepsOn (rule : Rule) (context : RunContext) (stop : Stop) (from number : ℕ)
+    (sight : Sight) : Type 0 where
+  pub on : number ≡ from + 1
+  pub below : from < last_number rule context
+  pub seen : sight ≡ sight_of stop (state_at rule context number)
+
+pub steps-on : (rule : Rule) (context now there : RunContext) (stop : Stop) (from number : ℕ)
+    (run_state : RunState) (sight : Sight) → now ≡ context → there ≡ now →
+    number ≡ number_to rule now (from + 1) → from < last_number rule now →
+    run_state ≡ run_state_at rule there number → sight ≡ sight_of stop run_state.configuration.state →
+    StepsOn rule context stop from number sight
+steps-on rule context now there stop from number run_state sight same same_there is below at seen =
+    record {
+      on = omega (arith, is, below);
+      below = subst (λ (w : RunContext). from < last_number rule w) same below;
+      seen = sight-at rule there number stop run_state sight at seen
+          ∙ ap (λ (w : RunContext). sight_of stop (state_at rule w number)) (same_there ∙ same);
+    }
+
+pub last-next : (test : ℕ → Bool) (begin from next number : ℕ) (last answer : Option ℕ)
+    (passes : Bool) → begin ≤ from → next ≡ from + 1 → number ≡ from →
+    answer ≡ later_of passes number last → test from ≡ passes → IsLastIn test begin from last →
+    IsLastIn test begin next answer
+last-next test begin from next number last answer passes on next_is number_is is passed before =
+    subst (λ (o : Option ℕ). IsLastIn test begin next o)
+    (sym (is ∙ ap (λ (n : ℕ). later_of passes n last) number_is))
+    (subst (λ (n : ℕ). IsLastIn test begin n (later_of passes from last)) (sym next_is)
+    (last-more test begin from last passes on before passed))
+
+-- ---- a bug
+-- where a bug alone is watched, one stops by what it holds
+forward-by-bug : (rule : Rule) (context : RunContext) (stop : Stop) (n bug word : ℕ) →
+    stop.watched ≡ (bug ∷ []) ∷ [] →
+    Some word ≡ value_of (state_at rule context n).memory (bug ∷ []) →
+    stops_forward rule context stop (n + 1)
+    ≡ (stops_at stop (state_at rule context (n + 1))
+    || differs (Some word) (value_of (state_at rule context (n + 1)).memory (bug ∷ [])))
+unfolding stops_forward
+forward-by-bug rule context stop n bug word watched seen =
+    let before : n + 1 - 1 ≡ n = omega arith in
+    let here = state_at rule context n in
+    let there = state_at rule context (n + 1) in
+    let value = value_of there.memory (bug ∷ []) in
+    ap (λ k. stops_at stop there || changes_between stop (state_at rule context k) there) before
+    ∙ ap (λ (chains : List (List ℕ)). stops_at stop there
+    || some_differ (values_of chains here.memory) (values_of chains there.memory)) watched
+    ∙ ap (λ (kept : Option ℕ). stops_at stop there || some_differ (kept ∷ []) (value ∷ []))
+    (sym seen)
+    ∙ ap (λ (b : Bool). stops_at stop there || b) (or-false (differs (Some word) value))
+
+-- a state more, which is the next one, whether one stops there, and that the bug is the same else
+pub record StepsByBug (rule : Rule) (context : RunContext) (stop : Stop)
+    (from number bug word : ℕ) (stops : Bool) : Type 0 where
+  pub on : number ≡ from + 1
+  pub below : from < last_number rule context
+  pub is : stops_forward rule context stop (from + 1) ≡ stops
+  pub same : stops ≡ false → Some word ≡ value_of (state_at rule context (from + 1)).memory (bug ∷ [])
+
+pub steps-by-bug : (rule : Rule) (context now there : RunContext) (stop : Stop)
+    (from number bug word : ℕ) (run_state : RunState) (stops : Bool) → now ≡ context → there ≡ now →
+    number ≡ number_to rule now (from + 1) → from < last_number rule now →
+    run_state ≡ run_state_at rule there number → stop.watched ≡ (bug ∷ []) ∷ [] →
+    Some word ≡ value_of (state_at rule context from).memory (bug ∷ []) →
+    stops ≡ (stops_at stop run_state.configuration.state
+    || differs (Some word) (value_of run_state.configuration.state.memory (bug ∷ []))) →
+    StepsByBug rule context stop from number bug word stops
+steps-by-bug rule context now there stop from number bug word run_state stops same same_there is
+    below at watched seen looked =
+    let on : number ≡ from + 1 = omega (arith, is, below) in
+    let next = state_at rule context (from + 1) in
+    let arrived : run_state.configuration.state ≡ next =
+    ap (λ (s : RunState). s.configuration.state) at
+    ∙ ap (λ (w : RunContext). state_at rule w number) (same_there ∙ same)
+    ∙ ap (λ n. state_at rule context n) on in
+    let found : stops ≡ (stops_at stop next || differs (Some word) (value_of next.memory (bug ∷ []))) =
+    looked ∙ ap (λ (s : State). stops_at stop s
+    || differs (Some word) (value_of s.memory (bug ∷ []))) arrived in
+    record {
+      on = on;
+      below = subst (λ (w : RunContext). from < last_number rule w) same below;
+      is = forward-by-bug rule context stop from bug word watched seen ∙ sym found;
+      same = λ goes_on. same-value (Some word) (value_of next.memory (bug ∷ []))
+          (or_parts (stops_at stop next) (differs (Some word) (value_of next.memory (bug ∷ [])))
+          (sym found ∙ goes_on)).1;
+    }
+
+-- ---- a stretch
+pub found-back : (rule : Rule) (context there now : RunContext) (stop : Stop)
+    (here begin end n number : ℕ) → there ≡ context → now ≡ there →
+    number ≡ number_to rule now n → IsLast (stops_back rule there stop) begin end n → end ≤ here →
+    end ≤ last_number rule context → NoneIn (stops_back rule context stop) end here →
+    number ≡ previous_stop rule context stop here
+found-back rule context there now stop here begin end n number same same_now is last on within none =
+    let found : IsLast (stops_back rule context stop) begin end n =
+    subst (λ (w : RunContext). IsLast (stops_back rule w stop) begin end n) same last in
+    let far = ap (last_number rule) (same_now ∙ same) in
+    let there_is : number ≡ n = omega (arith, is, far, within, last.ends) in
+    there_is ∙ sym (previous-found rule context stop here begin end n found on none)
+
+pub none-back : (rule : Rule) (context there : RunContext) (stop : Stop) (begin end here : ℕ) →
+    there ≡ context → NoneIn (stops_back rule there stop) begin end →
+    NoneIn (stops_back rule context stop) end here → NoneIn (stops_back rule context stop) begin here
+none-back rule context there stop begin end here same none further =
+    none-nearer (stops_back rule context stop) begin end here
+    (subst (λ (w : RunContext). NoneIn (stops_back rule w stop) begin end) same none) further
+
+-- ---- nowhere
+-- where there is nothing at which one would stop, one does not stop
+none-breakpoint : (breakpoints : List Bool) (statement : ℕ) →
+    list_any (λ breakpoint. breakpoint) breakpoints ≡ false →
+    slice_index_or breakpoints statement false ≡ false
+none-breakpoint [] statement none = refl
+none-breakpoint (true ∷ breakpoints) statement none = cc
+none-breakpoint (false ∷ breakpoints) zero none = refl
+none-breakpoint (false ∷ breakpoints) (suc statement) none =
+    none-breakpoint breakpoints statement none
+
+nowhere-parts : (breakpoints : List Bool) (watched : List (List ℕ)) (depth : Option ℕ)
+    (state before after : State) →
+    stops_nowhere (record { breakpoints = breakpoints; watched = watched; depth = depth }) ≡ true →
+    (stops_at (record { breakpoints = breakpoints; watched = watched; depth = depth }) state
+    || changes_between (record { breakpoints = breakpoints; watched = watched; depth = depth }) before
+    after) ≡ false
+nowhere-parts breakpoints [] None state before after is =
+    let some = list_any (λ breakpoint. breakpoint) breakpoints in
+    let none = not-true some
+    (and_parts (not some) true
+    (and_parts (not some && true) true is).0).0 in
+    ap (λ b. ((state.at.action == 0 && b) || false) || false)
+    (none-breakpoint breakpoints state.at.statement none)
+    ∙ ap (λ b. (b || false) || false) (and-false (state.at.action == 0))
+nowhere-parts breakpoints [] (Some depth) state before after is =
+    let none = not (list_any (λ breakpoint. breakpoint) breakpoints) && true in
+    let wrong : false ≡ true = (and_parts none false is).1 in
+    absurd (cc)
+nowhere-parts breakpoints (chain ∷ chains) depth state before after is =
+    let some = not (list_any (λ breakpoint. breakpoint) breakpoints) in
+    let none = length (chain ∷ chains) == 0 in
+    let wrong : length (chain ∷ chains) ≡ 0 =
+    eqb-true (length (chain ∷ chains)) 0
+    (and_parts some none (and_parts (some && none) (is_none depth) is).0).1 in
+    absurd (omega (arith, wrong))
+
+nowhere-at : (stop : Stop) (state before after : State) → stops_nowhere stop ≡ true →
+    (stops_at stop state || changes_between stop before after) ≡ false
+nowhere-at stop state before after is =
+    nowhere-parts stop.breakpoints stop.watched stop.depth state before after is
+
+pub nowhere-forward : (rule : Rule) (context : RunContext) (stop : Stop) (from : ℕ) →
+    stops_nowhere stop ≡ true → next_stop rule context stop from ≡ last_number rule context
+unfolding next_stop stops_forward Answers
+nowhere-forward rule context stop from is =
+    let last = last_number rule context in
+    let test : ℕ → Bool = λ n. nat_lt from n && stops_forward rule context stop n in
+    let found : least (suc last) test ≡ None =
+    answers-alone (suc last) test (least (suc last) test) None (least-answers (suc last) test)
+    (λ k within. ap (λ b. nat_lt from k && b)
+    (nowhere-at stop (state_at rule context k) (state_at rule context (k - 1))
+    (state_at rule context k) is) ∙ and-false (nat_lt from k)) in
+    ap (λ answer. unwrap_or answer last) found
+
+pub nowhere-back : (rule : Rule) (context : RunContext) (stop : Stop) (from : ℕ) →
+    stops_nowhere stop ≡ true → previous_stop rule context stop from ≡ 0
+unfolding previous_stop stops_back
+nowhere-back rule context stop from is =
+    ap (λ answer. unwrap_or answer 0)
+    (greatest-none from (stops_back rule context stop)
+    (λ k from' below. nowhere-at stop (state_at rule context k) (state_at rule context k)
+    (state_at rule context (k + 1)) is))

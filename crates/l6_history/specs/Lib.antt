@@ -1,0 +1,5 @@
+pub mod Numerals
+pub mod History
+pub mod Stop
+pub mod Seeking
+pub mod inner

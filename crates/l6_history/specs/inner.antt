@@ -1,0 +1,3 @@
+pub mod NumberedMachine
+pub mod Ring
+pub mod Seeking

@@ -1,0 +1,38 @@
+-- How far seeking has come.
+use Rattle.std.specs.Prelude.{◌≡◌, ℕ, ◌+◌, ◌<◌, ◌≤◌, Bool, true, false, List, Option, Some, None, if◌then◌else◌}
+use Rattle.l6_steps.specs.State.{State}
+use Rattle.l6_history.specs.Stop.{Stop, stops_at, values_of}
+
+-- what is seen of a state: whether one stops there wherever one comes from, and what the watched
+-- chains read as
+pub record Sight : Type 0 where
+  pub stops : Bool
+  pub values : List (Option ℕ)
+
+abbrev pub sight_of : Stop → State → Sight
+sight_of stop state =
+    record { stops = stops_at stop state; values = values_of stop.watched state.memory }
+
+-- no number after one, up to another, passes a test
+pub record NoneAfter (test : ℕ → Bool) (from number : ℕ) : Type 0 where
+  pub on : from ≤ number
+  pub none : (k : ℕ) → from < k → k ≤ number → test k ≡ false
+
+-- no number from one on, below another, passes a test
+abbrev pub NoneIn : (ℕ → Bool) → ℕ → ℕ → Type 0
+NoneIn test begin end = (k : ℕ) → begin ≤ k → k < end → test k ≡ false
+
+-- the last number in a stretch that passes a test, or that there is none
+pub record IsLast (test : ℕ → Bool) (begin end n : ℕ) : Type 0 where
+  pub begins : begin ≤ n
+  pub ends : n < end
+  pub passes : test n ≡ true
+  pub none : NoneIn test (n + 1) end
+
+abbrev pub IsLastIn : (ℕ → Bool) → ℕ → ℕ → Option ℕ → Type 0
+IsLastIn test begin end None = NoneIn test begin end
+IsLastIn test begin end (Some n) = IsLast test begin end n
+
+-- an answer that a further number may replace
+abbrev pub later_of : Bool → ℕ → Option ℕ → Option ℕ
+later_of passes number last = if passes then Some number else last

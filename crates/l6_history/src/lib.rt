@@ -1,0 +1,15 @@
+//! Histories: a run's states by their numbers, forward and back, and to where one stops.
+#![tactic(auto)]
+
+mod history;
+mod laws;
+mod numbered_machine;
+mod ring;
+mod seeking;
+mod sight;
+mod stop;
+
+pub use history::History;
+pub use laws::histories_have_their_limits;
+pub use ring::MAX_KEPT;
+pub use stop::{MAX_WATCHED, Stop};

@@ -1,0 +1,110 @@
+//! What is seen of a state on the way to where one stops.
+
+ghost use Rattle.std.specs.Prelude.{◌≡◌, length};
+ghost use Rattle.l6_history.specs.Stop.{differs, if_read, some_differ, values_of};
+ghost use Rattle.l6_history.specs.inner.Seeking.{sight_of};
+
+use crate::stop::{MAX_WATCHED, Stop};
+use arrayvec::ArrayVec;
+use l6_machine::{Machine, Trap};
+use l6_prog::Chain;
+use l6_store::Places;
+use l6_word::Word;
+use std::marker::Model;
+
+/// What is seen of a state.
+#[derive(Drop)]
+pub(crate) struct Sight {
+    /// Whether one stops there, wherever one comes from.
+    stops: bool,
+    /// What each watched chain reads as, if it can be followed.
+    values: ArrayVec<Option<Word>, MAX_WATCHED>,
+}
+
+impl Model for Sight {
+    ghost use Rattle.std.specs.Coded.{codes};
+    ghost use Rattle.l6_history.specs.inner.Seeking as seeking;
+
+    ghost Value = { seeking.Sight };
+
+    ghost coded = { Prim.hlevel (codes) };
+
+    ghost view = { λ s. record { stops = s.stops; values = s.values.items } };
+}
+
+impl Sight {
+    /// What is seen of the state at which a machine is.
+    pub(crate) fn new<S: Places>(stop: &Stop, machine: &Machine<S>) -> Self
+        ensures { result ≡ sight_of stop.now machine.now.configuration.state }
+    {
+        let mut values = ArrayVec::from([None; MAX_WATCHED]);
+        values.truncate(stop.watched().len());
+        see(values.as_mut_slice(), stop.watched(), machine);
+        Sight {
+            stops: stop.stops_at(machine),
+            values,
+        }
+    }
+
+    /// Whether one stops there, wherever one comes from.
+    #[inline(always)]
+    pub(crate) fn stops(&self) -> bool
+        ensures { result ≡ self.now.stops }
+    {
+        self.stops
+    }
+
+    /// Becomes what is seen of the state at which a machine is. Answers whether a watched chain reads
+    /// as another value there. The caller owes the sight of a state with the same stop.
+    #[inline(always)]
+    pub(crate) fn look<S: Places>(&mut self, stop: &Stop, machine: &Machine<S>) -> bool
+        requires { length self.old.values ≡ length stop.now.watched }
+        ensures sight { self.new ≡ sight_of stop.now machine.now.configuration.state }
+        ensures differ { result ≡ some_differ self.old.values self.new.values }
+    {
+        self.stops = stop.stops_at(machine);
+        // most steps change no value, and nothing is written then
+        if !differ(self.values.as_slice(), stop.watched(), machine) {
+            return false;
+        }
+        see(self.values.as_mut_slice(), stop.watched(), machine);
+        true
+    }
+}
+
+/// Whether some chains read as other values than these. The caller owes a value for each chain.
+#[inline(always)]
+fn differ<S: Places>(values: &[Option<Word>], chains: &[Chain], machine: &Machine<S>) -> bool
+    requires { length values.now ≡ length chains.now }
+    ensures { result ≡ some_differ values.now
+        (values_of chains.now machine.now.configuration.state.memory) }
+{
+    for (index, chain) in chains.iter().enumerate() {
+        if is_other(&values[index], machine.value(chain)) {
+            return true;
+        }
+    }
+    false
+}
+
+/// Whether a chain that reads so has another value than this.
+#[inline(always)]
+fn is_other(value: &Option<Word>, read: Result<Word, Trap>) -> bool
+    ensures { result ≡ differs value.now (if_read read) }
+{
+    match (read, value) {
+        (Ok(word), Some(value)) => word.get() != value.get(),
+        (Err(_), None) => false,
+        _ => true,
+    }
+}
+
+/// Makes values those that chains read as. The caller owes a value for each chain.
+fn see<S: Places>(values: &mut [Option<Word>], chains: &[Chain], machine: &Machine<S>)
+    requires { length values.old ≡ length chains.now }
+    ensures { values.new ≡ values_of chains.now machine.now.configuration.state.memory }
+{
+    for (index, chain) in chains.iter().enumerate() {
+        values[index] = machine.value(chain).ok();
+    }
+}

@@ -1,0 +1,211 @@
+//! Where one stops that goes through a run.
+
+ghost use Rattle.std.specs.Prelude.{◌≡◌, ◌<◌, ◌≤◌, ◌||◌, ◌++◌, ◌∷◌, [], length, replicate, slice_index_or, slice_set, false, IfOk, IfSome, Some};
+ghost use Rattle.std.specs.List.{list_any, remove};
+ghost use Rattle.l6_prog.specs.Numerals.{first_letter};
+ghost use Rattle.l6_history.specs.Numerals.{most_watched};
+ghost use Rattle.l6_history.specs.Stop.{differs, is_at_breakpoint, is_shallow, nowhere, stops_at, stops_nowhere, value_of};
+
+use l6_machine::Machine;
+use l6_prog::{Chain, Name};
+use l6_store::Places;
+use l6_word::Word;
+use std::alloc::{AllocError, Global};
+use std::marker::Model;
+
+/// How many chains may be watched at once.
+pub const MAX_WATCHED: usize = 8;
+
+/// Where one stops that goes through a run: at the conditions of statements with a breakpoint; where a
+/// watched chain reads as another value than in the state from which one comes, or can be followed
+/// in one of the two alone; and where no more than so many calls wait.
+#[derive(Drop)]
+pub struct Stop {
+    /// For each statement, whether it has a breakpoint.
+    breakpoints: Vec<bool>,
+    /// The chains that are watched, with room for all that may be.
+    watched: Vec<Chain>,
+    /// One stops where no more calls than this wait.
+    depth: Option<usize>,
+}
+
+impl Model for Stop {
+    ghost use Rattle.std.specs.Prelude.{◌≤◌, length, vec_capacity};
+    ghost use Rattle.std.specs.Coded.{codes};
+    ghost use Rattle.l6_history.specs.Numerals.{most_watched};
+    ghost use Rattle.l6_history.specs.Stop as stops;
+
+    ghost Value = { stops.Stop };
+
+    ghost coded = { Prim.hlevel (codes) };
+
+    ghost view = { λ s. record {
+      breakpoints = s.breakpoints.items;
+      watched = s.watched.items;
+      depth = s.depth;
+    } };
+
+    ghost invariant = { λ s. (length s.watched.items ≤ most_watched)
+        × (most_watched ≤ vec_capacity s.watched) };
+}
+
+impl Stop {
+    /// Nowhere in a program of so many statements.
+    ///
+    /// # Errors
+    ///
+    /// Memory ran out.
+    pub fn new(alloc: Global, statements: usize) -> Result<Self, AllocError>
+        ensures { IfOk result (λ stop. stop ≡ nowhere statements) }
+    {
+        Ok(Stop {
+            breakpoints: vec![in alloc; false; statements]?,
+            watched: Vec::with_capacity(alloc, MAX_WATCHED)?,
+            depth: None,
+        })
+    }
+
+    /// For each statement, whether it has a breakpoint.
+    pub fn breakpoints(&self) -> &[bool]
+        ensures { result.now ≡ self.now.breakpoints }
+    {
+        self.breakpoints.as_slice()
+    }
+
+    /// Sets the breakpoint of a statement, or removes it, if there is such a statement.
+    pub fn set_breakpoint(&mut self, statement: u64, has_breakpoint: bool)
+        ensures { self.new ≡ record self.old {
+          breakpoints = slice_set self.old.breakpoints statement has_breakpoint;
+        } }
+    {
+        if let Some(breakpoint) = self.breakpoints.get_mut(statement as usize) {
+            *breakpoint = has_breakpoint;
+        }
+    }
+
+    /// The chains that are watched, in the order in which they were added.
+    pub fn watched(&self) -> &[Chain]
+        ensures value { result.now ≡ self.now.watched }
+        ensures within { length result.now ≤ most_watched }
+    {
+        self.watched.as_slice()
+    }
+
+    /// Watches a further chain. The caller owes that fewer than `MAX_WATCHED` are watched.
+    pub fn watch(&mut self, chain: Chain)
+        requires { length self.old.watched < most_watched }
+        ensures { self.new ≡ record self.old { watched = self.old.watched ++ chain ∷ [] } }
+    {
+        let _ = self.watched.push(chain);
+    }
+
+    /// Watches a chain no longer, by its place among those that are watched. The caller owes that
+    /// there is one.
+    pub fn unwatch(&mut self, index: usize)
+        requires { index < length self.old.watched }
+        ensures { self.new ≡ record self.old { watched = remove self.old.watched index } }
+    {
+        self.watched.remove(index);
+    }
+
+    /// Stops nowhere any longer.
+    pub fn clear(&mut self)
+        ensures { self.new ≡ nowhere (length self.old.breakpoints) }
+    {
+        self.breakpoints.fill(false);
+        self.watched.clear();
+        self.depth = None;
+    }
+
+    /// One stops where no more calls than this wait.
+    pub fn set_depth(&mut self, depth: Option<usize>)
+        ensures { self.new ≡ record self.old { depth = depth } }
+    {
+        self.depth = depth;
+    }
+
+    /// Whether there is nothing at which one would stop.
+    pub(crate) fn is_nowhere(&self) -> bool
+        ensures { result ≡ stops_nowhere self.now }
+    {
+        !self.has_breakpoints() && self.watched.len() == 0 && self.depth.is_none()
+    }
+
+    /// Whether a statement has a breakpoint.
+    fn has_breakpoints(&self) -> bool
+        ensures { result ≡ list_any (λ breakpoint. breakpoint) self.now.breakpoints }
+    {
+        self.breakpoints.iter().any(|breakpoint| *breakpoint)
+    }
+
+    /// The bug that is watched, if it is one alone, and no other chain is.
+    pub(crate) fn watched_bug(&self) -> Option<Name>
+        ensures alone { IfSome result (λ bug. self.now.watched ≡ (bug ∷ []) ∷ []) }
+        ensures letter { IfSome result (λ bug. first_letter ≤ bug) }
+    {
+        let [chain] = self.watched.as_slice() else {
+            return None;
+        };
+        if chain.names().len() == 1 {
+            Some(chain.bug())
+        } else {
+            None
+        }
+    }
+
+    /// Whether one stops at the state at which a machine is, or a bug holds another word there than
+    /// this. The caller owes a letter.
+    #[inline(always)]
+    pub(crate) fn stops_by_bug<S: Places>(
+        &self,
+        machine: &Machine<S>,
+        bug: Name,
+        word: Word,
+    ) -> bool
+        requires { first_letter ≤ bug }
+        ensures { let state = machine.now.configuration.state in
+            result ≡ (stops_at self.now state
+            || differs (Some word) (value_of state.memory (bug ∷ []))) }
+    {
+        self.stops_at(machine) || word.get() != machine.bug(bug).get()
+    }
+
+    /// Whether one stops at the state at which a machine is, wherever one comes from.
+    #[inline(always)]
+    pub(crate) fn stops_at<S: Places>(&self, machine: &Machine<S>) -> bool
+        ensures { result ≡ stops_at self.now machine.now.configuration.state }
+    {
+        self.is_at_breakpoint(machine) || self.is_shallow(machine)
+    }
+
+    /// Whether the state is at the condition of a statement with a breakpoint.
+    #[inline(always)]
+    fn is_at_breakpoint<S: Places>(&self, machine: &Machine<S>) -> bool
+        ensures { result ≡ is_at_breakpoint self.now.breakpoints machine.now.configuration.state }
+    {
+        let at = machine.at();
+        at.action == 0 && self.has_breakpoint(at.statement)
+    }
+
+    /// Whether a statement has a breakpoint.
+    #[inline(always)]
+    fn has_breakpoint(&self, statement: u16) -> bool
+        ensures { result ≡ slice_index_or self.now.breakpoints statement false }
+    {
+        self.breakpoints
+            .get(usize::from(statement))
+            .copied()
+            .unwrap_or(false)
+    }
+
+    /// Whether no more calls wait than may.
+    #[inline(always)]
+    fn is_shallow<S: Places>(&self, machine: &Machine<S>) -> bool
+        ensures { result ≡ is_shallow self.now.depth machine.now.configuration.state }
+    {
+        match self.depth {
+            Some(depth) => machine.depths().returns <= depth,
+            None => false,
+        }
+    }
+}

@@ -1,0 +1,46 @@
+//! What a debugger shows of a machine beside its bugs: what chains read as, and all that is saved.
+
+ghost use Rattle.std.specs.Prelude.{◌≡◌, reverse};
+ghost use Rattle.l6_prog.specs.declared.operand.Operand.{Operand};
+ghost use Rattle.l6_steps.specs.Locus.{read};
+
+use crate::machine::Machine;
+use l6_prog::Chain;
+use l6_steps::{Return, Trap};
+use l6_store::Places;
+use l6_word::{Window, Word};
+
+impl<S: Places> Machine<S> {
+    /// What a chain reads as, as an operation would read it. Nothing changes.
+    ///
+    /// # Errors
+    ///
+    /// The trap to which an operation that reads the chain would lead.
+    pub fn value(&self, chain: &Chain) -> Result<Word, Trap>
+        ensures { result
+            ≡ read self.now.configuration.state.memory (Operand.Chain chain.now) }
+    {
+        self.registers.value(chain)
+    }
+
+    /// The contents that are saved, the latest last.
+    pub fn saved_contents(&self) -> &[Word]
+        ensures { reverse result.now ≡ self.now.configuration.state.memory.saved_contents }
+    {
+        self.registers.saved_contents()
+    }
+
+    /// The definitions that are saved, the latest last. A field may be saved that is not defined.
+    pub fn saved_definitions(&self) -> &[Option<Window>]
+        ensures { reverse result.now ≡ self.now.configuration.state.memory.saved_definitions }
+    {
+        self.registers.saved_definitions()
+    }
+
+    /// The returns for which calls wait, the latest last.
+    pub fn returns(&self) -> &[Return]
+        ensures { reverse result.now ≡ self.now.configuration.state.memory.returns }
+    {
+        self.registers.returns()
+    }
+}

@@ -1,0 +1,19 @@
+use Rattle.std.proofs.Common.{refl, sym, ◌∙◌}
+use Rattle.l6_session.specs.SessionState.{back}
+use Rattle.l6_session.proofs.Repeats.{repeated-none, repeats}
+use Rattle.l6_session.proofs.session.Session.go_back.Goals as goal
+
+pub loop-init : goal.loop-init
+loop-init g c = record {
+  context = refl;
+  state = sym (repeated-none (back g.S.Places.rule c.args.self.now.context) c.args.self.now.state);
+}
+
+-- once more
+pub loop-preserved : goal.loop-preserved
+loop-preserved g c = record {
+  context = c.back.ensures.context ∙ c.loop.invariant.context;
+  state = repeats (back g.S.Places.rule) c.loop.self.context c.args.self.now.context
+      c.back.new.self.state c.loop.self.state c.args.self.now.state c.loop.counter
+      c.loop.invariant.context c.back.ensures.state c.loop.invariant.state;
+}

@@ -1,0 +1,138 @@
+-- Sessions: at which state of a run one is, where one stops, what is displayed, and where commands lead.
+use Rattle.std.specs.Prelude.{ℕ, zero, suc, ◌+◌, ◌-◌, ◌==◌, min, nat_lt, Bool, true, false, List, [], ◌∷◌, ◌++◌, length, replicate, slice_set, Some, if◌then◌else◌}
+use Rattle.std.specs.List.{remove}
+use Rattle.l6_store.specs.Rule.{Rule}
+use Rattle.l6_steps.specs.Configuration.{state_at}
+use Rattle.l6_steps.specs.Numbering.{last_number}
+use Rattle.l6_steps.specs.State.{RunContext}
+use Rattle.l6_history.specs.Numerals.{most_watched}
+use Rattle.l6_history.specs.Seeking.{next_stop, previous_stop}
+use Rattle.l6_history.specs.Stop.{Stop, is_at_breakpoint, nowhere}
+use Rattle.l6_session.specs.Numerals.{most_displayed, most_repeats}
+use Rattle.l6_session.specs.declared.command.Command.{Command}
+use Rattle.l6_session.specs.declared.command.Command.TheVariants.{Step, Back, Goto, End, Next, ReverseNext, Finish, ReverseFinish, Continue, ReverseContinue, Run, Until, UntilNext, Break, TemporaryBreak, Delete, DeleteAll, Watch, Unwatch, Display, Undisplay}
+
+-- the number of the state at which one is; where one stops; for each statement, whether its breakpoint
+-- is removed where it is reached; and the chains that are displayed
+pub record SessionState : Type 0 where
+  pub number : ℕ
+  pub stop : Stop
+  pub temporary : List Bool
+  pub displayed : List (List ℕ)
+
+-- a session begins at the start, stops nowhere, and displays nothing
+abbrev pub first_session_state : RunContext → SessionState
+first_session_state context = record {
+  number = 0;
+  stop = nowhere (length context.program);
+  temporary = replicate (length context.program) false;
+  displayed = [];
+}
+
+-- for how many returns calls wait in the state of a number
+abbrev pub depth_at : Rule → RunContext → ℕ → ℕ
+depth_at rule context number = length (state_at rule context number).memory.returns
+
+-- one stops where no more calls wait than this, too
+abbrev pub to_depth : ℕ → Stop → Stop
+to_depth depth stop = record stop { depth = Some depth }
+
+-- the breakpoint of a statement is set, or is removed; it is temporary or not
+abbrev pub with_breakpoint : ℕ → Bool → Bool → SessionState → SessionState
+with_breakpoint statement is temporary old = record old {
+  stop = record old.stop { breakpoints = slice_set old.stop.breakpoints statement is };
+  temporary = slice_set old.temporary statement temporary;
+}
+
+-- the session has come to the state of a number: if it has a temporary breakpoint, that is removed
+abbrev pub come_to : Rule → RunContext → SessionState → ℕ → SessionState
+come_to rule context old number =
+    let state = state_at rule context number in
+    if is_at_breakpoint old.temporary state
+    then with_breakpoint state.at.statement false false (record old { number = number })
+    else record old { number = number }
+
+-- one goes on or back to where no more calls wait than this
+abbrev pub on_to : Rule → RunContext → SessionState → ℕ → SessionState
+on_to rule context old depth =
+    come_to rule context old (next_stop rule context (to_depth depth old.stop) old.number)
+
+abbrev pub back_to : Rule → RunContext → SessionState → ℕ → SessionState
+back_to rule context old depth =
+    come_to rule context old (previous_stop rule context (to_depth depth old.stop) old.number)
+
+-- one goes on or back to where one stops
+abbrev pub on : Rule → RunContext → SessionState → SessionState
+on rule context old = come_to rule context old (next_stop rule context old.stop old.number)
+
+abbrev pub back : Rule → RunContext → SessionState → SessionState
+back rule context old = come_to rule context old (previous_stop rule context old.stop old.number)
+
+-- the same, or to where no more calls wait than here
+abbrev pub over : Rule → RunContext → SessionState → SessionState
+over rule context old = on_to rule context old (depth_at rule context old.number)
+
+abbrev pub back_over : Rule → RunContext → SessionState → SessionState
+back_over rule context old = back_to rule context old (depth_at rule context old.number)
+
+-- one goes on to a statement, or to where one stops before
+abbrev pub on_until : Rule → RunContext → SessionState → ℕ → SessionState
+on_until rule context old statement =
+    let stop = record old.stop { breakpoints = slice_set old.stop.breakpoints statement true } in
+    come_to rule context old (next_stop rule context stop old.number)
+
+-- so many times what leads from one session to the next
+unfoldable pub repeated : ℕ → (SessionState → SessionState) → SessionState → SessionState
+repeated zero leads old = old
+repeated (suc n) leads old = leads (repeated n leads old)
+
+-- as often as is asked for, but no more often than a session repeats a command
+abbrev pub times : ℕ → (SessionState → SessionState) → SessionState → SessionState
+times n leads old = repeated (min n most_repeats) leads old
+
+-- one more chain, as long as there are fewer than may be
+abbrev pub one_more : ℕ → List (List ℕ) → List ℕ → List (List ℕ)
+one_more most chains chain = if nat_lt (length chains) most then chains ++ chain ∷ [] else chains
+
+-- the chains without the one of this number, counted from 1 on, if there is one
+abbrev pub one_less : List (List ℕ) → ℕ → List (List ℕ)
+one_less chains number =
+    if nat_lt (number - 1) (length chains) then remove chains (number - 1) else chains
+
+-- the session after a command. It is at no state beyond the last, and back at none before the start.
+-- Where no call waits, there is none that could return.
+abbrev pub after : Rule → RunContext → SessionState → Command → SessionState
+after rule context old (Step n) =
+    come_to rule context old (min (old.number + n) (last_number rule context))
+after rule context old (Back n) = come_to rule context old (old.number - n)
+after rule context old (Goto n) = come_to rule context old (min n (last_number rule context))
+after rule context old End = come_to rule context old (last_number rule context)
+after rule context old (Next n) = times n (over rule context) old
+after rule context old (ReverseNext n) = times n (back_over rule context) old
+after rule context old Finish =
+    if depth_at rule context old.number == 0 then old
+    else on_to rule context old (depth_at rule context old.number - 1)
+after rule context old ReverseFinish =
+    if depth_at rule context old.number == 0 then old
+    else back_to rule context old (depth_at rule context old.number - 1)
+after rule context old (Continue n) = times n (on rule context) old
+after rule context old (ReverseContinue n) = times n (back rule context) old
+after rule context old Run = on rule context (come_to rule context old 0)
+after rule context old (Until s) = on_until rule context old s
+after rule context old UntilNext =
+    on_until rule context old ((state_at rule context old.number).at.statement + 1)
+after rule context old (Break s) = with_breakpoint s true false old
+after rule context old (TemporaryBreak s) = with_breakpoint s true true old
+after rule context old (Delete s) = with_breakpoint s false false old
+after rule context old DeleteAll = record old {
+  stop = nowhere (length old.stop.breakpoints);
+  temporary = replicate (length old.temporary) false;
+}
+after rule context old (Watch chain) =
+    record old { stop = record old.stop { watched = one_more most_watched old.stop.watched chain } }
+after rule context old (Unwatch n) =
+    record old { stop = record old.stop { watched = one_less old.stop.watched n } }
+after rule context old (Display chain) =
+    record old { displayed = one_more most_displayed old.displayed chain }
+after rule context old (Undisplay n) = record old { displayed = one_less old.displayed n }
+after rule context old other = old

@@ -1,0 +1,446 @@
+//! A session: a run's history, where one stops, and what is displayed.
+
+ghost use Rattle.std.specs.Prelude.{◌≡◌, ◌≤◌, false, slice_index_or, IfOk};
+ghost use Rattle.l6_steps.specs.Configuration.{first_configuration};
+ghost use Rattle.l6_steps.specs.Numbering.{last_number};
+ghost use Rattle.l6_steps.specs.Numerals.{most_steps};
+ghost use Rattle.l6_history.specs.History.{number_to, run_state_at};
+ghost use Rattle.l6_history.specs.Seeking.{next_stop, previous_stop};
+ghost use Rattle.l6_session.specs.SessionState.{after, back, back_over, back_to, come_to, depth_at, first_session_state, on, on_to, on_until, over, times, with_breakpoint};
+
+use crate::command::Command;
+use l6_history::{History, MAX_WATCHED, Stop};
+use l6_machine::Machine;
+use l6_prog::Chain;
+use l6_store::Places;
+use std::alloc::{AllocError, Global};
+use std::marker::Model;
+
+/// How many chains may be displayed at once.
+pub const MAX_DISPLAYED: usize = 8;
+
+/// How often a command is repeated at most.
+pub const MAX_REPEATS: u64 = 65_535;
+
+/// A session with a run: at which of its states one is, where one stops, for which statements that is
+/// for once, and which chains are displayed.
+#[derive(Drop)]
+pub struct Session<S: Places> {
+    history: History<S>,
+    stop: Stop,
+    temporary: Vec<bool>,
+    displayed: Vec<Chain>,
+}
+
+impl<S: Places> Model for Session<S> {
+    ghost use Rattle.std.specs.Coded.{codes};
+    ghost use Rattle.std.specs.Prelude.{◌≡◌, ◌≤◌, length, vec_capacity, None};
+    ghost use Rattle.l6_session.specs.Numerals.{most_displayed};
+    ghost use Rattle.l6_session.specs.inner.SessionRun.{SessionRun};
+
+    ghost Value = { SessionRun };
+
+    ghost coded = { Prim.hlevel (codes) };
+
+    ghost view = { λ s. record {
+      context = s.history.context;
+      state = record {
+        number = s.history.number;
+        stop = s.stop;
+        temporary = s.temporary.items;
+        displayed = s.displayed.items;
+      };
+    } };
+
+    ghost invariant = { λ s. (s.stop.depth ≡ None)
+        × (length s.displayed.items ≤ most_displayed)
+        × (most_displayed ≤ vec_capacity s.displayed) };
+}
+
+impl<S: Places> Session<S> {
+    /// A session at the start, which stops nowhere and displays nothing. The caller owes a machine that
+    /// is there.
+    ///
+    /// # Errors
+    ///
+    /// Memory ran out.
+    pub fn new(alloc: Global, machine: Machine<S>) -> Result<Self, AllocError>
+    where
+        S: Drop,
+        requires { machine.configuration ≡ first_configuration S.rule machine.context }
+        ensures context { IfOk result (λ session. session.context ≡ machine.context) }
+        ensures state { IfOk result (λ session. session.state ≡ first_session_state machine.context) }
+    {
+        let statements = machine.program().statements().len();
+        let stop = Stop::new(alloc, statements)?;
+        let temporary = vec![in alloc; false; statements]?;
+        let displayed = Vec::with_capacity(alloc, MAX_DISPLAYED)?;
+        Ok(Session {
+            history: History::new(alloc, machine),
+            stop,
+            temporary,
+            displayed,
+        })
+    }
+
+    /// The machine, at the state of the session.
+    pub fn machine(&self) -> &Machine<S>
+        ensures { result.now ≡ run_state_at S.rule self.now.context self.now.state.number }
+    {
+        self.history.machine()
+    }
+
+    /// The history of the run.
+    pub fn history(&self) -> &History<S>
+        ensures context { result.now.context ≡ self.now.context }
+        ensures number { result.now.number ≡ self.now.state.number }
+    {
+        &self.history
+    }
+
+    /// Where one stops.
+    pub fn stop(&self) -> &Stop
+        ensures { result.now ≡ self.now.state.stop }
+    {
+        &self.stop
+    }
+
+    /// For each statement, whether its breakpoint is removed where it is reached.
+    pub fn temporary(&self) -> &[bool]
+        ensures { result.now ≡ self.now.state.temporary }
+    {
+        self.temporary.as_slice()
+    }
+
+    /// The chains that are displayed, in the order in which they were added.
+    pub fn displayed(&self) -> &[Chain]
+        ensures { result.now ≡ self.now.state.displayed }
+    {
+        self.displayed.as_slice()
+    }
+
+    /// Goes where a command leads, and changes where one stops and what is displayed as it says.
+    pub fn obey(&mut self, alloc: Global, command: &Command)
+    where
+        S: Drop,
+        ensures context { self.new.context ≡ self.old.context }
+        ensures state { self.new.state ≡ after S.rule self.old.context self.old.state command.now }
+    {
+        let number = self.history.number();
+        match command {
+            Command::Step(count) => self.go_to(alloc, number.saturating_add(*count)),
+            Command::Back(count) => self.go_to(alloc, number.saturating_sub(*count)),
+            Command::Goto(goal) => self.go_to(alloc, *goal),
+            Command::End => self.go_to(alloc, u64::MAX),
+            Command::Next(count) => self.go_over(alloc, *count),
+            Command::ReverseNext(count) => self.go_back_over(alloc, *count),
+            Command::Finish => self.finish(alloc),
+            Command::ReverseFinish => self.reverse_finish(alloc),
+            Command::Continue(count) => self.go_on(alloc, *count),
+            Command::ReverseContinue(count) => self.go_back(alloc, *count),
+            Command::Run => self.run(alloc),
+            Command::Until(statement) => self.until(alloc, *statement),
+            Command::UntilNext => self.until_next(alloc),
+            Command::Break(statement) => self.breakpoint(*statement, true, false),
+            Command::TemporaryBreak(statement) => self.breakpoint(*statement, true, true),
+            Command::Delete(statement) => self.breakpoint(*statement, false, false),
+            Command::DeleteAll => self.delete_all(),
+            Command::Watch(chain) => self.watch(chain),
+            Command::Unwatch(place) => self.unwatch(*place),
+            Command::Display(chain) => self.display(chain),
+            Command::Undisplay(place) => self.undisplay(*place),
+            _ => {}
+        }
+    }
+
+    /// For how many returns calls wait.
+    fn depth(&self) -> usize
+        ensures { result ≡ depth_at S.rule self.now.context self.now.state.number }
+    {
+        self.machine().depths().returns
+    }
+
+    /// Goes to the state of a number, or to the last one where that comes first.
+    fn go_to(&mut self, alloc: Global, number: u64)
+    where
+        S: Drop,
+        ensures context { self.new.context ≡ self.old.context }
+        ensures state { self.new.state ≡ come_to S.rule self.old.context self.old.state
+            (number_to S.rule self.old.context number) }
+        ensures bound { last_number S.rule self.old.context ≤ most_steps }
+    {
+        self.history.to(alloc, number);
+        self.arrive();
+    }
+
+    /// Goes on to where one stops.
+    fn on(&mut self, alloc: Global)
+    where
+        S: Drop,
+        ensures context { self.new.context ≡ self.old.context }
+        ensures state { self.new.state ≡ on S.rule self.old.context self.old.state }
+    {
+        self.history.to_next(alloc, &self.stop);
+        self.arrive();
+    }
+
+    /// Goes back to where one stops.
+    fn back(&mut self, alloc: Global)
+    where
+        S: Drop,
+        ensures context { self.new.context ≡ self.old.context }
+        ensures state { self.new.state ≡ back S.rule self.old.context self.old.state }
+    {
+        self.history.to_previous(alloc, &self.stop);
+        self.arrive();
+    }
+
+    /// Goes on to where one stops, so many times, but no more often than `MAX_REPEATS`.
+    fn go_on(&mut self, alloc: Global, count: u64)
+    where
+        S: Drop,
+        ensures context { self.new.context ≡ self.old.context }
+        ensures state { self.new.state
+            ≡ times count (on S.rule self.old.context) self.old.state }
+    {
+        for _ in 0..count.min(MAX_REPEATS) {
+            self.on(alloc);
+        }
+    }
+
+    /// Goes back to where one stops, so many times, but no more often than `MAX_REPEATS`.
+    fn go_back(&mut self, alloc: Global, count: u64)
+    where
+        S: Drop,
+        ensures context { self.new.context ≡ self.old.context }
+        ensures state { self.new.state
+            ≡ times count (back S.rule self.old.context) self.old.state }
+    {
+        for _ in 0..count.min(MAX_REPEATS) {
+            self.back(alloc);
+        }
+    }
+
+    /// Goes on to where one stops, or where no more calls wait than there, so many times, but no more
+    /// often than `MAX_REPEATS`.
+    fn go_over(&mut self, alloc: Global, count: u64)
+    where
+        S: Drop,
+        ensures context { self.new.context ≡ self.old.context }
+        ensures state { self.new.state
+            ≡ times count (over S.rule self.old.context) self.old.state }
+    {
+        for _ in 0..count.min(MAX_REPEATS) {
+            self.on_to(alloc, self.depth());
+        }
+    }
+
+    /// Goes back to where one stops, or where no more calls wait than there, so many times, but no more
+    /// often than `MAX_REPEATS`.
+    fn go_back_over(&mut self, alloc: Global, count: u64)
+    where
+        S: Drop,
+        ensures context { self.new.context ≡ self.old.context }
+        ensures state { self.new.state
+            ≡ times count (back_over S.rule self.old.context) self.old.state }
+    {
+        for _ in 0..count.min(MAX_REPEATS) {
+            self.back_to(alloc, self.depth());
+        }
+    }
+
+    /// From the start, goes on to where one stops.
+    fn run(&mut self, alloc: Global)
+    where
+        S: Drop,
+        ensures context { self.new.context ≡ self.old.context }
+        ensures state { self.new.state
+            ≡ after S.rule self.old.context self.old.state Command.Run }
+    {
+        self.go_to(alloc, 0);
+        self.on(alloc);
+    }
+
+    /// Goes on to a statement, or to where one stops before.
+    fn until(&mut self, alloc: Global, statement: u64)
+    where
+        S: Drop,
+        ensures context { self.new.context ≡ self.old.context }
+        ensures state { self.new.state
+            ≡ on_until S.rule self.old.context self.old.state statement }
+    {
+        let had_breakpoint = self.has_breakpoint(statement);
+        self.stop.set_breakpoint(statement, true);
+        self.history.to_next(alloc, &self.stop);
+        self.stop.set_breakpoint(statement, had_breakpoint);
+        self.arrive();
+    }
+
+    /// Goes on to the statement after the present one, or to where one stops before.
+    fn until_next(&mut self, alloc: Global)
+    where
+        S: Drop,
+        ensures context { self.new.context ≡ self.old.context }
+        ensures state { self.new.state
+            ≡ after S.rule self.old.context self.old.state Command.UntilNext }
+    {
+        let statement = self.machine().at().statement;
+        self.until(alloc, u64::from(statement) + 1);
+    }
+
+    /// Whether a statement has a breakpoint.
+    fn has_breakpoint(&self, statement: u64) -> bool
+        ensures { result ≡ slice_index_or self.now.state.stop.breakpoints statement false }
+    {
+        self.stop
+            .breakpoints()
+            .get(statement as usize)
+            .copied()
+            .unwrap_or(false)
+    }
+
+    /// Goes on to where one stops, or where no more calls wait than this.
+    fn on_to(&mut self, alloc: Global, depth: usize)
+    where
+        S: Drop,
+        ensures context { self.new.context ≡ self.old.context }
+        ensures state { self.new.state ≡ on_to S.rule self.old.context self.old.state depth }
+    {
+        self.stop.set_depth(Some(depth));
+        self.history.to_next(alloc, &self.stop);
+        self.stop.set_depth(None);
+        self.arrive();
+    }
+
+    /// Goes back to where one stops, or where no more calls wait than this.
+    fn back_to(&mut self, alloc: Global, depth: usize)
+    where
+        S: Drop,
+        ensures context { self.new.context ≡ self.old.context }
+        ensures state { self.new.state ≡ back_to S.rule self.old.context self.old.state depth }
+    {
+        self.stop.set_depth(Some(depth));
+        self.history.to_previous(alloc, &self.stop);
+        self.stop.set_depth(None);
+        self.arrive();
+    }
+
+    /// Goes on to where the latest call has returned, if one waits.
+    fn finish(&mut self, alloc: Global)
+    where
+        S: Drop,
+        ensures context { self.new.context ≡ self.old.context }
+        ensures state { self.new.state ≡ after S.rule self.old.context self.old.state Command.Finish }
+    {
+        if let Some(depth) = self.depth().checked_sub(1) {
+            self.on_to(alloc, depth);
+        }
+    }
+
+    /// Goes back to where the latest call was made, if one waits.
+    fn reverse_finish(&mut self, alloc: Global)
+    where
+        S: Drop,
+        ensures context { self.new.context ≡ self.old.context }
+        ensures state { self.new.state
+            ≡ after S.rule self.old.context self.old.state Command.ReverseFinish }
+    {
+        if let Some(depth) = self.depth().checked_sub(1) {
+            self.back_to(alloc, depth);
+        }
+    }
+
+    /// Removes the breakpoint of the state to which the session has come, if that is a temporary one.
+    fn arrive(&mut self)
+        ensures context { self.new.context ≡ self.old.context }
+        ensures state { self.new.state
+            ≡ come_to S.rule self.old.context self.old.state self.old.state.number }
+    {
+        let at = self.machine().at();
+        if at.action == 0 && self.is_temporary(at.statement) {
+            self.breakpoint(u64::from(at.statement), false, false);
+        }
+    }
+
+    /// Whether a statement has a temporary breakpoint.
+    fn is_temporary(&self, statement: u16) -> bool
+        ensures { result ≡ slice_index_or self.now.state.temporary statement false }
+    {
+        self.temporary
+            .get(usize::from(statement))
+            .copied()
+            .unwrap_or(false)
+    }
+
+    /// Sets the breakpoint of a statement, or removes it, and makes it temporary or not.
+    fn breakpoint(&mut self, statement: u64, has_breakpoint: bool, is_temporary: bool)
+        ensures context { self.new.context ≡ self.old.context }
+        ensures state { self.new.state
+            ≡ with_breakpoint statement has_breakpoint is_temporary self.old.state }
+    {
+        self.stop.set_breakpoint(statement, has_breakpoint);
+        if let Some(temporary) = self.temporary.get_mut(statement as usize) {
+            *temporary = is_temporary;
+        }
+    }
+
+    /// Removes all breakpoints, and watches nothing.
+    fn delete_all(&mut self)
+        ensures context { self.new.context ≡ self.old.context }
+        ensures state { self.new.state
+            ≡ after S.rule self.old.context self.old.state Command.DeleteAll }
+    {
+        self.stop.clear();
+        self.temporary.fill(false);
+    }
+
+    /// Watches a further chain, if there is room.
+    fn watch(&mut self, chain: &Chain)
+        ensures context { self.new.context ≡ self.old.context }
+        ensures state { self.new.state
+            ≡ after S.rule self.old.context self.old.state (Command.Watch chain.now) }
+    {
+        if self.stop.watched().len() < MAX_WATCHED {
+            if let Ok(chain) = chain.clone() {
+                self.stop.watch(chain);
+            }
+        }
+    }
+
+    /// Watches the chain of this number no longer, from 1 on, if there is one.
+    fn unwatch(&mut self, number: u64)
+        ensures context { self.new.context ≡ self.old.context }
+        ensures state { self.new.state
+            ≡ after S.rule self.old.context self.old.state (Command.Unwatch number) }
+    {
+        let index = number.saturating_sub(1);
+        if index < self.stop.watched().len() as u64 {
+            self.stop.unwatch(index as usize);
+        }
+    }
+
+    /// Displays a further chain, if there is room.
+    fn display(&mut self, chain: &Chain)
+        ensures context { self.new.context ≡ self.old.context }
+        ensures state { self.new.state
+            ≡ after S.rule self.old.context self.old.state (Command.Display chain.now) }
+    {
+        if self.displayed.len() < MAX_DISPLAYED {
+            if let Ok(chain) = chain.clone() {
+                let _ = self.displayed.push(chain);
+            }
+        }
+    }
+
+    /// Displays the chain of this number no longer, from 1 on, if there is one.
+    fn undisplay(&mut self, number: u64)
+        ensures context { self.new.context ≡ self.old.context }
+        ensures state { self.new.state
+            ≡ after S.rule self.old.context self.old.state (Command.Undisplay number) }
+    {
+        let index = number.saturating_sub(1);
+        if index < self.displayed.len() as u64 {
+            self.displayed.remove(index as usize);
+        }
+    }
+}

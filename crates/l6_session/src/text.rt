@@ -1,0 +1,146 @@
+//! Parts of texts.
+
+ghost use Rattle.std.specs.Prelude.{◌≡◌, ◌<◌, ◌≤◌, ◌++◌, ◌^◌, OnOk, IfSome, None};
+ghost use Rattle.std.specs.Option.{option_map};
+ghost use Rattle.l6_word.specs.Numerals.{largest_level};
+ghost use Rattle.l6_session.specs.Texts as spec;
+
+use l6_asm::Labels;
+use l6_draw::character_of;
+use l6_group::Label;
+use l6_machine::{Position, push_decimal};
+use l6_prog::{Chain, NAMES};
+use l6_store::Level;
+use l6_word::{CODE_COUNT, Word, char_of, octal12};
+use std::alloc::AllocError;
+
+/// Adds the names of a chain.
+pub(crate) fn push_chain(text: &mut Vec<u8>, chain: &Chain) -> Result<(), AllocError>
+    ensures { OnOk result (text.new.items ≡ text.old.items ++ spec.chain_text chain.now) }
+{
+    for name in chain.names() {
+        text.push(character_of(name.number()))?;
+    }
+    Ok(())
+}
+
+/// Adds the digit or the letter of the name of this number, if there is such a name.
+pub(crate) fn push_name(text: &mut Vec<u8>, number: u8) -> Result<(), AllocError> {
+    if number < NAMES {
+        text.push(character_of(number))?;
+    }
+    Ok(())
+}
+
+/// Adds a word in decimal, in octal, and as its six characters.
+pub(crate) fn push_word(text: &mut Vec<u8>, word: Word) -> Result<(), AllocError>
+    ensures { OnOk result (text.new.items ≡ text.old.items ++ spec.word_text word) }
+{
+    push_decimal(text, word.get())?;
+    text.extend_from_slice(b" ")?;
+    text.extend_from_slice(&octal12(word))?;
+    text.extend_from_slice(b" \"")?;
+    text.extend_from_slice(&characters(word))?;
+    text.extend_from_slice(b"\"")
+}
+
+/// The six characters of a word.
+fn characters(word: Word) -> [u8; 6]
+    ensures { result ≡ spec.characters word }
+{
+    [
+        character_at(word, 30),
+        character_at(word, 24),
+        character_at(word, 18),
+        character_at(word, 12),
+        character_at(word, 6),
+        character_at(word, 0),
+    ]
+}
+
+/// The character of a word whose code begins so many bits from its right end.
+fn character_at(word: Word, shift: u32) -> u8
+    requires { shift < 64 }
+    ensures { result ≡ spec.character_at word shift }
+{
+    let code = (word.get() >> shift) % CODE_COUNT;
+    char_of(code as u8)
+}
+
+/// Adds the block of this level at a place, if one begins there.
+pub(crate) fn push_block_at(
+    text: &mut Vec<u8>,
+    place: Word,
+    level: Option<Level>,
+) -> Result<(), AllocError>
+    requires { IfSome level (λ level. level ≤ largest_level) }
+    ensures { OnOk result (text.new.items
+        ≡ text.old.items ++ spec.block_text place (option_map (λ level. 2 ^ level) level)) }
+{
+    let Some(level) = level else {
+        return Ok(());
+    };
+    text.extend_from_slice(b" -> BLOCK ")?;
+    push_decimal(text, place.get())?;
+    text.extend_from_slice(b" SIZE ")?;
+    push_decimal(text, 1u64 << level)
+}
+
+/// Adds a position, and the label that it is at or after.
+pub(crate) fn push_position(
+    text: &mut Vec<u8>,
+    at: Position,
+    labels: &Labels,
+) -> Result<(), AllocError>
+    ensures { OnOk result
+        (text.new.items ≡ text.old.items ++ spec.position_text labels.now.entries at) }
+{
+    push_decimal(text, at.statement)?;
+    text.extend_from_slice(b".")?;
+    push_decimal(text, at.action)?;
+    push_label(text, u64::from(at.statement), labels)
+}
+
+/// Adds the last label at or before a statement, if there is one, and how many statements after it
+/// that is.
+pub(crate) fn push_label(
+    text: &mut Vec<u8>,
+    statement: u64,
+    labels: &Labels,
+) -> Result<(), AllocError>
+    ensures { OnOk result
+        (text.new.items ≡ text.old.items ++ spec.label_text labels.now.entries statement) }
+{
+    let Some((label, number)) = nearest(statement, labels) else {
+        return Ok(());
+    };
+    text.extend_from_slice(b" ")?;
+    text.extend_from_slice(label.characters())?;
+    push_distance(text, number, statement)
+}
+
+/// Adds how many statements one is after another, if it is.
+fn push_distance(text: &mut Vec<u8>, from: u64, statement: u64) -> Result<(), AllocError>
+    ensures { OnOk result
+        (text.new.items ≡ text.old.items ++ spec.after_text from statement) }
+{
+    if from < statement {
+        text.extend_from_slice(b"+")?;
+        push_decimal(text, statement - from)?;
+    }
+    Ok(())
+}
+
+/// The last label at or before a statement, and its statement.
+fn nearest(statement: u64, labels: &Labels) -> Option<(&Label, u64)>
+    ensures { option_map (λ found. (found.0.now, found.1)) result
+        ≡ spec.nearest_from None statement labels.now.entries }
+{
+    let mut nearest = None;
+    for (label, number) in labels.iter() {
+        if u64::from(*number) <= statement {
+            nearest = Some((label, u64::from(*number)));
+        }
+    }
+    nearest
+}

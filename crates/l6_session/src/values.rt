@@ -1,0 +1,154 @@
+//! What chains and numbers read as, in words. Why a chain can't be followed, and why a run has trapped,
+//! is tested, and not proved.
+
+ghost use Rattle.std.specs.Prelude.{◌≡◌, ◌++◌, OnOk, IfSome};
+ghost use Rattle.l6_prog.specs.declared.operand.Operand.{Operand};
+ghost use Rattle.l6_session.specs.Texts as spec;
+
+use crate::text::{push_block_at, push_chain, push_name, push_word};
+use l6_machine::{Machine, Trap, push_decimal};
+use l6_prog::{Chain, Operand};
+use l6_store::Places;
+use l6_word::Word;
+use std::alloc::AllocError;
+
+/// Adds what an operand reads as, and whether a block begins there.
+pub(crate) fn push_value<S: Places>(
+    text: &mut Vec<u8>,
+    machine: &Machine<S>,
+    operand: &Operand,
+) -> Result<(), AllocError>
+    ensures { OnOk result
+        (IfSome (spec.operand_text machine.now.configuration.state.memory operand.now)
+        (λ printed. text.new.items ≡ text.old.items ++ printed)) }
+{
+    match operand {
+        Operand::Chain(chain) => push_chain_value(text, machine, chain),
+        Operand::Number(word) => push_word_value(text, machine, *word),
+    }
+}
+
+/// Adds what a chain reads as, or why it can't be followed.
+pub(crate) fn push_chain_value<S: Places>(
+    text: &mut Vec<u8>,
+    machine: &Machine<S>,
+    chain: &Chain,
+) -> Result<(), AllocError>
+    ensures { OnOk result
+        (IfSome (spec.operand_text machine.now.configuration.state.memory (Operand.Chain chain.now))
+        (λ printed. text.new.items ≡ text.old.items ++ printed)) }
+{
+    push_chain(text, chain)?;
+    match machine.value(chain) {
+        Ok(word) => {
+            text.extend_from_slice(b" = ")?;
+            push_word_value(text, machine, word)
+        }
+        Err(trap) => {
+            text.extend_from_slice(b" can't be followed: ")?;
+            push_break(text, machine, chain, trap)
+        }
+    }
+}
+
+/// Adds a word, and the block that begins at the place of this number, if one does.
+fn push_word_value<S: Places>(
+    text: &mut Vec<u8>,
+    machine: &Machine<S>,
+    word: Word,
+) -> Result<(), AllocError>
+    ensures { OnOk result (text.new.items ≡ text.old.items
+        ++ spec.value_line machine.now.configuration.state.memory word) }
+{
+    push_word(text, word)?;
+    push_block_at(text, word, machine.store().live(word))?;
+    text.extend_from_slice(b"\n")
+}
+
+/// Adds at which field of a chain it can't be followed, and why.
+fn push_break<S: Places>(
+    text: &mut Vec<u8>,
+    machine: &Machine<S>,
+    chain: &Chain,
+    trap: Trap,
+) -> Result<(), AllocError> {
+    let names = chain.names();
+    for length in 1..names.len() {
+        let Some(front) = Chain::new(&names[..length]) else {
+            return Ok(());
+        };
+        let Ok(pointer) = machine.value(&front) else {
+            return Ok(());
+        };
+        let Some(longer) = Chain::new(&names[..length + 1]) else {
+            return Ok(());
+        };
+        if machine.value(&longer).is_err() {
+            return push_reason(text, &front, names[length].number(), pointer, trap);
+        }
+    }
+    Ok(())
+}
+
+/// Adds why a field can't be followed from a pointer on.
+fn push_reason(
+    text: &mut Vec<u8>,
+    front: &Chain,
+    field: u8,
+    pointer: Word,
+    trap: Trap,
+) -> Result<(), AllocError> {
+    match trap {
+        Trap::UndefinedField => {
+            text.extend_from_slice(b"the field ")?;
+            push_name(text, field)?;
+            text.extend_from_slice(b" is not defined")?;
+        }
+        Trap::NotABlock => {
+            push_chain(text, front)?;
+            text.extend_from_slice(b" is ")?;
+            push_decimal(text, pointer.get())?;
+            text.extend_from_slice(if pointer.get() == 0 {
+                b", which is no block: it was never set, or was set to 0"
+            } else {
+                b", where no block begins: it holds no link, or the block there was freed"
+            })?;
+        }
+        _ => {
+            text.extend_from_slice(b"the word of the field ")?;
+            push_name(text, field)?;
+            text.extend_from_slice(b" is past the end of the block at ")?;
+            push_decimal(text, pointer.get())?;
+        }
+    }
+    text.extend_from_slice(b"\n")
+}
+
+/// Adds what a trap means.
+pub(crate) fn push_trap(text: &mut Vec<u8>, trap: Trap) -> Result<(), AllocError> {
+    let reason: &[u8] = match trap {
+        Trap::UndefinedField => b"a chain names a field that has no definition",
+        Trap::NotABlock =>
+            b"no block begins where a chain or an operand leads: a link was not set, or the block there was freed",
+        Trap::WordOutsideBlock =>
+            b"the word of a field is past the end of the block to which the chain leads",
+        Trap::BadDefinition =>
+            b"a definition has a word past 1023, a bit past 35, or a first bit after its last",
+        Trap::ZeroDivisor => b"a division by 0",
+        Trap::BadSize => b"a block of no word, or of more than 1024, was asked for",
+        Trap::StoreFull =>
+            b"no place is open for a block of this size, and the operation has no label for that",
+        Trap::InputEnded =>
+            b"the input has too few characters left, and the operation has no label for that",
+        Trap::PushdownEmpty => b"nothing is saved that could be restored",
+        Trap::PushdownFull => b"the pushdown has all the entries that it may have",
+        Trap::ReturnsFull =>
+            b"as many calls wait for their return as may: a recursion without an end?",
+        Trap::NoFailExit => b"FAIL returns from a call that has no fail label",
+        Trap::BadCount => b"fewer than 1 or more than 6 characters are asked for",
+        Trap::OutputFull => b"the output would pass its limit (--output)",
+    };
+    text.extend_from_slice(b"      because ")?;
+    text.extend_from_slice(reason)?;
+    text.extend_from_slice(b"\n")
+}

@@ -1,0 +1,3 @@
+mod HandleValues
+mod Values
+mod Outcomes

@@ -1,0 +1,12 @@
+//! The buddy system for programs in C, C++, Rust, Zig or Python. No call owes more than that its
+//! store is one that `L6_STORE_CLOSED` or these calls made, and that one call at a time has it.
+#![tactic(auto)]
+
+mod calls;
+mod exports;
+mod fault;
+mod handle;
+mod loose;
+mod store;
+#[cfg(test)]
+mod tests;

@@ -1,0 +1,46 @@
+//! Why a trace has no answers.
+
+ghost use Rattle.l6_trace.specs.declared.fault.TraceFault.TheVariants.{NoMemory};
+
+use l6_store::StoreFault;
+use std::alloc::AllocError;
+use thiserror::Error;
+
+/// Why a trace has no answers. Lines are counted from 1 on.
+#[derive(Clone, Copy, Debug, Error, PartialEq, Eq)]
+pub enum TraceFault {
+    /// Memory ran out.
+    #[error("out of memory")]
+    NoMemory,
+    /// A store may not have so many units.
+    #[error("units out of range")]
+    BadUnits,
+    /// The line is no call.
+    #[error("line {0}: not a call")]
+    NotACall(u32),
+    /// The line is one call more than a trace may have.
+    #[error("line {0}: too many calls")]
+    TooMany(u32),
+    /// The line gets a block by a name that holds one, or frees one by a name that holds none.
+    #[error("line {0}: the name holds a block already, or none")]
+    Held(u32),
+}
+
+impl From<StoreFault> for TraceFault {
+    fn from(fault: StoreFault) -> Self {
+        match fault {
+            StoreFault::NoMemory => TraceFault::NoMemory,
+            StoreFault::BadUnits => TraceFault::BadUnits,
+        }
+    }
+}
+
+impl From<AllocError> for TraceFault {
+    ghost use Rattle.std.specs.Prelude.{◌≡◌};
+
+    ghost from_gives = { λ _ fault. fault ≡ NoMemory };
+
+    fn from(_error: AllocError) -> Self {
+        TraceFault::NoMemory
+    }
+}

@@ -1,0 +1,20 @@
+-- How a session begins.
+use Rattle.std.specs.Prelude.{◌≡◌, ℕ, List, length}
+use Rattle.l6_asm.specs.Assembled.{Assembled}
+use Rattle.l6_asm.specs.Spells.{SpellsJust}
+use Rattle.l6_machine.specs.Options.{OptionValues, context_under}
+use Rattle.l6_session.specs.DeckSession.{DeckSession}
+use Rattle.l6_session.specs.SessionState.{first_session_state}
+
+-- a session at the start of the run of the program that a deck spells, with an input and under the
+-- options of the user; statements are named by the labels and the cards of that deck
+pub record BeginsWith (options : OptionValues) (deck input : List ℕ) (session : DeckSession) : Type 0 where
+  pub assembly : Assembled
+  pub spells : SpellsJust deck assembly
+  pub context : session.context ≡ context_under options input assembly.program
+  pub start : session.state ≡ first_session_state session.context
+  pub names : session.names ≡ record {
+    labels = assembly.labels;
+    deck = deck;
+    statements = length assembly.program;
+  }

@@ -1,0 +1,81 @@
+//! The program `l6db`: a debugger of decks that answers at once.
+#![tactic(auto)]
+
+mod arguments;
+mod fault;
+mod files;
+mod job;
+mod opening;
+mod terminal;
+
+use arguments::{Request, request_of};
+use fault::DbFault;
+use files::{Job, job_of};
+use l6_device::{Host, Part, Patience, write_text};
+use l6_session::converse;
+use opening::session_of;
+use std::env;
+use std::io::{IsTerminal, Lock, Write};
+use std::process::ExitCode;
+use terminal::{Mode, Terminal};
+
+fn main(rt: HostRuntime) -> ExitCode {
+    match serve(&rt) {
+        Ok(()) => ExitCode::from(0),
+        Err(fault) => {
+            let text = format!(in rt.alloc(); "{fault}");
+            if let Ok(text) = text {
+                let _ = if fault.status() == 0 {
+                    rt.stdout().write_all(text.as_bytes())
+                } else {
+                    rt.stderr().write_all(text.as_bytes())
+                };
+            }
+            ExitCode::from(fault.status())
+        }
+    }
+}
+
+/// Does what the words of the command line ask for.
+fn serve(rt: &HostRuntime) -> Result<(), DbFault> {
+    let words: Vec<String> = env::args(rt)?.collect(rt.alloc())?;
+    let request = request_of(rt.alloc(), words.as_slice())?;
+    let job = job_of(rt, &request)?;
+    debug(rt, &request, job)
+}
+
+/// Shows where the run of a job begins, and then answers the lines of its commands, and those that are
+/// typed.
+fn debug(rt: &HostRuntime, request: &Request<'_>, job: Job) -> Result<(), DbFault> {
+    let mode = mode_of(rt, request, &job);
+    let Job {
+        deck,
+        input,
+        commands,
+        ..
+    } = job;
+    Part::Deck.check(deck.as_slice())?;
+    Part::Input.check(input.as_slice())?;
+    Part::Commands.check(commands.as_slice())?;
+    let mut session = session_of(rt.alloc(), deck, input.as_slice(), request.options)?;
+    let place = session.place(rt.alloc())?;
+    write_text(
+        &mut Host::new(rt.stdout()),
+        place.as_slice(),
+        0,
+        &mut Patience::new(),
+    )?;
+    let prompt: &[u8] = if mode.is_typed { b"(l6db) " } else { b"" };
+    let mut console = Terminal::new(rt.stdin().lock(), Host::new(rt.stdout()), commands, mode);
+    Ok(converse(rt.alloc(), &mut session, &mut console, prompt)?)
+}
+
+/// How the console of a job behaves.
+fn mode_of(rt: &HostRuntime, request: &Request<'_>, job: &Job) -> Mode {
+    let is_batch = request.is_batch || job.is_stdin_taken;
+    Mode {
+        is_batch,
+        is_typed: rt.stdin().is_terminal() && rt.stdout().is_terminal() && !is_batch,
+        has_echo: request.has_echo,
+    }
+}

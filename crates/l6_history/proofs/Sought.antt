@@ -323,6 +323,40 @@ module _ (rule : Rule) (context : RunContext) (stop : Stop) (from number : ℕ)
             ])
       ]
 
+-- a stretch more in which none passes
+pub none-on : (test : ℕ → Bool) (from number next : ℕ) → NoneAfter test from number →
+    number < next → ((k : ℕ) → number < k → k < next → test k ≡ false) → test next ≡ false →
+    NoneAfter test from next
+none-on test from number next passed further between last =
+    let on = passed.on in
+    record {
+      on = omega (arith, on, further);
+      none = λ k later within. elim (cases_lt number k) as (λ _. test k ≡ false) [
+        | inl past ↦ elim (cases_lt k next) as (λ _. test k ≡ false) [
+          | inl before ↦ between k past before
+          | inr not_before ↦
+              (let same : k ≡ next = omega (arith, not_before, within) in ap test same ∙ last)
+        ]
+        | inr up_to ↦ passed.none k later up_to
+      ];
+    }
+
+-- and one at whose end one passes, or the last number is
+pub comes-on : (test : ℕ → Bool) (from number last next : ℕ) → NoneAfter test from number →
+    number ≤ next → next ≤ last → ((k : ℕ) → number < k → k < next → test k ≡ false) →
+    (next < last → (number < next) × (test next ≡ true)) → ComesTo test from last next
+comes-on test from number last next passed further within between stops =
+    let on = passed.on in
+    record {
+      on = omega (arith, on, further);
+      within = within;
+      none = λ k later before. elim (cases_lt number k) as (λ _. test k ≡ false) [
+        | inl past ↦ between k past before
+        | inr up_to ↦ passed.none k later up_to
+      ];
+      stops = λ below. (let seen = stops below in (omega (arith, on, seen.0), seen.1));
+    }
+
 -- what is seen by another test that says the same is seen
 pub comes-alike : (one other : ℕ → Bool) (from last number : ℕ) → ComesTo one from last number →
     ((n : ℕ) → other n ≡ one n) → ComesTo other from last number
@@ -333,6 +367,11 @@ comes-alike one other from last number comes alike = record {
   stops = λ below.
       (let seen = comes.stops below in (seen.0, alike number ∙ seen.1));
 }
+
+pub none-watched : (stop : Stop) (chains : List (List ℕ)) → chains ≡ stop.watched →
+    length chains ≡ 0 → stop.watched ≡ []
+none-watched stop [] same none = sym same
+none-watched stop (chain ∷ chains) same none = absurd (omega (arith, none))
 
 -- without chains the places alone are seen
 pub seen-by-place : (rule : Rule) (context : RunContext) (stop : Stop) (from n : ℕ) →

@@ -84,7 +84,11 @@ pub(crate) fn values_of<S: Places>(
 
 /// Whether some chains read as other values than these. The caller owes a value for each chain.
 #[inline(always)]
-pub(crate) fn differ<S: Places>(values: &[Option<Word>], chains: &[Chain], machine: &Machine<S>) -> bool
+pub(crate) fn differ<S: Places>(
+    values: &[Option<Word>],
+    chains: &[Chain],
+    machine: &Machine<S>,
+) -> bool
     requires { length values.now ≡ length chains.now }
     ensures { result ≡ some_differ values.now
         (values_of chains.now machine.now.configuration.state.memory) }

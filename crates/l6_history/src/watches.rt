@@ -16,7 +16,7 @@ use l6_word::Word;
 use std::marker::Model;
 
 /// One watches for breakpoints, and for how many calls wait.
-#[derive(Clone, Copy)]
+#[derive(Drop)]
 pub(crate) struct PlaceWatch<'a> {
     stop: &'a Stop,
 }
@@ -42,7 +42,7 @@ impl<'a, S: Places> Watch<S> for PlaceWatch<'a> {
 }
 
 /// One watches what a bug holds, too.
-#[derive(Clone, Copy)]
+#[derive(Drop)]
 pub(crate) struct BugWatch<'a> {
     stop: &'a Stop,
     bug: Name,

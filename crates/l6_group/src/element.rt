@@ -1,6 +1,6 @@
 //! The elements of a group: names, chains and operands.
 
-ghost use Rattle.std.specs.Prelude.{◌≡◌};
+ghost use Rattle.std.specs.Prelude.{◌≡◌, [], ◌∷◌};
 ghost use Rattle.std.specs.List.{list_all};
 ghost use Rattle.l6_group.specs.Character as spec;
 ghost use Rattle.l6_group.specs.Element.{chain_of, operand_of, field_of, chain_if_given, nothing_given};
@@ -33,6 +33,19 @@ pub(crate) fn name_of(byte: u8) -> Option<Name>
 pub fn chain_of(element: &[u8]) -> Option<Chain>
     ensures { result ≡ chain_of element.now }
 {
+    match element {
+        // Most chains are a bug, and most elements that are none are a number.
+        [byte] => bug_of(*byte),
+        [b'0'..=b'9', ..] => None,
+        _ => any_chain_of(element),
+    }
+}
+
+/// The chain that an element spells, read name by name.
+#[inline(never)] // so that the short ways of `chain_of` are read in place
+fn any_chain_of(element: &[u8]) -> Option<Chain>
+    ensures { result ≡ chain_of element.now }
+{
     let mut names: ArrayVec<Name, MAX_NAMES> = ArrayVec::new();
     for byte in element {
         if !is_blank(*byte) {
@@ -44,6 +57,14 @@ pub fn chain_of(element: &[u8]) -> Option<Chain>
         }
     }
     Chain::new(names.as_slice())
+}
+
+/// The chain of one name, a letter, that an element of this byte alone spells.
+fn bug_of(byte: u8) -> Option<Chain>
+    ensures { result ≡ chain_of (byte ∷ []) }
+{
+    let name = name_of(byte)?;
+    Chain::new(&[name])
 }
 
 /// The operand that an element spells: a chain or a decimal number.

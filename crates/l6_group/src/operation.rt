@@ -102,6 +102,7 @@ fn print_text(text: &[u8]) -> Option<Op<Label>>
 }
 
 /// The operation of three elements.
+#[inline(never)] // so that its answer is copied whole, and not piece by piece
 fn of_three(a: &[u8], verb: &[u8], b: &[u8]) -> Option<Op<Label>>
     ensures { result ≡ spec.of_three a.now verb.now b.now }
 {

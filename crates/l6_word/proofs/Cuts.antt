@@ -1,9 +1,11 @@
 -- Bytes that are cut at their first separator, and the lines of a text so cut.
-use Rattle.std.proofs.Common.{◌≡◌, ℕ, ◌+◌, ◌-◌, ◌<◌, List, [], ◌∷◌, ◌++◌, Some, None, length, take, drop, true, false, eqb, refl, sym, ap, ◌∙◌, subst, arith, get_or-take, length-take, take_all}
+use Rattle.std.proofs.Common.{◌≡◌, ℕ, ◌+◌, ◌-◌, ◌<◌, List, [], ◌∷◌, ◌++◌, Some, None, length, take, drop, true, false, eqb, refl, sym, ap, ◌∙◌, subst, arith, get_or-take, length-take, length-append, append_assoc, take_all}
 use Rattle.std.specs.Prelude.{not, Option, MatchOption}
 use Rattle.std.specs.List.{AllWithin, HoldsAt, onto_first}
 use Rattle.std.proofs.lemmas.List.Elements.{All-from_get_or}
+use Rattle.std.proofs.lemmas.List.Folds.{list_all-append}
 use Rattle.std.proofs.lemmas.Grind.{common_steps}
+use Rattle.std.proofs.Math.Seq.{take-append_seam}
 use Rattle.std.specs.Str.{byte}
 use Rattle.std.proofs.lemmas.Bool.{and_parts, not-true}
 use Rattle.std.proofs.lemmas.List.Sums.{list_all-from_AllPass}
@@ -84,3 +86,41 @@ cut-first separator bytes (Some place) found = record {
   whole = (let within = found.0 in let is = found.1 0 in grind (arith, common_steps));
   first = lacks-take separator bytes place found.2;
 }
+
+-- the separator is not in bytes of which it is in neither part
+lacks-both : (separator : ℕ) (front following : List ℕ) →
+    lacks separator front ≡ true → lacks separator following ≡ true →
+    lacks separator (front ++ following) ≡ true
+lacks-both separator front following lacking others =
+    list_all-append (λ byte. not (eqb byte separator)) front following
+    ∙ rw (lacking, others) refl
+
+-- a front without the separator, and a block without it
+pub skip-block : (separator : ℕ) (bytes front rest block following : List ℕ) →
+    bytes ≡ front ++ rest → lacks separator front ≡ true →
+    rest ≡ block ++ following → lacks separator block ≡ true →
+    (longer : List ℕ) × (bytes ≡ longer ++ following) × (lacks separator longer ≡ true)
+skip-block separator bytes front rest block following whole lacking parts others = (
+  front ++ block,
+  whole ∙ ap (λ (r : List ℕ). front ++ r) parts ∙ sym (append_assoc front block following),
+  lacks-both separator front block lacking others,
+)
+
+-- bytes that are cut behind a front without the separator are cut there
+pub cut-behind : (separator : ℕ) (bytes front rest line following : List ℕ) →
+    bytes ≡ front ++ rest → lacks separator front ≡ true →
+    IsCutAt separator rest line following →
+    IsCutAt separator bytes (take (length bytes - length following - 1) bytes) following
+cut-behind separator bytes front rest line following whole lacking cut =
+    let parts : bytes ≡ (front ++ line) ++ separator ∷ following
+    = whole ∙ ap (λ (r : List ℕ). front ++ r) cut.whole
+    ∙ sym (append_assoc front line (separator ∷ following)) in
+    let place : length bytes - length following - 1 ≡ length (front ++ line)
+    = omega (arith, ap length parts, length-append (front ++ line) (separator ∷ following)) in
+    let taken : take (length bytes - length following - 1) bytes ≡ front ++ line
+    = ap (λ (n : ℕ). take n bytes) place ∙ ap (take (length (front ++ line))) parts
+    ∙ take-append_seam (front ++ line) (separator ∷ following) in
+    record {
+      whole = parts ∙ ap (λ (f : List ℕ). f ++ separator ∷ following) (sym taken);
+      first = ap (lacks separator) taken ∙ lacks-both separator front line lacking cut.first;
+    }

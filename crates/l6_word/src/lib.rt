@@ -17,7 +17,7 @@ pub use laws::{
 };
 pub use line::{first_line, without_return};
 pub use octal::{OCTALS, octal12, read_octal12};
-pub use split::split_once;
+pub use split::{split_line, split_once};
 pub use unit::{LARGEST_LEVEL, UNIT_SIZE};
 pub use window::Window;
 pub use word::Word;

@@ -3,7 +3,7 @@
 ghost use Rattle.std.specs.Prelude.{◌≡◌, ◌<◌, ◌≤◌, [], ◌∷◌, length, MatchOption, IfSome};
 ghost use Rattle.l6_word.specs.Lines as spec;
 
-use crate::split::split_once;
+use crate::split::split_line;
 
 /// The first line of a text, without its line feed, and the text after it; `None` where there is
 /// no line.
@@ -12,7 +12,7 @@ pub fn first_line(text: &[u8]) -> Option<(&[u8], &[u8])>
         MatchOption result (lines ≡ []) (λ parts. lines ≡ parts.0.now ∷ spec.lines_of parts.1.now) }
     ensures shorter { IfSome result (λ parts. length parts.1.now < length text.now) }
 {
-    if let Some(parts) = split_once(text, b'\n') {
+    if let Some(parts) = split_line(text) {
         return Some(parts);
     }
     if text.is_empty() {

@@ -4,7 +4,7 @@ use Rattle.std.proofs.lemmas.Bool.{eqb-true}
 use Rattle.l6_group.specs.Character.{name_of}
 use Rattle.l6_group.specs.Element.{names_of, chain_from}
 use Rattle.l6_group.proofs.Readings.{with_read, read_on, too_many_names}
-use Rattle.l6_group.proofs.element.chain_of.Goals as goal
+use Rattle.l6_group.proofs.element.any_chain_of.Goals as goal
 
 pub returns-then-is_full : goal.returns-then-is_full
 returns-then-is_full c =

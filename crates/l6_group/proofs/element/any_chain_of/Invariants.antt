@@ -1,7 +1,7 @@
 use Rattle.std.proofs.Common.{◌≡◌, drop}
 use Rattle.l6_group.specs.Element.{names_of}
 use Rattle.l6_group.proofs.Readings.{with_read}
-use Rattle.l6_group.proofs.element.chain_of.Given as goal
+use Rattle.l6_group.proofs.element.any_chain_of.Given as goal
 
 -- the names so far and those of what is left are those of the element
 abbrev pub invariant-loop-byte : goal.invariant-loop-byte

@@ -42,7 +42,7 @@ impl<S: Places> Machine<S> {
         let limit = count.min(self.limits().steps);
         let mut made = 0;
         'steps: while self.goes_on_below(limit) {
-            self.go_on();
+            self.go_on::<W>();
             made += 1;
             if watch.sees(self) {
                 return made;
@@ -61,9 +61,9 @@ impl<S: Places> Machine<S> {
         self.progress.ending.is_none() && self.progress.count < limit
     }
 
-    /// Makes a step, from where the run goes on.
+    /// Makes a step, from where the run goes on, for a caller that tells itself from others by `C`.
     #[inline(always)]
-    fn go_on(&mut self)
+    fn go_on<C>(&mut self)
         requires goes_on { self.old.configuration.state.ending ≡ None }
         requires below { self.old.configuration.state.count < self.old.context.parameters.limits.steps }
         ensures configuration { self.new.configuration
@@ -71,6 +71,6 @@ impl<S: Places> Machine<S> {
         ensures context { self.new.context ≡ self.old.context }
         ensures counted { number_of self.new.configuration.state ≡ self.old.configuration.state.count + 1 }
     {
-        self.progress.go_here(&self.code, &mut self.registers);
+        self.progress.go_here::<S, C>(&self.code, &mut self.registers);
     }
 }

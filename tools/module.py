@@ -15,8 +15,10 @@ from dataclasses import dataclass
 from pathlib import Path
 from tempfile import TemporaryDirectory
 
+from commands import Commands
 from crates import TOP, Crate, listed, read_crates, uses_of
-from prove import replace_text, sources_sum
+from lanes import processors
+from prove import prove, replace_text, sources_sum
 from rooms import room_of
 
 PROGRAMS = (TOP / "dist" / "l6", TOP / "crates" / "l6" / "out" / "l6")
@@ -101,7 +103,13 @@ def note_of(crate: Crate, built: Built) -> str:
 
 
 def build(rattle: Path, crate: Crate, folder: Path) -> None:
-    """Builds the program with what its proof kept, and puts its object file and its module into a folder."""
+    """Builds the program with what its proof kept, and puts its object file and its module into a folder.
+
+    It is proved first if it is not, or if a library was proved again since then (as the edits of a crate do
+    it): a program can only be built of libraries of one proof.
+    """
+    if not prove([crate], processors(), Commands()):
+        raise Stop(f"{crate.name} is not proved")
     tools = toolchain_that_keeps(folder / "module.bc", rattle, folder / "toolchain")
     with room_of(crate) as room:
         call(str(rattle / "bin/rattle"), "build", *words_of(crate, rattle, room),

@@ -32,7 +32,7 @@ class Proving:
     """Crates that are proved side by side."""
 
     def __init__(self, crates: Iterable[Crate], jobs: int, commands: Commands) -> None:
-        self._waiting = [crate for crate in crates if not is_proved(crate)]
+        self._waiting = unproved(crates)
         self._total = len(self._waiting)
         self._running: dict[Future[Ended], tuple[Crate, int]] = {}
         self._killed: set[Crate] = set()  # those whose check was killed, and is to run alone
@@ -106,6 +106,18 @@ class Proving:
         print(f"l6: {minutes}:{seconds:02}  {what}", file=sys.stderr, flush=True)
 
 
+def unproved(crates: Iterable[Crate]) -> list[Crate]:
+    """The crates that are to be proved, of some that each stand after those that they use.
+
+    They are those that are not proved, and those above them: a proof is of the very builds below it.
+    """
+    found: list[Crate] = []
+    for crate in crates:
+        if not is_proved(crate) or any(below in found for below in crate.below):
+            found.append(crate)
+    return found
+
+
 def proved(crate: Crate, jobs: int, commands: Commands) -> Ended:
     """Proves and builds a crate in a room, and brings back what that made and kept."""
     before = sources_sum(crate)
@@ -118,7 +130,7 @@ def proved(crate: Crate, jobs: int, commands: Commands) -> Ended:
         if ended.status == 0:
             bring_back(crate, folder, made_by(crate))
     if ended.status == 0 and sources_sum(crate) == before:
-        replace_text(crate.folder / STAMP, f"{before} {made_sum(crate)}\n")
+        replace_text(crate.folder / STAMP, f"{before} {made_sums(crate)}\n")
     return ended
 
 
@@ -146,7 +158,7 @@ def is_proved(crate: Crate) -> bool:
     """Whether a crate and those below it are proved as they are now, by what was noted."""
     stamp = crate.folder / STAMP
     noted = stamp.read_text("utf-8") if stamp.is_file() else ""
-    return noted == f"{sources_sum(crate)} {made_sum(crate)}\n"
+    return noted == f"{sources_sum(crate)} {made_sums(crate)}\n"
 
 
 @functools.cache
@@ -165,6 +177,11 @@ def sources_sum(crate: Crate) -> str:
                     own = hashlib.sha256(file.read_bytes()).hexdigest()
                     total.update(f"{file.relative_to(TOP)} {own}\n".encode())
     return total.hexdigest()
+
+
+def made_sums(crate: Crate) -> str:
+    """A sum of what the proofs of a crate and of those below it made."""
+    return hashlib.sha256(" ".join(map(made_sum, (*crate.below, crate))).encode()).hexdigest()
 
 
 def made_sum(crate: Crate) -> str:

@@ -1,3 +1,4 @@
+pub mod Numerals
 pub mod Kept
 pub mod OnCard
 pub mod Faults

@@ -1,12 +1,9 @@
 //! Advice on what was read: what to write in its place.
 
 use crate::scan::{begins_with, has_word};
-use crate::slips::{exit_word_advice, operation_advice, test_advice};
+use crate::slips::{MAX_ADVISED, exit_word_advice, operation_advice, test_advice};
 use l6_group::{Spelling, spelled};
 use l6_word::is_blank;
-
-/// How many characters of a word are looked at.
-const MAX_WORD: usize = 8;
 
 /// Advice on a THEN without a condition.
 const THEN_ALONE: &str = "THEN follows a condition, which is no label: put a blank in column 1";
@@ -23,7 +20,7 @@ pub(crate) fn column_advice(text: &[u8]) -> &'static str {
 
 /// Advice on the spelling of an operation or a test.
 pub(crate) fn spelling_advice(text: &[u8], is_test: bool) -> &'static str {
-    let characters: Option<Spelling<'_, MAX_WORD>> = spelled(text);
+    let characters: Option<Spelling<'_, MAX_ADVISED>> = spelled(text);
     let advice = match characters {
         None => "",
         Some(characters) => {
@@ -48,7 +45,7 @@ pub(crate) fn spelling_advice(text: &[u8], is_test: bool) -> &'static str {
 
 /// Advice on a label that no card gives.
 pub(crate) fn label_advice(text: &[u8]) -> &'static str {
-    let characters: Option<Spelling<'_, MAX_WORD>> = spelled(text);
+    let characters: Option<Spelling<'_, MAX_ADVISED>> = spelled(text);
     let advice = match characters {
         None => "",
         Some(characters) => exit_word_advice(characters.as_slice()),

@@ -6,7 +6,7 @@ ghost use Rattle.l6_check.specs.OnCard.{IsOnCard};
 use crate::reason::Reason;
 
 /// How many columns of a card count.
-const WIDTH: usize = 72;
+pub(crate) const WIDTH: usize = 72;
 
 /// How bad a finding is.
 #[derive(Clone, Copy, Debug, PartialEq, Eq)]

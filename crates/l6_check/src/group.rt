@@ -4,10 +4,8 @@
 use crate::element::{Element, element_count, nth_element};
 use crate::reason::{GroupFault, Shape};
 use crate::shape::fits;
+use crate::slips::MAX_ADVISED;
 use l6_group::{Spelling, are_blank, decimal_of, spelled};
-
-/// How many characters of a spelling are looked at.
-const MAX_WORD: usize = 8;
 
 /// How many elements a group may have.
 pub(crate) const MAX_ELEMENTS: usize = 5;
@@ -51,7 +49,7 @@ fn objection(columns: &[u8], kind: GroupKind) -> GroupObjection {
     if are_blank(verb.text) {
         return at(verb, GroupFault::EmptyElement);
     }
-    let characters: Option<Spelling<'_, MAX_WORD>> = spelled(verb.text);
+    let characters: Option<Spelling<'_, MAX_ADVISED>> = spelled(verb.text);
     match characters {
         None => at(verb, GroupFault::Spelling),
         Some(characters) => match kind {
@@ -202,7 +200,7 @@ pub(crate) fn shapes_of(columns: &[u8]) -> &'static [Shape] {
     match spelling_in(columns, count) {
         None => &[],
         Some(verb) => {
-            let characters: Option<Spelling<'_, MAX_WORD>> = spelled(verb.text);
+            let characters: Option<Spelling<'_, MAX_ADVISED>> = spelled(verb.text);
             match characters {
                 None => &[],
                 Some(characters) => shapes_spelled(characters.as_slice(), count),
@@ -345,7 +343,7 @@ pub(crate) fn form_advice(columns: &[u8]) -> &'static str {
     match spelling_in(columns, element_count(columns)) {
         None => "",
         Some(verb) => {
-            let characters: Option<Spelling<'_, MAX_WORD>> = spelled(verb.text);
+            let characters: Option<Spelling<'_, MAX_ADVISED>> = spelled(verb.text);
             match characters {
                 None => "",
                 Some(characters) => operation_form(characters.as_slice()),

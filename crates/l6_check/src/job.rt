@@ -15,7 +15,7 @@ use l6_word::{OCTALS, first_line, read_octal12, without_return};
 use std::alloc::{AllocError, Global};
 
 /// How many characters the longest mark has.
-const MAX_MARK: usize = 9;
+pub(crate) const MAX_MARK: usize = 9;
 
 /// Whether a line reads as one that separates the parts of a job.
 pub(crate) fn is_mark(line: &[u8]) -> bool

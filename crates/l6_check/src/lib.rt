@@ -16,6 +16,7 @@ mod group;
 mod job;
 mod label_places;
 mod labels;
+mod laws;
 mod marks;
 mod names;
 mod nearest;
@@ -39,6 +40,7 @@ pub use fields::undefined_fields;
 pub use finding::{Finding, Severity, Span};
 pub use findings::{Findings, MAX_FINDINGS};
 pub use labels::{Labels, LabelsFound, labels_of};
+pub use laws::checks_have_their_limits;
 pub use reading::{StatementErrors, statement_errors};
 pub use reason::{
     FormReason, GroupFault, LabelText, LimitReason, MissingLabel, Reason, Shape, WarningReason,

@@ -1,9 +1,9 @@
 //! The labels that statements name and that no card gives.
 
-ghost use Rattle.std.specs.Prelude.{◌≡◌, ◌+◌, ◌*◌, ◌≤◌, ◌<◌, ◌^◌, Some, true, length, option_to_list, OnOk};
+ghost use Rattle.std.specs.Prelude.{◌≡◌, ◌+◌, ◌*◌, ◌<◌, ◌^◌, Some, true, length, option_to_list, OnOk};
 ghost use Rattle.std.specs.List.{flat_map, list_all};
 ghost use Rattle.l6_card.specs.Statement.{is_fit};
-ghost use Rattle.l6_check.specs.OnCard.{IsOnItsCard, StayOnTheirCards};
+ghost use Rattle.l6_check.specs.OnCard.{IsOnItsCard};
 ghost use Rattle.l6_check.specs.Missing as spec;
 ghost use Rattle.l6_check.specs.inner.Names as inner;
 
@@ -28,11 +28,9 @@ pub(crate) fn add_missing<'a>(
 ) -> Result<(), AllocError>
     requires fit { list_all is_fit statements.now ≡ true }
     requires room { missing.old.count + inner.most_names * length statements.now < 2 ^ 32 }
-    ensures said { let more = flat_map (spec.missing_in given.now.entries) statements.now in
-        OnOk result (inner.SayMore more missing.old missing.new) }
-    ensures count { let most = missing.old.count + inner.most_names * length statements.now in
-        OnOk result (missing.new.count ≤ most) }
-    ensures places { OnOk result (StayOnTheirCards missing.old missing.new) }
+    ensures { let more = flat_map (spec.missing_in given.now.entries) statements.now in
+        let most = inner.most_names * length statements.now in
+        OnOk result (inner.AreAdded more most missing.old missing.new) }
 {
     for statement in statements {
         add_of_statement(given, missing, statement, part)?;
@@ -49,10 +47,8 @@ fn add_of_statement<'a>(
 ) -> Result<(), AllocError>
     requires fit { is_fit statement.now ≡ true }
     requires room { missing.old.count + inner.most_names < 2 ^ 32 }
-    ensures said { let more = spec.missing_in given.now.entries statement.now in
-        OnOk result (inner.SayMore more missing.old missing.new) }
-    ensures count { OnOk result (missing.new.count ≤ missing.old.count + inner.most_names) }
-    ensures places { OnOk result (StayOnTheirCards missing.old missing.new) }
+    ensures { let more = spec.missing_in given.now.entries statement.now in
+        OnOk result (inner.AreAdded more inner.most_names missing.old missing.new) }
 {
     add_of_groups(given, missing, statement.operations(), part)?;
     add_of_exit(given, missing, statement.exit(), part)
@@ -66,10 +62,8 @@ fn add_of_groups<'a>(
     part: Part<'a>,
 ) -> Result<(), AllocError>
     requires room { missing.old.count + 2 * length groups.now < 2 ^ 32 }
-    ensures said { let more = flat_map (spec.missing_in_group given.now.entries) groups.now in
-        OnOk result (inner.SayMore more missing.old missing.new) }
-    ensures count { OnOk result (missing.new.count ≤ missing.old.count + 2 * length groups.now) }
-    ensures places { OnOk result (StayOnTheirCards missing.old missing.new) }
+    ensures { let more = flat_map (spec.missing_in_group given.now.entries) groups.now in
+        OnOk result (inner.AreAdded more (2 * length groups.now) missing.old missing.new) }
 {
     for group in groups {
         add_of_group(given, missing, group, part)?;
@@ -85,19 +79,17 @@ fn add_of_group<'a>(
     part: Part<'a>,
 ) -> Result<(), AllocError>
     requires room { missing.old.count + 2 < 2 ^ 32 }
-    ensures said { let more = spec.missing_in_group given.now.entries group.now in
-        OnOk result (inner.SayMore more missing.old missing.new) }
-    ensures count { OnOk result (missing.new.count ≤ missing.old.count + 2) }
-    ensures places { OnOk result (StayOnTheirCards missing.old missing.new) }
+    ensures { let more = spec.missing_in_group given.now.entries group.now in
+        OnOk result (inner.AreAdded more 2 missing.old missing.new) }
 {
     match &group.reading {
         Op::Call(called, fail) => {
             add_if_missing(given, missing, group.card, called, part)?;
             add_if_given(given, missing, group.card, fail, part)
         }
-        Op::Get(_, _, _, label) => add_if_given(given, missing, group.card, label, part),
-        Op::Duplicate(_, _, label) => add_if_given(given, missing, group.card, label, part),
-        Op::Input(_, _, label) => add_if_given(given, missing, group.card, label, part),
+        Op::Get(_, _, _, label) | Op::Duplicate(_, _, label) | Op::Input(_, _, label) => {
+            add_if_given(given, missing, group.card, label, part)
+        }
         _ => Ok(()),
     }
 }
@@ -110,10 +102,8 @@ fn add_of_exit<'a>(
     part: Part<'a>,
 ) -> Result<(), AllocError>
     requires room { missing.old.count + 1 < 2 ^ 32 }
-    ensures said { let more = spec.missing_in_exit given.now.entries exit.now in
-        OnOk result (inner.SayMore more missing.old missing.new) }
-    ensures count { OnOk result (missing.new.count ≤ missing.old.count + 1) }
-    ensures places { OnOk result (StayOnTheirCards missing.old missing.new) }
+    ensures { let more = spec.missing_in_exit given.now.entries exit.now in
+        OnOk result (inner.AreAdded more 1 missing.old missing.new) }
 {
     match exit {
         Exit::Label(named) => add_if_missing(given, missing, named.card, &named.label, part),
@@ -130,10 +120,8 @@ fn add_if_given<'a>(
     part: Part<'a>,
 ) -> Result<(), AllocError>
     requires room { missing.old.count + 1 < 2 ^ 32 }
-    ensures said { let more = flat_map (spec.missing_if given.now.entries card) (option_to_list label.now) in
-        OnOk result (inner.SayMore more missing.old missing.new) }
-    ensures count { OnOk result (missing.new.count ≤ missing.old.count + 1) }
-    ensures places { OnOk result (StayOnTheirCards missing.old missing.new) }
+    ensures { let more = flat_map (spec.missing_if given.now.entries card) (option_to_list label.now) in
+        OnOk result (inner.AreAdded more 1 missing.old missing.new) }
 {
     match label {
         None => Ok(()),
@@ -150,10 +138,8 @@ fn add_if_missing<'a>(
     part: Part<'a>,
 ) -> Result<(), AllocError>
     requires room { missing.old.count + 1 < 2 ^ 32 }
-    ensures said { let more = spec.missing_if given.now.entries card label.now in
-        OnOk result (inner.SayMore more missing.old missing.new) }
-    ensures count { OnOk result (missing.new.count ≤ missing.old.count + 1) }
-    ensures places { OnOk result (StayOnTheirCards missing.old missing.new) }
+    ensures { let more = spec.missing_if given.now.entries card label.now in
+        OnOk result (inner.AreAdded more 1 missing.old missing.new) }
 {
     if given.get(label).is_some() {
         return Ok(());

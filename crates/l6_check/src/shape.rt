@@ -3,14 +3,11 @@
 
 use crate::reason::Shape;
 use l6_group::{Spelling, are_blank, chain_of, decimal_of, is_letter, label_of, spelled};
-use l6_word::{code_of, is_blank};
+use l6_prog::MAX_CHARACTERS;
+use l6_word::{OCTALS, code_of, is_blank};
 
-/// How many digits the longest octal number has, leading zeros aside.
-const MAX_OCTALS: usize = 12;
 /// How many characters a text may have that denotes a number.
-const MAX_TEXT: usize = 6;
-/// How many characters a text may have that is printed.
-const MAX_LONG_TEXT: usize = 60;
+pub(crate) const MAX_TEXT: usize = 6;
 
 /// Whether an element is what stands there.
 pub(crate) fn fits(shape: Shape, text: &[u8]) -> bool {
@@ -20,7 +17,7 @@ pub(crate) fn fits(shape: Shape, text: &[u8]) -> bool {
         Shape::Operand => chain_of(text).is_some() || decimal_of(text).is_some(),
         Shape::Octal => is_octal(text),
         Shape::Text => is_text(text, MAX_TEXT),
-        Shape::LongText => is_text(text, MAX_LONG_TEXT),
+        Shape::LongText => is_text(text, MAX_CHARACTERS),
         Shape::Label => label_of(text).is_some(),
         Shape::Field => is_name(text),
         Shape::OptionalChain => are_blank(text) || chain_of(text).is_some(),
@@ -53,7 +50,7 @@ fn is_octal(text: &[u8]) -> bool {
             }
         }
     }
-    has_digit && count <= MAX_OCTALS
+    has_digit && count <= OCTALS
 }
 
 /// Whether a text has at least one character and at most so many, each with a code.

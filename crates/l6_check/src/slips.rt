@@ -1,5 +1,8 @@
 //! Words that people bring from other languages, and what to write in their place.
 
+/// How many characters of a word are looked at for advice.
+pub(crate) const MAX_ADVISED: usize = 8;
+
 /// A row of a table of words.
 macro_rules! advised {
     ($characters:expr; $($($word:literal)|+ => $advice:literal,)+) => {

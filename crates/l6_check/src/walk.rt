@@ -9,14 +9,12 @@ use l6_group::{
     MAX_LABEL_CHARACTERS, Spelling, after_then, are_blank, condition_from, exit_from, is_blank,
     is_letter, label_of, operation_of, spelled, test_of,
 };
-use l6_prog::Cond;
+use l6_prog::{Cond, MAX_OPERATIONS, MAX_TESTS};
 
 /// How many cards may continue a statement.
-const MAX_CONTINUATIONS: usize = 15;
-/// How many tests or operations a statement may have.
-const MAX_GROUPS: usize = 63;
+pub(crate) const MAX_CONTINUATIONS: usize = 15;
 /// How many characters a word may have: those of THEN and of a label.
-const MAX_WORD: usize = 10;
+pub(crate) const MAX_WORD: usize = 4 + MAX_LABEL_CHARACTERS;
 
 /// Why something objects.
 #[derive(Clone, Copy, Debug)]
@@ -191,7 +189,7 @@ impl Walk {
         if operation_of(inside).is_none() {
             return Err(no_operation(from, to, inside, self.has_condition_label));
         }
-        self.counted(from, to, Phase::Open)
+        self.counted(from, to, Phase::Open, MAX_OPERATIONS)
     }
 
     /// The walk after a group that follows a test.
@@ -208,12 +206,12 @@ impl Walk {
         if matches!(condition, Cond::If | Cond::Not) {
             return Err(form(from, to, FormReason::SecondTest));
         }
-        self.counted(from, to, Phase::Tested(condition))
+        self.counted(from, to, Phase::Tested(condition), MAX_TESTS)
     }
 
-    /// The walk after one more test or operation.
-    fn counted(self, from: usize, to: usize, phase: Phase) -> Result<Self, Objection> {
-        if self.groups >= MAX_GROUPS {
+    /// The walk in a phase after one more test or operation, of which there may be so many.
+    fn counted(self, from: usize, to: usize, phase: Phase, most: usize) -> Result<Self, Objection> {
+        if self.groups >= most {
             return Err(limit(from, to, LimitReason::Groups));
         }
         Ok(self.in_phase(phase, self.groups.saturating_add(1)))

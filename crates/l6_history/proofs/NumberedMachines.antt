@@ -20,7 +20,8 @@ use Rattle.l6_steps.proofs.Lasting.{last-found, last-is, last-least, last-config
 use Rattle.l6_steps.proofs.Numbered.{later-stays, configuration_after-goes_on}
 use Rattle.l6_steps.proofs.Outputs.{outputs-begin_alike}
 use Rattle.l6_machine.specs.Counting.{number_by, number_of}
-use Rattle.l6_history.specs.History.{number_to}
+use Rattle.l6_machine.specs.Later.{configuration_later, state_later}
+use Rattle.l6_history.specs.History.{number_to, run_state_at}
 use Rattle.l6_history.specs.inner.NumberedMachine.{IsAtState}
 
 -- a run has no state of a greater number than the most steps that are allowed
@@ -250,3 +251,121 @@ outputs-alike rule one other first second holds_there also same =
     (subst (λ (w : RunContext). BeginAlike (state_at rule one.context first).memory.output
     (state_at rule w second).memory.output) same
     (outputs-begin_alike rule one.context first second)))
+
+-- ---- to what is watched for
+-- the configuration so many steps after that of a number
+later-at : (rule : Rule) (context : RunContext) (number made : ℕ) →
+    configuration_later rule context made (configuration_at rule context number)
+    ≡ configuration_at rule context (number + made)
+later-at rule context number zero =
+    ap (configuration_at rule context) (let same : number ≡ number + 0 = omega arith in same)
+later-at rule context number (suc made) =
+    ap (configuration_after rule context) (later-at rule context number made)
+    ∙ ap (configuration_at rule context)
+    (let same : suc (number + made) ≡ number + suc made = omega arith in same)
+
+-- a machine that goes on to what is watched for
+pub record GoesUntil (rule : Rule) (old new : RunState) (goal made : ℕ) (watched : State → Bool)
+    : Type 0 where
+  pub context : new.context ≡ old.context
+  pub there : new.configuration ≡ configuration_later rule old.context made old.configuration
+  pub goes_on : (k : ℕ) → k < made →
+      is_last old.context (state_later rule old.context k old.configuration) ≡ false
+  pub unseen : (k : ℕ) → 0 < k → k < made →
+      watched (state_later rule old.context k old.configuration) ≡ false
+  pub few : made ≤ goal - number_of old.configuration.state
+  pub stops : is_last new.context new.configuration.state ≡ false →
+      new.configuration.state.count < goal →
+      (0 < made) × (watched new.configuration.state ≡ true)
+
+-- comes to the state of this number, and saw none of the states between that is watched for
+pub record ComesUntil (rule : Rule) (old new : RunState) (number goal made : ℕ)
+    (watched : State → Bool) : Type 0 where
+  pub at : IsAtState rule new (number + made)
+  pub within : number + made ≤ number_to rule old.context goal
+  pub unseen : (k : ℕ) → number < k → k < number + made →
+      watched (state_at rule old.context k) ≡ false
+  pub stops : number + made < number_to rule old.context goal →
+      (number < number + made)
+      × (watched (state_at rule old.context (number + made)) ≡ true)
+
+module _ (rule : Rule) (old new : RunState) (number goal made : ℕ) (watched : State → Bool)
+    (holds_there : IsAtState rule old number) (on : number ≤ goal)
+    (goes : GoesUntil rule old new goal made watched) where
+  abbrev last : ℕ
+  last = last_number rule old.context
+
+  -- each state on the way, by its number
+  way : (k : ℕ) → state_later rule old.context k old.configuration
+      ≡ state_at rule old.context (number + k)
+  way k =
+      ap (λ (s : RunState). state_later rule old.context k s.configuration) holds_there.is
+      ∙ ap (λ (m : Configuration). m.state) (later-at rule old.context number k)
+
+  not_past : number + made ≤ last
+  not_past = elim (cases_lt last (number + made)) as (λ _. number + made ≤ last) [
+    | inl past ↦
+        (let k : ℕ = last - number in
+        let there : number + k ≡ last = omega (arith, holds_there.within) in
+        let open_yet = goes.goes_on k (omega (arith, past, there)) in
+        let wrong : is_last old.context (state_at rule old.context last) ≡ false =
+        ap (λ n. is_last old.context (state_at rule old.context n)) (sym there)
+        ∙ ap (is_last old.context) (sym (way k)) ∙ open_yet in
+        let is = last-is rule old.context in
+        absurd (cc (wrong, is)))
+    | inr within ↦ within
+  ]
+
+  arrived : new ≡ run_state_at rule new.context (number + made)
+  arrived =
+      ap (λ m. record { context = new.context; configuration = m })
+      (goes.there
+      ∙ ap (λ (s : RunState). configuration_later rule old.context made s.configuration)
+      holds_there.is
+      ∙ later-at rule old.context number made
+      ∙ ap (λ (w : RunContext). configuration_at rule w (number + made)) (sym goes.context))
+
+  -- the state at which it is
+  here : new.configuration.state ≡ state_at rule old.context (number + made)
+  here =
+      ap (λ (s : RunState). s.configuration.state) arrived
+      ∙ ap (λ (w : RunContext). state_at rule w (number + made)) goes.context
+
+  not_far : number + made ≤ goal
+  not_far =
+      let before : number_of old.configuration.state ≡ number =
+      ap (λ (s : RunState). number_of s.configuration.state) holds_there.is
+      ∙ number-at rule old.context number holds_there.within in
+      let few = goes.few in
+      omega (arith, before, few, on)
+
+  seen : number + made < number_to rule old.context goal →
+      (number < number + made) × (watched (state_at rule old.context (number + made)) ≡ true)
+  seen short =
+      let below : number + made < last = omega (arith, short) in
+      let open_yet : is_last new.context new.configuration.state ≡ false =
+      ap (λ (w : RunContext). is_last w new.configuration.state) goes.context
+      ∙ ap (is_last old.context) here
+      ∙ (last-found rule old.context).2 (number + made) below in
+      let counted : new.configuration.state.count ≡ number + made =
+      ap (λ (s : State). s.count) here ∙ open-at rule old.context (number + made) below in
+      let stops = goes.stops open_yet (omega (arith, counted, short)) in
+      (omega (arith, stops.0), ap watched (sym here) ∙ stops.1)
+
+  pub goes-until : ComesUntil rule old new number goal made watched
+  goes-until = record {
+    at = record {
+      is = arrived;
+      within = subst (λ w. number + made ≤ last_number rule w) (sym goes.context) not_past;
+      allowed = subst (λ (w : RunContext). are_allowed w.parameters.limits ≡ true)
+          (sym goes.context) holds_there.allowed;
+    };
+    within = omega (arith, not_past, not_far);
+    unseen = λ k later before.
+        (let j : ℕ = k - number in
+        let there : number + j ≡ k = omega (arith, later) in
+        ap (λ n. watched (state_at rule old.context n)) (sym there)
+        ∙ ap watched (sym (way j))
+        ∙ goes.unseen j (omega (arith, there, later)) (omega (arith, there, before)));
+    stops = seen;
+  }

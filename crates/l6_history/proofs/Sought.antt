@@ -15,8 +15,8 @@ use Rattle.l6_steps.specs.State.{RunContext, State}
 use Rattle.l6_history.specs.History.{number_to, run_state_at}
 use Rattle.l6_history.specs.Stop.{Stop, changes_between, differs, some_differ, stops_at, stops_nowhere, value_of, values_of}
 use Rattle.l6_history.specs.Seeking.{greatest, next_stop, previous_stop, stops_back, stops_forward}
-use Rattle.l6_history.specs.inner.Seeking.{IsLast, IsLastIn, NoneAfter, NoneIn, Sight, later_of, sight_of}
-use Rattle.l6_history.proofs.Sights.{same-value}
+use Rattle.l6_history.specs.inner.Seeking.{ComesTo, IsLast, IsLastIn, NoneAfter, NoneIn, Sight, later_of, sight_of}
+use Rattle.l6_history.proofs.Sights.{none-differ}
 
 -- ---- what is seen
 pub sight-at : (rule : Rule) (context : RunContext) (number : ℕ) (stop : Stop) (there : RunState)
@@ -31,23 +31,6 @@ pub sight-length : (stop : Stop) (state : State) (sight : Sight) → sight ≡ s
     length sight.values ≡ length stop.watched
 sight-length stop state sight seen =
     ap (λ (s : Sight). length s.values) seen ∙ length-map stop.watched (value_of state.memory)
-
-pub forward-is : (rule : Rule) (context : RunContext) (stop : Stop) (n : ℕ) (from there : Sight)
-    (differ : Bool) → from ≡ sight_of stop (state_at rule context n) →
-    there ≡ sight_of stop (state_at rule context (n + 1)) →
-    differ ≡ some_differ from.values there.values →
-    stops_forward rule context stop (n + 1) ≡ (there.stops || differ)
-unfolding stops_forward
-forward-is rule context stop n from there differ seen_from seen is =
-    let before : n + 1 - 1 ≡ n = omega arith in
-    ap (λ k. stops_at stop (state_at rule context (n + 1))
-    || changes_between stop (state_at rule context k) (state_at rule context (n + 1))) before
-    ∙ ap (λ (s : Sight). s.stops || changes_between stop (state_at rule context n)
-    (state_at rule context (n + 1))) (sym seen)
-    ∙ ap (λ (b : Bool). there.stops || b)
-    (sym (is ∙ ap (λ (s : Sight). some_differ s.values there.values) seen_from
-    ∙ ap (λ (s : Sight). some_differ (values_of stop.watched (state_at rule context n).memory)
-    s.values) seen))
 
 pub back-is : (rule : Rule) (context : RunContext) (stop : Stop) (n : ℕ) (there following : Sight)
     (differ : Bool) → there ≡ sight_of stop (state_at rule context n) →
@@ -230,62 +213,193 @@ last-next test begin from next number last answer passes on next_is number_is is
     (subst (λ (n : ℕ). IsLastIn test begin n (later_of passes from last)) (sym next_is)
     (last-more test begin from last passes on before passed))
 
--- ---- a bug
--- where a bug alone is watched, one stops by what it holds
-forward-by-bug : (rule : Rule) (context : RunContext) (stop : Stop) (n bug word : ℕ) →
-    stop.watched ≡ (bug ∷ []) ∷ [] →
-    Some word ≡ value_of (state_at rule context n).memory (bug ∷ []) →
-    stops_forward rule context stop (n + 1)
-    ≡ (stops_at stop (state_at rule context (n + 1))
-    || differs (Some word) (value_of (state_at rule context (n + 1)).memory (bug ∷ [])))
-unfolding stops_forward
-forward-by-bug rule context stop n bug word watched seen =
-    let before : n + 1 - 1 ≡ n = omega arith in
-    let here = state_at rule context n in
-    let there = state_at rule context (n + 1) in
-    let value = value_of there.memory (bug ∷ []) in
-    ap (λ k. stops_at stop there || changes_between stop (state_at rule context k) there) before
-    ∙ ap (λ (chains : List (List ℕ)). stops_at stop there
-    || some_differ (values_of chains here.memory) (values_of chains there.memory)) watched
-    ∙ ap (λ (kept : Option ℕ). stops_at stop there || some_differ (kept ∷ []) (value ∷ []))
-    (sym seen)
-    ∙ ap (λ (b : Bool). stops_at stop there || b) (or-false (differs (Some word) value))
+-- ---- to what is watched for
+-- the values of watched chains, as they were at first
+abbrev pub is_seen : Rule → RunContext → Stop → ℕ → ℕ → Bool
+is_seen rule context stop from n =
+    stops_at stop (state_at rule context n)
+    || some_differ (values_of stop.watched (state_at rule context from).memory)
+    (values_of stop.watched (state_at rule context n).memory)
 
--- a state more, which is the next one, whether one stops there, and that the bug is the same else
-pub record StepsByBug (rule : Rule) (context : RunContext) (stop : Stop)
-    (from number bug word : ℕ) (stops : Bool) : Type 0 where
-  pub on : number ≡ from + 1
-  pub below : from < last_number rule context
-  pub is : stops_forward rule context stop (from + 1) ≡ stops
-  pub same : stops ≡ false → Some word ≡ value_of (state_at rule context (from + 1)).memory (bug ∷ [])
+module _ (rule : Rule) (context : RunContext) (stop : Stop) (from number : ℕ)
+    (comes : ComesTo (is_seen rule context stop from) from (last_number rule context) number) where
+  abbrev values : ℕ → List (Option ℕ)
+  values n = values_of stop.watched (state_at rule context n).memory
 
-pub steps-by-bug : (rule : Rule) (context now there : RunContext) (stop : Stop)
-    (from number bug word : ℕ) (run_state : RunState) (stops : Bool) → now ≡ context → there ≡ now →
-    number ≡ number_to rule now (from + 1) → from < last_number rule now →
-    run_state ≡ run_state_at rule there number → stop.watched ≡ (bug ∷ []) ∷ [] →
-    Some word ≡ value_of (state_at rule context from).memory (bug ∷ []) →
-    stops ≡ (stops_at stop run_state.configuration.state
-    || differs (Some word) (value_of run_state.configuration.state.memory (bug ∷ []))) →
-    StepsByBug rule context stop from number bug word stops
-steps-by-bug rule context now there stop from number bug word run_state stops same same_there is
-    below at watched seen looked =
-    let on : number ≡ from + 1 = omega (arith, is, below) in
-    let next = state_at rule context (from + 1) in
-    let arrived : run_state.configuration.state ≡ next =
-    ap (λ (s : RunState). s.configuration.state) at
-    ∙ ap (λ (w : RunContext). state_at rule w number) (same_there ∙ same)
-    ∙ ap (λ n. state_at rule context n) on in
-    let found : stops ≡ (stops_at stop next || differs (Some word) (value_of next.memory (bug ∷ []))) =
-    looked ∙ ap (λ (s : State). stops_at stop s
-    || differs (Some word) (value_of s.memory (bug ∷ []))) arrived in
+  as_many : (n : ℕ) → length (values from) ≡ length (values n)
+  as_many n =
+      length-map stop.watched (value_of (state_at rule context from).memory)
+      ∙ sym (length-map stop.watched (value_of (state_at rule context n).memory))
+
+  -- up to a stop they never change
+  same : (n : ℕ) → from ≤ n → n < number → values from ≡ values n
+  same n on before = elim (cases_lt from n) as (λ _. values from ≡ values n) [
+    | inl later ↦
+        none-differ (values from) (values n) (as_many n)
+        (or_parts (stops_at stop (state_at rule context n)) (some_differ (values from) (values n))
+        (comes.none n later before)).1
+    | inr not_later ↦ (let here : from ≡ n = omega (arith, on, not_later) in ap values here)
+  ]
+
+  -- so one stops at what is seen
+  stops : (n : ℕ) → from ≤ n → n < number →
+      stops_forward rule context stop (n + 1) ≡ is_seen rule context stop from (n + 1)
+  unfolding stops_forward
+  stops n on before =
+      let next = state_at rule context (n + 1) in
+      let here : n + 1 - 1 ≡ n = omega arith in
+      ap (λ k. stops_at stop next || changes_between stop (state_at rule context k) next) here
+      ∙ ap (λ (old : List (Option ℕ)). stops_at stop next
+      || some_differ old (values_of stop.watched next.memory)) (sym (same n on before))
+
+  passed : (end : ℕ) → from ≤ end → end < number →
+      NoneAfter (stops_forward rule context stop) from end
+  passed end on before = record {
+    on = on;
+    none = λ k later within.
+        (let back : k - 1 + 1 ≡ k = omega (arith, later) in
+        ap (stops_forward rule context stop) (sym back)
+        ∙ stops (k - 1) (omega (arith, later)) (omega (arith, later, within, before))
+        ∙ ap (is_seen rule context stop from) back
+        ∙ comes.none k later (omega (arith, within, before)));
+  }
+
+  -- the state before
+  back : ℕ
+  back = number - 1
+
+  found : from < number → stops_forward rule context stop number ≡ true →
+      number ≡ next_stop rule context stop from
+  unfolding back
+  found moved is =
+      let next : back + 1 ≡ number = omega (arith, moved) in
+      let within = comes.within in
+      sym (next-found rule context stop from back
+      (passed back (omega (arith, moved)) (omega (arith, moved)))
+      (omega (arith, moved, within)) (ap (stops_forward rule context stop) next ∙ is)
+      ∙ next)
+
+  ended : from < number → number ≡ last_number rule context →
+      stops_forward rule context stop number ≡ false → number ≡ next_stop rule context stop from
+  unfolding back
+  ended moved last is =
+      let next : back + 1 ≡ number = omega (arith, moved) in
+      last
+      ∙ sym (next-ends rule context stop from number
+      (subst (NoneAfter (stops_forward rule context stop) from) next
+      (none-more (stops_forward rule context stop) from back
+      (passed back (omega (arith, moved)) (omega (arith, moved)))
+      (ap (stops_forward rule context stop) next ∙ is)))
+      (omega (arith, last)))
+
+  at_last : (is_stop : Bool) → stops_forward rule context stop number ≡ is_stop → from < number →
+      number ≡ last_number rule context → number ≡ next_stop rule context stop from
+  at_last true is moved last = found moved is
+  at_last false is moved last = ended moved last is
+
+  -- the next state that is seen is the next one at which one stops
+  pub next-seen : number ≡ next_stop rule context stop from
+  unfolding back
+  next-seen = elim (cases_lt number (last_number rule context))
+      as (λ _. number ≡ next_stop rule context stop from) [
+        | inl below ↦
+            (let seen = comes.stops below in
+            let moved = seen.0 in
+            let next : back + 1 ≡ number = omega (arith, moved) in
+            found moved (ap (stops_forward rule context stop) (sym next)
+            ∙ stops back (omega (arith, moved)) (omega (arith, moved))
+            ∙ ap (is_seen rule context stop from) next ∙ seen.1))
+        | inr past ↦
+            (let within = comes.within in
+            let last : number ≡ last_number rule context = omega (arith, within, past) in
+            elim (cases_lt from number) as (λ _. number ≡ next_stop rule context stop from) [
+              | inl moved ↦ at_last (stops_forward rule context stop number) refl moved last
+              | inr stayed ↦
+                  (let on = comes.on in
+                  let here : from ≡ number = omega (arith, on, stayed) in
+                  last
+                  ∙ sym (next-ends rule context stop from from
+                  (none-yet (stops_forward rule context stop) from) (omega (arith, here, last))))
+            ])
+      ]
+
+-- a stretch more in which none passes
+pub none-on : (test : ℕ → Bool) (from number next : ℕ) → NoneAfter test from number →
+    number < next → ((k : ℕ) → number < k → k < next → test k ≡ false) → test next ≡ false →
+    NoneAfter test from next
+none-on test from number next passed further between last =
+    let on = passed.on in
     record {
-      on = on;
-      below = subst (λ (w : RunContext). from < last_number rule w) same below;
-      is = forward-by-bug rule context stop from bug word watched seen ∙ sym found;
-      same = λ goes_on. same-value (Some word) (value_of next.memory (bug ∷ []))
-          (or_parts (stops_at stop next) (differs (Some word) (value_of next.memory (bug ∷ [])))
-          (sym found ∙ goes_on)).1;
+      on = omega (arith, on, further);
+      none = λ k later within. elim (cases_lt number k) as (λ _. test k ≡ false) [
+        | inl past ↦ elim (cases_lt k next) as (λ _. test k ≡ false) [
+          | inl before ↦ between k past before
+          | inr not_before ↦
+              (let same : k ≡ next = omega (arith, not_before, within) in ap test same ∙ last)
+        ]
+        | inr up_to ↦ passed.none k later up_to
+      ];
     }
+
+-- and one at whose end one passes, or the last number is
+pub comes-on : (test : ℕ → Bool) (from number last next : ℕ) → NoneAfter test from number →
+    number ≤ next → next ≤ last → ((k : ℕ) → number < k → k < next → test k ≡ false) →
+    (next < last → (number < next) × (test next ≡ true)) → ComesTo test from last next
+comes-on test from number last next passed further within between stops =
+    let on = passed.on in
+    record {
+      on = omega (arith, on, further);
+      within = within;
+      none = λ k later before. elim (cases_lt number k) as (λ _. test k ≡ false) [
+        | inl past ↦ between k past before
+        | inr up_to ↦ passed.none k later up_to
+      ];
+      stops = λ below. (let seen = stops below in (omega (arith, on, seen.0), seen.1));
+    }
+
+-- what is seen by another test that says the same is seen
+pub comes-alike : (one other : ℕ → Bool) (from last number : ℕ) → ComesTo one from last number →
+    ((n : ℕ) → other n ≡ one n) → ComesTo other from last number
+comes-alike one other from last number comes alike = record {
+  on = comes.on;
+  within = comes.within;
+  none = λ k later before. alike k ∙ comes.none k later before;
+  stops = λ below.
+      (let seen = comes.stops below in (seen.0, alike number ∙ seen.1));
+}
+
+pub none-watched : (stop : Stop) (chains : List (List ℕ)) → chains ≡ stop.watched →
+    length chains ≡ 0 → stop.watched ≡ []
+none-watched stop [] same none = sym same
+none-watched stop (chain ∷ chains) same none = absurd (omega (arith, none))
+
+-- without chains the places alone are seen
+pub seen-by-place : (rule : Rule) (context : RunContext) (stop : Stop) (from n : ℕ) →
+    stop.watched ≡ [] →
+    is_seen rule context stop from n ≡ stops_at stop (state_at rule context n)
+seen-by-place rule context stop from n none =
+    let there = state_at rule context n in
+    ap (λ (chains : List (List ℕ)). stops_at stop there
+    || some_differ (values_of chains (state_at rule context from).memory)
+    (values_of chains there.memory)) none
+    ∙ or-false (stops_at stop there)
+
+-- and where a bug alone is watched, what it holds is seen
+pub seen-by-bug : (rule : Rule) (context : RunContext) (stop : Stop) (from n bug word : ℕ) →
+    stop.watched ≡ (bug ∷ []) ∷ [] →
+    Some word ≡ value_of (state_at rule context from).memory (bug ∷ []) →
+    is_seen rule context stop from n
+    ≡ (stops_at stop (state_at rule context n)
+    || differs (Some word) (value_of (state_at rule context n).memory (bug ∷ [])))
+seen-by-bug rule context stop from n bug word alone held =
+    let there = state_at rule context n in
+    let value = value_of there.memory (bug ∷ []) in
+    ap (λ (chains : List (List ℕ)). stops_at stop there
+    || some_differ (values_of chains (state_at rule context from).memory)
+    (values_of chains there.memory)) alone
+    ∙ ap (λ (kept : Option ℕ). stops_at stop there || some_differ (kept ∷ []) (value ∷ []))
+    (sym held)
+    ∙ ap (λ (b : Bool). stops_at stop there || b) (or-false (differs (Some word) value))
 
 -- ---- a stretch
 pub found-back : (rule : Rule) (context there now : RunContext) (stop : Stop)

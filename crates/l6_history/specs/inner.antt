@@ -1,3 +1,4 @@
 pub mod NumberedMachine
 pub mod Ring
 pub mod Seeking
+pub mod Watches

@@ -1,8 +1,8 @@
 //! A run's history: a machine that goes to any state of its run, and checkpoints to go back from.
 
-ghost use Rattle.std.specs.Prelude.{◌≡◌, ◌+◌, ◌-◌, ◌==◌, ◌<◌, ◌≤◌, ◌↔◌, [], true, length, slice_get};
+ghost use Rattle.std.specs.Prelude.{◌≡◌, ℕ, ◌+◌, ◌-◌, ◌==◌, ◌<◌, ◌≤◌, ◌↔◌, [], true, false, length, slice_get};
 ghost use Rattle.std.specs.List.{list_any};
-ghost use Rattle.l6_steps.specs.Configuration.{first_configuration};
+ghost use Rattle.l6_steps.specs.Configuration.{first_configuration, state_at};
 ghost use Rattle.l6_steps.specs.Numbering.{last_number};
 ghost use Rattle.l6_steps.specs.Numerals.{most_steps};
 ghost use Rattle.l6_steps.specs.Run.{IsReached};
@@ -11,7 +11,7 @@ ghost use Rattle.l6_history.specs.Numerals.{most_kept};
 
 use crate::numbered_machine::NumberedMachine;
 use crate::ring::Ring;
-use l6_machine::Machine;
+use l6_machine::{Machine, Watch};
 use l6_store::Places;
 use std::alloc::Global;
 use std::marker::Model;
@@ -168,6 +168,31 @@ impl<S: Places> History<S> {
             self.keep(alloc);
         }
         ran
+    }
+
+    /// Goes on to the next state that is watched for, to the last one, or to the next one at which a
+    /// checkpoint is tried, where that comes first. Answers whether one goes on from there.
+    pub(crate) fn stretch_until<W: Watch<S>>(&mut self, alloc: Global, watch: &W) -> bool
+    where
+        S: Drop,
+        ensures context { self.new.context ≡ self.old.context }
+        ensures on { self.old.number ≤ self.new.number }
+        ensures within { self.new.number ≤ last_number S.rule self.old.context }
+        ensures unseen { (k : ℕ) → self.old.number < k → k < self.new.number →
+            W.watched watch.now (state_at S.rule self.old.context k) ≡ false }
+        ensures goes_on { result ≡ true → (self.old.number < self.new.number)
+            × (W.watched watch.now (state_at S.rule self.old.context self.new.number) ≡ false) }
+        ensures stops { result ≡ false → self.new.number < last_number S.rule self.old.context →
+            (self.old.number < self.new.number)
+            × (W.watched watch.now (state_at S.rule self.old.context self.new.number) ≡ true) }
+    {
+        let here = self.number();
+        let next = here - here % STRIDE + STRIDE;
+        if self.present.forward_until(watch, next) == 0 {
+            return false;
+        }
+        self.keep(alloc);
+        !watch.sees(self.machine())
     }
 
     /// Goes to the next state, where there is one. Answers whether there was.

@@ -8,6 +8,7 @@ mod ring;
 mod seeking;
 mod sight;
 mod stop;
+mod watches;
 
 pub use history::History;
 pub use laws::histories_have_their_limits;

@@ -1,13 +1,13 @@
 //! A machine at a state of its run, by the state's number.
 
-ghost use Rattle.std.specs.Prelude.{◌≡◌, ◌+◌, ◌<◌, ◌≤◌, ◌↔◌, true, IfOk, OnErr, OnOk};
-ghost use Rattle.l6_steps.specs.Configuration.{first_configuration};
+ghost use Rattle.std.specs.Prelude.{◌≡◌, ℕ, ◌+◌, ◌<◌, ◌≤◌, ◌↔◌, true, false, IfOk, OnErr, OnOk};
+ghost use Rattle.l6_steps.specs.Configuration.{first_configuration, state_at};
 ghost use Rattle.l6_steps.specs.Numbering.{last_number};
 ghost use Rattle.l6_steps.specs.Numerals.{most_steps};
 ghost use Rattle.l6_steps.specs.Run.{IsReached};
 ghost use Rattle.l6_history.specs.History.{number_to, run_state_at};
 
-use l6_machine::Machine;
+use l6_machine::{Machine, Watch};
 use l6_store::Places;
 use std::alloc::{AllocError, Global};
 use std::marker::Model;
@@ -108,6 +108,24 @@ impl<S: Places> NumberedMachine<S> {
         ensures ran { self.new.number ≡ self.old.number + result }
     {
         let ran = self.machine.run_to(number);
+        self.number += ran;
+        ran
+    }
+
+    /// Goes on to the next state that is watched for, to that of a number, or to the last one, where
+    /// that comes first. Answers how many states further that is.
+    pub(crate) fn forward_until<W: Watch<S>>(&mut self, watch: &W, number: u64) -> u64
+        requires { self.old.number ≤ number }
+        ensures context { self.new.context ≡ self.old.context }
+        ensures within { self.new.number ≤ number_to S.rule self.old.context number }
+        ensures ran { self.new.number ≡ self.old.number + result }
+        ensures unseen { (k : ℕ) → self.old.number < k → k < self.new.number →
+            W.watched watch.now (state_at S.rule self.old.context k) ≡ false }
+        ensures stops { self.new.number < number_to S.rule self.old.context number →
+            (self.old.number < self.new.number)
+            × (W.watched watch.now (state_at S.rule self.old.context self.new.number) ≡ true) }
+    {
+        let ran = self.machine.run_until(watch, number);
         self.number += ran;
         ran
     }

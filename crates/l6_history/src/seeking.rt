@@ -1,15 +1,16 @@
 //! Going through a run to where one stops, forward or back.
 
-ghost use Rattle.std.specs.Prelude.{◌≡◌, ◌<◌, ◌≤◌, ◌∷◌, []};
-ghost use Rattle.l6_prog.specs.Numerals.{first_letter};
+ghost use Rattle.std.specs.Prelude.{◌≡◌, ◌<◌, ◌≤◌};
+ghost use Rattle.l6_steps.specs.Configuration.{state_at};
 ghost use Rattle.l6_steps.specs.Numbering.{last_number};
 ghost use Rattle.l6_history.specs.Seeking.{next_stop, previous_stop, stops_back};
-ghost use Rattle.l6_history.specs.inner.Seeking.{IsLastIn, later_of};
+ghost use Rattle.l6_history.specs.inner.Seeking.{ComesTo, IsLastIn, later_of};
 
 use crate::history::History;
 use crate::sight::Sight;
 use crate::stop::Stop;
-use l6_prog::Name;
+use crate::watches::{BugWatch, ChainWatch, PlaceWatch};
+use l6_machine::Watch;
 use l6_store::Places;
 use std::alloc::Global;
 
@@ -26,46 +27,31 @@ impl<S: Places> History<S> {
             self.to(alloc, u64::MAX);
             return;
         }
+        if stop.watched().len() == 0 {
+            return self.to_watched(alloc, &PlaceWatch::new(stop));
+        }
         match stop.watched_bug() {
-            Some(bug) => self.to_next_by_bug(alloc, stop, bug),
-            None => self.to_next_by_chains(alloc, stop),
-        }
-    }
-
-    /// Like `to_next`, for a stop that watches one bug alone, which the caller owes. What the bug
-    /// holds is compared with what it held at first: up to a stop it never changes.
-    fn to_next_by_bug(&mut self, alloc: Global, stop: &Stop, bug: Name)
-    where
-        S: Drop,
-        requires alone { stop.now.watched ≡ (bug ∷ []) ∷ [] }
-        requires letter { first_letter ≤ bug }
-        ensures context { self.new.context ≡ self.old.context }
-        ensures number { self.new.number
-            ≡ next_stop S.rule self.old.context stop.now self.old.number }
-    {
-        let word = self.machine().bug(bug);
-        'states: while self.step(alloc) {
-            if stop.stops_by_bug(self.machine(), bug, word) {
-                return;
+            Some(bug) => {
+                let watch = BugWatch::new(stop, bug, self.machine());
+                self.to_watched(alloc, &watch);
+            }
+            None => {
+                let watch = ChainWatch::new(stop, self.machine());
+                self.to_watched(alloc, &watch);
             }
         }
     }
 
-    /// Like `to_next`, for a stop that may watch any chains.
-    fn to_next_by_chains(&mut self, alloc: Global, stop: &Stop)
+    /// Goes to the first later state that is watched for, or to the last state.
+    fn to_watched<W: Watch<S>>(&mut self, alloc: Global, watch: &W)
     where
         S: Drop,
         ensures context { self.new.context ≡ self.old.context }
-        ensures number { self.new.number
-            ≡ next_stop S.rule self.old.context stop.now self.old.number }
+        ensures comes { ComesTo
+            (λ n. W.watched watch.now (state_at S.rule self.old.context n))
+            self.old.number (last_number S.rule self.old.context) self.new.number }
     {
-        let mut sight = Sight::new(stop, self.machine());
-        'states: while self.step(alloc) {
-            let differ = sight.look(stop, self.machine());
-            if sight.stops() | differ {
-                return;
-            }
-        }
+        'stretches: while self.stretch_until(alloc, watch) {}
     }
 
     /// Goes to the latest earlier state at which one stops, or to the start. From each state that is

@@ -37,12 +37,9 @@ impl Sight {
     pub(crate) fn new<S: Places>(stop: &Stop, machine: &Machine<S>) -> Self
         ensures { result ≡ sight_of stop.now machine.now.configuration.state }
     {
-        let mut values = ArrayVec::from([None; MAX_WATCHED]);
-        values.truncate(stop.watched().len());
-        see(values.as_mut_slice(), stop.watched(), machine);
         Sight {
             stops: stop.stops_at(machine),
-            values,
+            values: values_of(stop, machine),
         }
     }
 
@@ -72,9 +69,26 @@ impl Sight {
     }
 }
 
+/// What each chain that is watched reads as, if it can be followed.
+pub(crate) fn values_of<S: Places>(
+    stop: &Stop,
+    machine: &Machine<S>,
+) -> ArrayVec<Option<Word>, MAX_WATCHED>
+    ensures { result.items ≡ values_of stop.now.watched machine.now.configuration.state.memory }
+{
+    let mut values = ArrayVec::from([None; MAX_WATCHED]);
+    values.truncate(stop.watched().len());
+    see(values.as_mut_slice(), stop.watched(), machine);
+    values
+}
+
 /// Whether some chains read as other values than these. The caller owes a value for each chain.
 #[inline(always)]
-fn differ<S: Places>(values: &[Option<Word>], chains: &[Chain], machine: &Machine<S>) -> bool
+pub(crate) fn differ<S: Places>(
+    values: &[Option<Word>],
+    chains: &[Chain],
+    machine: &Machine<S>,
+) -> bool
     requires { length values.now ≡ length chains.now }
     ensures { result ≡ some_differ values.now
         (values_of chains.now machine.now.configuration.state.memory) }

@@ -153,23 +153,6 @@ impl Stop {
         }
     }
 
-    /// Whether one stops at the state at which a machine is, or a bug holds another word there than
-    /// this. The caller owes a letter.
-    #[inline(always)]
-    pub(crate) fn stops_by_bug<S: Places>(
-        &self,
-        machine: &Machine<S>,
-        bug: Name,
-        word: Word,
-    ) -> bool
-        requires { first_letter ≤ bug }
-        ensures { let state = machine.now.configuration.state in
-            result ≡ (stops_at self.now state
-            || differs (Some word) (value_of state.memory (bug ∷ []))) }
-    {
-        self.stops_at(machine) || word.get() != machine.bug(bug).get()
-    }
-
     /// Whether one stops at the state at which a machine is, wherever one comes from.
     #[inline(always)]
     pub(crate) fn stops_at<S: Places>(&self, machine: &Machine<S>) -> bool

@@ -2,3 +2,4 @@ pub mod Advancing
 pub mod Stepping
 pub mod Arrivals
 pub mod Leading
+pub mod Seeing

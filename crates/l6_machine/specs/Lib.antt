@@ -1,5 +1,6 @@
 pub mod Numerals
 pub mod Counting
+pub mod Later
 pub mod Options
 pub mod Printout
 pub mod inner

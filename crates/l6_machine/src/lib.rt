@@ -13,6 +13,7 @@ mod printing;
 mod progress;
 mod returning;
 mod views;
+mod watching;
 
 pub use decimal::push_decimal;
 pub use ending::Ending;
@@ -22,3 +23,4 @@ pub use l6_steps::{Halt, Limits, Position, Return, StepResult, Trap};
 pub use machine::Machine;
 pub use options::{Options, machine_under};
 pub use printing::{ending_line, ending_of, into_printout, printout, push_whole_lines};
+pub use watching::Watch;

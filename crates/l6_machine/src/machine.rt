@@ -39,9 +39,9 @@ fn shared(alloc: Global, code: CompiledProgram) -> Result<Rc<CompiledProgram, Gl
 #[derive(Drop)]
 pub struct Machine<S: Places> {
     // it never changes, so the copies of a machine share it
-    code: Rc<CompiledProgram, Global>,
+    pub(crate) code: Rc<CompiledProgram, Global>,
     pub(crate) registers: Registers<S>,
-    progress: Progress,
+    pub(crate) progress: Progress,
 }
 
 impl<S: Places> Model for Machine<S> {

@@ -8,6 +8,5 @@ pub mod Freed
 pub mod Gathering
 pub mod Apart
 pub mod Shown
-pub mod Walking
 pub mod Inputs
 pub mod Lasts

@@ -1,5 +1,6 @@
 //! Why a trace has no answers.
 
+ghost use Rattle.l6_trace.specs.inner.Faults.{trace_fault};
 ghost use Rattle.l6_trace.specs.declared.fault.TraceFault.TheVariants.{NoMemory};
 
 use l6_store::StoreFault;
@@ -27,6 +28,10 @@ pub enum TraceFault {
 }
 
 impl From<StoreFault> for TraceFault {
+    ghost use Rattle.std.specs.Prelude.{◌≡◌};
+
+    ghost from_gives = { λ refused fault. fault ≡ trace_fault refused };
+
     fn from(fault: StoreFault) -> Self {
         match fault {
             StoreFault::NoMemory => TraceFault::NoMemory,

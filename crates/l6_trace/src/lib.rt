@@ -5,6 +5,7 @@
 mod call;
 mod fault;
 mod following;
+mod laws;
 mod line;
 mod map;
 mod tally;
@@ -15,6 +16,7 @@ mod tracer;
 pub use call::{Answer, Call, Line, Reply};
 pub use fault::TraceFault;
 pub use following::{Difference, follow};
+pub use laws::traces_have_their_limits;
 pub use line::MAX_NUMBER;
 pub use tally::Tally;
 pub use trace::{Answers, MAX_CALLS, answers_to};

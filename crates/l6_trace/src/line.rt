@@ -1,5 +1,8 @@
 //! What a line of a trace says.
 
+ghost use Rattle.std.specs.Prelude.{◌≤◌, IfSome};
+ghost use Rattle.l6_trace.specs.Numerals.{most_number};
+
 use crate::call::Reply;
 use l6_word::without_return;
 
@@ -7,7 +10,7 @@ use l6_word::without_return;
 pub const MAX_NUMBER: u32 = 999_999_999;
 
 /// The most bytes that a name may have.
-const MAX_NAME: usize = 64;
+pub(crate) const MAX_NAME_BYTES: usize = 64;
 
 /// What a line asks for, with the name of the block.
 #[derive(Clone, Copy, Debug, PartialEq, Eq)]
@@ -105,11 +108,13 @@ fn reply_word(rest: &[u8]) -> Option<&[u8]> {
 
 /// Whether a word may name a block.
 fn is_name(word: &[u8]) -> bool {
-    !word.is_empty() && word.len() <= MAX_NAME && word != b"=".as_slice()
+    !word.is_empty() && word.len() <= MAX_NAME_BYTES && word != b"=".as_slice()
 }
 
 /// The number that decimal digits write, if it is at most `MAX_NUMBER`.
-fn number_of(digits: &[u8]) -> Option<u32> {
+fn number_of(digits: &[u8]) -> Option<u32>
+    ensures { IfSome result (λ number. number ≤ most_number) }
+{
     if digits.is_empty() {
         return None;
     }

@@ -1,5 +1,8 @@
 //! Traces as text, and the answers to them.
 
+ghost use Rattle.std.specs.Prelude.{◌≡◌, ◌+◌, length, IfErr, OnOk};
+ghost use Rattle.l6_trace.specs.Limits.{IsPastLimit};
+
 use crate::call::{Call, Line};
 use crate::fault::TraceFault;
 use crate::following::{Difference, follow};
@@ -36,7 +39,9 @@ pub struct Answers {
 /// # Errors
 ///
 /// Why the trace has no answers.
-pub fn answers_to(alloc: Global, units: u32, text: &[u8]) -> Result<Answers, TraceFault> {
+pub fn answers_to(alloc: Global, units: u32, text: &[u8]) -> Result<Answers, TraceFault>
+    ensures too_many { IfErr result IsPastLimit }
+{
     let trace = read_trace(alloc, text)?;
     let lines = trace.lines.as_slice();
     let names = trace.names.len();
@@ -98,7 +103,9 @@ fn push_difference(
 }
 
 /// The calls of a text.
-fn read_trace(alloc: Global, text: &[u8]) -> Result<Trace<'_>, TraceFault> {
+fn read_trace(alloc: Global, text: &[u8]) -> Result<Trace<'_>, TraceFault>
+    ensures { IfErr result IsPastLimit }
+{
     let mut lines = Vec::new(alloc);
     let mut names = IndexSet::new(alloc);
     let mut number: u32 = 0;
@@ -107,7 +114,7 @@ fn read_trace(alloc: Global, text: &[u8]) -> Result<Trace<'_>, TraceFault> {
         number = number.saturating_add(1);
         let asked = asked_by(line).ok_or(TraceFault::NotACall(number))?;
         if let Some(line) = numbered(&mut names, number, asked)? {
-            if lines.len() == MAX_CALLS {
+            if lines.len() >= MAX_CALLS {
                 return Err(TraceFault::TooMany(number));
             }
             push_line(&mut lines, line)?;
@@ -118,7 +125,9 @@ fn read_trace(alloc: Global, text: &[u8]) -> Result<Trace<'_>, TraceFault> {
 }
 
 /// Adds a call.
-fn push_line(lines: &mut Vec<Line>, line: Line) -> Result<(), AllocError> {
+fn push_line(lines: &mut Vec<Line>, line: Line) -> Result<(), AllocError>
+    ensures { OnOk result (length lines.new.items ≡ length lines.old.items + 1) }
+{
     Ok(lines.push(line)?)
 }
 

@@ -18,6 +18,13 @@ pub record NoneAfter (test : ℕ → Bool) (from number : ℕ) : Type 0 where
   pub on : from ≤ number
   pub none : (k : ℕ) → from < k → k ≤ number → test k ≡ false
 
+-- the first number after one that passes a test, up to the last, or the last
+pub record ComesTo (test : ℕ → Bool) (from last number : ℕ) : Type 0 where
+  pub on : from ≤ number
+  pub within : number ≤ last
+  pub none : (k : ℕ) → from < k → k < number → test k ≡ false
+  pub stops : number < last → (from < number) × (test number ≡ true)
+
 -- no number from one on, below another, passes a test
 abbrev pub NoneIn : (ℕ → Bool) → ℕ → ℕ → Type 0
 NoneIn test begin end = (k : ℕ) → begin ≤ k → k < end → test k ≡ false

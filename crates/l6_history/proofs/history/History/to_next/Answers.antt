@@ -1,6 +1,11 @@
-use Rattle.std.proofs.Common.{◌≡◌, sym, ◌∙◌, arith}
+use Rattle.std.proofs.Common.{◌≡◌, ℕ, List, [], ◌∷◌, Option, Some, sym, ap, ◌∙◌, arith}
+use Rattle.std.specs.Prelude.{◌||◌}
+use Rattle.l6_steps.specs.Configuration.{state_at}
 use Rattle.l6_steps.specs.Numbering.{last_number}
-use Rattle.l6_history.proofs.Sought.{nowhere-forward}
+use Rattle.l6_steps.specs.RunState.{RunState}
+use Rattle.l6_history.specs.Stop.{Stop, differs, some_differ, stops_at, value_of, values_of}
+use Rattle.l6_history.specs.inner.Watches.{is_seen_by_bug, is_seen_by_chains}
+use Rattle.l6_history.proofs.Sought.{comes-alike, is_seen, next-seen, none-watched, nowhere-forward, seen-by-bug, seen-by-place}
 use Rattle.l6_history.proofs.history.History.to_next.Goals as goal
 
 -- where one stops nowhere, it goes to the last state
@@ -14,3 +19,78 @@ returns-then-is_nowhere-clause-number g c =
     last
     ∙ sym (nowhere-forward rule context c.args.stop.now c.args.self.now.number
     (sym c.is_nowhere.ensures ∙ c.if-is_nowhere.true))
+
+-- where no chain is watched, places alone are looked at
+pub returns-then-watched-eq0-clause-number : goal.returns-then-watched-eq0-clause-number
+returns-then-watched-eq0-clause-number g c =
+    let rule = g.S.Places.rule in
+    let context = c.args.self.now.context in
+    let stop = c.args.stop.now in
+    let from = c.args.self.now.number in
+    let number = c.to_watched.new.self.number in
+    let watch : Stop = c.new.result.stop.now in
+    let none = none-watched stop c.watched.result.now c.watched.ensures.value
+    c.if-watched-eq0.true in
+    next-seen rule context stop from number
+    (comes-alike (λ n. stops_at watch (state_at rule context n)) (is_seen rule context stop from)
+    from (last_number rule context) number c.to_watched.ensures.comes
+    (λ n. seen-by-place rule context stop from n none
+    ∙ ap (λ (s : Stop). stops_at s (state_at rule context n)) (sym c.new.ensures)))
+
+-- where a bug alone is watched, what it holds is compared
+pub returns-in-Some-clause-number : goal.returns-in-Some-clause-number
+returns-in-Some-clause-number g c =
+    let rule = g.S.Places.rule in
+    let context = c.args.self.now.context in
+    let stop = c.args.stop.now in
+    let from = c.args.self.now.number in
+    let number = c.to_watched-in-Some.new.self.number in
+    let bug = c.in-Some.bug in
+    let watch = c.new-watch.result in
+    let held : Some watch.word ≡ value_of (state_at rule context from).memory (bug ∷ []) =
+    c.new-watch.ensures.word
+    ∙ ap (λ (s : RunState). value_of s.configuration.state.memory (bug ∷ []))
+    c.machine.ensures.value in
+    next-seen rule context stop from number
+    (comes-alike (λ n. is_seen_by_bug watch (state_at rule context n))
+    (is_seen rule context stop from) from (last_number rule context) number
+    c.to_watched-in-Some.ensures.comes
+    (λ n.
+    (let there = state_at rule context n in
+    seen-by-bug rule context stop from n bug watch.word c.in-Some.ensures.alone held
+    ∙ ap
+    (λ (s : Stop). stops_at s there
+    || differs (Some watch.word) (value_of there.memory (bug ∷ [])))
+    (sym c.new-watch.ensures.stop)
+    ∙ ap
+    (λ (b : ℕ). stops_at watch.stop there
+    || differs (Some watch.word) (value_of there.memory (b ∷ [])))
+    (sym c.new-watch.ensures.bug))))
+
+-- else what each chain reads as is
+pub returns-in-None-clause-number : goal.returns-in-None-clause-number
+returns-in-None-clause-number g c =
+    let rule = g.S.Places.rule in
+    let context = c.args.self.now.context in
+    let stop = c.args.stop.now in
+    let from = c.args.self.now.number in
+    let number = c.to_watched-in-None.new.self.number in
+    let watch = c.new-watch-in-None.result in
+    let read : watch.values ≡ values_of stop.watched (state_at rule context from).memory =
+    c.new-watch-in-None.ensures.values
+    ∙ ap (λ (s : RunState). values_of stop.watched s.configuration.state.memory)
+    c.machine-in-None.ensures.value in
+    next-seen rule context stop from number
+    (comes-alike (λ n. is_seen_by_chains watch (state_at rule context n))
+    (is_seen rule context stop from) from (last_number rule context) number
+    c.to_watched-in-None.ensures.comes
+    (λ n.
+    (let there = state_at rule context n in
+    ap
+    (λ (values : List (Option ℕ)). stops_at stop there
+    || some_differ values (values_of stop.watched there.memory))
+    (sym read)
+    ∙ ap
+    (λ (s : Stop). stops_at s there
+    || some_differ watch.values (values_of s.watched there.memory))
+    (sym c.new-watch-in-None.ensures.stop))))

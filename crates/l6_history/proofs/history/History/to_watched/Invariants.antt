@@ -1,0 +1,17 @@
+use Rattle.std.proofs.Common.{◌≡◌, ◌-◌}
+use Rattle.l6_steps.specs.Configuration.{state_at}
+use Rattle.l6_steps.specs.Numbering.{last_number}
+use Rattle.l6_history.specs.inner.Seeking.{NoneAfter}
+use Rattle.l6_history.proofs.history.History.to_watched.Given as goal
+
+-- no later state so far is watched for
+abbrev pub invariant-stretches : goal.invariant-stretches
+invariant-stretches g l = record {
+  context : l.self.context ≡ l.fn.self.context;
+  passed : NoneAfter
+      (λ n. g.W.Watch.watched l.watch (state_at g.S.Places.rule l.fn.self.context n))
+      l.fn.self.number l.self.number;
+}
+
+abbrev pub decreases-stretches : goal.decreases-stretches
+decreases-stretches g l = last_number g.S.Places.rule l.self.context - l.self.number

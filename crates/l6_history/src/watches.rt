@@ -1,0 +1,134 @@
+//! What one watches for on the way to where one stops.
+//!
+//! What a chain reads as is compared with what it read as at first: up to a stop it never changes.
+
+ghost use Rattle.std.specs.Prelude.{◌≡◌, ◌≤◌, ◌∷◌, [], Some};
+ghost use Rattle.l6_prog.specs.Numerals.{first_letter};
+ghost use Rattle.l6_history.specs.Stop.{value_of, values_of};
+
+use crate::sight::{differ, values_of};
+use crate::stop::{MAX_WATCHED, Stop};
+use arrayvec::ArrayVec;
+use l6_machine::{Machine, Watch};
+use l6_prog::Name;
+use l6_store::Places;
+use l6_word::Word;
+use std::marker::Model;
+
+/// One watches for breakpoints, and for how many calls wait.
+#[derive(Drop)]
+pub(crate) struct PlaceWatch<'a> {
+    stop: &'a Stop,
+}
+
+impl<'a> PlaceWatch<'a> {
+    /// By a stop, without the chains that it watches.
+    pub(crate) fn new(stop: &'a Stop) -> Self
+        ensures { result.stop.now ≡ stop.now }
+    {
+        PlaceWatch { stop }
+    }
+}
+
+impl<'a, S: Places> Watch<S> for PlaceWatch<'a> {
+    ghost use Rattle.l6_history.specs.Stop.{stops_at};
+
+    ghost watched = { λ w state. stops_at w.stop.now state };
+
+    #[inline(always)]
+    fn sees(&self, machine: &Machine<S>) -> bool {
+        self.stop.stops_at(machine)
+    }
+}
+
+/// One watches what a bug holds, too.
+#[derive(Drop)]
+pub(crate) struct BugWatch<'a> {
+    stop: &'a Stop,
+    bug: Name,
+    /// What it holds at first.
+    word: Word,
+}
+
+impl<'a> Model for BugWatch<'a> {
+    ghost use Rattle.std.specs.Prelude.{◌≤◌};
+    ghost use Rattle.l6_prog.specs.Numerals.{first_letter};
+    ghost use Rattle.l6_history.specs.inner.Watches as watches;
+
+    ghost Value = { watches.BugWatch };
+
+    ghost view = { λ w. record { stop = w.stop.now; bug = w.bug; word = w.word } };
+
+    ghost invariant = { λ w. first_letter ≤ w.bug };
+}
+
+impl<'a> BugWatch<'a> {
+    /// By a stop and a bug, as a machine has it. The caller owes a letter.
+    pub(crate) fn new<S: Places>(stop: &'a Stop, bug: Name, machine: &Machine<S>) -> Self
+        requires { first_letter ≤ bug }
+        ensures stop { result.stop ≡ stop.now }
+        ensures bug { result.bug ≡ bug }
+        ensures word { Some result.word ≡ value_of machine.now.configuration.state.memory (bug ∷ []) }
+    {
+        BugWatch {
+            stop,
+            bug,
+            word: machine.bug(bug),
+        }
+    }
+}
+
+impl<'a, S: Places> Watch<S> for BugWatch<'a> {
+    ghost use Rattle.l6_history.specs.inner.Watches.{is_seen_by_bug};
+
+    ghost watched = { is_seen_by_bug };
+
+    #[inline(always)]
+    fn sees(&self, machine: &Machine<S>) -> bool {
+        self.stop.stops_at(machine) || self.word.get() != machine.bug(self.bug).get()
+    }
+}
+
+/// One watches what chains read as, too.
+#[derive(Drop)]
+pub(crate) struct ChainWatch<'a> {
+    stop: &'a Stop,
+    /// What each watched chain reads as at first, if it can be followed.
+    values: ArrayVec<Option<Word>, MAX_WATCHED>,
+}
+
+impl<'a> Model for ChainWatch<'a> {
+    ghost use Rattle.std.specs.Prelude.{◌≡◌, length};
+    ghost use Rattle.l6_history.specs.inner.Watches as watches;
+
+    ghost Value = { watches.ChainWatch };
+
+    ghost view = { λ w. record { stop = w.stop.now; values = w.values.items } };
+
+    ghost invariant = { λ w. length w.values.items ≡ length w.stop.now.watched };
+}
+
+impl<'a> ChainWatch<'a> {
+    /// By a stop, as a machine has its chains.
+    pub(crate) fn new<S: Places>(stop: &'a Stop, machine: &Machine<S>) -> Self
+        ensures stop { result.stop ≡ stop.now }
+        ensures values { result.values
+            ≡ values_of stop.now.watched machine.now.configuration.state.memory }
+    {
+        ChainWatch {
+            stop,
+            values: values_of(stop, machine),
+        }
+    }
+}
+
+impl<'a, S: Places> Watch<S> for ChainWatch<'a> {
+    ghost use Rattle.l6_history.specs.inner.Watches.{is_seen_by_chains};
+
+    ghost watched = { is_seen_by_chains };
+
+    #[inline(always)]
+    fn sees(&self, machine: &Machine<S>) -> bool {
+        self.stop.stops_at(machine) || differ(self.values.as_slice(), self.stop.watched(), machine)
+    }
+}

@@ -58,9 +58,8 @@ pub fn push_lines(lines: &mut Vec<u8>, words: &[u64]) -> Result<(), AllocError>
         → IsOk result }
 {
     for word in words {
-        let mut line = [b'\n'; LINE_BYTES];
-        line[..OCTALS].copy_from_slice(&octal12(Word::from_value(*word)));
-        lines.extend_from_slice(&line)?;
+        lines.extend_from_slice(&octal12(Word::from_value(*word)))?;
+        lines.push(b'\n')?;
     }
     Ok(())
 }

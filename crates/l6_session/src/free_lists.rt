@@ -1,6 +1,6 @@
 //! The free pieces of a store, by their levels. What they look like is tested, and not proved.
 
-use l6_machine::push_decimal;
+use crate::text::push_counted;
 use l6_store::{Buddy, Level, Place, Places};
 use l6_word::{LARGEST_LEVEL, UNIT_SIZE};
 use std::alloc::AllocError;
@@ -33,10 +33,8 @@ pub(crate) fn push_lists<S: FreeLists>(text: &mut Vec<u8>, store: &S) -> Result<
     let begin = text.len();
     for level in 0..=LARGEST_LEVEL {
         if let Some(first) = store.first_of(level) {
-            text.extend_from_slice(b"LEVEL ")?;
-            push_decimal(text, level)?;
-            text.extend_from_slice(b" SIZE ")?;
-            push_decimal(text, 1u64.wrapping_shl(u32::from(level)))?;
+            push_counted(text, b"LEVEL ", level)?;
+            push_counted(text, b" SIZE ", 1u64.wrapping_shl(u32::from(level)))?;
             text.extend_from_slice(b":")?;
             push_list(text, store, level, first)?;
         }
@@ -60,8 +58,7 @@ fn push_list<S: FreeLists>(
         let Some(place) = next else {
             break;
         };
-        text.extend_from_slice(b" ")?;
-        push_decimal(text, place)?;
+        push_counted(text, b" ", place)?;
         next = store.next_of(level, place);
     }
     text.extend_from_slice(b"\n")

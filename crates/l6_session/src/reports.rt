@@ -1,9 +1,12 @@
 //! What a session says of itself: where one stops, what is kept, how far the run has come. What it
 //! looks like is tested, and not proved.
 
+ghost use Rattle.std.specs.Prelude.{◌≡◌, ◌++◌, OnOk};
+ghost use Rattle.l6_session.specs.Texts as spec;
+
 use crate::names::Names;
 use crate::session::Session;
-use crate::text::push_label;
+use crate::text::{push_counted, push_label};
 use crate::values::push_chain_value;
 use l6_history::MAX_KEPT;
 use l6_machine::{Machine, push_decimal};
@@ -21,7 +24,9 @@ pub(crate) fn push_info<S: Places>(
     let begin = text.len();
     for (statement, is_set) in session.stop().breakpoints().iter().enumerate() {
         if *is_set {
-            push_breakpoint(text, session, names, statement)?;
+            let is_temporary = session.temporary().get(statement).copied().unwrap_or(false);
+            let said: &[u8] = if is_temporary { b"tbreak " } else { b"break " };
+            push_statement(text, said, names, statement as u64)?;
         }
     }
     push_chains(text, b"watch ", session.machine(), session.stop().watched())?;
@@ -32,17 +37,18 @@ pub(crate) fn push_info<S: Places>(
     Ok(())
 }
 
-/// Adds the line of a breakpoint.
-fn push_breakpoint<S: Places>(
+/// Adds what is said of a statement.
+pub(crate) fn push_statement(
     text: &mut Vec<u8>,
-    session: &Session<S>,
+    said: &[u8],
     names: &Names,
-    statement: usize,
-) -> Result<(), AllocError> {
-    let is_temporary = session.temporary().get(statement).copied().unwrap_or(false);
-    text.extend_from_slice(if is_temporary { b"tbreak " } else { b"break " })?;
-    push_decimal(text, statement)?;
-    push_label(text, statement as u64, names.labels())?;
+    statement: u64,
+) -> Result<(), AllocError>
+    ensures { OnOk result (text.new.items ≡ text.old.items
+        ++ spec.statement_line said.now names.now.labels statement) }
+{
+    push_counted(text, said, statement)?;
+    push_label(text, statement, names.labels())?;
     text.extend_from_slice(b"\n")
 }
 
@@ -54,12 +60,22 @@ fn push_chains<S: Places>(
     chains: &[Chain],
 ) -> Result<(), AllocError> {
     for (index, chain) in chains.iter().enumerate() {
-        text.extend_from_slice(verb)?;
-        push_decimal(text, index as u64 + 1)?;
-        text.extend_from_slice(b": ")?;
-        push_chain_value(text, machine, chain)?;
+        push_numbered(text, verb, index.saturating_add(1), machine, chain)?;
     }
     Ok(())
+}
+
+/// Adds the line of a chain of this number, and what it reads as.
+pub(crate) fn push_numbered<S: Places>(
+    text: &mut Vec<u8>,
+    verb: &[u8],
+    number: usize,
+    machine: &Machine<S>,
+    chain: &Chain,
+) -> Result<(), AllocError> {
+    push_counted(text, verb, number)?;
+    text.extend_from_slice(b": ")?;
+    push_chain_value(text, machine, chain)
 }
 
 /// Adds what is displayed.
@@ -97,24 +113,17 @@ pub(crate) fn push_stats<S: Places>(
     session: &Session<S>,
 ) -> Result<(), AllocError> {
     let machine = session.machine();
-    text.extend_from_slice(b"STATE ")?;
-    push_decimal(text, session.history().number())?;
-    text.extend_from_slice(b" STEPS ")?;
-    push_decimal(text, machine.count())?;
-    text.extend_from_slice(b" OF ")?;
-    push_decimal(text, machine.limits().steps)?;
-    text.extend_from_slice(b"\n")?;
+    push_counted(text, b"STATE ", session.history().number())?;
+    push_counted(text, b" STEPS ", machine.count())?;
+    push_counted(text, b" OF ", machine.limits().steps)?;
     push_use(text, machine)?;
-    text.extend_from_slice(b"INPUT ")?;
-    push_decimal(text, machine.taken())?;
-    text.extend_from_slice(b" OUTPUT ")?;
-    push_decimal(text, machine.output().len())?;
-    text.extend_from_slice(b" OF ")?;
-    push_decimal(text, machine.limits().output)?;
+    push_counted(text, b"\nINPUT ", machine.taken())?;
+    push_counted(text, b" OUTPUT ", machine.output().len())?;
+    push_counted(text, b" OF ", machine.limits().output)?;
     text.extend_from_slice(b"\n")
 }
 
-/// Adds how many blocks there are, and how many words of the store they have.
+/// Adds a line of how many blocks there are, and how many words of the store they have.
 fn push_use<S: Places>(text: &mut Vec<u8>, machine: &Machine<S>) -> Result<(), AllocError> {
     let store = machine.store();
     let words = u64::from(store.units()) * u64::from(UNIT_SIZE);
@@ -127,11 +136,7 @@ fn push_use<S: Places>(text: &mut Vec<u8>, machine: &Machine<S>) -> Result<(), A
             used = used.saturating_add(1u64.wrapping_shl(u32::from(level)));
         }
     }
-    text.extend_from_slice(b"BLOCKS ")?;
-    push_decimal(text, blocks)?;
-    text.extend_from_slice(b" WORDS ")?;
-    push_decimal(text, used)?;
-    text.extend_from_slice(b" OF ")?;
-    push_decimal(text, words)?;
-    text.extend_from_slice(b"\n")
+    push_counted(text, b"\nBLOCKS ", blocks)?;
+    push_counted(text, b" WORDS ", used)?;
+    push_counted(text, b" OF ", words)
 }

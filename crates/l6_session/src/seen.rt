@@ -2,7 +2,7 @@
 //! and not proved.
 
 use crate::calls::push_definition;
-use crate::text::{push_chain, push_name};
+use crate::text::{push_chain, push_counted, push_name};
 use l6_history::MAX_WATCHED;
 use l6_machine::{Machine, push_decimal};
 use l6_prog::{Chain, DIGITS, NAMES};
@@ -90,8 +90,7 @@ fn push_further(text: &mut Vec<u8>, count: usize) -> Result<(), AllocError> {
     if count == 0 {
         return Ok(());
     }
-    text.extend_from_slice(b"      and ")?;
-    push_decimal(text, count)?;
+    push_counted(text, b"      and ", count)?;
     text.extend_from_slice(b" more\n")
 }
 
@@ -126,10 +125,8 @@ fn push_if_known(text: &mut Vec<u8>, value: Option<Word>) -> Result<(), AllocErr
 fn push_bug(text: &mut Vec<u8>, index: u8, before: Word, word: Word) -> Result<(), AllocError> {
     text.extend_from_slice(b"      ")?;
     push_name(text, DIGITS.saturating_add(index))?;
-    text.extend_from_slice(b" ")?;
-    push_decimal(text, before.get())?;
-    text.extend_from_slice(b" -> ")?;
-    push_decimal(text, word.get())?;
+    push_counted(text, b" ", before.get())?;
+    push_counted(text, b" -> ", word.get())?;
     text.extend_from_slice(b"\n")
 }
 

@@ -1,19 +1,16 @@
 //! What is answered where a session stops, and to commands that say where it does. What it looks like
 //! is tested, and not proved.
 
-ghost use Rattle.std.specs.Prelude.{◌≡◌, ◌++◌, OnOk};
-ghost use Rattle.l6_session.specs.Texts as spec;
-
 use crate::cards::push_action;
 use crate::command::Command;
 use crate::names::Names;
-use crate::reports::push_displayed;
+use crate::reports::{push_displayed, push_numbered};
 use crate::seen::Seen;
 use crate::session::Session;
 use crate::text::push_label;
-use crate::values::{push_chain_value, push_trap};
+use crate::values::push_trap;
 use l6_debug::{Command as Batch, push_answer};
-use l6_machine::{Halt, Machine, push_decimal};
+use l6_machine::{Halt, Machine};
 use l6_store::Places;
 use std::alloc::{AllocError, Global};
 
@@ -90,22 +87,6 @@ pub(crate) fn push_stop<S: Places>(
     push_displayed(text, session)
 }
 
-/// Adds what is said of a statement.
-pub(crate) fn push_statement(
-    text: &mut Vec<u8>,
-    said: &[u8],
-    names: &Names,
-    statement: u64,
-) -> Result<(), AllocError>
-    ensures { OnOk result (text.new.items ≡ text.old.items
-        ++ spec.statement_line said.now names.now.labels statement) }
-{
-    text.extend_from_slice(said)?;
-    push_decimal(text, statement)?;
-    push_label(text, statement, names.labels())?;
-    text.extend_from_slice(b"\n")
-}
-
 /// Adds what is said of chains that are watched or displayed, after a command that may change them.
 pub(crate) fn push_watch<S: Places>(
     text: &mut Vec<u8>,
@@ -117,16 +98,10 @@ pub(crate) fn push_watch<S: Places>(
     let displayed = session.displayed().len();
     match command {
         Command::Watch(chain) if before.watched < watched => {
-            text.extend_from_slice(b"watch ")?;
-            push_decimal(text, watched)?;
-            text.extend_from_slice(b": ")?;
-            push_chain_value(text, session.machine(), chain)
+            push_numbered(text, b"watch ", watched, session.machine(), chain)
         }
         Command::Display(chain) if before.displayed < displayed => {
-            text.extend_from_slice(b"display ")?;
-            push_decimal(text, displayed)?;
-            text.extend_from_slice(b": ")?;
-            push_chain_value(text, session.machine(), chain)
+            push_numbered(text, b"display ", displayed, session.machine(), chain)
         }
         Command::Watch(_) => {
             text.extend_from_slice(b"Eight chains are watched already: unwatch one of them\n")

@@ -5,6 +5,7 @@ ghost use Rattle.std.specs.Option.{option_map};
 ghost use Rattle.l6_word.specs.Numerals.{largest_level};
 ghost use Rattle.l6_session.specs.Texts as spec;
 
+use itoa::Integer;
 use l6_asm::Labels;
 use l6_draw::character_of;
 use l6_group::Label;
@@ -30,6 +31,18 @@ pub(crate) fn push_name(text: &mut Vec<u8>, number: u8) -> Result<(), AllocError
         text.push(character_of(number))?;
     }
     Ok(())
+}
+
+/// Adds words and then a number.
+pub(crate) fn push_counted<I: Integer>(
+    text: &mut Vec<u8>,
+    words: &[u8],
+    number: I,
+) -> Result<(), AllocError>
+    ensures { OnOk result (text.new.items ≡ (text.old.items ++ words.now) ++ I.text number) }
+{
+    text.extend_from_slice(words)?;
+    push_decimal(text, number)
 }
 
 /// Adds a word in decimal, in octal, and as its six characters.

@@ -71,6 +71,7 @@ impl<S: Places> Machine<S> {
         ensures context { self.new.context ≡ self.old.context }
         ensures counted { number_of self.new.configuration.state ≡ self.old.configuration.state.count + 1 }
     {
-        self.progress.go_here::<S, C>(&self.code, &mut self.registers);
+        self.progress
+            .go_here::<S, C>(&self.code, &mut self.registers);
     }
 }

@@ -227,6 +227,12 @@ def crates_below(checkout: Checkout) -> Iterator[Trial]:
         checkout.run("tools/prove.py", "l6_word")
         yield f"{note} is altered", ["lib l6_word"], checkout.calls()
         yield f"{note} was replaced and not overwritten", "something else\n", linked.read_text()
+    checkout.run("tools/prove.py")
+    checkout.calls()
+    (checkout.top / "crates/l6_word/out/proved").write_text("something else\n")
+    checkout.run("tools/prove.py")
+    calls = checkout.calls()
+    yield "a crate that is proved again, and those above it", ["lib l6_tests", "lib l6_word", "run l6"], sorted(calls)
     kept = checkout.top / "crates/l6_word/out/incremental/kept"
     yield "what a check kept", True, kept.is_file()
     (checkout.state / "kill").touch()

@@ -15,7 +15,7 @@ use l6_image::{LINE_BYTES, push_lines};
 use std::alloc::{AllocError, Global};
 
 /// The most lines that are made at once.
-const LINES_AT_ONCE: usize = 4096;
+const LINES_AT_ONCE: usize = 1024;
 
 /// A list with room for the lines that are made at once.
 pub(crate) fn room_for_lines(alloc: Global) -> Result<Vec<u8>, AllocError>

@@ -11,7 +11,7 @@ use Rattle.l6_run.proofs.lines.write_words.Given as goal
 abbrev pub invariant-loop-rest : goal.invariant-loop-rest
 invariant-loop-rest g l = record {
   known : list_all is_word l.rest ≡ true;
-  room : 4096 * 13 ≤ vec_capacity l.lines;
+  room : 1024 * 13 ≤ vec_capacity l.lines;
   written : WrittenTo (text_of_words l.words) (text_of_words l.rest) l.before
       (g.W.Sink.taken l.initial.writer) (g.W.Sink.taken l.writer);
   retried : Retries

@@ -7,7 +7,7 @@ ghost use Rattle.l6.specs.JobParts as spec;
 ghost use Rattle.l6.specs.inner.Lines.{BeginsWithLine};
 
 use l6_group::are_blank;
-use l6_word::{character_of, split_once, without_return};
+use l6_word::{character_of, split_line, without_return};
 
 /// The word of the line that begins an input.
 const INPUT_SEPARATOR: &[u8] = b"$INPUT";
@@ -73,7 +73,7 @@ fn line_and_rest(text: &[u8]) -> (&[u8], &[u8])
     ensures line { BeginsWithLine text.now result.0.now result.1.now }
     ensures shorter { length result.1.now < length text.now }
 {
-    if let Some(parts) = split_once(text, b'\n') {
+    if let Some(parts) = split_line(text) {
         return parts;
     }
     (text, &[])

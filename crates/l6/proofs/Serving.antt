@@ -21,7 +21,7 @@ use Rattle.l6.specs.declared.job.Outcome.TheVariants.{Checked, Ran, Written}
 use Rattle.l6.specs.declared.job.Verb.{Verb}
 use Rattle.l6.specs.declared.job.Verb.TheVariants as verbs
 use Rattle.l6.specs.Checks.{ChecksDeck, RefusesCheck}
-use Rattle.l6.specs.JobParts.{commands_of, deck_of, head_of, input_of}
+use Rattle.l6_device.specs.JobParts.{commands_of, deck_of, head_of, input_of}
 use Rattle.l6.specs.JobResult.{Answers, JobOutcome, Refuses}
 
 -- a call that is refused is so, whatever an outcome is called that it might have had

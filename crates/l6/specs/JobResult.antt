@@ -10,7 +10,7 @@ use Rattle.l6_run.specs.Texts.{RefusesCards, RefusesRewriting, RewritesImage, Wr
 use Rattle.l6_debug.specs.Serving as sessions
 use Rattle.l6_debug.specs.Serving.{IsRefused}
 use Rattle.l6.specs.Checks.{ChecksDeck, RefusesCheck}
-use Rattle.l6.specs.JobParts.{commands_of, deck_of, head_of, input_of}
+use Rattle.l6_device.specs.JobParts.{commands_of, deck_of, head_of, input_of}
 use Rattle.l6.specs.declared.job.Outcome.{Outcome}
 use Rattle.l6.specs.declared.job.Outcome.TheVariants.{Checked, Ran, Written}
 use Rattle.l6.specs.declared.job.Verb.{Verb}

@@ -1,9 +1,7 @@
-pub mod JobParts
 pub mod Checks
 pub mod JobResult
 pub mod Status
 pub mod TraceStatus
 pub mod Worked
-pub mod inner
 pub mod Exit
 pub mod Words

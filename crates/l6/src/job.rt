@@ -8,11 +8,10 @@ ghost use Rattle.l6_device.specs.declared.fault.Part.TheVariants.{Job};
 ghost use Rattle.l6.specs.JobResult.{JobOutcome, IsUnwrittenBy, JobResult};
 
 use crate::checking::write_deck_check;
-use crate::parts::{parts_of, session_of};
 use l6_debug::debug_deck;
 use l6_run::{
-    Ending, Options, Part, Patience, RunFault, Sink, Source, read_part, rewrite_image_text,
-    run_deck, run_image_text, write_deck_image, write_deck_listing,
+    Ending, Options, Part, Patience, RunFault, Sink, Source, head_parts_of, parts_of, read_part,
+    rewrite_image_text, run_deck, run_image_text, write_deck_image, write_deck_listing,
 };
 use std::alloc::Global;
 
@@ -119,7 +118,7 @@ fn serve<W: Sink>(
             Ok(Outcome::Written)
         }
         Verb::Debug => {
-            let session = session_of(parts.head);
+            let session = head_parts_of(parts.head);
             debug_deck(
                 alloc,
                 session.deck,

@@ -6,7 +6,6 @@ mod arguments;
 mod checking;
 mod help;
 mod job;
-mod parts;
 mod program;
 mod status;
 #[cfg(test)]

@@ -1,2 +1,3 @@
 pub mod DeviceUses
 pub mod Transfers
+pub mod Separators

@@ -5,4 +5,5 @@ pub mod Host
 pub mod Fault
 pub mod Patience
 pub mod Transfer
+pub mod JobParts
 pub mod inner

@@ -10,9 +10,9 @@ mod texts;
 mod writer;
 
 pub use l6_device::{
-    Host, MAX_COMMAND_BYTES, MAX_JOB_BYTES, MAX_RETRIES, Part, Patience, RunFault, Script, Sink,
-    Source, Trouble, commands_have_their_limit, jobs_have_their_limit, read_part,
-    retries_have_their_limit, write_text,
+    HeadParts, Host, JobParts, MAX_COMMAND_BYTES, MAX_JOB_BYTES, MAX_RETRIES, Part, Patience,
+    RunFault, Script, Sink, Source, Trouble, commands_have_their_limit, head_parts_of,
+    jobs_have_their_limit, parts_of, read_part, retries_have_their_limit, write_text,
 };
 pub use l6_machine::{Ending, Options, ending_line, ending_of, printout, push_whole_lines};
 pub use laws::{images_print_as_decks, printouts_are_determined};

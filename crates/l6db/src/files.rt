@@ -2,8 +2,7 @@
 
 use crate::arguments::Request;
 use crate::fault::DbFault;
-use crate::job::halves;
-use l6_device::{Host, Part, Patience, read_part};
+use l6_device::{Host, Part, Patience, head_parts_of, parts_of, read_part};
 use std::fs::File;
 
 /// The parts of a job.
@@ -19,12 +18,6 @@ pub(crate) struct Job {
     pub(crate) is_stdin_taken: bool,
 }
 
-/// The word of the line that begins an input.
-const INPUT_SEPARATOR: &[u8] = b"$INPUT";
-
-/// The word of the line that begins commands.
-const COMMANDS_SEPARATOR: &[u8] = b"$COMMANDS";
-
 /// The job that is asked for. Files that are named take precedence over the parts of the job. Of each
 /// file no more is read than a part may have.
 ///
@@ -33,19 +26,19 @@ const COMMANDS_SEPARATOR: &[u8] = b"$COMMANDS";
 /// A file can't be read, or is too long, or memory ran out.
 pub(crate) fn job_of(rt: &HostRuntime, request: &Request<'_>) -> Result<Job, DbFault> {
     let whole = part_of(rt, request.deck, Part::Job)?;
-    let (head, following) = halves(INPUT_SEPARATOR, whole.as_slice());
-    let (cards, asked) = halves(COMMANDS_SEPARATOR, head);
+    let parts = parts_of(whole.as_slice());
+    let head = head_parts_of(parts.head);
     let mut deck = Vec::new(rt.alloc());
-    deck.extend_from_slice(cards)?;
+    deck.extend_from_slice(head.deck)?;
     let mut input = Vec::new(rt.alloc());
     match request.input {
         Some(path) => input = part_of(rt, path, Part::Input)?,
-        None => input.extend_from_slice(following)?,
+        None => input.extend_from_slice(parts.input)?,
     }
     let mut commands = Vec::new(rt.alloc());
     match request.commands {
         Some(path) => commands = part_of(rt, path, Part::Commands)?,
-        None => commands.extend_from_slice(asked)?,
+        None => commands.extend_from_slice(head.commands)?,
     }
     Ok(Job {
         deck,

@@ -4,7 +4,6 @@
 mod arguments;
 mod fault;
 mod files;
-mod job;
 mod opening;
 mod terminal;
 

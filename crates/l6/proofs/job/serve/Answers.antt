@@ -1,6 +1,6 @@
 use Rattle.std.proofs.Common.{ap, ◌∙◌}
 use Rattle.std.proofs.lemmas.Result.{err_from_is_err_and}
-use Rattle.l6.specs.JobParts.{commands_of, deck_of}
+use Rattle.l6_device.specs.JobParts.{commands_of, deck_of}
 use Rattle.l6.proofs.Serving.{check_refused, debug_refused, image_refused, load_refused, renewal_refused, run_refused}
 use Rattle.l6.proofs.job.serve.Goals as goal
 
@@ -47,9 +47,9 @@ returns-in_err-debug_deck-in-Debug-clause-done g c =
     let p = err_from_is_err_and c.from_residual-in_err-debug_deck-in-Debug.result
     c.from_residual-in_err-debug_deck-in-Debug.ensures.1 in
     rw (p.1, p.2) (debug_refused _ _ c.args.job.now _ _ _ _ _ _ c.in-Debug.is
-    (c.session_of-session.ensures.deck ∙ ap deck_of c.parts_of-parts.ensures.head)
+    (c.head_parts_of-session.ensures.deck ∙ ap deck_of c.parts_of-parts.ensures.head)
     c.parts_of-parts.ensures.input
-    (c.session_of-session.ensures.commands ∙ ap commands_of c.parts_of-parts.ensures.head)
+    (c.head_parts_of-session.ensures.commands ∙ ap commands_of c.parts_of-parts.ensures.head)
     c.in_err-debug_deck-in-Debug.ensures.done)
 
 pub returns-in_err-write_deck_image-in-Asm-clause-retries :

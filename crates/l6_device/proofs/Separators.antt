@@ -7,10 +7,10 @@ use Rattle.std.proofs.lemmas.List.Folds.{list_all_at}
 use Rattle.std.proofs.Math.Seq.{take-append_seam, get_or-append_seam}
 use Rattle.l6_word.specs.Split.{lacks, IsCutAt}
 use Rattle.l6_word.proofs.Cuts.{lacks-cons}
-use Rattle.l6.specs.JobParts.{TextHalves, halves, is_separator, text_of_lines, whole_lines, without_feed}
-use Rattle.l6.specs.inner.Lines.{BeginsWithLine}
+use Rattle.l6_device.specs.JobParts.{TextHalves, halves, is_separator, text_of_lines, whole_lines, without_feed}
+use Rattle.l6_device.specs.inner.Lines.{BeginsWithLine}
 use Rattle.l6_word.specs.Lines.{without_return}
-use Rattle.l6.specs.JobParts.{reads_as}
+use Rattle.l6_device.specs.JobParts.{reads_as}
 
 -- a line in front of a text
 whole_lines-front : (line following : List ℕ) → lacks (byte "\n") line ≡ true →

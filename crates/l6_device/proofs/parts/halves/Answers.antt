@@ -1,8 +1,8 @@
 use Rattle.std.proofs.Common.{◌∙◌, ap, length, sym}
 use Rattle.std.proofs.lemmas.Bool.{eqb-true}
-use Rattle.l6.specs.JobParts.{reads_as}
-use Rattle.l6.proofs.Separators.{before_separator, no_separator, none_kept, one_kept}
-use Rattle.l6.proofs.parts.halves.Goals as goal
+use Rattle.l6_device.specs.JobParts.{reads_as}
+use Rattle.l6_device.proofs.Separators.{before_separator, no_separator, none_kept, one_kept}
+use Rattle.l6_device.proofs.parts.halves.Goals as goal
 
 pub loop-rest-init : goal.loop-rest-init
 loop-rest-init c = none_kept c.args.word.now c.args.text.now

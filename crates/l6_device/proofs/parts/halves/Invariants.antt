@@ -1,6 +1,6 @@
 use Rattle.std.proofs.Common.{length}
-use Rattle.l6.proofs.Separators.{Keeps}
-use Rattle.l6.proofs.parts.halves.Given as goal
+use Rattle.l6_device.proofs.Separators.{Keeps}
+use Rattle.l6_device.proofs.parts.halves.Given as goal
 
 -- the lines before the rest are no separators
 abbrev pub invariant-loop-rest : goal.invariant-loop-rest

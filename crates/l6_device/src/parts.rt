@@ -3,8 +3,8 @@
 ghost use Rattle.std.specs.Prelude.{◌≡◌, ◌<◌, map, length};
 ghost use Rattle.std.specs.Str.{bytes_eq};
 ghost use Rattle.l6_word.specs.Code.{character_of};
-ghost use Rattle.l6.specs.JobParts as spec;
-ghost use Rattle.l6.specs.inner.Lines.{BeginsWithLine};
+ghost use Rattle.l6_device.specs.JobParts as spec;
+ghost use Rattle.l6_device.specs.inner.Lines.{BeginsWithLine};
 
 use l6_group::are_blank;
 use l6_word::{character_of, split_line, without_return};
@@ -35,7 +35,7 @@ pub fn parts_of(job: &[u8]) -> JobParts<'_>
 
 /// The parts of a head that is a deck with commands.
 #[derive(Clone, Copy, Debug, PartialEq, Eq)]
-pub struct Session<'a> {
+pub struct HeadParts<'a> {
     /// What is before the separator of the commands.
     pub deck: &'a [u8],
     /// What follows it.
@@ -43,12 +43,12 @@ pub struct Session<'a> {
 }
 
 /// The deck and the commands of a head. A part that no separator begins is empty.
-pub fn session_of(head: &[u8]) -> Session<'_>
+pub fn head_parts_of(head: &[u8]) -> HeadParts<'_>
     ensures deck { result.deck.now ≡ spec.deck_of head.now }
     ensures commands { result.commands.now ≡ spec.commands_of head.now }
 {
     let (deck, commands) = halves(COMMANDS_SEPARATOR, head);
-    Session { deck, commands }
+    HeadParts { deck, commands }
 }
 
 /// The text before its first line that is the separator of this word, and the text after that line.

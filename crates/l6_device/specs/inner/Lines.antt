@@ -1,6 +1,6 @@
 -- The first line of a text.
 use Rattle.std.specs.Prelude.{◌≡◌, ℕ, List, ◌∷◌, ◌++◌}
-use Rattle.l6.specs.JobParts.{whole_lines, without_feed}
+use Rattle.l6_device.specs.JobParts.{whole_lines, without_feed}
 
 -- the text begins with this line, and the rest follows it
 pub record BeginsWithLine (text line following : List ℕ) : Type 0 where

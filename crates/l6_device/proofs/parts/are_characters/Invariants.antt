@@ -1,7 +1,7 @@
 use Rattle.std.proofs.Common.{◌≡◌, map, length}
 use Rattle.std.specs.Str.{bytes_eq}
 use Rattle.l6_word.specs.Code.{character_of}
-use Rattle.l6.proofs.parts.are_characters.Given as goal
+use Rattle.l6_device.proofs.parts.are_characters.Given as goal
 
 -- what is left of both decides
 abbrev pub invariant-loop-character : goal.invariant-loop-character

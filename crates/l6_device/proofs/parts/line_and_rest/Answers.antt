@@ -1,5 +1,5 @@
-use Rattle.l6.proofs.Separators.{line_cut, line_whole}
-use Rattle.l6.proofs.parts.line_and_rest.Goals as goal
+use Rattle.l6_device.proofs.Separators.{line_cut, line_whole}
+use Rattle.l6_device.proofs.parts.line_and_rest.Goals as goal
 
 pub returns-in-Some-clause-line : goal.returns-in-Some-clause-line
 returns-in-Some-clause-line c = line_cut c.in-Some.ensures.parts

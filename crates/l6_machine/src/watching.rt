@@ -1,9 +1,8 @@
 //! Going on to a state that one watches for.
 
-ghost use Rattle.std.specs.Prelude.{◌≡◌, ℕ, ◌+◌, ◌-◌, ◌<◌, ◌≤◌, ◌↔◌, Bool, true, false, is_some, min, IfSome, None};
+ghost use Rattle.std.specs.Prelude.{◌≡◌, ℕ, ◌+◌, ◌-◌, ◌<◌, ◌≤◌, ◌↔◌, Bool, true, false, min, None};
 ghost use Rattle.l6_steps.specs.Configuration.{configuration_after};
 ghost use Rattle.l6_steps.specs.State.{State, is_last};
-ghost use Rattle.l6_instructions.specs.inner.CompiledProgram.{pc_of};
 ghost use Rattle.l6_machine.specs.Counting.{number_of};
 ghost use Rattle.l6_machine.specs.Later.{configuration_later, state_later};
 
@@ -42,15 +41,8 @@ impl<S: Places> Machine<S> {
     {
         let limit = count.min(self.limits().steps);
         let mut made = 0;
-        if !self.goes_on_below(limit) {
-            return made;
-        }
-        let mut pc = self.pc();
-        'steps: while self.counted_below(limit) {
-            match self.go_on::<W>(pc) {
-                Some(next) => pc = next,
-                None => return made + 1,
-            }
+        'steps: while self.goes_on_below(limit) {
+            self.go_on::<W>();
             made += 1;
             if watch.sees(self) {
                 return made;
@@ -60,6 +52,7 @@ impl<S: Places> Machine<S> {
     }
 
     /// Whether the run has not ended, and has counted fewer steps than this.
+    #[inline(always)]
     fn goes_on_below(&self, limit: u64) -> bool
         ensures value { (result ≡ true) ↔ ((self.now.configuration.state.ending ≡ None)
             × (self.now.configuration.state.count < limit)) }
@@ -68,39 +61,17 @@ impl<S: Places> Machine<S> {
         self.progress.ending.is_none() && self.progress.count < limit
     }
 
-    /// Whether fewer steps than this are counted.
+    /// Makes a step, from where the run goes on, for a caller that tells itself from others by `C`.
     #[inline(always)]
-    fn counted_below(&self, limit: u64) -> bool
-        ensures value { (result ≡ true) ↔ (self.now.configuration.state.count < limit) }
-        ensures within { self.now.configuration.state.count ≤ self.now.context.parameters.limits.steps }
-    {
-        self.progress.count < limit
-    }
-
-    /// The program counter of the next action, or of the one that has ended the run.
-    fn pc(&self) -> usize
-        ensures { result ≡ pc_of self.now.context.program self.now.configuration.state.at }
-    {
-        self.progress.pc
-    }
-
-    /// Makes a step from this program counter, where the run goes on. Answers the next one, or `None` if
-    /// the run has ended. A loop tells itself from others by `C`.
-    #[inline(always)]
-    fn go_on<C>(&mut self, pc: usize) -> Option<usize>
+    fn go_on<C>(&mut self)
         requires goes_on { self.old.configuration.state.ending ≡ None }
         requires below { self.old.configuration.state.count < self.old.context.parameters.limits.steps }
-        requires here { pc ≡ pc_of self.old.context.program self.old.configuration.state.at }
         ensures configuration { self.new.configuration
             ≡ configuration_after S.rule self.old.context self.old.configuration }
         ensures context { self.new.context ≡ self.old.context }
-        ensures counted { number_of self.new.configuration.state
-            ≡ self.old.configuration.state.count + 1 }
-        ensures some { IfSome result (λ next. (self.new.configuration.state.ending ≡ None)
-            × (next ≡ pc_of self.new.context.program self.new.configuration.state.at)) }
-        ensures none { result ≡ None → is_some self.new.configuration.state.ending ≡ true }
+        ensures counted { number_of self.new.configuration.state ≡ self.old.configuration.state.count + 1 }
     {
         self.progress
-            .step_from::<S, C>(&self.code, &mut self.registers, pc)
+            .go_here::<S, C>(&self.code, &mut self.registers);
     }
 }

@@ -14,8 +14,8 @@ returns-clause-configuration g c =
     let leads =
     subst
     (λ (code : CompiledParts).
-    configuration_of c.step_from.new.registers (control_of code.layout c.step_from.new.self)
+    configuration_of c.go_here.new.registers (control_of code.layout c.go_here.new.self)
     ≡ configuration_after rule (context_of code.program inside.registers)
     (configuration_of inside.registers (control_of code.layout inside.progress)))
-    c.deref.ensures c.step_from.ensures.reaches.configuration in
+    c.deref.ensures c.go_here.ensures.reaches.configuration in
     leads ∙ ap (λ (s : RunState). configuration_after rule s.context s.configuration) c.self.view_is

@@ -16,20 +16,19 @@ steps-preserved g c =
     let now = c.steps.self in
     let old = c.steps.invariant in
     let watched : State → Bool = g.W.Watch.watched c.args.watch.now in
-    let going = old.goes_on_now in
-    let counted = c.counted_below.ensures.value.0 c.steps-test.true in
+    let goes_on = c.goes_on_below.ensures.value.0 c.steps-test.true in
     let steps = ap (λ (limits : Limits). limits.steps) c.limits.ensures.value in
     let same = ap (λ (w : RunContext). w.parameters.limits.steps) old.context in
     let below : now.configuration.state.count < now.context.parameters.limits.steps =
-    omega (arith, counted, same, steps, c.min-limit.ensures) in
+    omega (arith, goes_on.1, same, steps, c.min-limit.ensures) in
     let here : is_last context (state_later rule context made from) ≡ false =
     ap (λ (w : RunContext). is_last w (state_later rule context made from)) (sym old.context)
     ∙ ap (λ (m : Configuration). is_last now.context m.state) (sym old.there)
-    ∙ not_last now.context now.configuration.state going below in
+    ∙ not_last now.context now.configuration.state goes_on.0 below in
     let there =
     later rule context from made now c.go_on.new.self old.context old.there
     c.go_on.ensures.configuration in
-    let number = open-number now.configuration.state going in
+    let number = open-number now.configuration.state goes_on.0 in
     record {
       context = c.go_on.ensures.context ∙ old.context;
       there = there;
@@ -41,14 +40,12 @@ steps-preserved g c =
           (ap (λ (m : Configuration). watched m.state) (sym there)
           ∙ sym c.sees.ensures ∙ c.if-sees.false);
       counted = omega (arith, c.go_on.ensures.counted, old.counted, number);
-      goes_on_now = c.in-Some.ensures.some.0;
-      here = c.in-Some.ensures.some.1;
       few = omega (
         arith,
         c.go_on.ensures.counted,
         old.counted,
         number,
-        counted,
+        goes_on.1,
         c.min-limit.ensures,
         old.few,
       );

@@ -1,6 +1,5 @@
-use Rattle.std.proofs.Common.{◌≡◌, ℕ, ◌+◌, ◌-◌, ◌<◌, ◌≤◌, false, None}
+use Rattle.std.proofs.Common.{◌≡◌, ℕ, ◌+◌, ◌-◌, ◌<◌, ◌≤◌, false}
 use Rattle.l6_steps.specs.State.{is_last}
-use Rattle.l6_instructions.specs.inner.CompiledProgram.{pc_of}
 use Rattle.l6_machine.specs.Counting.{number_of}
 use Rattle.l6_machine.specs.Later.{configuration_later, state_later}
 use Rattle.l6_machine.proofs.machine.Machine.run_until.Given as goal
@@ -19,8 +18,6 @@ invariant-steps g l = record {
       (state_later g.S.Places.rule l.fn.self.context k l.fn.self.configuration) ≡ false;
   counted : number_of l.self.configuration.state
       ≡ number_of l.fn.self.configuration.state + l.made;
-  goes_on_now : l.self.configuration.state.ending ≡ None;
-  here : l.pc ≡ pc_of l.self.context.program l.self.configuration.state.at;
   few : l.made ≤ l.count - number_of l.fn.self.configuration.state;
 }
 

@@ -1,6 +1,6 @@
 -- Where seeking ends.
 use Rattle.std.proofs.Common.{◌≡◌, ℕ, zero, suc, ◌+◌, ◌-◌, ◌<◌, ◌≤◌, Bool, true, false, List, [], ◌∷◌, Option, Some, None, if◌then◌else◌, length, refl, sym, ap, ◌∙◌, subst, arith, inl, inr}
-use Rattle.std.specs.Prelude.{◌==◌, ◌&&◌, ◌||◌, is_none, nat_lt, not, slice_index_or, unwrap_or}
+use Rattle.std.specs.Prelude.{◌==◌, ◌&&◌, ◌||◌, is_none, is_some, nat_lt, not, slice_index_or, unwrap_or}
 use Rattle.std.specs.List.{list_any}
 use Rattle.std.proofs.Math.Bool.{and-false, or-false}
 use Rattle.std.proofs.lemmas.Bool.{and_parts, cases_lt, eqb-true, le-ltb, lt-ltb, not-true, or_parts}
@@ -13,7 +13,7 @@ use Rattle.l6_steps.specs.Numbering.{last_number}
 use Rattle.l6_steps.specs.RunState.{RunState}
 use Rattle.l6_steps.specs.State.{RunContext, State}
 use Rattle.l6_history.specs.History.{number_to, run_state_at}
-use Rattle.l6_history.specs.Stop.{Stop, changes_between, differs, some_differ, stops_at, stops_nowhere, value_of, values_of}
+use Rattle.l6_history.specs.Stop.{Stop, changes_between, differs, is_at_breakpoint, is_shallow, some_differ, stops_at, stops_nowhere, value_of, values_of}
 use Rattle.l6_history.specs.Seeking.{greatest, next_stop, previous_stop, stops_back, stops_forward}
 use Rattle.l6_history.specs.inner.Seeking.{ComesTo, IsLast, IsLastIn, NoneAfter, NoneIn, Sight, later_of, sight_of}
 use Rattle.l6_history.proofs.Sights.{none-differ}
@@ -383,6 +383,22 @@ seen-by-place rule context stop from n none =
     || some_differ (values_of chains (state_at rule context from).memory)
     (values_of chains there.memory)) none
     ∙ or-false (stops_at stop there)
+
+-- without chains and depth breakpoints alone are seen
+not-shallow : (depth : Option ℕ) (state : State) → is_some depth ≡ false →
+    is_shallow depth state ≡ false
+not-shallow None state none = refl
+not-shallow (Some depth) state none = absurd (cc)
+
+pub seen-by-breakpoint : (rule : Rule) (context : RunContext) (stop : Stop) (from n : ℕ) →
+    stop.watched ≡ [] → is_some stop.depth ≡ false →
+    is_seen rule context stop from n
+    ≡ is_at_breakpoint stop.breakpoints (state_at rule context n)
+seen-by-breakpoint rule context stop from n none no_depth =
+    let there = state_at rule context n in
+    seen-by-place rule context stop from n none
+    ∙ ap (λ b. is_at_breakpoint stop.breakpoints there || b) (not-shallow stop.depth there no_depth)
+    ∙ or-false (is_at_breakpoint stop.breakpoints there)
 
 -- and where a bug alone is watched, what it holds is seen
 pub seen-by-bug : (rule : Rule) (context : RunContext) (stop : Stop) (from n bug word : ℕ) →

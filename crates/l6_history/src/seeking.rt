@@ -9,7 +9,7 @@ ghost use Rattle.l6_history.specs.inner.Seeking.{ComesTo, IsLastIn, later_of};
 use crate::history::History;
 use crate::sight::Sight;
 use crate::stop::Stop;
-use crate::watches::{BugWatch, ChainWatch, PlaceWatch};
+use crate::watches::{BreakpointWatch, BugWatch, ChainWatch, PlaceWatch};
 use l6_machine::Watch;
 use l6_store::Places;
 use std::alloc::Global;
@@ -28,6 +28,9 @@ impl<S: Places> History<S> {
             return;
         }
         if stop.watched().len() == 0 {
+            if !stop.has_depth() {
+                return self.to_watched(alloc, &BreakpointWatch::new(stop));
+            }
             return self.to_watched(alloc, &PlaceWatch::new(stop));
         }
         match stop.watched_bug() {

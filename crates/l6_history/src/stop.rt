@@ -1,6 +1,6 @@
 //! Where one stops that goes through a run.
 
-ghost use Rattle.std.specs.Prelude.{◌≡◌, ◌<◌, ◌≤◌, ◌||◌, ◌++◌, ◌∷◌, [], length, replicate, slice_index_or, slice_set, false, IfOk, IfSome, Some};
+ghost use Rattle.std.specs.Prelude.{◌≡◌, ◌<◌, ◌≤◌, ◌||◌, ◌++◌, ◌∷◌, [], length, replicate, slice_index_or, slice_set, false, is_some, IfOk, IfSome, Some};
 ghost use Rattle.std.specs.List.{list_any, remove};
 ghost use Rattle.l6_prog.specs.Numerals.{first_letter};
 ghost use Rattle.l6_history.specs.Numerals.{most_watched};
@@ -161,9 +161,16 @@ impl Stop {
         self.is_at_breakpoint(machine) || self.is_shallow(machine)
     }
 
+    /// Whether one stops where no more than so many calls wait.
+    pub(crate) fn has_depth(&self) -> bool
+        ensures { result ≡ is_some self.now.depth }
+    {
+        self.depth.is_some()
+    }
+
     /// Whether the state is at the condition of a statement with a breakpoint.
     #[inline(always)]
-    fn is_at_breakpoint<S: Places>(&self, machine: &Machine<S>) -> bool
+    pub(crate) fn is_at_breakpoint<S: Places>(&self, machine: &Machine<S>) -> bool
         ensures { result ≡ is_at_breakpoint self.now.breakpoints machine.now.configuration.state }
     {
         let at = machine.at();

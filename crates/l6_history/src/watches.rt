@@ -15,6 +15,32 @@ use l6_store::Places;
 use l6_word::Word;
 use std::marker::Model;
 
+/// One watches for breakpoints.
+#[derive(Drop)]
+pub(crate) struct BreakpointWatch<'a> {
+    stop: &'a Stop,
+}
+
+impl<'a> BreakpointWatch<'a> {
+    /// By a stop, without its depth and the chains that it watches.
+    pub(crate) fn new(stop: &'a Stop) -> Self
+        ensures { result.stop.now ≡ stop.now }
+    {
+        BreakpointWatch { stop }
+    }
+}
+
+impl<'a, S: Places> Watch<S> for BreakpointWatch<'a> {
+    ghost use Rattle.l6_history.specs.Stop.{is_at_breakpoint};
+
+    ghost watched = { λ w state. is_at_breakpoint w.stop.now.breakpoints state };
+
+    #[inline(always)]
+    fn sees(&self, machine: &Machine<S>) -> bool {
+        self.stop.is_at_breakpoint(machine)
+    }
+}
+
 /// One watches for breakpoints, and for how many calls wait.
 #[derive(Drop)]
 pub(crate) struct PlaceWatch<'a> {

@@ -3,9 +3,9 @@ use Rattle.std.specs.Prelude.{◌||◌}
 use Rattle.l6_steps.specs.Configuration.{state_at}
 use Rattle.l6_steps.specs.Numbering.{last_number}
 use Rattle.l6_steps.specs.RunState.{RunState}
-use Rattle.l6_history.specs.Stop.{Stop, differs, some_differ, stops_at, value_of, values_of}
+use Rattle.l6_history.specs.Stop.{Stop, differs, is_at_breakpoint, some_differ, stops_at, value_of, values_of}
 use Rattle.l6_history.specs.inner.Watches.{is_seen_by_bug, is_seen_by_chains}
-use Rattle.l6_history.proofs.Sought.{comes-alike, is_seen, next-seen, none-watched, nowhere-forward, seen-by-bug, seen-by-place}
+use Rattle.l6_history.proofs.Sought.{comes-alike, is_seen, next-seen, none-watched, nowhere-forward, seen-by-breakpoint, seen-by-bug, seen-by-place}
 use Rattle.l6_history.proofs.history.History.to_next.Goals as goal
 
 -- where one stops nowhere, it goes to the last state
@@ -20,9 +20,9 @@ returns-then-is_nowhere-clause-number g c =
     ∙ sym (nowhere-forward rule context c.args.stop.now c.args.self.now.number
     (sym c.is_nowhere.ensures ∙ c.if-is_nowhere.true))
 
--- where no chain is watched, places alone are looked at
-pub returns-then-watched-eq0-clause-number : goal.returns-then-watched-eq0-clause-number
-returns-then-watched-eq0-clause-number g c =
+-- where no chain is watched, and no depth, breakpoints alone are looked at
+pub returns-then-not-has_depth-clause-number : goal.returns-then-not-has_depth-clause-number
+returns-then-not-has_depth-clause-number g c =
     let rule = g.S.Places.rule in
     let context = c.args.self.now.context in
     let stop = c.args.stop.now in
@@ -32,10 +32,30 @@ returns-then-watched-eq0-clause-number g c =
     let none = none-watched stop c.watched.result.now c.watched.ensures.value
     c.if-watched-eq0.true in
     next-seen rule context stop from number
+    (comes-alike (λ n. is_at_breakpoint watch.breakpoints (state_at rule context n))
+    (is_seen rule context stop from) from (last_number rule context) number
+    c.to_watched.ensures.comes
+    (λ n. seen-by-breakpoint rule context stop from n none
+    (sym c.if-not-has_depth.ensures)
+    ∙ ap (λ (s : Stop). is_at_breakpoint s.breakpoints (state_at rule context n))
+    (sym c.new.ensures)))
+
+-- where no chain is watched, places alone are looked at
+pub returns-then-watched-eq0-clause-number : goal.returns-then-watched-eq0-clause-number
+returns-then-watched-eq0-clause-number g c =
+    let rule = g.S.Places.rule in
+    let context = c.args.self.now.context in
+    let stop = c.args.stop.now in
+    let from = c.args.self.now.number in
+    let number = c.to_watched-then-watched-eq0.new.self.number in
+    let watch : Stop = c.new-then-watched-eq0.result.stop.now in
+    let none = none-watched stop c.watched.result.now c.watched.ensures.value
+    c.if-watched-eq0.true in
+    next-seen rule context stop from number
     (comes-alike (λ n. stops_at watch (state_at rule context n)) (is_seen rule context stop from)
-    from (last_number rule context) number c.to_watched.ensures.comes
+    from (last_number rule context) number c.to_watched-then-watched-eq0.ensures.comes
     (λ n. seen-by-place rule context stop from n none
-    ∙ ap (λ (s : Stop). stops_at s (state_at rule context n)) (sym c.new.ensures)))
+    ∙ ap (λ (s : Stop). stops_at s (state_at rule context n)) (sym c.new-then-watched-eq0.ensures)))
 
 -- where a bug alone is watched, what it holds is compared
 pub returns-in-Some-clause-number : goal.returns-in-Some-clause-number

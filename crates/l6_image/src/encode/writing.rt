@@ -16,9 +16,6 @@ use crate::version::{Version, target_bits};
 use l6_prog::{Cond, Exit, Op, Program, Statement, Test};
 use std::alloc::{AllocError, Global};
 
-/// How many words most rows have: the first one, a chain, and an operand.
-const WORDS_OF_A_ROW: usize = 3;
-
 /// The words of a program's image: the magic word, how many statements there are, how many words
 /// follow, and the words of the statements, in order.
 ///
@@ -59,8 +56,11 @@ pub fn statement_words(alloc: Global, statement: &Statement) -> Result<Vec<u64>,
         → list_all is_word words.items ≡ true) }
 {
     statement.values_hold();
-    let rows = statement.tests().len() + statement.operations().len();
-    let mut words = Vec::with_capacity(alloc, 1 + WORDS_OF_A_ROW * rows)?;
+    // each test and each operation has one word at least
+    let mut words = Vec::with_capacity(
+        alloc,
+        1 + statement.tests().len() + statement.operations().len(),
+    )?;
     push_statement(Version::Two, &mut words, statement)?;
     Ok(words)
 }

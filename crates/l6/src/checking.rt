@@ -15,6 +15,7 @@ use std::alloc::Global;
 /// # Errors
 ///
 /// Why nothing can be said of it. Nothing went out then, unless it is a `Write`.
+#[inline(never)] // so that the verbs that run programs do not share its frame
 pub(crate) fn write_deck_check<W: Sink>(
     alloc: Global,
     deck: &[u8],

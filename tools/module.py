@@ -10,15 +10,14 @@ import hashlib
 import re
 import shutil
 import subprocess
+import sys
 from collections.abc import Iterable, Iterator
 from dataclasses import dataclass
 from pathlib import Path
 from tempfile import TemporaryDirectory
 
-from commands import Commands
 from crates import TOP, Crate, listed, read_crates, uses_of
-from lanes import processors
-from prove import prove, replace_text, sources_sum
+from prove import replace_text, sources_sum
 from rooms import room_of
 
 PROGRAMS = (TOP / "dist" / "l6", TOP / "crates" / "l6" / "out" / "l6")
@@ -108,8 +107,7 @@ def build(rattle: Path, crate: Crate, folder: Path) -> None:
     It is proved first if it is not, or if a library was proved again since then (as the edits of a crate do
     it): a program can only be built of libraries of one proof.
     """
-    if not prove([crate], processors(), Commands()):
-        raise Stop(f"{crate.name} is not proved")
+    call(sys.executable, str(TOP / "tools/prove.py"), crate.name)
     tools = toolchain_that_keeps(folder / "module.bc", rattle, folder / "toolchain")
     with room_of(crate) as room:
         call(str(rattle / "bin/rattle"), "build", *words_of(crate, rattle, room),

@@ -1,5 +1,6 @@
 #!/usr/bin/env python3
-"""Tries that an edit which was refused is not tried again until something changes that this depends on.
+"""Tries that an edit which was refused is not tried again until something changes that this depends on, and that
+each edit can be applied to the code as it is.
 
 verdict_trials.py prints each difference, and last 'N passed, M failed'. tests/edits.py is called in a small
 checkout with a stand-in for rt, by which a function that answers 2 is not proved.
@@ -8,6 +9,7 @@ from __future__ import annotations
 
 import ast
 import shutil
+import subprocess
 import sys
 import tempfile
 from collections.abc import Iterator
@@ -212,9 +214,18 @@ def scripts() -> Iterator[Trial]:
     yield "the scripts of a verdict", sorted(used - REPORTING), sorted(HARNESS)
 
 
+def texts() -> Iterator[Trial]:
+    """The edits of this checkout can be applied: each old text stands once in the code as it is."""
+    ran = subprocess.run([sys.executable, "-B", TOP / "tests/edits.py", "--texts"], capture_output=True, text=True)
+    *wrong, count = ran.stdout.splitlines() or [""]
+    yield "edits that can't be applied", ([], 0, ""), (wrong, ran.returncode, ran.stderr)
+    yield "how edits that can be applied are counted", True, count.endswith(" passed, 0 failed")
+
+
 def trials() -> Iterator[Trial]:
     """All trials, each group with a folder of its own for what is kept."""
     yield from scripts()
+    yield from texts()
     with tempfile.TemporaryDirectory() as folder:
         edits = Edits(Path(folder) / "checkout")
         for group in (verdicts, changes, copies, folders, crates_below):

@@ -1,14 +1,14 @@
 -- What is seen of a state, value by value.
-use Rattle.std.proofs.Common.{◌≡◌, ℕ, ◌+◌, ◌<◌, Bool, false, List, [], ◌∷◌, Option, Some, None, Ok, Err, drop, length, get_or, refl, sym, ap, ◌∙◌, arith}
-use Rattle.std.specs.Prelude.{Result, ◌||◌, ◌==◌}
+use Rattle.std.proofs.Common.{◌≡◌, ℕ, ◌+◌, ◌<◌, Bool, false, List, [], ◌∷◌, Option, Some, None, drop, length, get_or, refl, sym, ap, ◌∙◌, arith, inl, inr}
+use Rattle.std.specs.Prelude.{◌||◌, ◌==◌, not}
 use Rattle.std.specs.Result.{result_ok}
 use Rattle.std.proofs.lemmas.Bool.{eqb-true, not-false, or_parts}
+use Rattle.std.proofs.lemmas.Bool.Decides.{eqb_tells}
 use Rattle.std.proofs.lemmas.List.{drop_more, get_or-map}
 use Rattle.l6_prog.specs.declared.operand.Operand.TheVariants.{Chain}
 use Rattle.l6_steps.specs.Locus.{read}
 use Rattle.l6_steps.specs.State.{Memory}
-use Rattle.l6_steps.specs.declared.trap.Trap.{Trap}
-use Rattle.l6_history.specs.Stop.{differs, if_read, some_differ, value_of, values_of}
+use Rattle.l6_history.specs.Stop.{differs, some_differ, value_of, values_of}
 
 -- whether some differ from here on is said by the next ones and by those after them
 pub differ-more : (old new : List (Option ℕ)) (index : ℕ) (kept value : Option ℕ) (changes : Bool) →
@@ -45,15 +45,24 @@ none-differ (one ∷ ones) (other ∷ others) many same =
     ap (λ o. o ∷ ones) (same-value one other parts.0)
     ∙ ap (λ l. other ∷ l) (none-differ ones others (omega (arith, many)) parts.1)
 
-pub if-read : (value : Result ℕ Trap) → result_ok value ≡ if_read value
-if-read (Ok word) = refl
-if-read (Err trap) = refl
-
 -- what a chain reads as is the value at its index
 pub read-as : (chains : List (List ℕ)) (memory : Memory) (index : ℕ) (chain : List ℕ)
-    (given : Result ℕ Trap) (value : Option ℕ) → index < length chains →
-    chain ≡ get_or chains index chain → given ≡ read memory (Chain chain) →
-    value ≡ result_ok given → value ≡ get_or (values_of chains memory) index value
-read-as chains memory index chain given value within is reads are =
-    are ∙ if-read given ∙ ap if_read reads ∙ ap (value_of memory) is
+    (value : Option ℕ) → index < length chains → chain ≡ get_or chains index chain →
+    value ≡ result_ok (read memory (Chain chain)) →
+    value ≡ get_or (values_of chains memory) index value
+read-as chains memory index chain value within is reads =
+    reads ∙ ap (value_of memory) is
     ∙ sym (get_or-map (value_of memory) chains index chain value within)
+
+-- what is compared with itself does not differ
+same-differs : (value : Option ℕ) → differs value value ≡ false
+same-differs None = refl
+same-differs (Some n) = elim (eqb_tells n n) as (λ _. not (n == n) ≡ false) [
+  | inl same ↦ ap not same.0
+  | inr other ↦ absurd (other.1 refl)
+]
+
+pub same-values : (values : List (Option ℕ)) → some_differ values values ≡ false
+same-values [] = refl
+same-values (value ∷ values) =
+    ap (λ b. b || some_differ values values) (same-differs value) ∙ same-values values

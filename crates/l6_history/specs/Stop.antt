@@ -1,8 +1,8 @@
 -- Where one stops that goes through a run, forward or back.
-use Rattle.std.specs.Prelude.{ℕ, ◌==◌, nat_le, Bool, false, true, not, ◌&&◌, ◌||◌, List, [], ◌∷◌, length, map, replicate, Option, Some, None, Result, Ok, Err, slice_index_or, is_none}
+use Rattle.std.specs.Prelude.{ℕ, ◌==◌, nat_le, Bool, false, true, not, ◌&&◌, ◌||◌, List, [], ◌∷◌, length, map, replicate, Option, Some, None, slice_index_or, is_none}
 use Rattle.std.specs.List.{list_any}
+use Rattle.std.specs.Result.{result_ok}
 use Rattle.l6_prog.specs.declared.operand.Operand.TheVariants.{Chain}
-use Rattle.l6_steps.specs.declared.trap.Trap.{Trap}
 use Rattle.l6_steps.specs.Locus.{read}
 use Rattle.l6_steps.specs.State.{Memory, State}
 
@@ -32,12 +32,8 @@ abbrev pub stops_at : Stop → State → Bool
 stops_at stop state = is_at_breakpoint stop.breakpoints state || is_shallow stop.depth state
 
 -- what a chain reads as, or nothing where it can't be followed
-abbrev pub if_read : Result ℕ Trap → Option ℕ
-if_read (Ok value) = Some value
-if_read (Err trap) = None
-
 abbrev pub value_of : Memory → List ℕ → Option ℕ
-value_of memory chain = if_read (read memory (Chain chain))
+value_of memory chain = result_ok (read memory (Chain chain))
 
 -- what each of some chains reads as
 abbrev pub values_of : List (List ℕ) → Memory → List (Option ℕ)

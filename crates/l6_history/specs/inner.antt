@@ -1,3 +1,4 @@
+pub mod Changing
 pub mod NumberedMachine
 pub mod Ring
 pub mod Seeking

@@ -6,6 +6,7 @@ ghost use Rattle.l6_steps.specs.Configuration.{first_configuration, state_at};
 ghost use Rattle.l6_steps.specs.Numbering.{last_number};
 ghost use Rattle.l6_steps.specs.Numerals.{most_steps};
 ghost use Rattle.l6_steps.specs.Run.{IsReached};
+ghost use Rattle.l6_machine.specs.Later.{sees};
 ghost use Rattle.l6_history.specs.History.{greatest_up_to, number_to, run_state_at, way_from};
 ghost use Rattle.l6_history.specs.Numerals.{most_kept};
 
@@ -171,20 +172,27 @@ impl<S: Places> History<S> {
     }
 
     /// Goes on to the next state that is watched for, to the last one, or to the next one at which a
-    /// checkpoint is tried, where that comes first. Answers whether one goes on from there.
+    /// checkpoint is tried, where that comes first. Answers whether one goes on from there. The caller
+    /// owes a watch for this program, for which nothing has changed.
     pub(crate) fn stretch_until<W: Watch<S>>(&mut self, alloc: Global, watch: &W) -> bool
     where
         S: Drop,
+        requires suits { W.suits watch.now self.old.context.program }
+        requires unchanged { W.changed watch.now
+            (state_at S.rule self.old.context self.old.number) ≡ false }
         ensures context { self.new.context ≡ self.old.context }
         ensures on { self.old.number ≤ self.new.number }
         ensures within { self.new.number ≤ last_number S.rule self.old.context }
         ensures unseen { (k : ℕ) → self.old.number < k → k < self.new.number →
-            W.watched watch.now (state_at S.rule self.old.context k) ≡ false }
+            sees (W.stops watch.now) (W.changed watch.now) (state_at S.rule self.old.context k)
+            ≡ false }
         ensures goes_on { result ≡ true → (self.old.number < self.new.number)
-            × (W.watched watch.now (state_at S.rule self.old.context self.new.number) ≡ false) }
+            × (sees (W.stops watch.now) (W.changed watch.now)
+            (state_at S.rule self.old.context self.new.number) ≡ false) }
         ensures stops { result ≡ false → self.new.number < last_number S.rule self.old.context →
             (self.old.number < self.new.number)
-            × (W.watched watch.now (state_at S.rule self.old.context self.new.number) ≡ true) }
+            × (sees (W.stops watch.now) (W.changed watch.now)
+            (state_at S.rule self.old.context self.new.number) ≡ true) }
     {
         let here = self.number();
         let next = here - here % STRIDE + STRIDE;
@@ -192,7 +200,16 @@ impl<S: Places> History<S> {
             return false;
         }
         self.keep(alloc);
-        !watch.sees(self.machine())
+        !self.is_seen(watch)
+    }
+
+    /// Whether the machine is at a state that is watched for.
+    fn is_seen<W: Watch<S>>(&self, watch: &W) -> bool
+        ensures { result ≡ sees (W.stops watch.now) (W.changed watch.now)
+            (state_at S.rule self.now.context self.now.number) }
+    {
+        let machine = self.machine();
+        watch.is_at_stop(machine) || watch.has_changed(machine)
     }
 
     /// Goes to the next state, where there is one. Answers whether there was.

@@ -1,6 +1,7 @@
 //! Histories: a run's states by their numbers, forward and back, and to where one stops.
 #![tactic(auto)]
 
+mod changing;
 mod history;
 mod laws;
 mod numbered_machine;

@@ -5,6 +5,7 @@ ghost use Rattle.l6_steps.specs.Configuration.{first_configuration, state_at};
 ghost use Rattle.l6_steps.specs.Numbering.{last_number};
 ghost use Rattle.l6_steps.specs.Numerals.{most_steps};
 ghost use Rattle.l6_steps.specs.Run.{IsReached};
+ghost use Rattle.l6_machine.specs.Later.{sees};
 ghost use Rattle.l6_history.specs.History.{number_to, run_state_at};
 
 use l6_machine::{Machine, Watch};
@@ -113,17 +114,23 @@ impl<S: Places> NumberedMachine<S> {
     }
 
     /// Goes on to the next state that is watched for, to that of a number, or to the last one, where
-    /// that comes first. Answers how many states further that is.
+    /// that comes first. Answers how many states further that is. The caller owes a watch for this
+    /// program, for which nothing has changed.
     pub(crate) fn forward_until<W: Watch<S>>(&mut self, watch: &W, number: u64) -> u64
-        requires { self.old.number ≤ number }
+        requires before { self.old.number ≤ number }
+        requires suits { W.suits watch.now self.old.context.program }
+        requires unchanged { W.changed watch.now
+            (state_at S.rule self.old.context self.old.number) ≡ false }
         ensures context { self.new.context ≡ self.old.context }
         ensures within { self.new.number ≤ number_to S.rule self.old.context number }
         ensures ran { self.new.number ≡ self.old.number + result }
         ensures unseen { (k : ℕ) → self.old.number < k → k < self.new.number →
-            W.watched watch.now (state_at S.rule self.old.context k) ≡ false }
+            sees (W.stops watch.now) (W.changed watch.now) (state_at S.rule self.old.context k)
+            ≡ false }
         ensures stops { self.new.number < number_to S.rule self.old.context number →
             (self.old.number < self.new.number)
-            × (W.watched watch.now (state_at S.rule self.old.context self.new.number) ≡ true) }
+            × (sees (W.stops watch.now) (W.changed watch.now)
+            (state_at S.rule self.old.context self.new.number) ≡ true) }
     {
         let ran = self.machine.run_until(watch, number);
         self.number += ran;

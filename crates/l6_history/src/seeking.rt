@@ -1,8 +1,9 @@
 //! Going through a run to where one stops, forward or back.
 
-ghost use Rattle.std.specs.Prelude.{◌≡◌, ◌<◌, ◌≤◌};
+ghost use Rattle.std.specs.Prelude.{◌≡◌, ◌<◌, ◌≤◌, false};
 ghost use Rattle.l6_steps.specs.Configuration.{state_at};
 ghost use Rattle.l6_steps.specs.Numbering.{last_number};
+ghost use Rattle.l6_machine.specs.Later.{sees};
 ghost use Rattle.l6_history.specs.Seeking.{next_stop, previous_stop, stops_back};
 ghost use Rattle.l6_history.specs.inner.Seeking.{ComesTo, IsLastIn, later_of};
 
@@ -39,19 +40,24 @@ impl<S: Places> History<S> {
                 self.to_watched(alloc, &watch);
             }
             None => {
-                let watch = ChainWatch::new(stop, self.machine());
+                let watch = ChainWatch::new(alloc, stop, self.machine());
                 self.to_watched(alloc, &watch);
             }
         }
     }
 
-    /// Goes to the first later state that is watched for, or to the last state.
+    /// Goes to the first later state that is watched for, or to the last state. The caller owes a watch
+    /// for this program, for which nothing has changed.
     fn to_watched<W: Watch<S>>(&mut self, alloc: Global, watch: &W)
     where
         S: Drop,
+        requires suits { W.suits watch.now self.old.context.program }
+        requires unchanged { W.changed watch.now
+            (state_at S.rule self.old.context self.old.number) ≡ false }
         ensures context { self.new.context ≡ self.old.context }
         ensures comes { ComesTo
-            (λ n. W.watched watch.now (state_at S.rule self.old.context n))
+            (λ n. sees (W.stops watch.now) (W.changed watch.now)
+            (state_at S.rule self.old.context n))
             self.old.number (last_number S.rule self.old.context) self.new.number }
     {
         'stretches: while self.stretch_until(alloc, watch) {}

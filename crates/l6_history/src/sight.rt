@@ -1,12 +1,12 @@
 //! What is seen of a state on the way to where one stops.
 
 ghost use Rattle.std.specs.Prelude.{◌≡◌, length};
-ghost use Rattle.l6_history.specs.Stop.{differs, if_read, some_differ, values_of};
+ghost use Rattle.l6_history.specs.Stop.{differs, some_differ, values_of};
 ghost use Rattle.l6_history.specs.inner.Seeking.{sight_of};
 
 use crate::stop::{MAX_WATCHED, Stop};
 use arrayvec::ArrayVec;
-use l6_machine::{Machine, Trap};
+use l6_machine::Machine;
 use l6_prog::Chain;
 use l6_store::Places;
 use l6_word::Word;
@@ -94,21 +94,21 @@ pub(crate) fn differ<S: Places>(
         (values_of chains.now machine.now.configuration.state.memory) }
 {
     for (index, chain) in chains.iter().enumerate() {
-        if is_other(&values[index], machine.value(chain)) {
+        if is_other(&values[index], machine.readable_value(chain)) {
             return true;
         }
     }
     false
 }
 
-/// Whether a chain that reads so has another value than this.
+/// Whether a chain reads as another value than this.
 #[inline(always)]
-fn is_other(value: &Option<Word>, read: Result<Word, Trap>) -> bool
-    ensures { result ≡ differs value.now (if_read read) }
+fn is_other(value: &Option<Word>, read: Option<Word>) -> bool
+    ensures { result ≡ differs value.now read }
 {
     match (read, value) {
-        (Ok(word), Some(value)) => word.get() != value.get(),
-        (Err(_), None) => false,
+        (Some(word), Some(value)) => word.get() != value.get(),
+        (None, None) => false,
         _ => true,
     }
 }
@@ -119,6 +119,6 @@ fn see<S: Places>(values: &mut [Option<Word>], chains: &[Chain], machine: &Machi
     ensures { values.new ≡ values_of chains.now machine.now.configuration.state.memory }
 {
     for (index, chain) in chains.iter().enumerate() {
-        values[index] = machine.value(chain).ok();
+        values[index] = machine.readable_value(chain);
     }
 }

@@ -2,10 +2,12 @@
 //!
 //! What a chain reads as is compared with what it read as at first: up to a stop it never changes.
 
-ghost use Rattle.std.specs.Prelude.{◌≡◌, ◌≤◌, ◌∷◌, [], Some};
+ghost use Rattle.std.specs.Prelude.{◌≡◌, ◌≤◌, ◌∷◌, [], slice_index_or, true, Some};
 ghost use Rattle.l6_prog.specs.Numerals.{first_letter};
 ghost use Rattle.l6_history.specs.Stop.{value_of, values_of};
+ghost use Rattle.l6_history.specs.inner.Changing.{AreKnown};
 
+use crate::changing::changing_statements;
 use crate::sight::{differ, values_of};
 use crate::stop::{MAX_WATCHED, Stop};
 use arrayvec::ArrayVec;
@@ -13,6 +15,7 @@ use l6_machine::{Machine, Watch};
 use l6_prog::Name;
 use l6_store::Places;
 use l6_word::Word;
+use std::alloc::Global;
 use std::marker::Model;
 
 /// One watches for breakpoints.
@@ -31,13 +34,28 @@ impl<'a> BreakpointWatch<'a> {
 }
 
 impl<'a, S: Places> Watch<S> for BreakpointWatch<'a> {
+    ghost use Rattle.std.specs.Prelude.{⊤, false};
     ghost use Rattle.l6_history.specs.Stop.{is_at_breakpoint};
 
-    ghost watched = { λ w state. is_at_breakpoint w.stop.now.breakpoints state };
+    ghost stops = { λ w state. is_at_breakpoint w.stop.now.breakpoints state };
+
+    ghost changed = { λ _ _. false };
+
+    ghost suits = { λ _ _. ⊤ };
 
     #[inline(always)]
-    fn sees(&self, machine: &Machine<S>) -> bool {
+    fn is_at_stop(&self, machine: &Machine<S>) -> bool {
         self.stop.is_at_breakpoint(machine)
+    }
+
+    #[inline(always)]
+    fn may_change(&self, _: &Machine<S>) -> bool {
+        false
+    }
+
+    #[inline(always)]
+    fn has_changed(&self, _: &Machine<S>) -> bool {
+        false
     }
 }
 
@@ -57,13 +75,28 @@ impl<'a> PlaceWatch<'a> {
 }
 
 impl<'a, S: Places> Watch<S> for PlaceWatch<'a> {
+    ghost use Rattle.std.specs.Prelude.{⊤, false};
     ghost use Rattle.l6_history.specs.Stop.{stops_at};
 
-    ghost watched = { λ w state. stops_at w.stop.now state };
+    ghost stops = { λ w state. stops_at w.stop.now state };
+
+    ghost changed = { λ _ _. false };
+
+    ghost suits = { λ _ _. ⊤ };
 
     #[inline(always)]
-    fn sees(&self, machine: &Machine<S>) -> bool {
+    fn is_at_stop(&self, machine: &Machine<S>) -> bool {
         self.stop.stops_at(machine)
+    }
+
+    #[inline(always)]
+    fn may_change(&self, _: &Machine<S>) -> bool {
+        false
+    }
+
+    #[inline(always)]
+    fn has_changed(&self, _: &Machine<S>) -> bool {
+        false
     }
 }
 
@@ -105,13 +138,30 @@ impl<'a> BugWatch<'a> {
 }
 
 impl<'a, S: Places> Watch<S> for BugWatch<'a> {
-    ghost use Rattle.l6_history.specs.inner.Watches.{is_seen_by_bug};
+    ghost use Rattle.std.specs.Prelude.{⊤};
+    ghost use Rattle.l6_history.specs.Stop.{stops_at};
+    ghost use Rattle.l6_history.specs.inner.Watches.{bug_changed};
 
-    ghost watched = { is_seen_by_bug };
+    ghost stops = { λ w state. stops_at w.stop state };
+
+    ghost changed = { bug_changed };
+
+    ghost suits = { λ _ _. ⊤ };
 
     #[inline(always)]
-    fn sees(&self, machine: &Machine<S>) -> bool {
-        self.stop.stops_at(machine) || self.word.get() != machine.bug(self.bug).get()
+    fn is_at_stop(&self, machine: &Machine<S>) -> bool {
+        self.stop.stops_at(machine)
+    }
+
+    // the bug is compared faster than a table is looked into
+    #[inline(always)]
+    fn may_change(&self, _: &Machine<S>) -> bool {
+        true
+    }
+
+    #[inline(always)]
+    fn has_changed(&self, machine: &Machine<S>) -> bool {
+        self.word.get() != machine.bug(self.bug).get()
     }
 }
 
@@ -121,6 +171,8 @@ pub(crate) struct ChainWatch<'a> {
     stop: &'a Stop,
     /// What each watched chain reads as at first, if it can be followed.
     values: ArrayVec<Option<Word>, MAX_WATCHED>,
+    /// For each statement, whether it may change that. Those that it has not may.
+    table: Vec<bool>,
 }
 
 impl<'a> Model for ChainWatch<'a> {
@@ -129,32 +181,64 @@ impl<'a> Model for ChainWatch<'a> {
 
     ghost Value = { watches.ChainWatch };
 
-    ghost view = { λ w. record { stop = w.stop.now; values = w.values.items } };
+    ghost view = { λ w. record {
+      stop = w.stop.now;
+      values = w.values.items;
+      table = w.table.items;
+    } };
 
     ghost invariant = { λ w. length w.values.items ≡ length w.stop.now.watched };
 }
 
 impl<'a> ChainWatch<'a> {
     /// By a stop, as a machine has its chains.
-    pub(crate) fn new<S: Places>(stop: &'a Stop, machine: &Machine<S>) -> Self
+    pub(crate) fn new<S: Places>(alloc: Global, stop: &'a Stop, machine: &Machine<S>) -> Self
         ensures stop { result.stop ≡ stop.now }
         ensures values { result.values
             ≡ values_of stop.now.watched machine.now.configuration.state.memory }
+        ensures table { AreKnown result.table stop.now.watched machine.now.context.program }
     {
         ChainWatch {
             stop,
             values: values_of(stop, machine),
+            table: changing_statements(alloc, machine.program(), stop.watched()),
         }
+    }
+
+    /// Whether a statement may change what a chain reads as.
+    #[inline(always)]
+    fn statement_may(&self, statement: u16) -> bool
+        ensures { result ≡ slice_index_or self.now.table statement true }
+    {
+        self.table
+            .get(usize::from(statement))
+            .copied()
+            .unwrap_or(true)
     }
 }
 
 impl<'a, S: Places> Watch<S> for ChainWatch<'a> {
-    ghost use Rattle.l6_history.specs.inner.Watches.{is_seen_by_chains};
+    ghost use Rattle.l6_history.specs.Stop.{stops_at};
+    ghost use Rattle.l6_history.specs.inner.Watches.{IsOf, chains_changed};
 
-    ghost watched = { is_seen_by_chains };
+    ghost stops = { λ w state. stops_at w.stop state };
+
+    ghost changed = { chains_changed };
+
+    ghost suits = { IsOf };
 
     #[inline(always)]
-    fn sees(&self, machine: &Machine<S>) -> bool {
-        self.stop.stops_at(machine) || differ(self.values.as_slice(), self.stop.watched(), machine)
+    fn is_at_stop(&self, machine: &Machine<S>) -> bool {
+        self.stop.stops_at(machine)
+    }
+
+    #[inline(always)]
+    fn may_change(&self, machine: &Machine<S>) -> bool {
+        self.statement_may(machine.at().statement)
+    }
+
+    #[inline(always)]
+    fn has_changed(&self, machine: &Machine<S>) -> bool {
+        differ(self.values.as_slice(), self.stop.watched(), machine)
     }
 }

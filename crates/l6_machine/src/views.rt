@@ -1,6 +1,7 @@
 //! What a debugger shows of a machine beside its bugs: what chains read as, and all that is saved.
 
 ghost use Rattle.std.specs.Prelude.{◌≡◌, reverse};
+ghost use Rattle.std.specs.Result.{result_ok};
 ghost use Rattle.l6_prog.specs.declared.operand.Operand.{Operand};
 ghost use Rattle.l6_steps.specs.Locus.{read};
 
@@ -21,6 +22,15 @@ impl<S: Places> Machine<S> {
             ≡ read self.now.configuration.state.memory (Operand.Chain chain.now) }
     {
         self.registers.value(chain)
+    }
+
+    /// What a chain reads as, if it can be read. It is found faster than its trap would be.
+    #[inline(always)]
+    pub fn readable_value(&self, chain: &Chain) -> Option<Word>
+        ensures { result ≡ result_ok
+            (read self.now.configuration.state.memory (Operand.Chain chain.now)) }
+    {
+        self.registers.readable_value(chain)
     }
 
     /// The contents that are saved, the latest last.

@@ -1,7 +1,9 @@
 -- What one watches for on the way to where one stops.
-use Rattle.std.specs.Prelude.{ℕ, Bool, ◌||◌, List, [], ◌∷◌, Option, Some}
+use Rattle.std.specs.Prelude.{ℕ, Bool, List, [], ◌∷◌, Option, Some}
+use Rattle.l6_prog.specs.Statement.{Parts}
 use Rattle.l6_steps.specs.State.{State}
-use Rattle.l6_history.specs.Stop.{Stop, differs, some_differ, stops_at, value_of, values_of}
+use Rattle.l6_history.specs.Stop.{Stop, differs, some_differ, value_of, values_of}
+use Rattle.l6_history.specs.inner.Changing.{AreKnown}
 
 -- a bug, and what it holds at first
 pub record BugWatch : Type 0 where
@@ -9,19 +11,21 @@ pub record BugWatch : Type 0 where
   pub bug : ℕ
   pub word : ℕ
 
--- one stops, or the bug holds another word
-abbrev pub is_seen_by_bug : BugWatch → State → Bool
-is_seen_by_bug watch state =
-    stops_at watch.stop state
-    || differs (Some watch.word) (value_of state.memory (watch.bug ∷ []))
+-- the bug holds another word
+abbrev pub bug_changed : BugWatch → State → Bool
+bug_changed watch state = differs (Some watch.word) (value_of state.memory (watch.bug ∷ []))
 
--- the watched chains, by what each reads as at first
+-- the watched chains, by what each reads as at first; and for each statement whether it may change
+-- that
 pub record ChainWatch : Type 0 where
   pub stop : Stop
   pub values : List (Option ℕ)
+  pub table : List Bool
 
--- one stops, or a chain reads as another value
-abbrev pub is_seen_by_chains : ChainWatch → State → Bool
-is_seen_by_chains watch state =
-    stops_at watch.stop state
-    || some_differ watch.values (values_of watch.stop.watched state.memory)
+-- a chain reads as another value
+abbrev pub chains_changed : ChainWatch → State → Bool
+chains_changed watch state = some_differ watch.values (values_of watch.stop.watched state.memory)
+
+-- the table is one of this program
+abbrev pub IsOf : ChainWatch → List Parts → Type 0
+IsOf watch program = AreKnown watch.table watch.stop.watched program

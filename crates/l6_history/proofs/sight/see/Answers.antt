@@ -8,7 +8,7 @@ use Rattle.l6_history.proofs.sight.see.Goals as goal
 pub loop-index-preserved : goal.loop-index-preserved
 loop-index-preserved g c =
     let index = c.loop-index.index in
-    let value = c.ok.result in
+    let value = c.readable_value.result in
     let memory = c.args.machine.now.configuration.state.memory in
     let new = values_of c.args.chains.now memory in
     let before = c.loop-index.invariant in
@@ -17,8 +17,8 @@ loop-index-preserved g c =
     omega (arith, before.many, c.loop-index-test.true) in
     let within_new : index < length new = omega (arith, many, c.loop-index-test.true) in
     let seen : value ≡ get_or new index value =
-    read-as c.args.chains.now memory index c.index-chains-index.result c.value.result value
-    c.loop-index-test.true c.index-chains-index.is c.value.ensures c.ok.ensures.value in
+    read-as c.args.chains.now memory index c.index-chains-index.result value c.loop-index-test.true
+    c.index-chains-index.is c.readable_value.ensures in
     record {
       many = length-set c.loop-index.values index value ∙ before.many;
       seen = take_more_set c.loop-index.values index value within

@@ -1,10 +1,13 @@
-use Rattle.std.proofs.Common.{◌≡◌, ℕ, List, [], ◌∷◌, Option, Some, sym, ap, ◌∙◌, arith}
+use Rattle.std.proofs.Common.{◌≡◌, ℕ, false, List, [], ◌∷◌, Option, Some, sym, ap, ◌∙◌, arith}
 use Rattle.std.specs.Prelude.{◌||◌}
+use Rattle.std.proofs.Math.Bool.{or-false}
 use Rattle.l6_steps.specs.Configuration.{state_at}
 use Rattle.l6_steps.specs.Numbering.{last_number}
 use Rattle.l6_steps.specs.RunState.{RunState}
+use Rattle.l6_machine.specs.Later.{sees}
 use Rattle.l6_history.specs.Stop.{Stop, differs, is_at_breakpoint, some_differ, stops_at, value_of, values_of}
-use Rattle.l6_history.specs.inner.Watches.{is_seen_by_bug, is_seen_by_chains}
+use Rattle.l6_history.specs.inner.Watches.{bug_changed, chains_changed}
+use Rattle.l6_history.proofs.Sights.{same-values}
 use Rattle.l6_history.proofs.Sought.{comes-alike, is_seen, next-seen, none-watched, nowhere-forward, seen-by-breakpoint, seen-by-bug, seen-by-place}
 use Rattle.l6_history.proofs.history.History.to_next.Goals as goal
 
@@ -32,13 +35,16 @@ returns-then-not-has_depth-clause-number g c =
     let none = none-watched stop c.watched.result.now c.watched.ensures.value
     c.if-watched-eq0.true in
     next-seen rule context stop from number
-    (comes-alike (λ n. is_at_breakpoint watch.breakpoints (state_at rule context n))
+    (comes-alike
+    (λ n. sees (λ state. is_at_breakpoint watch.breakpoints state) (λ _. false)
+    (state_at rule context n))
     (is_seen rule context stop from) from (last_number rule context) number
     c.to_watched.ensures.comes
     (λ n. seen-by-breakpoint rule context stop from n none
     (sym c.if-not-has_depth.ensures)
     ∙ ap (λ (s : Stop). is_at_breakpoint s.breakpoints (state_at rule context n))
-    (sym c.new.ensures)))
+    (sym c.new.ensures)
+    ∙ sym (or-false (is_at_breakpoint watch.breakpoints (state_at rule context n)))))
 
 -- where no chain is watched, places alone are looked at
 pub returns-then-watched-eq0-clause-number : goal.returns-then-watched-eq0-clause-number
@@ -52,10 +58,11 @@ returns-then-watched-eq0-clause-number g c =
     let none = none-watched stop c.watched.result.now c.watched.ensures.value
     c.if-watched-eq0.true in
     next-seen rule context stop from number
-    (comes-alike (λ n. stops_at watch (state_at rule context n)) (is_seen rule context stop from)
-    from (last_number rule context) number c.to_watched-then-watched-eq0.ensures.comes
+    (comes-alike (λ n. sees (stops_at watch) (λ _. false) (state_at rule context n))
+    (is_seen rule context stop from) from (last_number rule context) number c.to_watched-then-watched-eq0.ensures.comes
     (λ n. seen-by-place rule context stop from n none
-    ∙ ap (λ (s : Stop). stops_at s (state_at rule context n)) (sym c.new-then-watched-eq0.ensures)))
+    ∙ ap (λ (s : Stop). stops_at s (state_at rule context n)) (sym c.new-then-watched-eq0.ensures)
+    ∙ sym (or-false (stops_at watch (state_at rule context n)))))
 
 -- where a bug alone is watched, what it holds is compared
 pub returns-in-Some-clause-number : goal.returns-in-Some-clause-number
@@ -72,7 +79,7 @@ returns-in-Some-clause-number g c =
     ∙ ap (λ (s : RunState). value_of s.configuration.state.memory (bug ∷ []))
     c.machine.ensures.value in
     next-seen rule context stop from number
-    (comes-alike (λ n. is_seen_by_bug watch (state_at rule context n))
+    (comes-alike (λ n. sees (stops_at watch.stop) (bug_changed watch) (state_at rule context n))
     (is_seen rule context stop from) from (last_number rule context) number
     c.to_watched-in-Some.ensures.comes
     (λ n.
@@ -101,7 +108,7 @@ returns-in-None-clause-number g c =
     ∙ ap (λ (s : RunState). values_of stop.watched s.configuration.state.memory)
     c.machine-in-None.ensures.value in
     next-seen rule context stop from number
-    (comes-alike (λ n. is_seen_by_chains watch (state_at rule context n))
+    (comes-alike (λ n. sees (stops_at watch.stop) (chains_changed watch) (state_at rule context n))
     (is_seen rule context stop from) from (last_number rule context) number
     c.to_watched-in-None.ensures.comes
     (λ n.
@@ -114,3 +121,20 @@ returns-in-None-clause-number g c =
     (λ (s : Stop). stops_at s there
     || some_differ watch.values (values_of s.watched there.memory))
     (sym c.new-watch-in-None.ensures.stop))))
+
+-- which is as it was at first
+pub to_watched-requires-in-None-clause-unchanged :
+    goal.to_watched-requires-in-None-clause-unchanged
+to_watched-requires-in-None-clause-unchanged g c =
+    let rule = g.S.Places.rule in
+    let memory = (state_at rule c.args.self.now.context c.args.self.now.number).memory in
+    let stop = c.args.stop.now in
+    let watch = c.new-watch-in-None.result in
+    let read : watch.values ≡ values_of stop.watched memory =
+    c.new-watch-in-None.ensures.values
+    ∙ ap (λ (s : RunState). values_of stop.watched s.configuration.state.memory)
+    c.machine-in-None.ensures.value in
+    ap (λ (values : List (Option ℕ)). some_differ values (values_of watch.stop.watched memory)) read
+    ∙ ap (λ (s : Stop). some_differ (values_of stop.watched memory) (values_of s.watched memory))
+    c.new-watch-in-None.ensures.stop
+    ∙ same-values (values_of stop.watched memory)

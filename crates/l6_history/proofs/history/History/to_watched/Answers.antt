@@ -1,7 +1,9 @@
 use Rattle.std.proofs.Common.{◌≡◌, ℕ, ◌<◌, ◌≤◌, Bool, true, false, ◌∙◌, subst}
+use Rattle.std.proofs.lemmas.Bool.{or_parts}
 use Rattle.l6_steps.specs.Configuration.{state_at}
 use Rattle.l6_steps.specs.Numbering.{last_number}
 use Rattle.l6_steps.specs.State.{RunContext}
+use Rattle.l6_machine.specs.Later.{sees}
 use Rattle.l6_history.proofs.Sought.{comes-on, none-on}
 use Rattle.l6_history.proofs.history.History.to_watched.Goals as goal
 
@@ -13,7 +15,8 @@ stretches-preserved g c =
     let new = c.stretch_until.new.self in
     let same = c.stretches.invariant.context in
     let seen : RunContext → ℕ → Bool =
-    λ w n. g.W.Watch.watched c.args.watch.now (state_at rule w n) in
+    λ w n. sees (g.W.Watch.stops c.args.watch.now) (g.W.Watch.changed c.args.watch.now)
+    (state_at rule w n) in
     let goes_on = c.stretch_until.ensures.goes_on c.stretches-test.true in
     record {
       context = c.stretch_until.ensures.context ∙ same;
@@ -24,6 +27,10 @@ stretches-preserved g c =
           (λ w. (k : ℕ) → old.number < k → k < new.number → seen w k ≡ false)
           same c.stretch_until.ensures.unseen)
           (subst (λ w. seen w new.number ≡ false) same goes_on.1);
+      unchanged =
+          (or_parts (g.W.Watch.stops c.args.watch.now (state_at rule c.args.self.now.context new.number))
+          (g.W.Watch.changed c.args.watch.now (state_at rule c.args.self.now.context new.number))
+          (subst (λ w. seen w new.number ≡ false) same goes_on.1)).1;
     }
 
 -- the last stretch ends where it comes to
@@ -34,7 +41,8 @@ returns-clause-comes g c =
     let new = c.stretch_until.new.self in
     let same = c.stretches.invariant.context in
     let seen : RunContext → ℕ → Bool =
-    λ w n. g.W.Watch.watched c.args.watch.now (state_at rule w n) in
+    λ w n. sees (g.W.Watch.stops c.args.watch.now) (g.W.Watch.changed c.args.watch.now)
+    (state_at rule w n) in
     comes-on (seen c.args.self.now.context) c.args.self.now.number old.number
     (last_number rule c.args.self.now.context) new.number c.stretches.invariant.passed
     c.stretch_until.ensures.on

@@ -1,6 +1,7 @@
-use Rattle.std.proofs.Common.{◌≡◌, ◌-◌}
+use Rattle.std.proofs.Common.{◌≡◌, ◌-◌, false}
 use Rattle.l6_steps.specs.Configuration.{state_at}
 use Rattle.l6_steps.specs.Numbering.{last_number}
+use Rattle.l6_machine.specs.Later.{sees}
 use Rattle.l6_history.specs.inner.Seeking.{NoneAfter}
 use Rattle.l6_history.proofs.history.History.to_watched.Given as goal
 
@@ -9,8 +10,11 @@ abbrev pub invariant-stretches : goal.invariant-stretches
 invariant-stretches g l = record {
   context : l.self.context ≡ l.fn.self.context;
   passed : NoneAfter
-      (λ n. g.W.Watch.watched l.watch (state_at g.S.Places.rule l.fn.self.context n))
+      (λ n. sees (g.W.Watch.stops l.watch) (g.W.Watch.changed l.watch)
+      (state_at g.S.Places.rule l.fn.self.context n))
       l.fn.self.number l.self.number;
+  unchanged : g.W.Watch.changed l.watch
+      (state_at g.S.Places.rule l.fn.self.context l.self.number) ≡ false;
 }
 
 abbrev pub decreases-stretches : goal.decreases-stretches

@@ -1,6 +1,7 @@
 use Rattle.std.proofs.Common.{◌≡◌, ℕ, ◌+◌, ◌<◌, ◌≤◌, Bool, true, false, sym, subst, arith}
 use Rattle.l6_steps.specs.Configuration.{state_at}
 use Rattle.l6_steps.specs.State.{State}
+use Rattle.l6_machine.specs.Later.{sees}
 use Rattle.l6_history.specs.History.{number_to}
 use Rattle.l6_history.specs.inner.NumberedMachine.{NumberedMachine}
 use Rattle.l6_history.proofs.NumberedMachines.{goes-until, last-bound}
@@ -10,11 +11,12 @@ use Rattle.l6_history.proofs.numbered_machine.NumberedMachine.forward_until.Goal
 pub overflow_add-self : goal.overflow_add-self
 overflow_add-self g c =
     let rule = g.S.Places.rule in
-    let watched : State → Bool = g.W.Watch.watched c.args.watch.now in
+    let watched : State → Bool =
+    sees (g.W.Watch.stops c.args.watch.now) (g.W.Watch.changed c.args.watch.now) in
     let comes =
     goes-until rule c.self.inside.machine c.run_until-ran.new.self c.self.inside.number c.args.number
     c.run_until-ran.result watched c.self.invariant
-    (subst (λ (v : NumberedMachine). v.number ≤ c.args.number) (sym c.self.view_is) c.requires)
+    (subst (λ (v : NumberedMachine). v.number ≤ c.args.number) (sym c.self.view_is) c.requires.before)
     (record {
       context = c.run_until-ran.ensures.context;
       there = c.run_until-ran.ensures.there;
@@ -31,11 +33,12 @@ overflow_add-self g c =
 pub invariant_of-self : goal.invariant_of-self
 invariant_of-self g c =
     let rule = g.S.Places.rule in
-    let watched : State → Bool = g.W.Watch.watched c.args.watch.now in
+    let watched : State → Bool =
+    sees (g.W.Watch.stops c.args.watch.now) (g.W.Watch.changed c.args.watch.now) in
     let comes =
     goes-until rule c.self.inside.machine c.run_until-ran.new.self c.self.inside.number c.args.number
     c.run_until-ran.result watched c.self.invariant
-    (subst (λ (v : NumberedMachine). v.number ≤ c.args.number) (sym c.self.view_is) c.requires)
+    (subst (λ (v : NumberedMachine). v.number ≤ c.args.number) (sym c.self.view_is) c.requires.before)
     (record {
       context = c.run_until-ran.ensures.context;
       there = c.run_until-ran.ensures.there;
@@ -49,11 +52,12 @@ invariant_of-self g c =
 pub returns-clause-within : goal.returns-clause-within
 returns-clause-within g c =
     let rule = g.S.Places.rule in
-    let watched : State → Bool = g.W.Watch.watched c.args.watch.now in
+    let watched : State → Bool =
+    sees (g.W.Watch.stops c.args.watch.now) (g.W.Watch.changed c.args.watch.now) in
     let comes =
     goes-until rule c.self.inside.machine c.run_until-ran.new.self c.self.inside.number c.args.number
     c.run_until-ran.result watched c.self.invariant
-    (subst (λ (v : NumberedMachine). v.number ≤ c.args.number) (sym c.self.view_is) c.requires)
+    (subst (λ (v : NumberedMachine). v.number ≤ c.args.number) (sym c.self.view_is) c.requires.before)
     (record {
       context = c.run_until-ran.ensures.context;
       there = c.run_until-ran.ensures.there;
@@ -71,11 +75,12 @@ returns-clause-within g c =
 pub returns-clause-unseen : goal.returns-clause-unseen
 returns-clause-unseen g c =
     let rule = g.S.Places.rule in
-    let watched : State → Bool = g.W.Watch.watched c.args.watch.now in
+    let watched : State → Bool =
+    sees (g.W.Watch.stops c.args.watch.now) (g.W.Watch.changed c.args.watch.now) in
     let comes =
     goes-until rule c.self.inside.machine c.run_until-ran.new.self c.self.inside.number c.args.number
     c.run_until-ran.result watched c.self.invariant
-    (subst (λ (v : NumberedMachine). v.number ≤ c.args.number) (sym c.self.view_is) c.requires)
+    (subst (λ (v : NumberedMachine). v.number ≤ c.args.number) (sym c.self.view_is) c.requires.before)
     (record {
       context = c.run_until-ran.ensures.context;
       there = c.run_until-ran.ensures.there;
@@ -94,11 +99,12 @@ returns-clause-unseen g c =
 pub returns-clause-stops : goal.returns-clause-stops
 returns-clause-stops g c =
     let rule = g.S.Places.rule in
-    let watched : State → Bool = g.W.Watch.watched c.args.watch.now in
+    let watched : State → Bool =
+    sees (g.W.Watch.stops c.args.watch.now) (g.W.Watch.changed c.args.watch.now) in
     let comes =
     goes-until rule c.self.inside.machine c.run_until-ran.new.self c.self.inside.number c.args.number
     c.run_until-ran.result watched c.self.invariant
-    (subst (λ (v : NumberedMachine). v.number ≤ c.args.number) (sym c.self.view_is) c.requires)
+    (subst (λ (v : NumberedMachine). v.number ≤ c.args.number) (sym c.self.view_is) c.requires.before)
     (record {
       context = c.run_until-ran.ensures.context;
       there = c.run_until-ran.ensures.there;

@@ -1,7 +1,7 @@
 use Rattle.std.proofs.Common.{◌≡◌, ℕ, ◌+◌, ◌-◌, ◌<◌, ◌≤◌, false}
 use Rattle.l6_steps.specs.State.{is_last}
 use Rattle.l6_machine.specs.Counting.{number_of}
-use Rattle.l6_machine.specs.Later.{configuration_later, state_later}
+use Rattle.l6_machine.specs.Later.{configuration_later, sees, state_later}
 use Rattle.l6_machine.proofs.machine.Machine.run_until.Given as goal
 
 -- so many steps were made, and none of the states was watched for
@@ -14,8 +14,9 @@ invariant-steps g l = record {
       is_last l.fn.self.context
       (state_later g.S.Places.rule l.fn.self.context k l.fn.self.configuration) ≡ false;
   unseen : (k : ℕ) → 1 ≤ k → k < l.made + 1 →
-      g.W.Watch.watched l.watch
+      sees (g.W.Watch.stops l.watch) (g.W.Watch.changed l.watch)
       (state_later g.S.Places.rule l.fn.self.context k l.fn.self.configuration) ≡ false;
+  unchanged : g.W.Watch.changed l.watch l.self.configuration.state ≡ false;
   counted : number_of l.self.configuration.state
       ≡ number_of l.fn.self.configuration.state + l.made;
   few : l.made ≤ l.count - number_of l.fn.self.configuration.state;

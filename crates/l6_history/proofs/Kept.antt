@@ -1,0 +1,498 @@
+-- What a step leaves as it was: a chain that its action does not change reads as before.
+use Rattle.std.proofs.Common.{◌≡◌, ℕ, zero, suc, ◌+◌, ◌-◌, ◌%◌, ◌^◌, Bool, true, false, List, [], ◌∷◌, length, map, Option, Some, None, Ok, Err, if◌then◌else◌, refl, sym, ap, ◌∙◌, arith, true≢false}
+use Rattle.std.specs.Prelude.{◌||◌, ◌==◌, IfOk, Result, codes, decimal, nat_le, nat_lt, ok_or, replicate, slice_get, slice_index, slice_index_or, slice_set, take}
+use Rattle.std.specs.FinMap as finite
+use Rattle.std.specs.List.{list_any}
+use Rattle.std.specs.Result.{result_ok}
+use Rattle.std.proofs.lemmas.Bool.{eqb-false, lt-ltb, or_parts}
+use Rattle.std.proofs.lemmas.List.{get_or-set_other}
+use Rattle.std.proofs.lemmas.Option.{none-some}
+use Rattle.std.proofs.lemmas.Result.{IfOk-at_ok}
+use Rattle.l6_word.specs.Code.{char_of}
+use Rattle.l6_word.specs.Numerals.{word_bits}
+use Rattle.l6_word.specs.Octal.{octal12}
+use Rattle.l6_word.specs.Trying.{◌>>=◌}
+use Rattle.l6_word.specs.Window.{Window, is_window}
+use Rattle.l6_store.specs.Blocks.{block_at}
+use Rattle.l6_store.specs.Open.{Choice}
+use Rattle.l6_store.specs.Rule.{Rule}
+use Rattle.l6_prog.specs.Statement.{Parts}
+use Rattle.l6_prog.specs.declared.exit.Exit.{Exit}
+use Rattle.l6_prog.specs.declared.exit.Exit.TheVariants.{Next, Label, Done, Fail}
+use Rattle.l6_prog.specs.declared.operand.Operand.{Operand}
+use Rattle.l6_prog.specs.declared.operand.Operand.TheVariants.{Chain}
+use Rattle.l6_prog.specs.declared.operation.Op.{Op}
+use Rattle.l6_prog.specs.declared.operation.Op.TheVariants as op
+use Rattle.l6_steps.specs.declared.calculation.Calculation.{Calculation}
+use Rattle.l6_steps.specs.declared.calculation.Calculation.TheVariants.{Set, Add, Subtract, Multiply, Divide, Remainder, And, Or, ExclusiveOr, Complement, ShiftLeft, ShiftRight}
+use Rattle.l6_steps.specs.declared.locus.Locus.{Locus}
+use Rattle.l6_steps.specs.declared.locus.Locus.TheVariants.{Bug, Field}
+use Rattle.l6_steps.specs.declared.position.Position.{Position}
+use Rattle.l6_steps.specs.declared.returns.Return.{Return}
+use Rattle.l6_steps.specs.declared.trap.Trap.{Trap}
+use Rattle.l6_steps.specs.declared.trap.Trap.TheVariants.{InputEnded, NoFailExit, NotABlock, StoreFull, UndefinedField, WordOutsideBlock}
+use Rattle.l6_steps.specs.ActionResult.{ActionResult}
+use Rattle.l6_steps.specs.Calculation.{calculated}
+use Rattle.l6_steps.specs.Characters.{count_of, last_characters, left_of, number_of}
+use Rattle.l6_steps.specs.Condition.{is_true}
+use Rattle.l6_steps.specs.Configuration.{Configuration, configuration_after, next_configuration, pick_at}
+use Rattle.l6_steps.specs.Getting.{duplicate, get, keep, level_at, level_for, lies_in, new_block, read_or_0, refuse, with_place}
+use Rattle.l6_steps.specs.Locus.{assign, content, field_at, follow, index_of, locus, read, width}
+use Rattle.l6_steps.specs.Row.{Action, action_result_of, combine, condition, done, exit, fail, leave_by, operation, print, row}
+use Rattle.l6_steps.specs.Stack.{has_room, pop, push}
+use Rattle.l6_steps.specs.State.{Memory, RunContext, RunParameters, State, is_last}
+use Rattle.l6_steps.specs.Step.{action_at, action_following, action_result_at, outcome, statement_at, taken_at}
+use Rattle.l6_steps.proofs.Loci.{after}
+use Rattle.l6_steps.proofs.Rows.{both, chosen}
+use Rattle.l6_history.specs.Stop.{value_of, values_of}
+use Rattle.l6_history.specs.inner.Changing.{AreKnown, changes, changes_by, changes_some, has_fields, statement_changes}
+
+-- the first name of a chain
+abbrev first_of : List ℕ → ℕ
+first_of [] = 0
+first_of (first ∷ fields) = first
+
+-- what a chain reads as is left alone: its bug, and, if it has fields, all definitions and blocks
+pub record Keeps (watched : List ℕ) (old new : Memory) : Type 0 where
+  pub bug : slice_index new.bugs (index_of (first_of watched))
+      ≡ slice_index old.bugs (index_of (first_of watched))
+  pub definitions : has_fields watched ≡ true → new.definitions ≡ old.definitions
+  pub blocks : has_fields watched ≡ true → new.blocks ≡ old.blocks
+
+-- ---- such a chain reads as before
+-- a locus is a word of a block
+abbrev is_in_block : Locus → Bool
+is_in_block (Bug bug) = false
+is_in_block (Field place window) = true
+
+abbrev IsInBlock : Locus → Type 0
+IsInBlock at = is_in_block at ≡ true
+
+if-within : (b : Bool) (at : Locus) → IsInBlock at →
+    IfOk (if b then Ok at else Err WordOutsideBlock) IsInBlock
+if-within true at is = is
+if-within false at is = tt
+
+-- where a field is, a block is
+field-in : (memory : Memory) (name pointer : ℕ) → IfOk (field_at memory name pointer) IsInBlock
+field-in memory name pointer =
+    both IsInBlock (ok_or (slice_index_or memory.definitions name None) UndefinedField) _
+    (λ (window : Window). both IsInBlock (ok_or (finite.get memory.blocks pointer) NotABlock) _
+    (λ (words : List ℕ). if-within (nat_lt window.word (length words)) (Field pointer window) refl))
+
+follow-in : (memory : Memory) (at : Locus) (name : ℕ) (names : List ℕ) →
+    IfOk (follow memory at (name ∷ names)) IsInBlock
+follow-in memory at name [] =
+    after IsInBlock IsInBlock (field_at memory name (content memory at)) _
+    (field-in memory name (content memory at)) (λ next is. is)
+follow-in memory at name (other ∷ names) =
+    both IsInBlock (field_at memory name (content memory at)) _
+    (λ (next : Locus). follow-in memory next other names)
+
+content-same : (old new : Memory) (at : Locus) → new.blocks ≡ old.blocks → IsInBlock at →
+    content new at ≡ content old at
+content-same old new (Bug bug) blocks is = cc
+content-same old new (Field place window) blocks is =
+    ap (λ b. content (record old { blocks = b }) (Field place window)) blocks
+
+field-same : (old new : Memory) (name pointer : ℕ) → new.definitions ≡ old.definitions →
+    new.blocks ≡ old.blocks → field_at new name pointer ≡ field_at old name pointer
+field-same old new name pointer definitions blocks =
+    ap (λ d. field_at (record new { definitions = d }) name pointer) definitions
+    ∙ ap (λ b. field_at (record old { blocks = b }) name pointer) blocks
+
+-- what is found at one locus is followed alike
+then-same : (old new : Memory) (names : List ℕ) (found : Result Locus Trap) → IfOk found IsInBlock →
+    ((next : Locus) → IsInBlock next →
+    (follow new next names >>= λ at. Ok (content new at))
+    ≡ (follow old next names >>= λ at. Ok (content old at))) →
+    ((found >>= λ next. follow new next names) >>= λ at. Ok (content new at))
+    ≡ ((found >>= λ next. follow old next names) >>= λ at. Ok (content old at))
+then-same old new names (Ok next) is each = each next is
+then-same old new names (Err trap) is each = refl
+
+follow-same : (old new : Memory) (at : Locus) (names : List ℕ) →
+    new.definitions ≡ old.definitions → new.blocks ≡ old.blocks →
+    content new at ≡ content old at →
+    (follow new at names >>= λ at. Ok (content new at))
+    ≡ (follow old at names >>= λ at. Ok (content old at))
+follow-same old new at [] definitions blocks same = ap (λ (n : ℕ). Ok n) same
+follow-same old new at (name ∷ names) definitions blocks same =
+    let there : field_at new name (content new at) ≡ field_at old name (content old at) =
+    field-same old new name (content new at) definitions blocks ∙ ap (field_at old name) same in
+    ap (λ (found : Result Locus Trap).
+    (found >>= λ next. follow new next names) >>= λ at. Ok (content new at)) there
+    ∙ then-same old new names (field_at old name (content old at))
+    (field-in old name (content old at))
+    (λ next is. follow-same old new next names definitions blocks
+    (content-same old new next blocks is))
+
+pub value-same : (old new : Memory) (watched : List ℕ) → Keeps watched old new →
+    value_of new watched ≡ value_of old watched
+value-same old new [] kept = refl
+value-same old new (first ∷ []) kept = ap (λ (n : ℕ). Some n) kept.bug
+value-same old new (first ∷ name ∷ names) kept =
+    ap (λ (r : Result ℕ Trap). result_ok r)
+    (let has = lt-ltb 1 (length (first ∷ name ∷ names)) (omega arith) in
+    follow-same old new (Bug first) (name ∷ names) (kept.definitions has) (kept.blocks has) kept.bug)
+
+-- ---- and a step keeps it
+keeps-same : (watched : List ℕ) (memory : Memory) → Keeps watched memory memory
+keeps-same watched memory = record { bug = refl; definitions = λ _. refl; blocks = λ _. refl }
+
+-- without fields all but the bugs may change
+without-fields : (watched : List ℕ) (old new : Memory) → has_fields watched ≡ false →
+    new.bugs ≡ old.bugs → Keeps watched old new
+without-fields watched old new none bugs = record {
+  bug = ap (λ (words : List ℕ). slice_index words (index_of (first_of watched))) bugs;
+  definitions = λ has. absurd (true≢false (sym has ∙ none));
+  blocks = λ has. absurd (true≢false (sym has ∙ none));
+}
+
+-- what is assigned to another bug
+assign-bug : (watched : List ℕ) (old new : Memory) (bug number : ℕ) → Keeps watched old new →
+    changes_by (bug ∷ []) watched ≡ false → Keeps watched old (assign new (Bug bug) number)
+assign-bug [] old new bug number kept other = absurd (true≢false other)
+assign-bug (first ∷ fields) old new bug number kept other = record {
+  bug = get_or-set_other new.bugs (index_of bug) (index_of first) (number % 2 ^ word_bits) 0
+      (eqb-false (index_of first) (index_of bug) other)
+      ∙ kept.bug;
+  definitions = kept.definitions;
+  blocks = kept.blocks;
+}
+
+-- or to a field
+assign-field : (watched : List ℕ) (old new : Memory) (at : Locus) (number : ℕ) →
+    Keeps watched old new → IsInBlock at → has_fields watched ≡ false →
+    Keeps watched old (assign new at number)
+assign-field watched old new (Bug bug) number kept is none = absurd (true≢false (sym is))
+assign-field watched old new (Field place window) number kept is none = record {
+  bug = kept.bug;
+  definitions = kept.definitions;
+  blocks = λ has. absurd (true≢false (sym has ∙ none));
+}
+
+-- so what is assigned to a chain that does not change it
+assigned : (watched : List ℕ) (old new there : Memory) (target : List ℕ) (at : Locus)
+    (number : ℕ) → Keeps watched old new → locus there target ≡ Ok at →
+    changes_by target watched ≡ false → Keeps watched old (assign new at number)
+assigned watched old new there [] at number kept is other =
+    absurd (none-some at (ap (λ (r : Result Locus Trap). result_ok r) is))
+assigned watched old new there (bug ∷ []) at number kept is other =
+    IfOk-at_ok (λ (l : Locus). Keeps watched old (assign new l number)) is
+    (assign-bug watched old new bug number kept other)
+assigned watched old new there (bug ∷ name ∷ names) at number kept is other =
+    assign-field watched old new at number kept
+    (IfOk-at_ok IsInBlock is (follow-in there (Bug bug) name names)) other
+
+-- ---- action by action
+abbrev action_changes : List ℕ → Action → Bool
+action_changes watched (operation op) = changes op watched
+action_changes watched action = false
+
+-- what is done at a locus is given how it was found
+itself : (found : Result Locus Trap) → IfOk found (λ at. found ≡ Ok at)
+itself (Ok at) = refl
+itself (Err trap) = tt
+
+at-locus : {B : Type 0} (P : B → Type 0) (memory : Memory) (chain : List ℕ)
+    (second : Locus → Result B Trap) →
+    ((at : Locus) → locus memory chain ≡ Ok at → IfOk (second at) P) →
+    IfOk (locus memory chain >>= second) P
+at-locus P memory chain second each =
+    after (λ at. locus memory chain ≡ Ok at) P (locus memory chain) second
+    (itself (locus memory chain)) each
+
+either : {A : Type 0} (P : A → Type 0) (b : Bool) (one other : A) → P one → P other →
+    P (if b then one else other)
+either P true one other is is_other = is
+either P false one other is is_other = is_other
+
+module _ (parameters : RunParameters) (choice : Choice) (watched : List ℕ) (memory : Memory) where
+  abbrev Leaves : ActionResult → Type 0
+  Leaves action_result = Keeps watched memory action_result.memory
+
+  same : Keeps watched memory memory
+  same = keeps-same watched memory
+
+  combined : (calculation : Calculation) (chain : List ℕ) (operand : Operand) →
+      changes_by chain watched ≡ false → IfOk (combine calculation chain operand memory) Leaves
+  combined calculation chain operand other =
+      at-locus Leaves memory chain _
+      (λ at is. both Leaves (read memory operand) _
+      (λ value. both Leaves (calculated calculation (width at) (content memory at) value) _
+      (λ number. assigned watched memory memory memory chain at number same is other)))
+
+  printed : (text : List ℕ) → IfOk (print parameters text memory) Leaves
+  printed text =
+      chosen Leaves (nat_le (length memory.output + length text) parameters.limits.output) _ _
+      (record { bug = refl; definitions = λ _. refl; blocks = λ _. refl }) tt
+
+  refused : (trap : Trap) (label : Option ℕ) → IfOk (refuse trap label memory) Leaves
+  refused trap None = tt
+  refused trap (Some label) = same
+
+  placed : (place label : Option ℕ) (use_of : ℕ → Result ActionResult Trap) →
+      ((place : ℕ) → IfOk (use_of place) Leaves) →
+      IfOk (with_place place label memory use_of) Leaves
+  placed None label use_of each = refused StoreFull label
+  placed (Some place) label use_of each = each place
+
+  -- a block more, and its place is assigned
+  new-block : (words : List ℕ) (chain : List ℕ) (at : Locus) (place : ℕ) →
+      has_fields watched ≡ false → locus memory chain ≡ Ok at →
+      changes_by chain watched ≡ false → Keeps watched memory (new_block memory words at place)
+  new-block words chain at place none is other =
+      assigned watched memory
+      (record memory { blocks = finite.insert memory.blocks place words }) memory chain at place
+      (without-fields watched memory
+      (record memory { blocks = finite.insert memory.blocks place words }) none refl)
+      is other
+
+  old-kept : (old : List ℕ) (number : ℕ) (later : Memory) → Keeps watched memory later →
+      changes_by old watched ≡ false → IfOk (keep (Some old) number later) (Keeps watched memory)
+  old-kept old number later kept other =
+      at-locus (Keeps watched memory) later old _
+      (λ at is. assigned watched memory later later old at number kept is other)
+
+  got : (chain : List ℕ) (size : Operand) (old : Option (List ℕ)) (label : Option ℕ) →
+      changes (op.Get chain size old label) watched ≡ false →
+      IfOk (row parameters choice (op.Get chain size old label) memory) Leaves
+  got chain size None label other =
+      let parts = or_parts (has_fields watched) (changes_by chain watched) other in
+      at-locus Leaves memory chain _
+      (λ at is. both Leaves (read memory size) _
+      (λ wanted. both Leaves (level_for wanted) _
+      (λ level. placed (choice level) label (get level at None memory)
+      (λ place. new-block (replicate (2 ^ level) 0) chain at place parts.0 is parts.1))))
+  got chain size (Some old) label other =
+      let parts =
+      or_parts (has_fields watched) (changes_by chain watched || changes_by old watched) other in
+      let chains = or_parts (changes_by chain watched) (changes_by old watched) parts.1 in
+      at-locus Leaves memory chain _
+      (λ at is. both Leaves (read memory size) _
+      (λ wanted. both Leaves (level_for wanted) _
+      (λ level. placed (choice level) label (get level at (Some old) memory)
+      (λ place. after (Keeps watched memory) Leaves
+      (keep (Some old) (content memory at)
+      (new_block memory (replicate (2 ^ level) 0) at place)) _
+      (old-kept old (content memory at) (new_block memory (replicate (2 ^ level) 0) at place)
+      (new-block (replicate (2 ^ level) 0) chain at place parts.0 is chains.0) chains.1)
+      (λ later kept. kept)))))
+
+  duplicated : (chain : List ℕ) (block : Operand) (label : Option ℕ) →
+      changes (op.Duplicate chain block label) watched ≡ false →
+      IfOk (row parameters choice (op.Duplicate chain block label) memory) Leaves
+  duplicated chain block label other =
+      let parts = or_parts (has_fields watched) (changes_by chain watched) other in
+      at-locus Leaves memory chain _
+      (λ at is. both Leaves (read memory block) _
+      (λ from. both Leaves (level_at memory from) _
+      (λ level. placed (choice level) label (duplicate level from at memory)
+      (λ place. new-block (block_at memory.blocks from) chain at place parts.0 is parts.1))))
+
+  freed-kept : (chain : List ℕ) (value : Option Operand) →
+      changes (op.Free chain value) watched ≡ false →
+      IfOk (row parameters choice (op.Free chain value) memory) Leaves
+  freed-kept chain value other =
+      let parts = or_parts (has_fields watched) (changes_by chain watched) other in
+      at-locus Leaves memory chain _
+      (λ at is. both Leaves (level_at memory (content memory at)) _
+      (λ level. both Leaves (read_or_0 memory value) _
+      (λ number.
+      let rest : Memory =
+      record memory { blocks = finite.remove memory.blocks (content memory at) } in
+      let kept = without-fields watched memory rest parts.0 refl in
+      either (Keeps watched memory) (lies_in (content memory at) at) rest (assign rest at number)
+      kept (assigned watched memory rest memory chain at number kept is parts.1))))
+
+  taken : (chain : List ℕ) (count : Operand) (label : Option ℕ) →
+      changes_by chain watched ≡ false →
+      IfOk (row parameters choice (op.Input chain count label) memory) Leaves
+  taken chain count label other =
+      at-locus Leaves memory chain _
+      (λ at is. both Leaves (read memory count) _
+      (λ wanted. both Leaves (count_of wanted) _
+      (λ characters. chosen Leaves (nat_le characters (length (left_of parameters memory))) _ _
+      (assigned watched memory (record memory { taken = memory.taken + characters }) memory chain at
+      (number_of (take characters (left_of parameters memory)))
+      (record { bug = refl; definitions = λ _. refl; blocks = λ _. refl }) is other)
+      (refused InputEnded label))))
+
+  -- each operation but those that may change the chain
+  row-kept : (operation : Op ℕ) → changes operation watched ≡ false →
+      IfOk (row parameters choice operation memory) Leaves
+  row-kept (op.Set chain operand) other = combined Set chain operand other
+  row-kept (op.Add chain operand) other = combined Add chain operand other
+  row-kept (op.Subtract chain operand) other = combined Subtract chain operand other
+  row-kept (op.Multiply chain operand) other = combined Multiply chain operand other
+  row-kept (op.Divide chain operand) other = combined Divide chain operand other
+  row-kept (op.Remainder chain operand) other = combined Remainder chain operand other
+  row-kept (op.And chain operand) other = combined And chain operand other
+  row-kept (op.Or chain operand) other = combined Or chain operand other
+  row-kept (op.ExclusiveOr chain operand) other = combined ExclusiveOr chain operand other
+  row-kept (op.Complement chain operand) other = combined Complement chain operand other
+  row-kept (op.ShiftLeft chain operand) other = combined ShiftLeft chain operand other
+  row-kept (op.ShiftRight chain operand) other = combined ShiftRight chain operand other
+  row-kept (op.Exchange one two) other =
+      let parts = or_parts (changes_by one watched) (changes_by two watched) other in
+      at-locus Leaves memory one _
+      (λ here is. at-locus Leaves memory two _
+      (λ there is_there.
+      assigned watched memory (assign memory here (content memory there)) memory two there
+      (content memory here)
+      (assigned watched memory memory memory one here (content memory there) same is parts.0)
+      is_there parts.1))
+  row-kept (op.Define field word first last) other =
+      both Leaves (read memory word) _
+      (λ index. both Leaves (read memory first) _
+      (λ from. both Leaves (read memory last) _
+      (λ to.
+      let window : Window = record { word = index; first = from; last = to } in
+      chosen Leaves (is_window window) _ _
+      (without-fields watched memory
+      (record memory { definitions = slice_set memory.definitions field (Some window) }) other refl)
+      tt)))
+  row-kept (op.SaveContent chain) other =
+      both Leaves (read memory (Chain chain)) _
+      (λ content. both Leaves (push content memory.saved_contents) _
+      (λ saved. record { bug = refl; definitions = λ _. refl; blocks = λ _. refl }))
+  row-kept (op.RestoreContent chain) other =
+      at-locus Leaves memory chain _
+      (λ at is. both Leaves (pop memory.saved_contents) _
+      (λ saved. assigned watched memory (record memory { saved_contents = saved.rest }) memory chain
+      at saved.latest (record { bug = refl; definitions = λ _. refl; blocks = λ _. refl }) is other))
+  row-kept (op.SaveDefinition field) other =
+      both Leaves (push (slice_index_or memory.definitions field None) memory.saved_definitions) _
+      (λ saved. record { bug = refl; definitions = λ _. refl; blocks = λ _. refl })
+  row-kept (op.RestoreDefinition field) other =
+      both Leaves (pop memory.saved_definitions) _
+      (λ saved. without-fields watched memory
+      (record memory {
+        definitions = slice_set memory.definitions field saved.latest;
+        saved_definitions = saved.rest;
+      }) other refl)
+  row-kept (op.Get chain size old label) other = got chain size old label other
+  row-kept (op.Duplicate chain block label) other = duplicated chain block label other
+  row-kept (op.Free chain value) other = freed-kept chain value other
+  row-kept (op.Call called fail) other =
+      chosen Leaves (has_room memory.returns) _ _ same tt
+  row-kept (op.Input chain count label) other = taken chain count label other
+  row-kept (op.PrintCharacters chain count) other =
+      both Leaves (locus memory chain) _
+      (λ at. both Leaves (read memory count) _
+      (λ wanted. both Leaves (count_of wanted) _
+      (λ characters. printed (last_characters characters (content memory at)))))
+  row-kept (op.PrintDecimal chain) other =
+      both Leaves (locus memory chain) _ (λ at. printed (decimal (content memory at)))
+  row-kept (op.PrintOctal chain) other =
+      both Leaves (locus memory chain) _ (λ at. printed (octal12 (content memory at)))
+  row-kept (op.PrintText text) other = printed (map char_of text)
+  row-kept op.PrintLine other = printed (codes "\n")
+
+  -- ---- step by step
+  done-kept : (returns : List Return) → IfOk (done returns memory) Leaves
+  done-kept [] = same
+  done-kept (latest ∷ earlier) = record { bug = refl; definitions = λ _. refl; blocks = λ _. refl }
+
+  fail-kept : (returns : List Return) → IfOk (fail returns memory) Leaves
+  fail-kept [] = same
+  fail-kept (latest ∷ earlier) =
+      both Leaves (ok_or latest.fail NoFailExit) _
+      (λ label. record { bug = refl; definitions = λ _. refl; blocks = λ _. refl })
+
+  exit-kept : (last : Exit ℕ) → IfOk (leave_by last memory) Leaves
+  exit-kept Next = same
+  exit-kept (Label statement) = same
+  exit-kept Done = done-kept memory.returns
+  exit-kept Fail = fail-kept memory.returns
+
+  action-kept : (action : Action) → action_changes watched action ≡ false →
+      IfOk (action_result_of parameters choice action memory) Leaves
+  action-kept (condition cond tests) other = both Leaves (is_true cond tests memory) _ (λ answer. same)
+  action-kept (operation op) other = row-kept op other
+  action-kept (exit last) other = exit-kept last
+
+  taken-kept : (action : Action) (at : Position) → action_changes watched action ≡ false →
+      IfOk (taken_at parameters choice action at memory) Leaves
+  taken-kept action at other =
+      after Leaves Leaves (action_result_of parameters choice action memory) _
+      (action-kept action other)
+      (λ action_result kept.
+      record { bug = kept.bug; definitions = kept.definitions; blocks = kept.blocks })
+
+outcome-kept : (watched : List ℕ) (old : State) (result : Result ActionResult Trap) →
+    IfOk result (λ (r : ActionResult). Keeps watched old.memory r.memory) →
+    Keeps watched old.memory (outcome old result).memory
+outcome-kept watched old (Ok action_result) kept = kept
+outcome-kept watched old (Err trap) kept = keeps-same watched old.memory
+
+after-kept : (rule : Rule) (context : RunContext) (old : Configuration) (watched : List ℕ)
+    (last : Bool) → action_changes watched (action_at context.program old.state.at) ≡ false →
+    Keeps watched old.state.memory
+    (if last then old else next_configuration rule context old).state.memory
+after-kept rule context old watched true other = keeps-same watched old.state.memory
+after-kept rule context old watched false other =
+    outcome-kept watched old.state (action_result_at context (pick_at rule context old) old.state)
+    (taken-kept context.parameters (pick_at rule context old) watched old.state.memory
+    (action_at context.program old.state.at) old.state.at other)
+
+-- ---- the chains that a statement does not change
+abbrev action_changes_some : List (List ℕ) → Action → Bool
+action_changes_some chains (operation op) = changes_some chains op
+action_changes_some chains action = false
+
+first-apart : (chain : List ℕ) (chains : List (List ℕ)) (action : Action) →
+    action_changes_some (chain ∷ chains) action ≡ false →
+    (action_changes chain action ≡ false) × (action_changes_some chains action ≡ false)
+first-apart chain chains (condition cond tests) other = (refl, refl)
+first-apart chain chains (operation op) other =
+    or_parts (changes op chain) (changes_some chains op) other
+first-apart chain chains (exit last) other = (refl, refl)
+
+values-kept : (rule : Rule) (context : RunContext) (old : Configuration)
+    (chains : List (List ℕ)) →
+    action_changes_some chains (action_at context.program old.state.at) ≡ false →
+    values_of chains (configuration_after rule context old).state.memory
+    ≡ values_of chains old.state.memory
+values-kept rule context old [] other = refl
+values-kept rule context old (chain ∷ chains) other =
+    let action = action_at context.program old.state.at in
+    let after = (configuration_after rule context old).state.memory in
+    let parts = first-apart chain chains action other in
+    let kept : Keeps chain old.state.memory after =
+    after-kept rule context old chain (is_last context old.state) parts.0 in
+    ap (λ (v : Option ℕ). v ∷ values_of chains after) (value-same old.state.memory after chain kept)
+    ∙ ap (λ (vs : List (Option ℕ)). value_of old.state.memory chain ∷ vs)
+    (values-kept rule context old chains parts.1)
+
+-- an action of a statement that changes none does not
+operation-among : (chains : List (List ℕ)) (operations : List (Op ℕ)) (last : Exit ℕ)
+    (index : ℕ) → list_any (changes_some chains) operations ≡ false →
+    action_changes_some chains (action_following last (slice_get operations index)) ≡ false
+operation-among chains [] last index none = refl
+operation-among chains (first ∷ rest) last zero none =
+    (or_parts (changes_some chains first) (list_any (changes_some chains) rest) none).0
+operation-among chains (first ∷ rest) last (suc index) none =
+    operation-among chains rest last index
+    (or_parts (changes_some chains first) (list_any (changes_some chains) rest) none).1
+
+action-among : (chains : List (List ℕ)) (statement : Parts) (number : ℕ) (first : Bool) →
+    statement_changes chains statement ≡ false →
+    action_changes_some chains
+    (if first then condition statement.condition statement.tests
+    else action_following statement.exit (slice_get statement.operations (number - 1))) ≡ false
+action-among chains statement number true none = refl
+action-among chains statement number false none =
+    operation-among chains statement.operations statement.exit (number - 1) none
+
+pub known-kept : (rule : Rule) (context : RunContext) (old : Configuration)
+    (chains : List (List ℕ)) (table : List Bool) → AreKnown table chains context.program →
+    slice_index_or table old.state.at.statement true ≡ false →
+    values_of chains (configuration_after rule context old).state.memory
+    ≡ values_of chains old.state.memory
+known-kept rule context old chains table known says =
+    let at = old.state.at in
+    values-kept rule context old chains
+    (action-among chains (statement_at context.program at) at.action (at.action == 0)
+    (known at.statement says))

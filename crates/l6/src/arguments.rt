@@ -9,7 +9,8 @@ ghost use Rattle.l6.specs.declared.arguments.WordsFault.TheVariants.{NoMemory};
 use crate::help::{self, Help};
 use crate::job::Verb;
 use clap::error::ErrorKind;
-use clap::{Arg, ArgMatches, Command, value_parser};
+use clap::{ArgMatches, Command};
+use l6_options::{chosen_options, store, with_options};
 use l6_run::Options;
 use std::alloc::{AllocError, Global};
 use std::io::{self, ErrorKind as IoErrorKind};
@@ -148,35 +149,6 @@ fn described<'a>(alloc: Global, name: &'a str, help: Help) -> Command<'a> {
         .after_help(help.details)
 }
 
-/// A command with the options of a run.
-fn with_options<'a>(command: Command<'a>, alloc: Global) -> Result<Command<'a>, AllocError> {
-    let steps = Arg::new(alloc, "steps")
-        .long("steps")
-        .value_name("N")
-        .help("Steps that the run may make, 0 to 1000000000")
-        .value_parser(value_parser!(u64).range(0..=1_000_000_000))
-        .default_value("1000000");
-    let output = Arg::new(alloc, "output")
-        .long("output")
-        .value_name("N")
-        .help("Bytes that the run may print, 0 to 16777216")
-        .value_parser(value_parser!(u32).range(0..=16_777_216))
-        .default_value("1048576");
-    command.arg(store(alloc)?)?.arg(steps)?.arg(output)
-}
-
-/// The option for the size of a store.
-fn store<'a>(alloc: Global) -> Result<Arg<'a>, AllocError> {
-    Ok(
-        Arg::new(alloc, "store")
-            .long("store")
-            .value_name("M")
-            .help("Units of 1024 words that the store has, 1 to 255")
-            .value_parser(value_parser!(u32).range(1..=255))
-            .default_value("8"),
-    )
-}
-
 /// The request for a verb for which nothing can be chosen.
 fn without_options(verb: Verb) -> Request
     ensures { result ≡ record { verb = verb; options = default_options } }
@@ -191,9 +163,6 @@ fn without_options(verb: Verb) -> Request
 fn requested(verb: Verb, chosen: &ArgMatches<'_>) -> Option<Request>
     ensures { IfSome result (λ asked. asked.verb ≡ verb) }
 {
-    let units = chosen.get_one::<u32>("store")?;
-    let steps = chosen.get_one::<u64>("steps")?;
-    let output = chosen.get_one::<usize>("output")?;
-    let options = Options::new(units, steps, output)?;
+    let options = chosen_options(chosen)?;
     Some(Request { verb, options })
 }

@@ -1,8 +1,7 @@
 -- What a step leaves as it was: a chain that its action does not change reads as before.
-use Rattle.std.proofs.Common.{◌≡◌, ℕ, zero, suc, ◌+◌, ◌-◌, ◌%◌, ◌^◌, Bool, true, false, List, [], ◌∷◌, length, map, Option, Some, None, Ok, Err, if◌then◌else◌, refl, sym, ap, ◌∙◌, arith, true≢false}
-use Rattle.std.specs.Prelude.{◌||◌, ◌==◌, IfOk, Result, codes, decimal, nat_le, nat_lt, ok_or, replicate, slice_get, slice_index, slice_index_or, slice_set, take}
+use Rattle.std.proofs.Common.{◌≡◌, ℕ, ◌+◌, ◌%◌, ◌^◌, Bool, true, false, List, [], ◌∷◌, length, map, Option, Some, None, Ok, Err, if◌then◌else◌, refl, sym, ap, ◌∙◌, arith, true≢false}
+use Rattle.std.specs.Prelude.{◌||◌, IfOk, Result, codes, decimal, nat_le, nat_lt, ok_or, replicate, slice_index, slice_index_or, slice_set, take}
 use Rattle.std.specs.FinMap as finite
-use Rattle.std.specs.List.{list_any}
 use Rattle.std.specs.Result.{result_ok}
 use Rattle.std.proofs.lemmas.Bool.{eqb-false, lt-ltb, or_parts}
 use Rattle.std.proofs.lemmas.List.{get_or-set_other}
@@ -16,7 +15,6 @@ use Rattle.l6_word.specs.Window.{Window, is_window}
 use Rattle.l6_store.specs.Blocks.{block_at}
 use Rattle.l6_store.specs.Open.{Choice}
 use Rattle.l6_store.specs.Rule.{Rule}
-use Rattle.l6_prog.specs.Statement.{Parts}
 use Rattle.l6_prog.specs.declared.exit.Exit.{Exit}
 use Rattle.l6_prog.specs.declared.exit.Exit.TheVariants.{Next, Label, Done, Fail}
 use Rattle.l6_prog.specs.declared.operand.Operand.{Operand}
@@ -41,11 +39,11 @@ use Rattle.l6_steps.specs.Locus.{assign, content, field_at, follow, index_of, lo
 use Rattle.l6_steps.specs.Row.{Action, action_result_of, combine, condition, done, exit, fail, leave_by, operation, print, row}
 use Rattle.l6_steps.specs.Stack.{has_room, pop, push}
 use Rattle.l6_steps.specs.State.{Memory, RunContext, RunParameters, State, is_last}
-use Rattle.l6_steps.specs.Step.{action_at, action_following, action_result_at, outcome, statement_at, taken_at}
+use Rattle.l6_steps.specs.Step.{action_at, action_result_at, outcome, taken_at}
 use Rattle.l6_steps.proofs.Loci.{after}
 use Rattle.l6_steps.proofs.Rows.{both, chosen}
 use Rattle.l6_history.specs.Stop.{value_of, values_of}
-use Rattle.l6_history.specs.inner.Changing.{AreKnown, changes, changes_by, changes_some, has_fields, statement_changes}
+use Rattle.l6_history.specs.inner.Changing.{IsTable, action_changes, changes, changes_by, changes_some, has_fields, says}
 
 -- the first name of a chain
 abbrev first_of : List ℕ → ℕ
@@ -186,9 +184,10 @@ assigned watched old new there (bug ∷ name ∷ names) at number kept is other 
     (IfOk-at_ok IsInBlock is (follow-in there (Bug bug) name names)) other
 
 -- ---- action by action
-abbrev action_changes : List ℕ → Action → Bool
-action_changes watched (operation op) = changes op watched
-action_changes watched action = false
+-- an action may change what a chain reads as
+abbrev action_changes_one : List ℕ → Action → Bool
+action_changes_one watched (operation op) = changes op watched
+action_changes_one watched action = false
 
 -- what is done at a locus is given how it was found
 itself : (found : Result Locus Trap) → IfOk found (λ at. found ≡ Ok at)
@@ -407,13 +406,13 @@ module _ (parameters : RunParameters) (choice : Choice) (watched : List ℕ) (me
   exit-kept Done = done-kept memory.returns
   exit-kept Fail = fail-kept memory.returns
 
-  action-kept : (action : Action) → action_changes watched action ≡ false →
+  action-kept : (action : Action) → action_changes_one watched action ≡ false →
       IfOk (action_result_of parameters choice action memory) Leaves
   action-kept (condition cond tests) other = both Leaves (is_true cond tests memory) _ (λ answer. same)
   action-kept (operation op) other = row-kept op other
   action-kept (exit last) other = exit-kept last
 
-  taken-kept : (action : Action) (at : Position) → action_changes watched action ≡ false →
+  taken-kept : (action : Action) (at : Position) → action_changes_one watched action ≡ false →
       IfOk (taken_at parameters choice action at memory) Leaves
   taken-kept action at other =
       after Leaves Leaves (action_result_of parameters choice action memory) _
@@ -428,7 +427,7 @@ outcome-kept watched old (Ok action_result) kept = kept
 outcome-kept watched old (Err trap) kept = keeps-same watched old.memory
 
 after-kept : (rule : Rule) (context : RunContext) (old : Configuration) (watched : List ℕ)
-    (last : Bool) → action_changes watched (action_at context.program old.state.at) ≡ false →
+    (last : Bool) → action_changes_one watched (action_at context.program old.state.at) ≡ false →
     Keeps watched old.state.memory
     (if last then old else next_configuration rule context old).state.memory
 after-kept rule context old watched true other = keeps-same watched old.state.memory
@@ -437,14 +436,10 @@ after-kept rule context old watched false other =
     (taken-kept context.parameters (pick_at rule context old) watched old.state.memory
     (action_at context.program old.state.at) old.state.at other)
 
--- ---- the chains that a statement does not change
-abbrev action_changes_some : List (List ℕ) → Action → Bool
-action_changes_some chains (operation op) = changes_some chains op
-action_changes_some chains action = false
-
+-- ---- and all of some chains
 first-apart : (chain : List ℕ) (chains : List (List ℕ)) (action : Action) →
-    action_changes_some (chain ∷ chains) action ≡ false →
-    (action_changes chain action ≡ false) × (action_changes_some chains action ≡ false)
+    action_changes (chain ∷ chains) action ≡ false →
+    (action_changes_one chain action ≡ false) × (action_changes chains action ≡ false)
 first-apart chain chains (condition cond tests) other = (refl, refl)
 first-apart chain chains (operation op) other =
     or_parts (changes op chain) (changes_some chains op) other
@@ -452,7 +447,7 @@ first-apart chain chains (exit last) other = (refl, refl)
 
 values-kept : (rule : Rule) (context : RunContext) (old : Configuration)
     (chains : List (List ℕ)) →
-    action_changes_some chains (action_at context.program old.state.at) ≡ false →
+    action_changes chains (action_at context.program old.state.at) ≡ false →
     values_of chains (configuration_after rule context old).state.memory
     ≡ values_of chains old.state.memory
 values-kept rule context old [] other = refl
@@ -466,33 +461,10 @@ values-kept rule context old (chain ∷ chains) other =
     ∙ ap (λ (vs : List (Option ℕ)). value_of old.state.memory chain ∷ vs)
     (values-kept rule context old chains parts.1)
 
--- an action of a statement that changes none does not
-operation-among : (chains : List (List ℕ)) (operations : List (Op ℕ)) (last : Exit ℕ)
-    (index : ℕ) → list_any (changes_some chains) operations ≡ false →
-    action_changes_some chains (action_following last (slice_get operations index)) ≡ false
-operation-among chains [] last index none = refl
-operation-among chains (first ∷ rest) last zero none =
-    (or_parts (changes_some chains first) (list_any (changes_some chains) rest) none).0
-operation-among chains (first ∷ rest) last (suc index) none =
-    operation-among chains rest last index
-    (or_parts (changes_some chains first) (list_any (changes_some chains) rest) none).1
-
-action-among : (chains : List (List ℕ)) (statement : Parts) (number : ℕ) (first : Bool) →
-    statement_changes chains statement ≡ false →
-    action_changes_some chains
-    (if first then condition statement.condition statement.tests
-    else action_following statement.exit (slice_get statement.operations (number - 1))) ≡ false
-action-among chains statement number true none = refl
-action-among chains statement number false none =
-    operation-among chains statement.operations statement.exit (number - 1) none
-
 pub known-kept : (rule : Rule) (context : RunContext) (old : Configuration)
-    (chains : List (List ℕ)) (table : List Bool) → AreKnown table chains context.program →
-    slice_index_or table old.state.at.statement true ≡ false →
+    (chains : List (List ℕ)) (table : List (List Bool)) → IsTable chains context.program table →
+    says table old.state.at ≡ false →
     values_of chains (configuration_after rule context old).state.memory
     ≡ values_of chains old.state.memory
-known-kept rule context old chains table known says =
-    let at = old.state.at in
-    values-kept rule context old chains
-    (action-among chains (statement_at context.program at) at.action (at.action == 0)
-    (known at.statement says))
+known-kept rule context old chains table known none =
+    values-kept rule context old chains (known old.state.at none)

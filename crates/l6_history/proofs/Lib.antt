@@ -1,3 +1,4 @@
+pub mod ChangeRows
 pub mod Kept
 pub mod NumberedMachines
 pub mod Rings

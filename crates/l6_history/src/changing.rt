@@ -1,37 +1,86 @@
-//! Which statements may change what chains read as.
+//! Which actions may change what chains read as.
 //!
-//! An operation changes the bugs to which it assigns, and some change fields. At the others a chain
-//! that is watched reads as before, so it need not be read.
+//! An operation changes the bugs to which it assigns, and some change fields. After the other actions
+//! a chain that is watched reads as before, so it need not be read.
 
-ghost use Rattle.std.specs.Prelude.{◌≡◌};
-ghost use Rattle.l6_history.specs.inner.Changing.{AreKnown, changes, changes_by, changes_some, has_fields, statement_changes};
+ghost use Rattle.std.specs.Prelude.{◌≡◌, slice_set};
+ghost use Rattle.l6_history.specs.inner.Changing.{IsRow, IsTable, changes, changes_by, changes_some, has_fields, says};
 
-use l6_prog::{Chain, Op, Program, Statement};
+use l6_prog::{Chain, MAX_OPERATIONS, Op, Program, Statement};
+use l6_steps::Position;
 use std::alloc::Global;
+use std::marker::Model;
 
-/// For each statement of a program, whether one of its operations may change what one of some chains
-/// reads as. Where memory for that is refused it is empty: then each statement may.
-pub(crate) fn changing_statements(alloc: Global, program: &Program, chains: &[Chain]) -> Vec<bool>
-    ensures { AreKnown result.items chains.now program.now }
-{
-    let statements = program.statements();
-    let Ok(mut table) = vec![in alloc; true; statements.len()] else {
-        return Vec::new(alloc);
-    };
-    for (number, statement) in statements.iter().enumerate() {
-        table[number] = statement_changes(chains, statement);
-    }
-    table
+/// How many entries a row has: for the condition of a statement, and for each operation.
+const ENTRIES: usize = MAX_OPERATIONS + 1;
+
+/// For each action of a program, whether it may change what one of some chains reads as. One without an
+/// entry may. A table takes 64 bytes for each statement.
+#[derive(Drop)]
+pub(crate) struct ChangeTable {
+    /// For each statement, what is said of its actions, in order.
+    rows: Vec<[bool; ENTRIES]>,
 }
 
-/// Whether an operation of a statement may change what one of some chains reads as.
-fn statement_changes(chains: &[Chain], statement: &Statement) -> bool
-    ensures { result ≡ statement_changes chains.now statement.now }
+impl Model for ChangeTable {
+    ghost use Rattle.std.specs.Prelude.{Bool, List};
+
+    ghost Value = { List (List Bool) };
+
+    ghost view = { λ t. t.rows.items };
+}
+
+impl ChangeTable {
+    /// The table of a program. Where memory for it is refused it is empty.
+    pub(crate) fn new(alloc: Global, program: &Program, chains: &[Chain]) -> Self
+        ensures { IsTable chains.now program.now result }
+    {
+        let statements = program.statements();
+        let Ok(mut rows) = vec![in alloc; [true; ENTRIES]; statements.len()] else {
+            return ChangeTable {
+                rows: Vec::new(alloc),
+            };
+        };
+        for (number, statement) in statements.iter().enumerate() {
+            rows[number] = row_of(chains, statement);
+        }
+        ChangeTable { rows }
+    }
+
+    /// Whether the action at a position may change what one of the chains reads as.
+    #[inline(always)]
+    pub(crate) fn says(&self, at: Position) -> bool
+        ensures { result ≡ says self.now at }
+    {
+        match self.rows.get(usize::from(at.statement)) {
+            Some(row) => row.get(usize::from(at.action)).copied().unwrap_or(true),
+            None => true,
+        }
+    }
+}
+
+/// What is said of the actions of a statement.
+fn row_of(chains: &[Chain], statement: &Statement) -> [bool; ENTRIES]
+    ensures { IsRow chains.now statement.now result }
 {
-    statement
-        .operations()
-        .iter()
-        .any(|operation| changes_some(chains, operation))
+    let operations = statement.operations();
+    let mut row = [true; ENTRIES];
+    // the condition and the exit change nothing
+    set_entry(&mut row, 0, false);
+    set_entry(&mut row, operations.len() + 1, false);
+    for (index, operation) in operations.iter().enumerate() {
+        set_entry(&mut row, index + 1, changes_some(chains, operation));
+    }
+    row
+}
+
+/// Sets what is said of an action, if there is an entry for it.
+fn set_entry(row: &mut [bool], action: usize, may_change: bool)
+    ensures { row.new ≡ slice_set row.old action may_change }
+{
+    if action < row.len() {
+        row[action] = may_change;
+    }
 }
 
 /// Whether an operation may change what one of some chains reads as.

@@ -2,12 +2,12 @@
 //!
 //! What a chain reads as is compared with what it read as at first: up to a stop it never changes.
 
-ghost use Rattle.std.specs.Prelude.{◌≡◌, ◌≤◌, ◌∷◌, [], slice_index_or, true, Some};
+ghost use Rattle.std.specs.Prelude.{◌≡◌, ◌≤◌, ◌∷◌, [], Some};
 ghost use Rattle.l6_prog.specs.Numerals.{first_letter};
 ghost use Rattle.l6_history.specs.Stop.{value_of, values_of};
-ghost use Rattle.l6_history.specs.inner.Changing.{AreKnown};
+ghost use Rattle.l6_history.specs.inner.Changing.{IsTable};
 
-use crate::changing::changing_statements;
+use crate::changing::ChangeTable;
 use crate::sight::{differ, values_of};
 use crate::stop::{MAX_WATCHED, Stop};
 use arrayvec::ArrayVec;
@@ -171,8 +171,8 @@ pub(crate) struct ChainWatch<'a> {
     stop: &'a Stop,
     /// What each watched chain reads as at first, if it can be followed.
     values: ArrayVec<Option<Word>, MAX_WATCHED>,
-    /// For each statement, whether it may change that. Those that it has not may.
-    table: Vec<bool>,
+    /// For each action of the program, whether it may change that.
+    table: ChangeTable,
 }
 
 impl<'a> Model for ChainWatch<'a> {
@@ -184,7 +184,7 @@ impl<'a> Model for ChainWatch<'a> {
     ghost view = { λ w. record {
       stop = w.stop.now;
       values = w.values.items;
-      table = w.table.items;
+      table = w.table;
     } };
 
     ghost invariant = { λ w. length w.values.items ≡ length w.stop.now.watched };
@@ -196,24 +196,13 @@ impl<'a> ChainWatch<'a> {
         ensures stop { result.stop ≡ stop.now }
         ensures values { result.values
             ≡ values_of stop.now.watched machine.now.configuration.state.memory }
-        ensures table { AreKnown result.table stop.now.watched machine.now.context.program }
+        ensures table { IsTable stop.now.watched machine.now.context.program result.table }
     {
         ChainWatch {
             stop,
             values: values_of(stop, machine),
-            table: changing_statements(alloc, machine.program(), stop.watched()),
+            table: ChangeTable::new(alloc, machine.program(), stop.watched()),
         }
-    }
-
-    /// Whether a statement may change what a chain reads as.
-    #[inline(always)]
-    fn statement_may(&self, statement: u16) -> bool
-        ensures { result ≡ slice_index_or self.now.table statement true }
-    {
-        self.table
-            .get(usize::from(statement))
-            .copied()
-            .unwrap_or(true)
     }
 }
 
@@ -234,7 +223,7 @@ impl<'a, S: Places> Watch<S> for ChainWatch<'a> {
 
     #[inline(always)]
     fn may_change(&self, machine: &Machine<S>) -> bool {
-        self.statement_may(machine.at().statement)
+        self.table.says(machine.at())
     }
 
     #[inline(always)]

@@ -1,8 +1,9 @@
 //! The words of the command line, read with `clap`. What they mean is tested, and not proved.
 
 use crate::fault::DbFault;
-use clap::{Arg, ArgAction, Command, value_parser};
+use clap::{Arg, ArgAction, Command};
 use l6_machine::Options;
+use l6_options::{chosen_options, with_options};
 use std::alloc::{AllocError, Global};
 
 /// What the words ask for.
@@ -43,16 +44,13 @@ failed, 64 the command line is wrong";
 pub(crate) fn request_of<'a>(alloc: Global, words: &'a [String]) -> Result<Request<'a>, DbFault> {
     let mut command = program(alloc)?;
     let matches = command.try_get_matches_from_mut(words)?;
-    let units = matches.get_one::<u32>("store").unwrap_or(8);
-    let steps = matches.get_one::<u64>("steps").unwrap_or(1_000_000);
-    let output = matches.get_one::<usize>("output").unwrap_or(1_048_576);
     Ok(Request {
         deck: matches.get_str("deck").unwrap_or("-"),
         input: matches.get_str("input"),
         commands: matches.get_str("commands"),
         is_batch: matches.get_flag("batch"),
         has_echo: matches.get_flag("echo"),
-        options: Options::new(units, steps, output).unwrap_or_default(),
+        options: chosen_options(&matches).unwrap_or_default(),
     })
 }
 
@@ -90,27 +88,4 @@ fn program<'a>(alloc: Global) -> Result<Command<'a>, AllocError> {
         .arg(batch)?
         .arg(echo)?;
     with_options(command, alloc)
-}
-
-/// A command with the options of a run.
-fn with_options<'a>(command: Command<'a>, alloc: Global) -> Result<Command<'a>, AllocError> {
-    let store = Arg::new(alloc, "store")
-        .long("store")
-        .value_name("M")
-        .help("Units of 1024 words that the store has, 1 to 255")
-        .value_parser(value_parser!(u32).range(1..=255))
-        .default_value("8");
-    let steps = Arg::new(alloc, "steps")
-        .long("steps")
-        .value_name("N")
-        .help("Steps that the run may make, 0 to 1000000000")
-        .value_parser(value_parser!(u64).range(0..=1_000_000_000))
-        .default_value("1000000");
-    let output = Arg::new(alloc, "output")
-        .long("output")
-        .value_name("N")
-        .help("Bytes that the run may print, 0 to 16777216")
-        .value_parser(value_parser!(u32).range(0..=16_777_216))
-        .default_value("1048576");
-    command.arg(store)?.arg(steps)?.arg(output)
 }

@@ -1,10 +1,13 @@
--- Which statements may change what a chain reads as.
+-- Which actions may change what a chain reads as.
 use Rattle.std.specs.Prelude.{◌≡◌, ℕ, ◌==◌, ◌||◌, Bool, true, false, nat_lt, List, [], ◌∷◌, length, None, Some, slice_index_or}
 use Rattle.std.specs.List.{list_any}
-use Rattle.l6_prog.specs.Statement.{Parts, plain_done}
+use Rattle.l6_prog.specs.Statement.{Parts}
 use Rattle.l6_prog.specs.declared.operation.Op.{Op}
 use Rattle.l6_prog.specs.declared.operation.Op.TheVariants as op
+use Rattle.l6_steps.specs.declared.position.Position.{Position}
 use Rattle.l6_steps.specs.Locus.{index_of}
+use Rattle.l6_steps.specs.Row.{Action, operation}
+use Rattle.l6_steps.specs.Step.{action_at, action_of}
 
 -- a chain leads to fields, beyond its bug
 abbrev pub has_fields : List ℕ → Bool
@@ -45,18 +48,30 @@ changes (op.Get chain size (Some old) label) watched =
 changes (op.Duplicate chain block label) watched = has_fields watched || changes_by chain watched
 changes (op.Free chain value) watched = has_fields watched || changes_by chain watched
 changes (op.Input chain count label) watched = changes_by chain watched
-changes operation watched = false
+changes other watched = false
 
--- an operation of a statement may change one of some chains
+-- it may change one of some chains
 abbrev pub changes_some : List (List ℕ) → Op ℕ → Bool
-changes_some chains operation = list_any (changes operation) chains
+changes_some chains op = list_any (changes op) chains
 
-abbrev pub statement_changes : List (List ℕ) → Parts → Bool
-statement_changes chains statement = list_any (changes_some chains) statement.operations
+-- an action may: a condition and an exit change none
+abbrev pub action_changes : List (List ℕ) → Action → Bool
+action_changes chains (operation op) = changes_some chains op
+action_changes chains action = false
 
--- the statements that may are among those of which a table says so; it says so of those that it has
--- not
-abbrev pub AreKnown : List Bool → List (List ℕ) → List Parts → Type 0
-AreKnown table chains program =
-    (statement : ℕ) → slice_index_or table statement true ≡ false →
-    statement_changes chains (slice_index_or program statement plain_done) ≡ false
+-- each action of a statement of which a row says no changes none of the chains; one without an entry
+-- may
+abbrev pub IsRow : List (List ℕ) → Parts → List Bool → Type 0
+IsRow chains statement row =
+    (number : ℕ) → slice_index_or row number true ≡ false →
+    action_changes chains (action_of statement number) ≡ false
+
+-- what a table, which has a row for each statement, says of the action at a position; one without an
+-- entry may change some
+abbrev pub says : List (List Bool) → Position → Bool
+says table at = slice_index_or (slice_index_or table at.statement []) at.action true
+
+-- each action of a program of which a table says no changes none of the chains
+abbrev pub IsTable : List (List ℕ) → List Parts → List (List Bool) → Type 0
+IsTable chains program table =
+    (at : Position) → says table at ≡ false → action_changes chains (action_at program at) ≡ false

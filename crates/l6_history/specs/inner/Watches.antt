@@ -3,7 +3,7 @@ use Rattle.std.specs.Prelude.{ℕ, Bool, List, [], ◌∷◌, Option, Some}
 use Rattle.l6_prog.specs.Statement.{Parts}
 use Rattle.l6_steps.specs.State.{State}
 use Rattle.l6_history.specs.Stop.{Stop, differs, some_differ, value_of, values_of}
-use Rattle.l6_history.specs.inner.Changing.{AreKnown}
+use Rattle.l6_history.specs.inner.Changing.{IsTable}
 
 -- a bug, and what it holds at first
 pub record BugWatch : Type 0 where
@@ -15,12 +15,12 @@ pub record BugWatch : Type 0 where
 abbrev pub bug_changed : BugWatch → State → Bool
 bug_changed watch state = differs (Some watch.word) (value_of state.memory (watch.bug ∷ []))
 
--- the watched chains, by what each reads as at first; and for each statement whether it may change
--- that
+-- the watched chains, by what each reads as at first; and a table of the actions
+-- that may change that
 pub record ChainWatch : Type 0 where
   pub stop : Stop
   pub values : List (Option ℕ)
-  pub table : List Bool
+  pub table : List (List Bool)
 
 -- a chain reads as another value
 abbrev pub chains_changed : ChainWatch → State → Bool
@@ -28,4 +28,4 @@ chains_changed watch state = some_differ watch.values (values_of watch.stop.watc
 
 -- the table is one of this program
 abbrev pub IsOf : ChainWatch → List Parts → Type 0
-IsOf watch program = AreKnown watch.table watch.stop.watched program
+IsOf watch program = IsTable watch.stop.watched program watch.table

@@ -1,10 +1,11 @@
-use Rattle.std.proofs.Common.{ℕ, true, List, Option, slice_index_or, ap, sym, ◌∙◌}
-use Rattle.l6_steps.specs.declared.position.Position.{Position}
+use Rattle.std.proofs.Common.{ℕ, List, Option, ap, sym, ◌∙◌}
 use Rattle.l6_history.specs.Stop.{some_differ}
+use Rattle.l6_history.specs.inner.Changing.{says}
+use Rattle.l6_history.specs.inner.Watches.{ChainWatch}
 use Rattle.l6_history.proofs.Kept.{known-kept}
 use Rattle.l6_history.proofs.watches.ChainWatchWatch.may_change.Goals as goal
 
--- no chain is changed by a step of a statement that does not
+-- no chain is changed by a step of an action that does not
 pub returns : goal.returns
 returns g c none =
     let watch = c.args.self.now in
@@ -12,5 +13,6 @@ returns g c none =
     ap (λ (values : List (Option ℕ)). some_differ watch.values values)
     (known-kept g.S.Places.rule machine.context machine.configuration watch.stop.watched watch.table
     c.requires
-    (ap (λ (at : Position). slice_index_or watch.table at.statement true) (sym c.at.ensures)
-    ∙ sym c.statement_may.ensures ∙ none))
+    (ap (says watch.table) (sym c.at.ensures)
+    ∙ ap (λ (w : ChainWatch). says w.table c.at.result) (sym c.self.view_is)
+    ∙ sym c.says.ensures ∙ none))

@@ -16,7 +16,8 @@ use Rattle.l6_history.specs.History.{number_to, run_state_at}
 use Rattle.l6_history.specs.Stop.{Stop, changes_between, differs, is_at_breakpoint, is_shallow, some_differ, stops_at, stops_nowhere, value_of, values_of}
 use Rattle.l6_history.specs.Seeking.{greatest, next_stop, previous_stop, stops_back, stops_forward}
 use Rattle.l6_history.specs.inner.Seeking.{ComesTo, IsLast, IsLastIn, NoneAfter, NoneIn, Sight, later_of, sight_of}
-use Rattle.l6_history.proofs.Sights.{none-differ}
+use Rattle.l6_history.specs.inner.Watches.{ChainWatch, chains_changed}
+use Rattle.l6_history.proofs.Sights.{none-differ, same-values}
 
 -- ---- what is seen
 pub sight-at : (rule : Rule) (context : RunContext) (number : ℕ) (stop : Stop) (there : RunState)
@@ -417,6 +418,48 @@ seen-by-bug rule context stop from n bug word alone held =
     (sym held)
     ∙ ap (λ (b : Bool). stops_at stop there || b) (or-false (differs (Some word) value))
 
+-- without breakpoints and depth the chains alone are seen
+none-breakpoint : (breakpoints : List Bool) (statement : ℕ) →
+    list_any (λ breakpoint. breakpoint) breakpoints ≡ false →
+    slice_index_or breakpoints statement false ≡ false
+none-breakpoint [] statement none = refl
+none-breakpoint (true ∷ breakpoints) statement none = cc
+none-breakpoint (false ∷ breakpoints) zero none = refl
+none-breakpoint (false ∷ breakpoints) (suc statement) none =
+    none-breakpoint breakpoints statement none
+
+no-place : (stop : Stop) (state : State) →
+    (list_any (λ breakpoint. breakpoint) stop.breakpoints || is_some stop.depth) ≡ false →
+    stops_at stop state ≡ false
+no-place stop state none =
+    let parts = or_parts (list_any (λ breakpoint. breakpoint) stop.breakpoints) (is_some stop.depth)
+    none in
+    ap (λ b. (state.at.action == 0 && b) || is_shallow stop.depth state)
+    (none-breakpoint stop.breakpoints state.at.statement parts.0)
+    ∙ ap (λ b. b || is_shallow stop.depth state) (and-false (state.at.action == 0))
+    ∙ not-shallow stop.depth state parts.1
+
+pub seen-by-change : (rule : Rule) (context : RunContext) (stop : Stop) (from n : ℕ) →
+    (list_any (λ breakpoint. breakpoint) stop.breakpoints || is_some stop.depth) ≡ false →
+    is_seen rule context stop from n
+    ≡ some_differ (values_of stop.watched (state_at rule context from).memory)
+    (values_of stop.watched (state_at rule context n).memory)
+seen-by-change rule context stop from n none =
+    ap (λ (b : Bool). b
+    || some_differ (values_of stop.watched (state_at rule context from).memory)
+    (values_of stop.watched (state_at rule context n).memory))
+    (no-place stop (state_at rule context n) none)
+
+-- chains that are watched from a state on have not changed there
+pub first-unchanged : (stop : Stop) (watch : ChainWatch) (state : State) → watch.stop ≡ stop →
+    watch.values ≡ values_of stop.watched state.memory → chains_changed watch state ≡ false
+first-unchanged stop watch state same read =
+    ap (λ (values : List (Option ℕ)). some_differ values (values_of watch.stop.watched state.memory))
+    read
+    ∙ ap (λ (s : Stop). some_differ (values_of stop.watched state.memory)
+    (values_of s.watched state.memory)) same
+    ∙ same-values (values_of stop.watched state.memory)
+
 -- ---- a stretch
 pub found-back : (rule : Rule) (context there now : RunContext) (stop : Stop)
     (here begin end n number : ℕ) → there ≡ context → now ≡ there →
@@ -439,15 +482,6 @@ none-back rule context there stop begin end here same none further =
 
 -- ---- nowhere
 -- where there is nothing at which one would stop, one does not stop
-none-breakpoint : (breakpoints : List Bool) (statement : ℕ) →
-    list_any (λ breakpoint. breakpoint) breakpoints ≡ false →
-    slice_index_or breakpoints statement false ≡ false
-none-breakpoint [] statement none = refl
-none-breakpoint (true ∷ breakpoints) statement none = cc
-none-breakpoint (false ∷ breakpoints) zero none = refl
-none-breakpoint (false ∷ breakpoints) (suc statement) none =
-    none-breakpoint breakpoints statement none
-
 nowhere-parts : (breakpoints : List Bool) (watched : List (List ℕ)) (depth : Option ℕ)
     (state before after : State) →
     stops_nowhere (record { breakpoints = breakpoints; watched = watched; depth = depth }) ≡ true →

@@ -10,7 +10,7 @@ ghost use Rattle.l6_history.specs.inner.Seeking.{ComesTo, IsLastIn, later_of};
 use crate::history::History;
 use crate::sight::Sight;
 use crate::stop::Stop;
-use crate::watches::{BreakpointWatch, BugWatch, ChainWatch, PlaceWatch};
+use crate::watches::{BreakpointWatch, BugWatch, ChainWatch, ChangeWatch, PlaceWatch};
 use l6_machine::Watch;
 use l6_store::Places;
 use std::alloc::Global;
@@ -41,7 +41,10 @@ impl<S: Places> History<S> {
             }
             None => {
                 let watch = ChainWatch::new(alloc, stop, self.machine());
-                self.to_watched(alloc, &watch);
+                if stop.has_places() {
+                    return self.to_watched(alloc, &watch);
+                }
+                self.to_watched(alloc, &ChangeWatch::new(watch));
             }
         }
     }

@@ -131,6 +131,14 @@ impl Stop {
         !self.has_breakpoints() && self.watched.len() == 0 && self.depth.is_none()
     }
 
+    /// Whether there is a state at which one would stop, wherever one comes from.
+    pub(crate) fn has_places(&self) -> bool
+        ensures { result ≡ (list_any (λ breakpoint. breakpoint) self.now.breakpoints
+            || is_some self.now.depth) }
+    {
+        self.has_breakpoints() || self.has_depth()
+    }
+
     /// Whether a statement has a breakpoint.
     fn has_breakpoints(&self) -> bool
         ensures { result ≡ list_any (λ breakpoint. breakpoint) self.now.breakpoints }

@@ -231,3 +231,52 @@ impl<'a, S: Places> Watch<S> for ChainWatch<'a> {
         differ(self.values.as_slice(), self.stop.watched(), machine)
     }
 }
+
+/// One watches what chains read as alone: there are no breakpoints, and no depth.
+#[derive(Drop)]
+pub(crate) struct ChangeWatch<'a> {
+    chains: ChainWatch<'a>,
+}
+
+impl<'a> Model for ChangeWatch<'a> {
+    ghost use Rattle.l6_history.specs.inner.Watches as watches;
+
+    ghost Value = { watches.ChainWatch };
+
+    ghost view = { λ w. w.chains };
+}
+
+impl<'a> ChangeWatch<'a> {
+    /// The chains of a watch, without the places at which one stops.
+    pub(crate) fn new(chains: ChainWatch<'a>) -> Self
+        ensures { result ≡ chains.entry }
+    {
+        ChangeWatch { chains }
+    }
+}
+
+impl<'a, S: Places> Watch<S> for ChangeWatch<'a> {
+    ghost use Rattle.std.specs.Prelude.{false};
+    ghost use Rattle.l6_history.specs.inner.Watches.{IsOf, chains_changed};
+
+    ghost stops = { λ _ _. false };
+
+    ghost changed = { chains_changed };
+
+    ghost suits = { IsOf };
+
+    #[inline(always)]
+    fn is_at_stop(&self, _: &Machine<S>) -> bool {
+        false
+    }
+
+    #[inline(always)]
+    fn may_change(&self, machine: &Machine<S>) -> bool {
+        self.chains.may_change(machine)
+    }
+
+    #[inline(always)]
+    fn has_changed(&self, machine: &Machine<S>) -> bool {
+        self.chains.has_changed(machine)
+    }
+}

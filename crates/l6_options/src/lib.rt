@@ -43,7 +43,6 @@ pub fn store<'a>(alloc: Global) -> Result<Arg<'a>, AllocError> {
 }
 
 /// What was chosen for a run, where the command takes its options.
-#[inline(never)] // a command line is read once: its code need not be copied into each verb
 pub fn chosen_options(chosen: &ArgMatches<'_>) -> Option<Options> {
     let units = chosen.get_one::<u32>("store")?;
     let steps = chosen.get_one::<u64>("steps")?;

@@ -6,9 +6,8 @@ use Rattle.l6_steps.specs.Numbering.{last_number}
 use Rattle.l6_steps.specs.RunState.{RunState}
 use Rattle.l6_machine.specs.Later.{sees}
 use Rattle.l6_history.specs.Stop.{Stop, differs, is_at_breakpoint, some_differ, stops_at, value_of, values_of}
-use Rattle.l6_history.specs.inner.Watches.{bug_changed, chains_changed}
-use Rattle.l6_history.proofs.Sights.{same-values}
-use Rattle.l6_history.proofs.Sought.{comes-alike, is_seen, next-seen, none-watched, nowhere-forward, seen-by-breakpoint, seen-by-bug, seen-by-place}
+use Rattle.l6_history.specs.inner.Watches.{ChainWatch, bug_changed, chains_changed}
+use Rattle.l6_history.proofs.Sought.{comes-alike, first-unchanged, is_seen, next-seen, none-watched, nowhere-forward, seen-by-breakpoint, seen-by-bug, seen-by-change, seen-by-place}
 use Rattle.l6_history.proofs.history.History.to_next.Goals as goal
 
 -- where one stops nowhere, it goes to the last state
@@ -94,14 +93,14 @@ returns-in-Some-clause-number g c =
     || differs (Some watch.word) (value_of there.memory (b ∷ [])))
     (sym c.new-watch.ensures.bug))))
 
--- else what each chain reads as is
-pub returns-in-None-clause-number : goal.returns-in-None-clause-number
-returns-in-None-clause-number g c =
+-- else what each chain reads as is, beside places
+pub returns-then-has_places-clause-number : goal.returns-then-has_places-clause-number
+returns-then-has_places-clause-number g c =
     let rule = g.S.Places.rule in
     let context = c.args.self.now.context in
     let stop = c.args.stop.now in
     let from = c.args.self.now.number in
-    let number = c.to_watched-in-None.new.self.number in
+    let number = c.to_watched-then-has_places.new.self.number in
     let watch = c.new-watch-in-None.result in
     let read : watch.values ≡ values_of stop.watched (state_at rule context from).memory =
     c.new-watch-in-None.ensures.values
@@ -110,7 +109,7 @@ returns-in-None-clause-number g c =
     next-seen rule context stop from number
     (comes-alike (λ n. sees (stops_at watch.stop) (chains_changed watch) (state_at rule context n))
     (is_seen rule context stop from) from (last_number rule context) number
-    c.to_watched-in-None.ensures.comes
+    c.to_watched-then-has_places.ensures.comes
     (λ n.
     (let there = state_at rule context n in
     ap
@@ -122,19 +121,52 @@ returns-in-None-clause-number g c =
     || some_differ watch.values (values_of s.watched there.memory))
     (sym c.new-watch-in-None.ensures.stop))))
 
--- which is as it was at first
+-- or alone
+pub returns-else-has_places-clause-number : goal.returns-else-has_places-clause-number
+returns-else-has_places-clause-number g c =
+    let rule = g.S.Places.rule in
+    let context = c.args.self.now.context in
+    let stop = c.args.stop.now in
+    let from = c.args.self.now.number in
+    let number = c.to_watched-in-None-2.new.self.number in
+    let watch = c.new-in-None.result in
+    let before = (state_at rule context from).memory in
+    let read : watch.values ≡ values_of stop.watched before =
+    ap (λ (w : ChainWatch). w.values) c.new-in-None.ensures
+    ∙ c.new-watch-in-None.ensures.values
+    ∙ ap (λ (s : RunState). values_of stop.watched s.configuration.state.memory)
+    c.machine-in-None.ensures.value in
+    next-seen rule context stop from number
+    (comes-alike (λ n. sees (λ _. false) (chains_changed watch) (state_at rule context n))
+    (is_seen rule context stop from) from (last_number rule context) number
+    c.to_watched-in-None-2.ensures.comes
+    (λ n.
+    (let there = (state_at rule context n).memory in
+    seen-by-change rule context stop from n (sym c.has_places.ensures ∙ c.if-has_places.false)
+    ∙ ap (λ (values : List (Option ℕ)). some_differ values (values_of stop.watched there)) (sym read)
+    ∙ ap (λ (s : Stop). some_differ watch.values (values_of s.watched there))
+    (sym (ap (λ (w : ChainWatch). w.stop) c.new-in-None.ensures ∙ c.new-watch-in-None.ensures.stop)))))
+
+-- both as they were at first
+pub to_watched-requires-then-has_places-clause-unchanged :
+    goal.to_watched-requires-then-has_places-clause-unchanged
+to_watched-requires-then-has_places-clause-unchanged g c =
+    let stop = c.args.stop.now in
+    first-unchanged stop c.new-watch-in-None.result
+    (state_at g.S.Places.rule c.args.self.now.context c.args.self.now.number)
+    c.new-watch-in-None.ensures.stop
+    (c.new-watch-in-None.ensures.values
+    ∙ ap (λ (s : RunState). values_of stop.watched s.configuration.state.memory)
+    c.machine-in-None.ensures.value)
+
 pub to_watched-requires-in-None-clause-unchanged :
     goal.to_watched-requires-in-None-clause-unchanged
 to_watched-requires-in-None-clause-unchanged g c =
-    let rule = g.S.Places.rule in
-    let memory = (state_at rule c.args.self.now.context c.args.self.now.number).memory in
     let stop = c.args.stop.now in
-    let watch = c.new-watch-in-None.result in
-    let read : watch.values ≡ values_of stop.watched memory =
-    c.new-watch-in-None.ensures.values
+    first-unchanged stop c.new-in-None.result
+    (state_at g.S.Places.rule c.args.self.now.context c.args.self.now.number)
+    (ap (λ (w : ChainWatch). w.stop) c.new-in-None.ensures ∙ c.new-watch-in-None.ensures.stop)
+    (ap (λ (w : ChainWatch). w.values) c.new-in-None.ensures
+    ∙ c.new-watch-in-None.ensures.values
     ∙ ap (λ (s : RunState). values_of stop.watched s.configuration.state.memory)
-    c.machine-in-None.ensures.value in
-    ap (λ (values : List (Option ℕ)). some_differ values (values_of watch.stop.watched memory)) read
-    ∙ ap (λ (s : Stop). some_differ (values_of stop.watched memory) (values_of s.watched memory))
-    c.new-watch-in-None.ensures.stop
-    ∙ same-values (values_of stop.watched memory)
+    c.machine-in-None.ensures.value)

@@ -5,7 +5,7 @@ l6db.py PROGRAM [L6] prints each difference, and last 'N passed, M failed'. PROG
 whose `check` it is compared.
 
 Where commands lead is worked out by the model: it lists all states of a run, each with its position, for how
-many returns calls wait, and what the watched chain reads as; and then looks for the nearest one at which one
+many returns calls wait, and what the watched chains read as; and then looks for the nearest one at which one
 stops. The decks make runs of up to 117,008 states, so past the 16 checkpoints that are kept. A session at a
 terminal is played on a pseudoterminal, and lines are written to a pipe one by one, each after the answer to
 the one before it. habits.jsonl has what those type who know gdb or pdb: the first 25 lines were written down
@@ -30,6 +30,7 @@ from itertools import count
 from pathlib import Path
 
 from answers import SECONDS, Answer, answer, answer_of
+from further_jobs import aliased_job, churned_deck
 from memory import Shim, library_of
 from model.cards import assemble
 from model.groups import chain_of
@@ -72,14 +73,14 @@ class Seen:
 
     position: tuple[int, int]
     depth: int
-    value: int | None
+    values: tuple[int | None, ...]  # of each chain, if it can be followed
 
 
-def states_of(deck: bytes, chain: str) -> list[Seen]:
+def states_of(deck: bytes, chains: list[str], options: Options) -> list[Seen]:
     """All states of the run of a deck, which has its input after a line $INPUT."""
     cards, _, characters = deck.partition(b"$INPUT\n")
-    state = State(assemble(cards).program, characters_of_input(characters), Options())
-    watched = chain_of(chain)
+    state = State(assemble(cards).program, characters_of_input(characters), options)
+    watched: list[object] = [chain_of(chain) for chain in chains]
     seen = [seen_of(state, watched)]
     while not state.is_last:
         take_step(state)
@@ -87,13 +88,18 @@ def states_of(deck: bytes, chain: str) -> list[Seen]:
     return seen
 
 
-def seen_of(state: State, chain: object) -> Seen:
+def seen_of(state: State, chains: list[object]) -> Seen:
     """What is seen of a state."""
+    values = tuple(value_of(state, chain) for chain in chains)
+    return Seen((state.statement, state.action), len(state.calls), values)
+
+
+def value_of(state: State, chain: object) -> int | None:
+    """What a chain reads as, if it can be followed."""
     try:
-        value = state.locate(chain).read()  # type: ignore[arg-type]
+        return state.locate(chain).read()  # type: ignore[arg-type]
     except Trap:
-        value = None
-    return Seen((state.statement, state.action), len(state.calls), value)
+        return None
 
 
 @dataclass(frozen=True)
@@ -110,7 +116,7 @@ class Stop:
         one, other = states[here], states[there]
         return (
             one.position in ((self.statement, 0), (self.until, 0))
-            or (self.watches and one.value != other.value)
+            or (self.watches and one.values != other.values)
             or (self.depth is not None and one.depth <= self.depth)
         )
 
@@ -158,7 +164,7 @@ def seeking(program: str, folder: Path) -> Iterator[Trial]:
     chosen = random.Random(1966)
     for deck, chain, statement, number in decks:
         (folder / "my.deck").write_bytes(deck)
-        states = states_of(deck, chain)
+        states = states_of(deck, [chain], Options())
         for has_break, watches in ((True, False), (False, True), (True, True), (False, False)):
             stop = Stop(statement if has_break else None, watches)
             lines = [f"break {statement}"] * has_break + [f"watch {chain}"] * watches
@@ -173,6 +179,40 @@ def seeking(program: str, folder: Path) -> Iterator[Trial]:
                 seconds=120, preexec_fn=None,
             )
             yield f"{number // 4} commands, {chain}, {has_break}, {watches}", goals, numbers_in(made.stdout)
+
+
+WATCHED = 150  # decks of which several chains are watched
+STEPS = 2_000  # of a run of one
+
+
+def watching(program: str, folder: Path) -> Iterator[Trial]:
+    """Several chains, of which most change, in the runs of random decks, with a breakpoint or without."""
+    for number in range(WATCHED):
+        chance = random.Random(f"watched {number}")
+        deck = chance.choice([churned_deck, aliased_deck])(chance)
+        chains = sorted({a_chain(chance) for _ in range(chance.choice([2, 2, 3, 5, 8]))})
+        states = states_of(deck, chains, Options(store=1, steps=STEPS))
+        statement = chance.choice([None, 1])
+        lines = [f"watch {chain}" for chain in chains] + ["break 1"] * (statement is not None)
+        goals = []
+        for _ in range(6):
+            at, command = chance.randrange(len(states)), chance.choice(["c", "c", "rc", "c 3", "next"])
+            lines += [f"goto {at}", command, "stats"]
+            goals.append(goal_of(states, at, command, Stop(statement, watches=True)))
+        (folder / "my.deck").write_bytes(deck)
+        words = [program, "--store", "1", "--steps", str(STEPS), str(folder / "my.deck")]
+        made = answer_of(words, input="\n".join(lines).encode() + b"\n", preexec_fn=None)
+        yield f"watches {number}: {' '.join(chains)}", goals, numbers_in(made.stdout)
+
+
+def aliased_deck(chance: random.Random) -> bytes:
+    """A deck with chains that lead to the same bits, or by way of what the operation changes."""
+    return aliased_job(chance).stdin.partition(b"$COMMANDS\n")[0]
+
+
+def a_chain(chance: random.Random) -> str:
+    """A chain of one to four names, such as random decks use."""
+    return chance.choice("ABCJKLQST") + "".join(chance.choices("NVFG0", k=chance.choice([0, 0, 1, 1, 2, 3])))
 
 
 LIKE = sys.argv[2:3]  # the program l6, if it is given
@@ -437,6 +477,7 @@ def trials(program: str) -> Iterator[Trial]:
         yield from interrupted(program, folder)
         yield from free_lists(program, folder)
         yield from seeking(program, folder)
+        yield from watching(program, folder)
 
 
 if __name__ == "__main__":

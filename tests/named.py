@@ -167,7 +167,7 @@ def is_a_command_line(span: str) -> bool:
 
 def contracts() -> Iterator[Trial]:
     """In the contracts each call, clause and edit is one of the crate, and each edit is named."""
-    crate, named = "", {file.parent.parent.name: set[str]() for file in files() if file.suffix == ".edit"}
+    crate, named = "", {folder.name: set[str]() for folder in (TOP / "crates").iterdir()}
     for table in tables_of(text_of(CONTRACTS)):
         crate = table.section if (TOP / "crates" / table.section).is_dir() else crate
         if table.head[0] == "Call" and "Clause" in table.head and (TOP / "crates" / table.section).is_dir():

@@ -398,7 +398,9 @@ INTERRUPTIONS = 3_000
 SESSION = (
     b"break DEEP\nc\nwhere\nwatch B\np A\nc\nrc\nblock 5\ndraw\nstats\nend\nback\n"
     b"run\nc 3\nuntil\nlists\ninfo breakpoints\ninfo locals\nstack\nb 2\nignore 2\np ANN\nhelp\nlist\n"
+    b"watch A\nwatch AN\nc\nrc\nfinish\ndelete\nwatch A\nwatch AN\nc\nc\n"
 )
+TABLES = 4  # of the actions that may change watched chains, which the session makes on its ways forward
 
 
 def refused_memory(program: str, folder: Path) -> Iterator[Trial]:
@@ -409,16 +411,18 @@ def refused_memory(program: str, folder: Path) -> Iterator[Trial]:
     deck = str(folder / "nested.deck")
     whole = answer_of([program, deck], input=SESSION)
     shim = Shim(program, str(folder))
-    refused = 0
+    refused, unchanged = 0, 0
     for request in count(1):
         made, counted = shim.run([deck], SESSION, request)
         if counted and not counted.was_refused:
             break
         refused += made != whole
+        unchanged += made == whole
         expected = Answer(made.stdout, b"l6db: out of memory\n", 5) if made != whole else whole
         is_front = whole.stdout.startswith(made.stdout) and made.stdout[-1:] in (b"", b"\n")
         yield f"request {request} is refused", (expected, True), (made, is_front)
     yield "some requests end a session", True, refused > 20
+    yield "requests for tables change nothing", True, unchanged > TABLES
 
 
 def interrupted(program: str, folder: Path) -> Iterator[Trial]:

@@ -104,11 +104,19 @@ def note_of(crate: Crate, built: Built) -> str:
 def build(rattle: Path, crate: Crate, folder: Path) -> None:
     """Builds the program with what its proof kept, and puts its object file and its module into a folder.
 
-    It is proved first if it is not, or if a library was proved again since then (as the edits of a crate do
-    it): a program can only be built of libraries of one proof.
+    A program can only be built of libraries of one proof. Those that are there are, after `rt ci` or a proof. If
+    they are not there, or a library was proved again since then (as the edits of a crate do it), all are proved.
     """
-    call(sys.executable, str(TOP / "tools/prove.py"), crate.name)
     tools = toolchain_that_keeps(folder / "module.bc", rattle, folder / "toolchain")
+    try:
+        compile_program(rattle, crate, tools, folder)
+    except Stop:
+        call(sys.executable, str(TOP / "tools/prove.py"), crate.name)
+        compile_program(rattle, crate, tools, folder)
+
+
+def compile_program(rattle: Path, crate: Crate, tools: Path, folder: Path) -> None:
+    """Compiles the program over the libraries that are there; its object file goes to a folder."""
     with room_of(crate) as room:
         call(str(rattle / "bin/rattle"), "build", *words_of(crate, rattle, room),
              "--toolchain", str(tools), "--backend", "llvm", "--incremental", "out/incremental",

@@ -21,6 +21,7 @@ import subprocess
 import sys
 from pathlib import Path
 
+sys.path.insert(0, str(Path(__file__).resolve().parent / "drawing"))
 import layouts
 import strips
 from crates import TOP

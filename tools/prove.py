@@ -169,8 +169,14 @@ def toolchain() -> str:
 
 def sources_sum(crate: Crate) -> str:
     """A sum of the toolchain and all that a crate is made of: crates.txt, its sources, those below."""
-    total = hashlib.sha256("\n".join([toolchain(), *listed()]).encode())
-    for one in (*crate.below, crate):
+    parts = (toolchain(), *listed(), files_sum((*crate.below, crate)))
+    return hashlib.sha256("\n".join(parts).encode()).hexdigest()
+
+
+def files_sum(crates: Iterable[Crate]) -> str:
+    """A sum of the names and contents of all files of some crates that the prover reads."""
+    total = hashlib.sha256()
+    for one in crates:
         for part in SOURCES:
             for file in sorted((one.folder / part).rglob("*")):
                 if file.is_file() and is_source(file.relative_to(one.folder)):

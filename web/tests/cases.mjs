@@ -1,7 +1,7 @@
-// Runs the cases of tests/cases.jsonl, and the decks and sessions of examples/, through the module.
+// Runs the cases of tests/program/cases.jsonl, and the decks and sessions of examples/, through the module.
 //
 // cases.mjs prints each difference, and last 'N passed, M failed'. The answers are those that the built
-// program is held to (tests/program.py); none is taken from the module.
+// program is held to (tests/program/program.py); none is taken from the module.
 
 import {readdirSync, readFileSync} from "node:fs";
 

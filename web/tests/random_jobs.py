@@ -1,7 +1,7 @@
 #!/usr/bin/env python3
 """Runs random jobs through the module, in node, and on the native program, whose answers must be the same.
 
-random_jobs.py PROGRAM [JOBS] makes each job from its number, by tests/hostile_jobs.py: decks, images, inputs
+random_jobs.py PROGRAM [JOBS] makes each job from its number, by tests/program/hostile_jobs.py: decks, images, inputs
 and commands, whole, broken and altered. It prints each difference, and last 'N passed, M failed'.
 """
 from __future__ import annotations
@@ -15,7 +15,7 @@ from pathlib import Path
 
 sys.dont_write_bytecode = True
 HERE = Path(__file__).resolve().parent
-sys.path.insert(0, str(HERE.parent.parent / "tests"))
+sys.path.insert(0, str(HERE.parents[1] / "tests/program"))
 
 from hostile_jobs import job_of  # noqa: E402
 

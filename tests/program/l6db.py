@@ -1,0 +1,490 @@
+#!/usr/bin/env python3
+"""Tries the debugger that answers at once, l6db, beside the model of tests/program/model/.
+
+l6db.py PROGRAM [L6] prints each difference, and last 'N passed, M failed'. PROGRAM is l6db; L6 is l6, with
+whose `check` it is compared.
+
+Where commands lead is worked out by the model: it lists all states of a run, each with its position, for how
+many returns calls wait, and what the watched chains read as; and then looks for the nearest one at which one
+stops. The decks make runs of up to 117,008 states, so past the 16 checkpoints that are kept. A session at a
+terminal is played on a pseudoterminal, and lines are written to a pipe one by one, each after the answer to
+the one before it. habits.jsonl has what those type who know gdb or pdb: the first 25 lines were written down
+before any was tried, with what must be answered, which was worked out by hand.
+"""
+from __future__ import annotations
+
+import json
+import os
+import pty
+import random
+import re
+import select
+import signal
+import subprocess
+import sys
+import tempfile
+import time
+from collections.abc import Iterator
+from dataclasses import dataclass
+from itertools import count
+from pathlib import Path
+
+sys.path.insert(0, str(Path(__file__).resolve().parents[1] / "harness"))
+from answers import SECONDS, Answer, answer, answer_of
+from further_jobs import aliased_job, churned_deck
+from refused_memory import Shim, library_of
+from model.cards import assemble
+from model.groups import chain_of
+from model.machine import take_step
+from model.state import Options, State, Trap, characters_of_input
+from trials import Trial, report
+
+HERE = Path(__file__).resolve().parent
+TOP = HERE.parents[1]
+EXAMPLES = TOP / "examples"
+PROMPT = b"(l6db) "
+COUNTING = b"""* COUNTS DOWN FROM 9000 IN A, AND CALLS AT EACH NUMBER
+       (A,E,9000)
+LOOP   (DOWN,DO)
+       IF (A,G,0) THEN LOOP
+       DONE
+DOWN   (A,S,1)(B,A,A)(C,E,B)(C,N,255)
+       (DEEP,DO) DONE
+DEEP   (D,E,A) DONE
+"""
+LIST = b"""* A LIST OF TWO BLOCKS, WHICH IS PRINTED
+       (0,DV,0,17)(0,DN,18,35)
+MAKE   (L,GT,1)(LV,E,7)
+       (M,GT,1)(MV,E,8)(LN,E,M)
+       (SHOW,DO) DONE
+SHOW   (K,E,L)
+NEXT   IF (K,E,0) THEN DONE
+       (KV,PD)(PL)(K,E,KN) NEXT
+"""
+NESTED = b"""* CALLS ITSELF 27 TIMES, AND COUNTS ON THE WAY
+       (DEEP,DO) DONE
+DEEP   (A,A,1)
+       IF (A,L,27) THEN (DEEP,DO)
+       (B,A,1) DONE
+"""
+
+
+@dataclass(frozen=True)
+class Seen:
+    """What the model shows of a state."""
+
+    position: tuple[int, int]
+    depth: int
+    values: tuple[int | None, ...]  # of each chain, if it can be followed
+
+
+def states_of(deck: bytes, chains: list[str], options: Options) -> list[Seen]:
+    """All states of the run of a deck, which has its input after a line $INPUT."""
+    cards, _, characters = deck.partition(b"$INPUT\n")
+    state = State(assemble(cards).program, characters_of_input(characters), options)
+    watched: list[object] = [chain_of(chain) for chain in chains]
+    seen = [seen_of(state, watched)]
+    while not state.is_last:
+        take_step(state)
+        seen.append(seen_of(state, watched))
+    return seen
+
+
+def seen_of(state: State, chains: list[object]) -> Seen:
+    """What is seen of a state."""
+    values = tuple(value_of(state, chain) for chain in chains)
+    return Seen((state.statement, state.action), len(state.calls), values)
+
+
+def value_of(state: State, chain: object) -> int | None:
+    """What a chain reads as, if it can be followed."""
+    try:
+        return state.locate(chain).read()  # type: ignore[arg-type]
+    except Trap:
+        return None
+
+
+@dataclass(frozen=True)
+class Stop:
+    """Where one stops."""
+
+    statement: int | None
+    watches: bool
+    depth: int | None = None
+    until: int | None = None
+
+    def holds(self, states: list[Seen], here: int, there: int) -> bool:
+        """Whether one stops at a state, coming from another."""
+        one, other = states[here], states[there]
+        return (
+            one.position in ((self.statement, 0), (self.until, 0))
+            or (self.watches and one.values != other.values)
+            or (self.depth is not None and one.depth <= self.depth)
+        )
+
+
+def goal_of(states: list[Seen], at: int, line: str, stop: Stop) -> int:
+    """The number of the state to which a command leads, which a number may follow: how often, or a statement."""
+    command, _, number = line.partition(" ")
+    if command == "run":
+        return goal_of(states, 0, "c", stop)
+    if command == "until":
+        until = int(number) if number else states[at].position[0] + 1
+        return goal_of(states, at, "c", Stop(stop.statement, stop.watches, None, until))
+    for _ in range(int(number or "1") - 1):
+        at = goal_of(states, at, command, stop)
+    depth = states[at].depth
+    if command in ("next", "rn"):
+        stop = Stop(stop.statement, stop.watches, depth, stop.until)
+    if command in ("finish", "rf"):
+        if not depth:
+            return at
+        stop = Stop(stop.statement, stop.watches, depth - 1)
+    last = len(states) - 1
+    if command in ("c", "next", "finish"):
+        return next((n for n in range(at + 1, last + 1) if stop.holds(states, n, n - 1)), last)
+    return next((n for n in range(at - 1, -1, -1) if stop.holds(states, n, n + 1)), 0)
+
+
+def numbers_in(text: bytes) -> list[int]:
+    """The numbers of the states that `stats` tells."""
+    return [int(number) for number in re.findall(rb"^STATE (\d+) ", text, re.MULTILINE)]
+
+
+MOVES = ["c", "rc", "next", "rn", "finish", "rf"] * 3 + [
+    "c 3", "rc 2", "next 4", "rn 3", "until", "until 2", "until 3", "run",
+]
+
+
+def seeking(program: str, folder: Path) -> Iterator[Trial]:
+    """Random commands at random states of several runs."""
+    decks = [
+        (COUNTING, "C", 7, 120), (NESTED, "B", 1, 300),
+        ((EXAMPLES / "queue.deck").read_bytes(), "QN", 7, 300),
+        ((EXAMPLES / "tree.deck").read_bytes(), "A", 3, 280),
+    ]
+    chosen = random.Random(1966)
+    for deck, chain, statement, number in decks:
+        (folder / "my.deck").write_bytes(deck)
+        states = states_of(deck, [chain], Options())
+        for has_break, watches in ((True, False), (False, True), (True, True), (False, False)):
+            stop = Stop(statement if has_break else None, watches)
+            lines = [f"break {statement}"] * has_break + [f"watch {chain}"] * watches
+            goals = []
+            for _ in range(number // 4):
+                at = chosen.randrange(len(states))
+                command = chosen.choice(MOVES)
+                lines += [f"goto {at}", command, "stats"]
+                goals.append(goal_of(states, at, command, stop))
+            made = answer_of(
+                [program, str(folder / "my.deck")], input="\n".join(lines).encode() + b"\n",
+                seconds=120, preexec_fn=None,
+            )
+            yield f"{number // 4} commands, {chain}, {has_break}, {watches}", goals, numbers_in(made.stdout)
+
+
+WATCHED = 150  # decks of which several chains are watched
+STEPS = 2_000  # of a run of one
+
+
+def watching(program: str, folder: Path) -> Iterator[Trial]:
+    """Several chains, of which most change, in the runs of random decks, with a breakpoint or without."""
+    for number in range(WATCHED):
+        chance = random.Random(f"watched {number}")
+        deck = chance.choice([churned_deck, aliased_deck])(chance)
+        chains = sorted({a_chain(chance) for _ in range(chance.choice([2, 2, 3, 5, 8]))})
+        states = states_of(deck, chains, Options(store=1, steps=STEPS))
+        statement = chance.choice([None, 1])
+        lines = [f"watch {chain}" for chain in chains] + ["break 1"] * (statement is not None)
+        goals = []
+        for _ in range(6):
+            at, command = chance.randrange(len(states)), chance.choice(["c", "c", "rc", "c 3", "next"])
+            lines += [f"goto {at}", command, "stats"]
+            goals.append(goal_of(states, at, command, Stop(statement, watches=True)))
+        (folder / "my.deck").write_bytes(deck)
+        words = [program, "--store", "1", "--steps", str(STEPS), str(folder / "my.deck")]
+        made = answer_of(words, input="\n".join(lines).encode() + b"\n", preexec_fn=None)
+        yield f"watches {number}: {' '.join(chains)}", goals, numbers_in(made.stdout)
+
+
+def aliased_deck(chance: random.Random) -> bytes:
+    """A deck with chains that lead to the same bits, or by way of what the operation changes."""
+    return aliased_job(chance).stdin.partition(b"$COMMANDS\n")[0]
+
+
+def a_chain(chance: random.Random) -> str:
+    """A chain of one to four names, such as random decks use."""
+    return chance.choice("ABCJKLQST") + "".join(chance.choices("NVFG0", k=chance.choice([0, 0, 1, 1, 2, 3])))
+
+
+LIKE = sys.argv[2:3]  # the program l6, if it is given
+
+
+LISTED = ((EXAMPLES / "queue.deck", 40), (EXAMPLES / "tree.deck", 40), (TOP / "bench/blocks.deck", 120))
+
+
+def free_lists(program: str, folder: Path) -> Iterator[Trial]:
+    """The free lists at random states of runs that get and free blocks."""
+    chosen = random.Random(1965)
+    for file, number in LISTED:
+        cards, _, characters = file.read_bytes().partition(b"$INPUT\n")
+        state = State(assemble(cards).program, characters_of_input(characters), Options())
+        shown = [lists_of(state)]
+        while not state.is_last and len(shown) < 20_000:
+            take_step(state)
+            shown.append(lists_of(state))
+        goals = [chosen.randrange(len(shown)) for _ in range(number)]
+        given = "".join(f"goto {goal}\nlists\n" for goal in goals).encode()
+        made = answer_of([program, str(file)], input=given, seconds=120, preexec_fn=None)
+        found = re.findall(r"(?:^LEVEL .*\n)+|^NO FREE PIECE\n", made.stdout.decode(), re.MULTILINE)
+        yield f"free lists of {file.stem}", [shown[goal] for goal in goals], found
+
+
+def lists_of(state: State) -> str:
+    """What is shown of the free lists of a state."""
+    lists = state.store.free_lists.items()
+    lines = [
+        f"LEVEL {size.bit_length() - 1} SIZE {size}:{''.join(f' {place}' for place in places)}\n"
+        for size, places in sorted(lists) if places
+    ]
+    return "".join(lines) or "NO FREE PIECE\n"
+
+
+class Terminal:
+    """A session on a pseudoterminal."""
+
+    def __init__(self, command: list[str]) -> None:
+        self.process, self.device = pty.fork()
+        if self.process == 0:
+            for number in (signal.SIGINT, signal.SIGQUIT, signal.SIGHUP):  # (a job in the background ignores them)
+                signal.signal(number, signal.SIG_DFL)
+            os.execv(command[0], command)
+
+    def read(self, until: bytes = PROMPT) -> bytes:
+        """What is shown up to a text."""
+        shown, end = b"", time.monotonic() + SECONDS
+        while not shown.endswith(until) and time.monotonic() < end:
+            if select.select([self.device], [], [], 0.1)[0]:
+                try:
+                    more = os.read(self.device, 4096)
+                except OSError:
+                    break
+                if not more:
+                    break
+                shown += more
+        return shown.replace(b"\r\n", b"\n")
+
+    def answer(self, line: bytes) -> bytes:
+        """The answer to a line; the terminal repeats the line before it."""
+        os.write(self.device, line + b"\n")
+        shown = self.read()
+        return shown.removeprefix(line + b"\n").removesuffix(PROMPT)
+
+    def status(self) -> int:
+        """The status with which it ended; it is killed if it does not end."""
+        end = time.monotonic() + SECONDS
+        while time.monotonic() < end:
+            process, status = os.waitpid(self.process, os.WNOHANG)
+            if process:
+                return os.waitstatus_to_exitcode(status)
+            time.sleep(0.01)
+        os.kill(self.process, signal.SIGKILL)
+        return os.waitstatus_to_exitcode(os.waitpid(self.process, 0)[1])
+
+
+def at_terminal(program: str, folder: Path) -> Iterator[Trial]:
+    """A whole session at a terminal."""
+    deck = folder / "nested.deck"
+    deck.write_bytes(NESTED)
+    terminal = Terminal([program, str(deck)])
+    shown = terminal.read()
+    yield "the first state", b"AT 0.0 AFTER 0 STEPS\n", shown[:shown.index(b"\n") + 1]
+    yield "a breakpoint", b"Breakpoint at 1 DEEP\n", terminal.answer(b"break DEEP")
+    yield "on to it", b"AT 1.0 AFTER 2 STEPS DEEP\n", terminal.answer(b"c")[:26]
+    yield "an empty line", b"AT 1.0 AFTER 7 STEPS DEEP\n", terminal.answer(b"")[:26]
+    yield "back", b"AT 1.0 AFTER 2 STEPS DEEP\n", terminal.answer(b"rc")[:26]
+    yield "calls", b"#0 at 1.0 DEEP\n#1 returns to 0.2\n", terminal.answer(b"where")
+    yield "a value", b'A = 0 000000000000 "      "\n', terminal.answer(b"p A")
+    for number in (signal.SIGWINCH, signal.SIGSTOP, signal.SIGCONT):
+        os.kill(terminal.process, number)
+    time.sleep(0.2)
+    yield "after signals", b"No call waits: there is nothing to finish\n", (
+        terminal.answer(b"start"), terminal.answer(b"fin"))[1]
+    yield "a byte that is no text", b"Not a command: help lists them\n", terminal.answer(b"\xff")
+    os.write(terminal.device, b"\x04")
+    yield "a new line at the end", b"\n", terminal.read(b"\n")
+    yield "the end of the input", 0, terminal.status()
+    terminal = Terminal([program, str(deck)])
+    terminal.read()
+    os.write(terminal.device, b"quit\n")
+    yield "quit", 0, terminal.status()
+    terminal = Terminal([program, str(deck)])
+    terminal.read()
+    os.write(terminal.device, b"\x03")
+    yield "an interrupt", -signal.SIGINT, terminal.status()
+
+
+def one_by_one(program: str, folder: Path) -> Iterator[Trial]:
+    """Each answer is out before the next line is read, also over a pipe."""
+    deck = folder / "nested.deck"
+    with subprocess.Popen(
+        [program, str(deck)], stdin=subprocess.PIPE, stdout=subprocess.PIPE,
+    ) as process:
+        assert process.stdin and process.stdout
+        lines = [process.stdout.readline() for _ in range(2)]
+        for line, first in ((b"p A", b"A = 0 "), (b"break 1", b"Breakpoint at 1 "), (b"set A", b"A run is")):
+            process.stdin.write(line + b"\n")
+            process.stdin.flush()
+            yield f"the answer to {line.decode()}", first, process.stdout.readline()[:len(first)]
+        process.stdin.close()
+    yield "no prompt", [False] * 2, [PROMPT in line for line in lines]
+    yield "the status", 0, process.returncode
+
+
+def words(program: str, folder: Path) -> Iterator[Trial]:
+    """The words of the command line, files, and faults."""
+    deck, job, commands = folder / "nested.deck", folder / "whole.job", folder / "my.commands"
+    for option, begin in (("--help", b"Debugs a deck of L6"), ("--version", b"l6db 1.0")):
+        made = answer_of([program, option])
+        yield option, (begin, b"", 0), (made.stdout[:len(begin)], made.stderr, made.status)
+    wrongs: list[list[str]] = [[], ["--nothing"], [str(deck), "more"], [str(deck), "--store", "0"]]
+    for wrong in wrongs:
+        made = answer_of([program, *wrong])
+        yield f"wrong words {wrong}", (b"", 64), (made.stdout, made.status)
+    made = answer_of([program, str(folder / "none")])
+    yield "no file", answer(stderr=b"l6db: the file of the job can't be opened\n", status=4), made
+    (folder / "bad.deck").write_bytes(b" (A,E,5)\n (A,ZZ,5)\n")
+    made = answer_of([program, str(folder / "bad.deck")])
+    said = b"2:5: error: no operation is spelled `ZZ`\n1 error, 0 warnings\n"
+    yield "a fault", answer(stderr=said, status=4), made
+    if LIKE:
+        checked = answer_of([*LIKE, "check"], input=(folder / "bad.deck").read_bytes())
+        yield "what is said of it", checked.stdout, made.stderr
+    job.write_bytes(b" (A,IN,1)(A,PR,1)\n$COMMANDS\ns 2\np A\n$INPUT\nX\n")
+    for given in ([str(job)], ["-"]):
+        made = answer_of([program, *given, "--batch"], input=job.read_bytes())
+        yield f"a whole job {given}", b'A = 56 000000000070 "     X"\n', made.stdout[-29:]
+    commands.write_bytes(b"s\nwhere\n")
+    made = answer_of([program, str(deck), "-x", str(commands), "--echo"], input=b"p A\n")
+    yield "commands and an echo", (True, True), (b"\nwhere\n#0 at 0.1\n" in made.stdout, b"A = 0 " in made.stdout)
+    made = answer_of([program, str(deck), "--echo"], input=b"p A\nbt\n")
+    yield "an echo over a pipe", b'p A\nA = 0 000000000000 "      "\nbt\n#0 at 0.0\n', made.stdout[-45:]
+    made = answer_of([program, str(deck), "--batch", "-x", str(commands)], input=b"p A\n")
+    yield "a batch", False, b"A = 0 " in made.stdout
+
+
+HABITS = HERE / "habits.jsonl"
+FIRST_HABITS, ANSWERED = 25, 23  # how many were written down first, and how many of them must do something
+
+
+def habits(program: str, folder: Path) -> Iterator[Trial]:
+    """Whoever knows gdb is answered, and nearly always by what the habit is for, not by advice alone."""
+    (folder / "list.deck").write_bytes(LIST)
+    known = [json.loads(line) for line in HABITS.read_text("utf-8").splitlines()]
+    for habit in known:
+        given = "".join(f"{line}\n" for line in habit["lines"])
+        made = answer_of([program, "--echo", str(folder / "list.deck")], input=given.encode())
+        last = habit["lines"][-2 if "is_end" in habit else -1:][:1]
+        shown = made.stdout.decode()
+        answered = shown.rpartition(f"\n{last[0]}\n")[2] if last else shown
+        if "is_end" in habit:
+            yield habit["habit"], ("", 0), (answered, made.status)
+        else:
+            yield habit["habit"], (True, 0), (habit["answer"] in answered, made.status)
+    first = known[:FIRST_HABITS]
+    answered_well = sum("is_advice" not in habit for habit in first)
+    yield "habits that do something", True, len(first) == FIRST_HABITS and answered_well >= ANSWERED
+
+
+INTERRUPTIONS = 3_000
+SESSION = (
+    b"break DEEP\nc\nwhere\nwatch B\np A\nc\nrc\nblock 5\ndraw\nstats\nend\nback\n"
+    b"run\nc 3\nuntil\nlists\ninfo breakpoints\ninfo locals\nstack\nb 2\nignore 2\np ANN\nhelp\nlist\n"
+    b"watch A\nwatch AN\nc\nrc\nfinish\ndelete\nwatch A\nwatch AN\nc\nc\n"
+)
+TABLES = 4  # of the actions that may change watched chains, which the session makes on its ways forward
+
+
+def refused_memory(program: str, folder: Path) -> Iterator[Trial]:
+    """Each request for memory of a session is refused in turn.
+
+    Whole answers go out, and then it is said that memory ran out; a refused checkpoint changes nothing.
+    """
+    deck = str(folder / "nested.deck")
+    whole = answer_of([program, deck], input=SESSION)
+    shim = Shim(program, str(folder))
+    refused, unchanged = 0, 0
+    for request in count(1):
+        made, counted = shim.run([deck], SESSION, request)
+        if counted and not counted.was_refused:
+            break
+        refused += made != whole
+        unchanged += made == whole
+        expected = Answer(made.stdout, b"l6db: out of memory\n", 5) if made != whole else whole
+        is_front = whole.stdout.startswith(made.stdout) and made.stdout[-1:] in (b"", b"\n")
+        yield f"request {request} is refused", (expected, True), (made, is_front)
+    yield "some requests end a session", True, refused > 20
+    yield "requests for tables change nothing", True, unchanged > TABLES
+
+
+def interrupted(program: str, folder: Path) -> Iterator[Trial]:
+    """Reads that are interrupted change nothing."""
+    deck = str(folder / "nested.deck")
+    whole = answer_of([program, deck], input=SESSION)
+    library = library_of("interrupt", str(folder))
+    given = {"LD_PRELOAD": library, "INTERRUPT_READS": str(INTERRUPTIONS), "INTERRUPT_WRITES": "900"}
+    yield "interrupted reads", whole, answer_of([program, deck], input=SESSION, env={**os.environ, **given})
+
+
+PAGES = {"l6db.md": 3, "tutorial.md": 1}  # the pages with sessions, and how many of these each has
+BLOCK = re.compile(r"```text\n(.*?)```\n", re.DOTALL)
+PLAYED = "<!-- not run: tests/program/l6db.py plays this session -->"
+COMMAND = re.compile(r"^[a-z]+( \S+)?$", re.MULTILINE)
+
+
+def sessions(page: str) -> Iterator[tuple[str, str]]:
+    """The sessions of a page, each with the deck before it, which begins with a comment; one may be in pieces."""
+    deck, session = "", ""
+    for block in BLOCK.finditer(page):
+        if page[:block.start()].rstrip().endswith(PLAYED):
+            session += block[1]
+        elif block[1].startswith("*"):
+            if session:
+                yield deck, session
+            deck, session = block[1], ""
+    if session:
+        yield deck, session
+
+
+def page_sessions(program: str, folder: Path) -> Iterator[Trial]:
+    """The sessions of the pages are played."""
+    for name, number in PAGES.items():
+        found = list(sessions((TOP / "docs" / name).read_text("utf-8")))
+        yield f"the sessions of {name}", number, len(found)
+        for deck, session in found:
+            (folder / "page.deck").write_text(deck, "utf-8")
+            commands = [match[0] for match in COMMAND.finditer(session)]
+            (folder / "page.commands").write_text("\n".join(commands) + "\n", "utf-8")
+            words_given = ["--batch", "--echo", "-x", str(folder / "page.commands"), str(folder / "page.deck")]
+            made = answer_of([program, *words_given]).stdout.decode("ascii")
+            yield f"a session of {name}: {commands}", session, made[made.find(f"\n{commands[0]}\n") + 1:]
+
+
+def trials(program: str) -> Iterator[Trial]:
+    """All trials."""
+    with tempfile.TemporaryDirectory() as name:
+        folder = Path(name)
+        yield from at_terminal(program, folder)
+        yield from one_by_one(program, folder)
+        yield from words(program, folder)
+        yield from habits(program, folder)
+        yield from page_sessions(program, folder)
+        yield from refused_memory(program, folder)
+        yield from interrupted(program, folder)
+        yield from free_lists(program, folder)
+        yield from seeking(program, folder)
+        yield from watching(program, folder)
+
+
+if __name__ == "__main__":
+    sys.exit(report(trials(os.path.abspath(sys.argv[1]))))

@@ -1,0 +1,239 @@
+#!/usr/bin/env python3
+"""Runs traces of an allocator's calls on the built program beside the model, tests/program/model/trace.py.
+
+traces.py PROGRAM prints each difference, and last 'N passed, M failed'. The answers of the table below were
+worked out by hand. A store with a planted defect, level 3 never being joined, must be found at the first free
+that it does wrong.
+"""
+from __future__ import annotations
+
+import random
+import re
+import subprocess
+import sys
+import tempfile
+from collections.abc import Iterator
+from pathlib import Path
+
+sys.path.insert(0, str(Path(__file__).resolve().parents[1] / "harness"))
+from answers import Answer, answer, answer_of
+from model.faults import Fault
+from model.store import UNIT, Store
+from model.trace import MOST_CALLS, answer_of_trace, pieces_of
+from trials import Trial, report
+
+EXAMPLES = Path(__file__).resolve().parents[2] / "examples"
+RANDOM = 300  # random traces
+NO_JOINS = 8  # words of the pieces that the planted defect never joins: level 3
+
+# A trace for a store of one unit, and what goes to the two outputs, with the exit status.
+BY_HAND = [
+    ("no line", "", "", "", 0),
+    ("comments and blanks", "# get a 1\n \t\n\n#\n", "", "", 0),
+    ("one word", "get a 1\n", "get a 1: 1024, level 0, halved 10\n", "", 0),
+    ("the largest block", "get a 1024\nfree a\n", "get a 1024: 1024, level 10, halved 0\nfree a: joined 0\n", "", 0),
+    ("a word too many", "get a 1025\n", "get a 1025: none\n", "", 0),
+    ("a full store", "get a 1024\nget b 1\nlists\n",
+     "get a 1024: 1024, level 10, halved 0\nget b 1: none\nno free piece\n", "", 0),
+    ("a carriage return, tabs and no line feed at the end", "get\ta  1\r\nfree a ",
+     "get a 1: 1024, level 0, halved 10\nfree a: joined 10\n", "", 0),
+    ("a name again", "get a 1\nfree a\nget a 2\n",
+     "get a 1: 1024, level 0, halved 10\nfree a: joined 10\nget a 2: 1024, level 1, halved 9\n", "", 0),
+    ("a name of 64 bytes", f"get {'n' * 64} 600\n", f"get {'n' * 64} 600: 1024, level 10, halved 0\n", "", 0),
+    ("answers that agree", "get a 600 = 1024\nget b 1 = none\nfree a = 0\n",
+     "get a 600: 1024, level 10, halved 0\nget b 1: none\nfree a: joined 0\n", "", 0),
+    ("a pool of 256 words, behind gets of the rest",
+     "get rest1 512\nget rest2 256\nget a 256 = 1792\nget b 1 = none\nfree a = 0\n",
+     "get rest1 512: 1024, level 9, halved 1\nget rest2 256: 1536, level 8, halved 1\n"
+     "get a 256: 1792, level 8, halved 0\nget b 1: none\nfree a: joined 0\n", "", 0),
+    ("another place", "get a 1024 = 1025\nget b 1\n",
+     "line 1 differs: get a 1024: 1024, level 10, halved 0\nthe other allocator: 1025\n"
+     "the free lists before it:\nlevel 10: 1024\n", "", 1),
+    ("none for a place", "get a 1024 = none\n",
+     "line 1 differs: get a 1024: 1024, level 10, halved 0\nthe other allocator: none\n"
+     "the free lists before it:\nlevel 10: 1024\n", "", 1),
+    ("a place for none", "\nget a 1024\nget b 1 = 2048\n",
+     "get a 1024: 1024, level 10, halved 0\nline 3 differs: get b 1: none\nthe other allocator: 2048\n"
+     "the free lists before it:\nno free piece\n", "", 1),
+    ("a joining too few", "get a 512\nfree a = 0\n",
+     "get a 512: 1024, level 9, halved 1\nline 2 differs: free a: joined 1\nthe other allocator: joined 0\n"
+     "the free lists before it:\nlevel 9: 1536\n", "", 1),
+    ("the map", "get a 500\nmap\n",
+     "get a 500: 1024, level 9, halved 1\n1024 a, words 512\n1536 free, words 512\n", "", 0),
+    ("figures", "get a 500\nget b 1024\nstats\n",
+     "get a 500: 1024, level 9, halved 1\nget b 1024: none\nwords in blocks 512, asked for 500, wasted 12\n"
+     "free words 512\nlevel 9: free pieces 1\nlargest free level 9\n"
+     "gets refused 1, because of fragmentation 0\n", "", 0),
+    *((f"refused: {line!r}", f"get a 1\n{line}\n", "", "l6: line 2: not a call\n", 4) for line in (
+        "put b 1", "get b", "get b 0", "get b 1 1", "get b 1 =", "get b 1 = x", "get b 1 = 1 1", "get b 1000000000",
+        "get b -1", "get = 1", f"get {'n' * 65} 1", "free", "free a 1", "free a = none", "lists 1", "map = 1", "GET b 1",
+        "get b 1 = 1000000000")),
+    ("a name that holds a block", "get a 1\nget a 1\n", "", "l6: line 2: the name holds a block already, or none\n", 4),
+    ("a name that holds none", "free a\n", "", "l6: line 1: the name holds a block already, or none\n", 4),
+    ("a name whose get was refused", "get a 1024\nget b 1\nfree b\n", "",
+     "l6: line 3: the name holds a block already, or none\n", 4),
+    ("a block freed twice", "get a 1\nfree a\nfree a\n", "", "l6: line 3: the name holds a block already, or none\n", 4),
+]
+
+
+class Planted(Store):
+    """The model's store with a defect: pieces of level 3 are never joined."""
+
+    def may_join(self, size: int) -> bool:
+        """Whether a piece of so many words is joined with its buddy if that is free."""
+        return size != NO_JOINS and super().may_join(size)
+
+
+def traced(program: str, text: str | bytes, units: int = 1) -> Answer[bytes]:
+    """What the program answers to a trace."""
+    stdin = text if isinstance(text, bytes) else text.encode()
+    return answer_of([program, "trace", "--store", str(units)], input=stdin)
+
+
+def traced_with_room(program: str, text: str) -> Answer[bytes]:
+    """What it answers to a long trace, for which it may take all the memory that there is."""
+    return answer_of([program, "trace"], input=text.encode(), preexec_fn=lambda: None)
+
+
+def modelled(text: str, units: int) -> Answer[bytes]:
+    """What the model answers to it."""
+    try:
+        stdout, status = answer_of_trace(text.encode(), units)
+    except Fault as fault:
+        return answer(b"", fault.line.encode(), fault.status)
+    return answer(stdout, b"", status)
+
+
+def calls(chance: random.Random, count: int, largest: int) -> Iterator[tuple[str, str, int]]:
+    """Random gets and frees: the verb, the name, and how many words."""
+    held: list[str] = []
+    for number in range(count):
+        if held and chance.random() < 0.45:
+            yield "free", held.pop(chance.randrange(len(held))), 0
+        else:
+            held.append(f"b{number}")
+            yield "get", held[-1], chance.randint(1, largest)
+
+
+def planted_trace(number: int) -> tuple[str, int | None]:
+    """A trace with what the planted store answered, and the line of the first free that it does wrong."""
+    chance = random.Random(number)
+    right, wrong = Store(1), Planted(1)
+    places: dict[str, int] = {}
+    lines: list[str] = []
+    for verb, name, words in calls(chance, 400, 24):
+        if verb == "get":
+            place = wrong.get(words)
+            lines.append(f"get {name} {words} = {'none' if place is None else place}")
+            if right.get(words) != place:
+                return "", None
+            if place is None:
+                return "", None
+            places[name] = place
+            continue
+        joined = []
+        for store in (right, wrong):
+            before = pieces_of(store)
+            store.free(places[name])
+            joined.append(before - pieces_of(store) + 1)
+        lines.append(f"free {name} = {joined[1]}")
+        if joined[0] != joined[1]:
+            return "\n".join(lines) + "\nget x 1\nfree x = 0\n", len(lines)
+    return "", None
+
+
+def planted(program: str) -> Iterator[Trial]:
+    """The planted defect is found at its first wrong free."""
+    found = 0
+    for number in range(60):
+        text, line = planted_trace(number)
+        if line is None:
+            continue
+        found += 1
+        actual = traced(program, text)
+        reported = [it for it in actual.stdout.decode().splitlines() if " differs: " in it]
+        yield f"the planted defect, trace {number}", [f"line {line} differs: free"], \
+            [" ".join(it.split()[:4]) for it in reported]
+        yield f"the status of the planted defect, trace {number}", 1, actual.status
+    yield "traces that show the planted defect", True, found >= 20
+
+
+def in_c(program: str) -> Iterator[Trial]:
+    """A buddy system in C, with and without its defect; the page shows what is reported."""
+    actual = answer()
+    for what, defect in (("sound", "-UDEFECT"), ("with a defect", "-DDEFECT")):
+        with tempfile.TemporaryDirectory(prefix="l6-traces-") as room:
+            other = Path(room) / "traced"
+            made = subprocess.run(
+                ["cc", "-std=c11", "-Wall", "-Wextra", "-Werror", defect, EXAMPLES / "traced.c", "-o", other],
+                capture_output=True, text=True, check=False)
+            yield f"traced.c, {what}, compiles", (0, ""), (made.returncode, made.stderr)
+            if made.returncode:
+                return
+            text = subprocess.run([other], capture_output=True, text=True, check=True).stdout
+        actual = traced(program, text)
+        yield f"traced.c, {what}", modelled(text, 1), actual
+        yield f"traced.c, {what}: the status", int(defect == "-DDEFECT"), actual.status
+    page = (EXAMPLES.parent / "docs/trace.md").read_text("utf-8").partition("With the defect, ")[2]
+    reported = re.search(r"^line .* differs: .*", actual.stdout.decode(), re.MULTILINE | re.DOTALL)
+    yield "the report on the page", page.split("```")[1].removeprefix("figure\n"), reported and reported[0]
+
+
+def random_trace(number: int) -> tuple[str, int]:
+    """A random trace, now and then with answers, of which the last may be wrong; and how many units."""
+    chance = random.Random(number)
+    units = chance.randint(1, 3)
+    store, places, lines = Store(units), {}, []
+    is_known = chance.random() < 0.5
+    for verb, name, words in calls(chance, chance.randint(5, 300), chance.choice((4, 30, 300, 1100))):
+        known = ""
+        if verb == "get":
+            place = store.get(words) if words <= UNIT else None
+            if place is not None:
+                places[name] = place
+            if is_known:
+                known = f" = {'none' if place is None else place + (chance.random() < 0.002)}"
+            lines.append(f"get {name} {words}{known}")
+        elif name in places:
+            before = pieces_of(store)
+            store.free(places.pop(name))
+            if is_known:
+                known = f" = {before - pieces_of(store) + 1 + (chance.random() < 0.002)}"
+            lines.append(f"free {name}{known}")
+        if chance.random() < 0.05:
+            lines.append(chance.choice(("lists", "map", "stats", "", "# so far")))
+    return "\n".join([*lines, "lists", "map", "stats", ""]), units
+
+
+def long_trace(count: int) -> str:
+    """A trace of so many calls."""
+    return "".join(f"get b{number % 50} {1 + number % 60}\nfree b{number % 50}\n" for number in range(count // 2))
+
+
+def trials(program: str) -> Iterator[Trial]:
+    """All trials."""
+    for name, text, stdout, stderr, status in BY_HAND:
+        expected = answer(stdout.encode(), stderr.encode(), status)
+        yield f"a trace: {name}", expected, traced(program, text)
+        yield f"a trace, by the model: {name}", expected, modelled(text, 1)
+    for file in sorted(EXAMPLES.glob("*.trace")):
+        text = file.read_text("ascii")
+        expected = answer(file.with_suffix(".answers").read_bytes())
+        yield f"the trace {file.stem}", expected, traced(program, text)
+        yield f"the trace {file.stem}, by the model", expected, modelled(text, 1)
+    for number in range(RANDOM):
+        text, units = random_trace(number)
+        yield f"random trace {number}", modelled(text, units), traced(program, text, units)
+    yield from planted(program)
+    yield from in_c(program)
+    text = long_trace(MOST_CALLS)
+    actual = traced_with_room(program, text)
+    yield "a million calls", (0, MOST_CALLS), (actual.status, actual.stdout.count(b"\n"))
+    actual = traced_with_room(program, text + "lists\n")
+    yield "a call more than a million", answer(b"", b"l6: line 1000001: too many calls\n", 4), actual
+    actual = traced(program, b"#" * 16_777_217)
+    yield "a trace that is too long", answer(b"", b"l6: job too long\n", 4), actual
+
+
+if __name__ == "__main__":
+    sys.exit(report(trials(sys.argv[1])))

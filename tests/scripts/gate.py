@@ -1,0 +1,345 @@
+#!/usr/bin/env python3
+"""Checks that ./test fails if one of its steps does, and that it makes all of them.
+
+gate.py prints each difference, and last 'N passed, M failed'. ./test is called in a small checkout, with a
+python3 that tests nothing: it notes what it is asked for, and prints a count. Of each step in turn it has a
+trial fail, ends with another status, prints no count, or has tried nothing. Harnesses are tried, too: what
+they print if an answer is wrong.
+"""
+from __future__ import annotations
+
+import re
+import shutil
+import subprocess
+import sys
+import tempfile
+from collections.abc import Iterator
+from pathlib import Path
+
+sys.path.insert(0, str(Path(__file__).resolve().parents[1] / "harness"))
+from answers import Answer, answer_of
+from checkout import TOP, Checkout
+from trials import ONLY, Trial, report
+
+# The steps of ./test and of the gate, in their order: the words by which each is known.
+STEPS = [
+    "tests/scripts/gate.py",
+    "tests/scripts/static_checks.py",
+    "tests/scripts/out_of_memory.py",
+    "tests/edits/check_report_trials.py",
+    "tests/edits/verdict_trials.py",
+    "tests/pages/picture_trials.py",
+    "tests/program/program.py",
+    "tests/program/refused_memory.py",
+    "tests/program/model_jobs.py",
+    "tests/program/check_decks.py",
+    "bench/run",
+    "tests/program/traces.py",
+    "tests/systems/library.py",
+    "tests/pages/documents.py",
+    "tests/pages/facts.py",
+    "tests/pages/table_decks.py",
+    "tests/pages/format_pages.py",
+    "tests/pages/named.py",
+    "tests/program/l6db.py",
+    "tests/scripts/launcher.py",
+    "tests/scripts/install.py",
+    "tests/scripts/script_words.py",
+    "tests/scripts/bundled_page.py",
+    "web/tests/all.py",
+    "tests/systems/ports.py",
+    "tests/scripts/release.py",
+]
+GATE_STEPS = ["rt ci", *STEPS, "tests/edits/edits.py"]
+PACKAGES = {  # without which tests are left out
+    "binaryen", "nodejs", "chromium", "mypy", "shellcheck", "qemu-user-static", "busybox-static", "zsh", "fish",
+    "lintian", "firefox-esr", "node-typescript", "python3-markdown",
+}
+NOT_A_STEP = {"compiled_edits.py", "hostile.py", "same_answers.py"}  # scripts of tests/ that ./test does not call
+
+STAND_IN = """#!/bin/sh
+# A stand-in for python3 and rt: notes its words, and prints a count, which $HOW makes a bad one in what $FAILS
+# names, with colons between.
+words="${0##*/} $*${L6_ONLY+ of $L6_ONLY}"
+[ "$*" = version ] && exec cat "$STAND_IN/version"
+echo "$words" >> "$STAND_IN/steps"
+how=well
+IFS=:
+for one in $FAILS; do
+    case "$words" in *"$one"*) how=$HOW ;; esac
+done
+case $how in
+    well) echo "99999 passed, 0 failed" ;;
+    fewer-trials) echo "99998 passed, 0 failed" ;;
+    more-trials) echo "100000 passed, 0 failed" ;;
+    skipped) echo "skipped: a tool: it is missing"; echo "99998 passed, 0 failed" ;;
+    skipped-as-asked) echo "skipped: a tool: as was asked"; echo "99998 passed, 0 failed" ;;
+    skipped-and-more) echo "skipped: a tool: it is missing"; echo "100000 passed, 0 failed" ;;
+    a-failed-trial) echo "99999 passed, 1 failed" ;;
+    a-status) echo "99999 passed, 0 failed"; exit 1 ;;
+    no-count) echo "99999 passed" ;;
+    no-trial) echo "0 passed, 0 failed" ;;
+esac
+"""
+HOWS = ["a-failed-trial", "a-status", "no-count", "no-trial", "fewer-trials", "more-trials", "skipped-and-more"]
+NONE = "none of these steps"
+COUNTED = 99_999  # trials that the stand-in has
+COUNTS = "".join(
+    f"{name} {2 if name == 'dist' else COUNTED} {2 if name == 'dist' else COUNTED}\n"
+    for name in (TOP / "tests/counts").read_text("utf-8").split()[::3]
+)
+OF_SHELL = "dist"  # the step of the gate that calls no script
+
+
+class Gate:
+    """A checkout with ./test, in which nothing is tested."""
+
+    def __init__(self, folder: Path) -> None:
+        self.checkout = Checkout(folder)
+        self._names: dict[tuple[str, ...], list[str]] = {}
+        self.top = self.checkout.top
+        (self.top / "bench").mkdir()
+        for name in ("test", "bench/run"):
+            shutil.copy(TOP / name, self.top / name)
+        self.first = folder / "first"
+        self.first.mkdir()
+        for name in ("python3", "rt"):
+            (self.first / name).write_text(STAND_IN)
+            (self.first / name).chmod(0o755)
+        built = self.top / "crates/l6/out/l6"  # what rt ci would build
+        built.parent.mkdir(parents=True)
+        shutil.copy(self.top / "dist/l6", built)
+        self.counts = self.top / "tests/counts"
+        self.checkout.write("tests/counts", COUNTS)
+
+    def test(self, *words: str, fails: str = NONE, how: str = "well") -> tuple[Answer[str], list[str]]:
+        """What ./test answers if a step fails, and what it called."""
+        log = self.checkout.state / "steps"
+        log.unlink(missing_ok=True)
+        actual = self.checkout.run("test", *words, FIRST=str(self.first), FAILS=fails, HOW=how)
+        return actual, log.read_text().splitlines() if log.exists() else []
+
+    def names(self, *words: str) -> list[str]:
+        """The names of the steps, as they are said when each begins."""
+        if words not in self._names:
+            said = self.test(*words)[0].stderr
+            self._names[words] = [
+                it
+                for it in re.findall(r"^test: \S+ +\d+ of \d+, (\S+):", said, re.MULTILINE)
+                if it != OF_SHELL
+            ]
+        return self._names[words]
+
+
+def last_line(actual: Answer[str]) -> tuple[str, int | str]:
+    """The last line of an answer, and its status."""
+    return (actual.stdout.splitlines() or [""])[-1], actual.status
+
+
+def known_in(steps: list[str], calls: list[str]) -> list[str]:
+    """The steps that calls are, in the order of the calls."""
+    return [next((step for step in steps if step in call), call) for call in calls]
+
+
+def steps_that_fail(gate: Gate) -> Iterator[Trial]:
+    """Each step in turn fails: so does the whole, all steps are made, and the failure is shown at the end."""
+    for words, steps in (((), STEPS), (("--prove",), GATE_STEPS)):
+        name = " ".join(["./test", *words])
+        actual, calls = gate.test(*words)
+        count = 99_999 * len(steps) + (2 if words else 0)
+        yield f"{name} with all steps well", (f"{count} passed, 0 failed", 0), last_line(actual)
+        yield f"the steps of {name}", steps, known_in(steps, calls)
+        yield f"what {name} says of failures then", [], failures_in(actual)
+    # (each step fails once, beside others that do not)
+    for which in range(2):
+        yield from steps_fail(gate, (), STEPS[which::2], HOWS[which])
+    for how in HOWS:
+        yield from steps_fail(gate, (), STEPS[:1], how)
+    for step in (GATE_STEPS[0], *GATE_STEPS[-4:]):
+        yield from steps_fail(gate, ("--prove",), [step], HOWS[1])
+
+
+def steps_fail(gate: Gate, words: tuple[str, ...], failing: list[str], how: str) -> Iterator[Trial]:
+    """Some steps fail in some way. They alone are named at the end."""
+    actual, calls = gate.test(*words, fails=":".join(failing), how=how)
+    steps, names = GATE_STEPS if words else STEPS, gate.names(*words)
+    count = last_line(actual)[0].rpartition(", ")[2]
+    wrong = [names[steps.index(step)] for step in failing]
+    expected = (f"{len(failing)} failed", 1, wrong, len(names))
+    what = f"./test {' '.join(words)}: {how} of {', '.join(failing)}"
+    yield what, expected, (count, actual.status, failures_in(actual), len(calls))
+
+
+def failures_in(actual: Answer[str]) -> list[str]:
+    """The titles of the steps that are named as failed at the end."""
+    return re.findall(r"^failed: (.*); status \d+$", actual.stdout, re.MULTILINE)
+
+
+def other_programs(gate: Gate) -> Iterator[Trial]:
+    """The gate fails if the program that is built is not that of dist/."""
+    built = gate.top / "crates/l6/out/l6"
+    whole = built.read_bytes()
+    built.write_bytes(whole + b"# another\n")
+    actual, _ = gate.test("--prove")
+    said = "dist/l6 has other bytes than the program of these sources" in actual.stdout
+    yield "another program", (1, True, ["dist"]), (actual.status, said, failures_in(actual))
+    built.write_bytes(whole)
+    gate.checkout.write("crates/l6/src/main.rt", "another main\n")
+    actual, _ = gate.test("--prove")
+    said = "dist/l6 is not the program of these sources" in actual.stdout
+    yield "a program of other sources", (1, True, ["dist"]), (actual.status, said, failures_in(actual))
+
+
+def no_program(gate: Gate) -> Iterator[Trial]:
+    """If no program belongs to the sources and none can be built, nothing is tested."""
+    gate.checkout.write("crates/l6/src/main.rt", "another main\n")
+    actual, calls = gate.test(fails="tools/prove.py", how="a-status")
+    called = [call.rpartition("/")[2] for call in calls]
+    yield "no program", (1, "", ["prove.py l6"]), (actual.status, actual.stdout.partition("99999")[0], called)
+
+
+def words_of_the_command(gate: Gate) -> Iterator[Trial]:
+    """Which words ./test takes, and what they do."""
+    for words in (("-x",), ("--only",), ("--only", ""), ("--anew",), ("--prove", "x"), ("--only", "a", "b")):
+        actual, calls = gate.test(*words)
+        yield f"the words {words}", (64, "", []), (actual.status, actual.stdout, calls)
+    actual, calls = gate.test("--list")
+    names = actual.stdout.splitlines()
+    yield "--list", (0, len(STEPS), len(STEPS), []), (actual.status, len(names), len(set(names)), calls)
+    for at in (0, 5, len(names) - 1):
+        actual, calls = gate.test("--only", names[at])
+        yield f"--only {names[at]}", ([STEPS[at]], 0), (known_in(STEPS, calls), actual.status)
+    actual, _ = gate.test("--only", "install", fails="tests/", how="a-status")
+    yield "--only a step that fails", ("99999 passed, 1 failed", 1), last_line(actual)
+    actual, calls = gate.test("--only", "no word")
+    yield "--only a trial", ([step for step in STEPS[1:] if step != "web/tests/all.py"], 0), (known_in(STEPS, calls), actual.status)
+    yield "--only a trial, what is asked for", True, all(call.endswith(" of no word") for call in calls)
+    actual, calls = gate.test("--only", "no word", fails="tests/", how="no-trial")
+    yield "--only a trial of one step", 0, actual.status
+    actual, _ = gate.test("--only", "no such trial", fails=" ", how="no-trial")
+    yield "--only a trial that is not there", ("0 passed, 1 failed", 1), last_line(actual)
+    _, calls = gate.test("--prove", "--anew")
+    tried = [call for call in calls if "edits.py" in call]
+    yield "--anew", ["python3 tests/edits/edits.py --sample --anew"], tried
+
+
+def counts(gate: Gate) -> Iterator[Trial]:
+    """A step has just as many trials as was recorded; if it says that it skips some, it may have fewer."""
+    for how, words, status in (
+        ("skipped", (), 0),
+        ("skipped", ("--prove",), 0),
+        ("skipped-as-asked", (), 1),
+        ("skipped-as-asked", ("--prove",), 0),
+        ("fewer-trials", ("--prove",), 1),
+    ):
+        actual, _ = gate.test(*words, fails="tests/program/program.py", how=how)
+        yield f"./test {' '.join(words)}: {how}", status, actual.status
+    gate.test("--record", fails="tests/program/program.py", how="fewer-trials")
+    recorded = COUNTS.replace(f"program {COUNTED}", f"program {COUNTED - 1}", 1)
+    yield "what is recorded", recorded, gate.counts.read_text()
+    gate.counts.write_text("".join(line for line in COUNTS.splitlines(True) if not line.startswith("model ")))
+    actual, _ = gate.test()
+    yield "a step without a recorded count", (1, ["model"]), (actual.status, failures_in(actual))
+    gate.test("--prove", "--record")
+    yield "what is recorded of it", f"model - {COUNTED}", gate.counts.read_text().splitlines()[-1]
+    gate.counts.unlink()
+    actual, _ = gate.test()
+    yield "without recorded counts", 1, actual.status
+
+
+def another_kit(gate: Gate) -> Iterator[Trial]:
+    """Another kit than that of dist/ fails nothing by its name; if its bytes differ, answers are compared."""
+    compares = "same_answers.py"
+    actual, calls = gate.test("--prove")
+    yield "with the kit of dist/", [], [call for call in calls if compares in call]
+    took = re.search(r"^test: \d+ minutes, \d+ processor minutes$", actual.stderr, re.MULTILINE)
+    yield "the minutes that the gate has taken", True, took is not None
+    gate.checkout.set_version("another kit")
+    actual, calls = gate.test("--prove")
+    said = "dist/l6 was made by a toolchain, and this is another kit\n" in actual.stdout
+    yield "with another kit and the same bytes", (True, 0, []), (said, actual.status, [it for it in calls if compares in it])
+    built = gate.top / "crates/l6/out/l6"
+    whole = built.read_bytes()
+    built.write_bytes(whole + b"# other bytes\n")
+    actual, calls = gate.test("--prove")
+    yield "with another kit and other bytes", 0, actual.status
+    yield "what is compared then", 1, len([call for call in calls if compares in call])
+    yield "what is made again then", [], [it for it in calls if "web/tests/all.py" in it and "--quick" not in it]
+    actual, _ = gate.test("--prove", fails=compares, how="a-status")
+    yield "with another kit and another answer", 1, actual.status
+    gate.checkout.set_version("a toolchain")
+    actual, _ = gate.test("--prove")
+    yield "with the kit of dist/ and other bytes", 1, actual.status
+    built.write_bytes(whole)
+
+
+HARNESS = f"""
+import os, sys
+sys.path.insert(0, {str(TOP / "tests/harness")!r})
+from answers import answer
+from trials import report
+right = answer(b"out", b"err", 3)
+made = [("right", right, answer(b"out", b"err", 3)), ("stdout", right, answer(b"on", b"err", 3)),
+        ("stderr", right, answer(b"out", b"", 3)), ("status", right, answer(b"out", b"err", 0))]
+sys.exit(report([it for it in made if it[0] in sys.argv[1]], [("a canary", 1, int(sys.argv[2]))]))
+"""
+SHOWN = {
+    "stdout": "stdout\n  stdout: expected b'out', length 3\n          actual   b'on', length 2\n",
+    "stderr": "stderr\n  stderr: expected b'err', length 3\n          actual   b'', length 0\n",
+    "status": "status\n  status: expected 3\n          actual   0\n",
+}
+
+
+def harness(names: str, canary: int, **environment: str) -> Answer[str]:
+    """The answer of a script of trials, of which some fail."""
+    ended = subprocess.run(
+        [sys.executable, "-c", HARNESS, names, str(canary)],
+        capture_output=True,
+        text=True,
+        env={"PATH": "/usr/bin:/bin", **environment},
+    )
+    return Answer(ended.stdout, ended.stderr, ended.returncode)
+
+
+def harnesses() -> Iterator[Trial]:
+    """A script of trials reports each part of an answer that is wrong, and a canary that passes."""
+    yield "a right answer", Answer("1 passed, 0 failed\n", "", 0), harness("right", 2)
+    for part, text in SHOWN.items():
+        yield f"a wrong {part}", Answer(f"{text}1 passed, 1 failed\n", "", 1), harness(f"right {part}", 2)
+    all_of_it = "".join(SHOWN.values()) + "1 passed, 3 failed\n"
+    yield "all that is wrong", Answer(all_of_it, "", 1), harness("right stdout stderr status", 2)
+    passed = harness("right", 1)
+    yield "a canary that passes", (("0 passed, 1 failed", 1), True), (
+        last_line(passed),
+        "a canary" in passed.stdout,
+    )
+    room = answer_of(["sh", "-c", "ulimit -v"]).stdout
+    yield "the addresses that a program has, in KiB", b"49152\n", room
+    yield "a program that does not end", "none within 1 seconds", answer_of(["sleep", "60"], seconds=1).status
+    only = harness("right stderr", 2, **{ONLY: "stderr"})
+    yield "the trials of a name", Answer(f"{SHOWN['stderr']}0 passed, 1 failed\n", "", 1), only
+
+
+def scripts() -> Iterator[Trial]:
+    """Each script of tests/ is a step, and the machine that runs the gate calls it."""
+    made = {file.name for file in (TOP / "tests").glob("*/*.py") if file.read_text("utf-8").startswith("#!")}
+    steps = {Path(step).name for step in GATE_STEPS if step.startswith("tests/")}
+    yield "the scripts of tests/", sorted(made - NOT_A_STEP), sorted(steps)
+    text = (TOP / ".ci/run").read_text("utf-8")
+    installed = {package for package in PACKAGES if re.search(rf"\w:{package}[ ;\n]", text)}
+    yield "what .ci/run installs", PACKAGES, installed
+    last = text.rstrip().splitlines()[-1]
+    yield "what .ci/run ends in", True, re.fullmatch(r"exec .*/\.\./test\" --prove", last) is not None
+
+
+def trials() -> Iterator[Trial]:
+    """All trials, each group on a checkout of its own."""
+    for group in (steps_that_fail, counts, other_programs, another_kit, no_program, words_of_the_command):
+        with tempfile.TemporaryDirectory() as folder:
+            yield from group(Gate(Path(folder) / "checkout"))
+    yield from harnesses()
+    yield from scripts()
+
+
+if __name__ == "__main__":
+    sys.exit(report(trials()))

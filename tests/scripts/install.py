@@ -1,0 +1,227 @@
+#!/usr/bin/env python3
+"""Checks that ./install puts the program and what belongs to it in their places, or says why it can't.
+
+install.py prints each difference, and last 'N passed, M failed'. It works on a small checkout of its own
+(checkout.py), so nothing is proved and nothing else is changed.
+"""
+from __future__ import annotations
+
+import subprocess
+import sys
+import tempfile
+from collections.abc import Iterator
+from pathlib import Path
+from typing import Any
+
+sys.path.insert(0, str(Path(__file__).resolve().parents[1] / "harness"))
+from answers import Answer
+from checkout import TOP, UNPROVED, Checkout
+from trials import Trial, report
+
+PAGE = TOP / "docs" / "command-line.md"
+USAGE = "usage: ./install [--uninstall] [--program FILE] [PREFIX]\n"
+INSTALLED = {  # the file that is installed, and where it is from
+    "bin/l6": "dist/l6",
+    "share/man/man1/l6.1": "docs/l6.1",
+    "share/bash-completion/completions/l6": "completions/l6.bash",
+    "share/zsh/site-functions/_l6": "completions/_l6",
+    "share/fish/vendor_completions.d/l6.fish": "completions/l6.fish",
+    "share/doc/l6/examples/first.deck": "examples/first.deck",
+    **{f"share/doc/l6/{name}": name for name in ("LICENSE-MIT", "LICENSE-APACHE", "THIRD-PARTY.md")},
+    **{f"share/doc/l6/licenses/{it.name}": f"licenses/{it.name}" for it in (TOP / "licenses").iterdir()},
+}
+
+DEBUGGER = (
+    "bin/l6db", "share/man/man1/l6db.1", "share/bash-completion/completions/l6db",
+    "share/zsh/site-functions/_l6db", "share/fish/vendor_completions.d/l6db.fish",
+)
+
+
+def announced(place: str) -> str:
+    """What is said of an installation."""
+    return f"installed {place}/bin/l6 and its manual page, completions, examples and licences\n"
+
+
+def modes_of(place: Path) -> dict[str, int]:
+    """The modes of the files that are installed."""
+    return {name: (place / name).stat().st_mode & 0o777 for name in INSTALLED}
+
+
+MODES = {name: 0o755 if name == "bin/l6" else 0o644 for name in INSTALLED}
+
+
+def names_in(folder: Path) -> list[str]:
+    """All files in a folder and below it."""
+    return sorted(str(file.relative_to(folder)) for file in folder.rglob("*") if file.is_file())
+
+
+def arguments(checkout: Checkout) -> Iterator[Trial]:
+    """Help, and wrong arguments."""
+    actual = checkout.run("install", "--help", has_rt=False)
+    yield "help", (0, USAGE, ""), (actual.status, actual.stdout[:len(USAGE)], actual.stderr)
+    yield "the help in its page", True, f"```figure\n{actual.stdout}```\n" in PAGE.read_text("utf-8")
+    wrong: tuple[tuple[str, ...], ...] = (
+        ("-x",), ("a", "b"), ("",), ("--program",), ("--program", "nothing"), ("--uninstall", "a", "b"),
+    )
+    for words in wrong:
+        actual = checkout.run("install", *words, has_rt=False)
+        said = actual.stderr[:len(USAGE)]
+        yield f"the arguments {words}", (64, "", USAGE), (actual.status, actual.stdout, said)
+
+
+def installations(checkout: Checkout) -> Iterator[Trial]:
+    """The program of dist/ is installed without rt and Python, also over an earlier one."""
+    prefix = "a new folder/of mine"
+    place = checkout.folder / prefix
+    for which in ("the first", "the second"):
+        actual = checkout.run("install", prefix, has_rt=False)
+        expected = Answer(f"{announced(prefix)}{prefix}/bin is not on the path\n", "", 0)
+        yield f"{which} installation", expected, actual
+        yield f"what {which} installs", sorted(INSTALLED), names_in(place)
+        yield f"the modes of {which}", MODES, modes_of(place)
+        for name, source in INSTALLED.items():
+            yield f"{name} of {which}", (checkout.top / source).read_bytes(), (place / name).read_bytes()
+            (place / name).chmod(0o600)
+    prefix = str(checkout.folder / "on the path")
+    actual = checkout.run("install", prefix, has_rt=False, FIRST=f"{prefix}/bin")
+    yield "a folder on the path", Answer(announced(prefix), "", 0), actual
+
+
+def staged(checkout: Checkout) -> Iterator[Trial]:
+    """With DESTDIR everything goes there. A program that is named is installed without being tried."""
+    folder = checkout.folder / "a stage"
+    actual = checkout.run("install", "/usr", has_rt=False, DESTDIR=str(folder))
+    yield "a stage", Answer(announced(f"{folder}/usr"), "", 0), actual
+    yield "what is in the stage", sorted(f"usr/{name}" for name in INSTALLED), names_in(folder)
+    other = checkout.top / "dist/l6-aarch64"
+    for name, refuses, status in ((str(other), "l6-aarch64", 0), ("", "l6 l6-static l6.mjs", 1)):
+        chosen = ["--program", name] if name else []
+        where = {"DESTDIR": str(folder), "REFUSES": refuses}
+        actual = checkout.run("install", *chosen, "/usr", has_rt=False, stdin="", umask=0o022, **where)
+        yield f"a program that does not start here: {chosen}", status, actual.status
+        program = (folder / "usr/bin/l6").read_bytes()
+        yield f"the program that is then in the stage: {chosen}", other.read_bytes(), program
+
+
+def debuggers(checkout: Checkout) -> Iterator[Trial]:
+    """Beside a program that is named its debugger is installed, with what belongs to it, and removed."""
+    folder = checkout.folder / "with a debugger"
+    named, debugger = checkout.top / "dist/l6-aarch64", checkout.top / "dist/l6db-aarch64"
+    debugger.write_text("a debugger\n")
+    words = ["--program", str(named), "/usr"]
+    actual = checkout.run("install", *words, has_rt=False, DESTDIR=str(folder))
+    yield "a debugger beside a program", (0, ""), (actual.status, actual.stderr)
+    expected = sorted(f"usr/{name}" for name in (*INSTALLED, *DEBUGGER))
+    yield "what is installed with it", expected, names_in(folder)
+    placed = folder / "usr/bin/l6db"
+    yield "the debugger", ("a debugger\n", 0o755), (placed.read_text(), placed.stat().st_mode & 0o777)
+    debugger.unlink()
+    actual = checkout.run("install", "--uninstall", "/usr", has_rt=False, DESTDIR=str(folder))
+    yield "its removal", (0, []), (actual.status, names_in(folder))
+
+
+def removals(checkout: Checkout) -> Iterator[Trial]:
+    """What was installed is removed, and nothing else."""
+    place = checkout.folder / "a place"
+    checkout.run("install", "a place", has_rt=False)
+    kept = ["bin/another", "share/doc/another", "share/man/man1/l6.2"]
+    for name in kept:
+        (place / name).touch()
+    actual = checkout.run("install", "--uninstall", "a place", has_rt=False)
+    expected = Answer("removed a place/bin/l6 and what was installed with it\n", "", 0)
+    yield "a removal", expected, actual
+    yield "what is left", kept, names_in(place)
+    yield "the folder of its own", False, (place / "share/doc/l6").exists()
+    actual = checkout.run("install", "--uninstall", "a place", has_rt=False)
+    yield "a second removal", Answer("", "install: there is nothing of l6 in a place\n", 1), actual
+    checkout.run("install", "a place", has_rt=False)
+    (place / "share/doc/l6/mine.deck").touch()
+    actual = checkout.run("install", "--uninstall", "a place", has_rt=False)
+    expected = Answer(f"{expected.stdout}a place/share/doc/l6 has other files, and stays\n", "", 0)
+    yield "a removal beside a file of somebody else", expected, actual
+    yield "what is left then", sorted([*kept, "share/doc/l6/mine.deck"]), names_in(place)
+    folder: dict[str, Any] = {"DESTDIR": str(checkout.folder / "a stage")}
+    checkout.run("install", "/usr", has_rt=False, **folder)
+    actual = checkout.run("install", "--uninstall", "/usr", has_rt=False, **folder)
+    yield "a removal from a stage", (0, []), (actual.status, names_in(checkout.folder / "a stage"))
+
+
+def running_program(checkout: Checkout) -> Iterator[Trial]:
+    """A program that runs is replaced, and runs on; the mask of modes changes nothing."""
+    place = checkout.folder / "running"
+    program = place / "bin/l6"
+    program.parent.mkdir(parents=True)
+    program.write_bytes(Path("/bin/sleep").read_bytes())
+    program.chmod(0o755)
+    with subprocess.Popen([program, "60"]) as running:
+        actual = checkout.run("install", "running", has_rt=False, umask=0o077)
+        yield "a program that runs is replaced", (0, ""), (actual.status, actual.stderr)
+        yield "the program still runs", None, running.poll()
+        running.kill()
+    yield "the modes under another mask", MODES, modes_of(place)
+    yield "the mode of a folder under another mask", 0o755, (place / "share/man").stat().st_mode & 0o777
+    yield "the program that replaced it", (checkout.top / "dist/l6").read_bytes(), program.read_bytes()
+
+
+def refusals(checkout: Checkout) -> Iterator[Trial]:
+    """If it can't install both files, it installs none, and says why."""
+    (checkout.folder / "file").touch()
+    actual = checkout.run("install", "file", has_rt=False)
+    expected = Answer("", "install: no permission to write to file/share/man/man1\n", 1)
+    yield "a file in the prefix's place", expected, actual
+    for name in INSTALLED:
+        folder = f"a folder for {Path(name).name}"
+        (checkout.folder / folder / name).mkdir(parents=True)
+        actual = checkout.run("install", folder, has_rt=False)
+        yield folder, Answer("", f"install: {folder}/{name} is a folder\n", 1), actual
+        yield f"what is installed beside {folder}", [], names_in(checkout.folder / folder)
+    (checkout.folder / "half/share").mkdir(parents=True)
+    (checkout.folder / "half/share/man").touch()
+    actual = checkout.run("install", "half", has_rt=False)
+    expected = Answer("", "install: no permission to write to half/share/man/man1\n", 1)
+    yield "a manual page that can't be written", expected, actual
+    yield "what is installed without its page", ["share/man"], names_in(checkout.folder / "half")
+    page = checkout.top / "docs/l6.1"
+    page.rename(checkout.folder / "page")
+    actual = checkout.run("install", "no page", has_rt=False)
+    said = "install: no page/share/man/man1/l6.1 can't be written; nothing is installed\n"
+    ending = actual.stderr[-len(said):]
+    yield "a manual page that is missing", ("", said, 1), (actual.stdout, ending, actual.status)
+    yield "what is installed then", [], names_in(checkout.folder / "no page")
+    (checkout.folder / "page").rename(page)
+
+
+def damaged_program(checkout: Checkout) -> Iterator[Trial]:
+    """If the program is damaged it is built from the sources; if they are not proved, none is installed."""
+    checkout.leave_only("l6")
+    program = checkout.top / "dist/l6"
+    whole = program.read_bytes()
+    program.write_bytes(whole[:-1])
+    actual = checkout.run("install", "damaged", has_rt=False)
+    expected = "install: there is no program to install\n"
+    yield "a program that is cut", (1, "", expected), (actual.status, actual.stdout, actual.stderr[-len(expected):])
+    checkout.write("crates/l6_word/proofs/Lib.antt", UNPROVED)
+    actual = checkout.run("install", "damaged")
+    ending = actual.stderr[-len(expected):]
+    yield "sources that are not proved", (1, "", expected), (actual.status, actual.stdout, ending)
+    yield "what is installed of both", [], names_in(checkout.folder / "damaged")
+    program.write_bytes(whole)
+    checkout.write("crates/l6_word/proofs/Lib.antt", "proved again\n")
+    actual = checkout.run("install", "built again")
+    yield "sources that are proved first", 0, actual.status
+    actual = checkout.run("../built again/bin/l6")
+    yield "the program that is built again", Answer(checkout.made_of, "", 0), actual
+
+
+def trials() -> Iterator[Trial]:
+    """All trials, each group on a checkout of its own."""
+    for group in (
+        arguments, installations, staged, debuggers, removals, running_program, refusals, damaged_program,
+    ):
+        with tempfile.TemporaryDirectory() as folder:
+            for name, expected, actual in group(Checkout(Path(folder) / "checkout")):
+                yield f"{group.__name__}: {name}", expected, actual
+
+
+if __name__ == "__main__":
+    sys.exit(report(trials()))

@@ -1,0 +1,473 @@
+#!/usr/bin/env python3
+"""Checks that ./l6 runs the program that belongs to the sources, and no other.
+
+launcher.py prints each difference, and last 'N passed, M failed'. It works on small checkouts of its own,
+with a stand-in for rt (checkout.py), so nothing is proved and nothing else is changed.
+It also tries tools/prove.py and tools/make_dist.
+"""
+from __future__ import annotations
+
+import os
+import shutil
+import subprocess
+import sys
+import tempfile
+import time
+from collections.abc import Callable, Iterator
+from pathlib import Path
+from typing import Any
+
+sys.path.insert(0, str(Path(__file__).resolve().parents[1] / "harness"))
+from answers import Answer
+from checkout import PROGRAMS, UNPROVED, Checkout
+from trials import Trial, report
+
+SOURCES = (
+    "crates.txt", "HANDLES", "crates/l6_word/src/lib.rt", "crates/l6_word/specs/Lib.antt",
+    "crates/l6_word/proofs/Lib.antt", "crates/l6/src/main.rt", "crates/l6/specs/Lib.antt",
+    "crates/l6/proofs/main/Answers.antt",
+)
+STALE = "l6: dist/l6 was not made from the sources in this checkout\n"
+RUNS = "l6: dist/l6 itself runs as it is, whatever the sources say\n"
+BROKEN = "l6: dist/l6 is not the program that dist/l6.provenance names: it is missing, altered or incomplete\n"
+NO_RT = "l6: rt is not on the path; it is needed to prove and build the program (README.md)\n"
+PROVING = "l6: proving and building the program; from nothing this takes some 25 minutes on four processors\n"
+FRESH = 3.5  # seconds after which a file counts as older (tools/note.sh)
+IN_DIST = sorted([*PROGRAMS, *(f"{name}.provenance" for name in PROGRAMS), "l6.html", "l6.sources"])
+EDITED = "l6: the sources were edited meanwhile, so the program may not belong to them; call again\n"
+
+
+def stale(*files: str) -> str:
+    """What is said where sources differ from those of dist/l6: the first of them, each with how it differs."""
+    return f"{STALE}{''.join(f'l6:   {file}{chr(10)}' for file in files)}{RUNS}"
+
+
+def distributed(checkout: Checkout) -> Iterator[Trial]:
+    """The program of dist/ runs without rt and Python, and gets its arguments and its input."""
+    expected = Answer(checkout.made_of, "", 0)
+    yield "the program of dist/", expected, checkout.run("l6", has_rt=False)
+    yield "the program of dist/ beside rt", expected, checkout.run("l6")
+    words = ["run", "a b", "", "-x", "--", "*", "$HOME", "two\nlines", "--prove"]
+    printed = "".join(f"<{word}>\n" for word in words)
+    for status in (0, 1, 2, 5, 64, 255):
+        expected = Answer(f"{checkout.made_of}{printed}a line\nno end", "", status)
+        actual = checkout.run("l6", *words, has_rt=False, stdin="a line\nno end", STATUS=str(status))
+        yield f"arguments, input and status {status}", expected, actual
+    (checkout.folder / "linked").symlink_to(checkout.top / "l6")
+    expected = Answer(checkout.made_of, "", 0)
+    yield "./l6 through a link", expected, checkout.run("../linked", has_rt=False)
+    made_from = (checkout.top / "dist/l6.provenance").read_text("utf-8")
+    expected = Answer(f"{checkout.made_of}<--version>\n", made_from, 64)
+    yield "the version", expected, checkout.run("l6", "--version", has_rt=False)
+    yield "what rt was asked for", [], checkout.calls()
+
+
+def changed_sources(checkout: Checkout) -> Iterator[Trial]:
+    """After a source was edited, added, removed or renamed, ./l6 builds the program again, once."""
+    for name in SOURCES:
+        file = checkout.top / name
+        before = file.read_bytes()
+        file.write_bytes(before + b"-- edited\n")
+        yield from builds_again(checkout, f"an edit of {name}", stale(f"{name} has changed"))
+        file.write_bytes(before)
+        yield f"{name} as it was", Answer(checkout.made_of, "", 0), checkout.run("l6", has_rt=False)
+        checkout.forget_what_was_built()
+    name, new = "crates/l6_word/src/lib.rt", "crates/l6_word/src/other.rt"
+    first, other = checkout.top / name, checkout.top / new
+    other.write_text("")
+    yield from builds_again(checkout, "a new file", stale(f"{new} is new"))
+    other.unlink()
+    first.rename(other)
+    yield from builds_again(checkout, "a file that is renamed", stale(f"{name} is missing", f"{new} is new"))
+    other.rename(first)
+    times = os.stat(first).st_mtime_ns
+    before = first.read_bytes()
+    first.write_bytes(before.swapcase())
+    os.utime(first, ns=(times, times))
+    yield from builds_again(checkout, "an edit that keeps size and time", stale(f"{name} has changed"))
+    first.write_bytes(before)
+    for name in SOURCES[2:]:
+        checkout.write(name, "-- edited\n")
+    said = [f"{name} has changed" for name in sorted(SOURCES[2:])[:3]]
+    expected = stale(*said, f"and {len(SOURCES) - 5} more files differ")
+    yield "several edits", Answer("", expected + NO_RT, 1), checkout.run("l6", has_rt=False)
+
+
+def other_files(checkout: Checkout) -> Iterator[Trial]:
+    """Files that the prover does not read change nothing: hidden ones, and what editors leave."""
+    folder, expected = checkout.top / "crates/l6_word/src", Answer(checkout.made_of, "", 0)
+    for name in (".lib.rt.swp", ".lib.rt", "lib.rt~", "lib.rt.orig", "#lib.rt#", "notes.txt", ".kept/lib.rt"):
+        (folder / name).parent.mkdir(exist_ok=True)
+        (folder / name).write_text("something\n")
+        yield f"beside {name}", expected, checkout.run("l6", has_rt=False)
+    (folder / ".#lib.rt").symlink_to("nobody@nowhere.1:1")
+    yield "beside an editor's lock", expected, checkout.run("l6", has_rt=False)
+    checkout.run("tools/prove.py")
+    yield "what is proved beside other files", "lib l6_word", checkout.calls()[0]
+    (folder / "lib.rt~").write_text("something else\n")
+    yield "a proof beside other files", 0, checkout.run("tools/prove.py").status
+    yield "what is proved again beside other files", [], checkout.calls()
+
+
+def builds_again(checkout: Checkout, what: str, why: str) -> Iterator[Trial]:
+    """The program of dist/ is refused; another is proved and built once, and then run without a message."""
+    yield f"{what}, without rt", Answer("", why + NO_RT, 1), checkout.run("l6", has_rt=False)
+    actual = checkout.run("l6")
+    yield what, (checkout.made_of, 0), (actual.stdout, actual.status)
+    yield f"{what}: what is said", why + PROVING, actual.stderr[:len(why + PROVING)]
+    checkout.calls()
+    actual = checkout.run("l6", "again")
+    expected = Answer(f"{checkout.made_of}<again>\n", why if why == BROKEN else "", 0)
+    yield f"{what}, the second call", expected, actual
+    yield f"{what}, the second call's builds", [], checkout.calls()
+
+
+def damaged_distribution(checkout: Checkout) -> Iterator[Trial]:
+    """A program or a provenance in dist/ that is altered, cut or missing is refused."""
+    checkout.leave_only("l6")
+    program, provenance = (checkout.top / "dist" / name for name in ("l6", "l6.provenance"))
+    whole, named = program.read_bytes(), provenance.read_bytes()
+    turned = whole.replace(b"made", b"Made")
+    for what, text in (("altered", turned), ("cut", whole[:-1]), ("longer", whole + b"\n"), ("empty", b"")):
+        program.write_bytes(text)
+        yield f"dist/l6 is {what}", Answer("", BROKEN + NO_RT, 1), checkout.run("l6", has_rt=False)
+    yield from builds_again(checkout, "dist/l6 is empty", BROKEN)
+    checkout.forget_what_was_built()
+    program.unlink()
+    yield "dist/l6 is missing", Answer("", BROKEN + NO_RT, 1), checkout.run("l6", has_rt=False)
+    program.write_bytes(whole)
+    actual = checkout.run("l6", has_rt=False)
+    yield "dist/l6 may not be run", ("", 1), (actual.stdout, actual.status)
+    program.chmod(0o755)
+    for place in range(len(named)):
+        provenance.write_bytes(named[:place] + bytes([named[place] ^ 1]) + named[place + 1:])
+        actual = checkout.run("l6", has_rt=False)
+        yield f"byte {place} of the provenance", ("", 1), (actual.stdout, actual.status)
+    for what, text in (("cut", named[:-1]), ("longer", named + b"\n"), ("empty", b"")):
+        provenance.write_bytes(text)
+        actual = checkout.run("l6", has_rt=False)
+        yield f"a provenance that is {what}", ("", 1), (actual.stdout, actual.status)
+    provenance.unlink()
+    yield from builds_again(checkout, "a provenance that is missing", BROKEN)
+    provenance.write_bytes(named)
+
+
+def built_program(checkout: Checkout) -> Iterator[Trial]:
+    """A program that was built here is run only while it, its sources and the toolchain are the same."""
+    checkout.write("crates/l6/src/main.rt", "another main\n")
+    checkout.run("l6")
+    program, provenance = (checkout.top / "crates/l6/out" / name for name in ("l6", "l6.provenance"))
+    for file in (program, provenance):
+        checkout.calls()
+        file.write_bytes(file.read_bytes()[:-2] + b"1\n")
+        actual = checkout.run("l6")
+        yield f"{file.name} is altered", (checkout.made_of, 0), (actual.stdout, actual.status)
+        said = stale("crates/l6/src/main.rt has changed") + PROVING
+        yield f"{file.name} is altered: it is built again", said, actual.stderr[:len(said)]
+    checkout.calls()
+    checkout.set_version("another toolchain")
+    actual = checkout.run("l6")
+    yield "another toolchain", (checkout.made_of, 0), (actual.stdout, actual.status)
+    yield "another toolchain: what is built", ["lib l6_word", "run l6"], checkout.calls()
+
+
+def failed_proofs(checkout: Checkout) -> Iterator[Trial]:
+    """If a crate is not proved nothing runs, and no earlier program does."""
+    checkout.write("crates/l6/src/main.rt", "another main\n")
+    checkout.run("l6")
+    for crate, called in (("l6", ["run l6"]), ("l6_word", ["lib l6_word"])):
+        checkout.calls()
+        checkout.write(f"crates/{crate}/proofs/Lib.antt", UNPROVED)
+        for which in ("the first call", "the second call"):
+            actual = checkout.run("l6")
+            yield f"{crate} is not proved, {which}", ("", 1), (actual.stdout, actual.status)
+            says = [f"fn {crate}::main: not proved" in actual.stderr, actual.stderr.endswith("was not built\n")]
+            yield f"{crate} is not proved, what {which} says", [True, True], says
+            yield f"{crate} is not proved, what {which} builds", called, checkout.calls()
+        checkout.write(f"crates/{crate}/proofs/Lib.antt", "proved again\n")
+    actual = checkout.run("l6")
+    yield "proved again", (checkout.made_of, 0), (actual.stdout, actual.status)
+
+
+def edits_while_it_builds(checkout: Checkout) -> Iterator[Trial]:
+    """If something is edited while the program is built, it does not count as built, and is not run."""
+    for name in ("crates/l6_word/src/lib.rt", "crates/l6/specs/Lib.antt", "HANDLES"):
+        checkout.write("crates/l6/src/main.rt", f"a main before {name}\n")
+        (checkout.state / "edit").write_text(str(checkout.top / name))
+        actual = checkout.run("l6")
+        ending = actual.stderr[-len(EDITED):]
+        yield f"{name} is edited meanwhile", ("", EDITED, 1), (actual.stdout, ending, actual.status)
+        actual = checkout.run("l6")
+        yield f"after {name} was edited", (checkout.made_of, 0), (actual.stdout, actual.status)
+        yield f"after {name} was edited: it is built again", True, PROVING in actual.stderr
+
+
+def crates_below(checkout: Checkout) -> Iterator[Trial]:
+    """A crate is proved again if it or one below it has changed, lowest first, and not otherwise."""
+    actual = checkout.run("l6", "--prove")
+    said = "l6: the program is proved, and dist/l6 is the same, byte for byte\n"
+    yield "--prove", ("", said, 0), (actual.stdout, actual.stderr[-len(said):], actual.status)
+    yield "what --prove builds", ["lib l6_word", "run l6"], checkout.calls()
+    checkout.write("crates/l6/src/main.rt", "another main\n")
+    actual = checkout.run("l6", "--prove")
+    said = "l6: the program is proved, and dist/l6 is another one; this one is crates/l6/out/l6\n"
+    yield "--prove of other sources", ("", said, 0), (actual.stdout, actual.stderr[-len(said):], actual.status)
+    yield "a change of the program", ["run l6"], checkout.calls()
+    for part in ("src/lib.rt", "specs/Lib.antt", "proofs/Lib.antt"):
+        checkout.write(f"crates/l6_word/{part}", "another text\n")
+        checkout.run("tools/prove.py")
+        calls = checkout.calls()
+        yield f"a change of {part} below: the first crate", "lib l6_word", calls[0]
+        yield f"a change of {part} below", ["lib l6_tests", "lib l6_word", "run l6"], sorted(calls)
+    for note in ("crates/l6_word/out/proved", "crates/l6_word/out/rlib/stamp"):
+        file = checkout.top / note
+        linked = checkout.folder / "linked note"
+        linked.unlink(missing_ok=True)
+        file.write_text("something else\n")
+        linked.hardlink_to(file)
+        checkout.run("tools/prove.py", "l6_word")
+        yield f"{note} is altered", ["lib l6_word"], checkout.calls()
+        yield f"{note} was replaced and not overwritten", "something else\n", linked.read_text()
+    checkout.run("tools/prove.py")
+    checkout.calls()
+    (checkout.top / "crates/l6_word/out/proved").write_text("something else\n")
+    checkout.run("tools/prove.py")
+    calls = checkout.calls()
+    yield "a crate that is proved again, and those above it", ["lib l6_tests", "lib l6_word", "run l6"], sorted(calls)
+    kept = checkout.top / "crates/l6_word/out/incremental/kept"
+    yield "what a check kept", True, kept.is_file()
+    (checkout.state / "kill").touch()
+    checkout.write("crates/l6_word/src/lib.rt", "a text whose check is killed\n")
+    actual = checkout.run("tools/prove.py", "l6_word")
+    yield "a check that is killed", (0, ["lib l6_word"] * 2), (actual.status, checkout.calls())
+
+
+def other_systems(checkout: Checkout) -> Iterator[Trial]:
+    """The first program for a system that starts there is run; without one it is said what there is."""
+    linux, node = str(checkout.folder / "plain"), str(checkout.folder / "nodes")
+    for system, refuses, first, name in (
+        ("Linux x86_64", "", linux, "l6"), ("Linux x86_64", "l6", linux, "l6-static"),
+        ("Linux x86_64", "l6 l6-static", node, "l6.mjs"), ("Linux aarch64", "", linux, "l6-aarch64"),
+        ("Linux aarch64", "l6-aarch64", node, "l6.mjs"), ("Darwin arm64", "", node, "l6.mjs"),
+    ):
+        which = "" if name == "l6" else f"this is {name}\n"
+        path = f"{stand_in_for_uname(checkout, system)}:{first}"
+        words: dict[str, Any] = {"has_rt": False, "FIRST": path, "REFUSES": refuses}
+        expected = Answer(f"{which}{checkout.made_of}<a b>\nx", "", 3)
+        actual = checkout.run("l6", "a b", stdin="x", STATUS="3", **words)
+        yield f"{system}, where {refuses or 'nothing'} does not start", expected, actual
+        made_from = (checkout.top / f"dist/{name}.provenance").read_text("utf-8")
+        expected = Answer(f"{which}{checkout.made_of}<--version>\n", made_from, 64)
+        yield f"the version on {system}: {name}", expected, checkout.run("l6", "--version", **words)
+    said = {
+        "Linux x86_64": "l6: dist/l6 does not start on this system\n",
+        "Linux aarch64": "l6: dist/l6-aarch64 does not start on this system\n",
+        "Plan9 mips": "l6: dist/ has programs for Linux on x86_64 and aarch64, and this is Plan9 mips\n"
+        "l6: dist/l6.mjs is for every system that has Node (https://nodejs.org), but node is not on the path\n",
+    }
+    for system, why in said.items():
+        path = str(stand_in_for_uname(checkout, system))
+        actual = checkout.run("l6", has_rt=False, FIRST=path, REFUSES="l6 l6-static l6-aarch64")
+        yield f"no program for {system}", Answer("", why + NO_RT, 1), actual
+    path = str(stand_in_for_uname(checkout, "Plan9 mips"))
+    actual = checkout.run("l6db", has_rt=False, FIRST=path)
+    why = "l6db: dist/ has l6db for Linux on x86_64 and aarch64, and this is Plan9 mips; ./l6 debug is everywhere\n"
+    yield "no debugger for a system", Answer("", why + NO_RT.replace("l6:", "l6db:"), 1), actual
+    path = str(stand_in_for_uname(checkout, "Linux aarch64"))
+    actual = checkout.run("l6db", has_rt=False, FIRST=path)
+    why = "l6db: dist/l6db-aarch64 is not the program that dist/l6db-aarch64.provenance names: "
+    yield "no file of the debugger", (why, 1), (actual.stderr[:len(why)], actual.status)
+
+
+def stand_in_for_uname(checkout: Checkout, system: str) -> Path:
+    """A folder with a command uname that names this system."""
+    folder = checkout.folder / f"on {system}"
+    folder.mkdir(exist_ok=True)
+    (folder / "uname").write_text(f"#!/bin/sh\necho {system}\n")
+    (folder / "uname").chmod(0o755)
+    return folder
+
+
+def damaged_programs(checkout: Checkout) -> Iterator[Trial]:
+    """If a program is damaged, the next one for the system is run."""
+    for name, after in (("l6", "l6-static"), ("l6-static", "l6.mjs")):
+        file = checkout.top / "dist" / name
+        file.write_bytes(file.read_bytes() + b"\n")
+        actual = checkout.run("l6", has_rt=False, FIRST=str(checkout.folder / "nodes"))
+        yield f"where {name} is damaged", Answer(f"this is {after}\n{checkout.made_of}", "", 0), actual
+    provenance = checkout.top / "dist/l6-aarch64.provenance"
+    named = provenance.read_bytes()
+    arm = str(stand_in_for_uname(checkout, "Linux aarch64"))
+    ends = [place for place, byte in enumerate(named) if byte == ord("\n")]
+    for place in (place for end in ends for place in (end - 40, end - 1, end)):
+        provenance.write_bytes(named[:place] + bytes([named[place] ^ 1]) + named[place + 1:])
+        actual = checkout.run("l6", has_rt=False, FIRST=arm)
+        yield f"byte {place} of a longer provenance", ("", 1), (actual.stdout, actual.status)
+
+
+def notes(checkout: Checkout) -> Iterator[Trial]:
+    """With a note of what was summed, nothing is summed again, until a file changes in whatever way."""
+    note = checkout.folder / "home/.cache/l6/program"
+    home: dict[str, Any] = {"has_rt": False, "HOME": str(checkout.folder / "home")}
+    expected = Answer(checkout.made_of, "", 0)
+    yield "the first call", expected, checkout.run("l6", **home)
+    yield "what is new is not noted", False, note.exists()
+    time.sleep(FRESH)
+    yield "a later call", expected, checkout.run("l6", **home)
+    yield "what is older is noted", [f"{checkout.top}", f"{checkout.top}/dist/l6"], lines_of(note)[::2]
+    quick = checkout.folder / "quick"
+    quick.mkdir()
+    (quick / "xargs").write_text("#!/bin/sh\nexit 1\n")
+    (quick / "xargs").chmod(0o755)
+    yield "a call that sums nothing", expected, checkout.run("l6", FIRST=str(quick), **home)
+    source, program = checkout.top / "crates/l6_word/src/lib.rt", checkout.top / "dist/l6"
+    for file in (source, program):
+        before, times = file.read_bytes(), os.stat(file).st_mtime_ns
+        file.write_bytes(before.swapcase())
+        os.utime(file, ns=(times, times))
+        actual = checkout.run("l6", **home)
+        right = (f"this is l6-static\n{checkout.made_of}", 0) if file == program else ("", 1)
+        yield f"{file.name} changed behind the note", right, (actual.stdout, actual.status)
+        file.write_bytes(before)
+    source.with_name("new.rt").write_text("")
+    yield "a new file behind the note", 1, checkout.run("l6", **home).status
+    source.with_name("new.rt").unlink()
+    for text in ("", "nonsense\n", note.read_text().replace("dist/l6", "nodes/node")):
+        note.write_text(text)
+        yield "a note that is altered", expected, checkout.run("l6", **home)
+    note.unlink()
+    plain = checkout.folder / "plain find"  # that of busybox and of macOS can't print times
+    plain.mkdir()
+    script = f'case "$*" in *-printf*) exit 1 ;; esac\nexec {shutil.which("find")} "$@"\n'
+    (plain / "find").write_text(f"#!/bin/sh\n{script}")
+    (plain / "find").chmod(0o755)
+    for which in ("the first", "the second"):
+        yield f"{which} call with a find without times", expected, checkout.run("l6", FIRST=str(plain), **home)
+    yield "a note without times", False, note.exists()
+    note.parent.rmdir()
+    note.parent.write_text("a file in the folder's place\n")
+    yield "a note that can't be written", expected, checkout.run("l6", **home)
+
+
+def lines_of(file: Path) -> list[str]:
+    """The lines of a file; none if it isn't there."""
+    return file.read_text("utf-8").splitlines() if file.exists() else []
+
+
+def places(checkout: Checkout) -> Iterator[Trial]:
+    """The program is found wherever the checkout is, and whatever the caller is told and may do."""
+    expected = Answer(checkout.made_of, "", 0)
+    for name in ("with blanks", "Mühle am Bach", "a'quote \"and $HOME", "-dash", "bar|bar", "[a]*"):
+        moved = checkout.folder / name
+        checkout.top.rename(moved)
+        path = {"PATH": str(checkout.folder / "plain")}
+        yield f"in a folder {name}", expected, checkout.run_words(["./l6"], moved, path)
+        yield f"beside a folder {name}", expected, checkout.run_words([f"./{name}/l6"], checkout.folder, path)
+        moved.rename(checkout.top)
+    for shell in ("sh", "bash", "busybox"):
+        if shutil.which(shell):
+            words = [shell, "sh"] if shell == "busybox" else [shell]
+            yield f"by {shell}", expected, checkout.run_words([*words, "./l6"], checkout.top, {})
+    yield "with an empty environment", expected, checkout.run_words(["./l6"], checkout.top, {})
+    yield "from the root", expected, checkout.run_words([f"{checkout.top}/l6"], Path("/"), {})
+    for file in sorted(checkout.top.rglob("*")):
+        file.chmod(0o555 if file.is_dir() or os.access(file, os.X_OK) else 0o444)
+    checkout.top.chmod(0o555)
+    yield "a checkout that can't be written", expected, checkout.run_as_somebody(["./l6"], checkout.top)
+    for file in [checkout.top, *checkout.top.rglob("*")]:
+        file.chmod(0o755)
+
+
+def cloned(checkout: Checkout) -> Iterator[Trial]:
+    """A clone in which Git converts the ends of lines has the same files, since .gitattributes forbids that."""
+    if not shutil.which("git"):
+        print("skipped: a clone that converts the ends of lines: git is missing")
+        return
+    git = ["git", "-c", "user.name=nobody", "-c", "user.email=nobody@localhost"]
+    for words in (["init", "-q"], ["add", "--all"], ["commit", "-q", "-m", "all"]):
+        subprocess.run([*git, *words], cwd=checkout.top, check=True)
+    clone = [*git, "clone", "-q", "-c", "core.autocrlf=true", "-c", "core.eol=crlf", str(checkout.top), "clone"]
+    subprocess.run(clone, cwd=checkout.folder, check=True)
+    expected = Answer(checkout.made_of, "", 0)
+    yield "a clone that converts the ends of lines", expected, checkout.run("../clone/l6", has_rt=False)
+
+
+def keyboard(checkout: Checkout) -> Iterator[Trial]:
+    """On a terminal it is said once that the job comes from the keyboard, if one is read."""
+    said = "l6: reading the job from the keyboard, up to Ctrl-D at the beginning of a line\n"
+    calls: tuple[tuple[list[str], str | None], ...] = (
+        (["run"], said), (["debug", "--store", "2"], said), (["asm"], said), (["run", "--help"], ""),
+        (["--version"], None), (["nonsense"], ""), ([], ""),
+    )
+    for words, why in calls:
+        actual = checkout.run_on_terminal(*words)
+        if why is not None:
+            yield f"what is said on a terminal: {words}", why, actual.stderr
+        printed = "".join(f"<{word}>\n" for word in words)
+        yield f"what is printed on a terminal: {words}", f"{checkout.made_of}{printed}", actual.stdout
+
+
+def making_dist(checkout: Checkout) -> Iterator[Trial]:
+    """tools/make_dist writes the program and its provenance, or nothing."""
+    dist = checkout.top / "dist"
+    before = {file.name: file.read_bytes() for file in dist.iterdir()}
+    yield "what is in dist/", IN_DIST, sorted(before)
+    actual = checkout.run("tools/make_dist")
+    again = {file.name: file.read_bytes() for file in dist.iterdir()}
+    yield "dist/ made again", (0, before), (actual.status, again)
+    for crate in ("l6", "l6_word", "l6_tests"):
+        text = (checkout.top / f"crates/{crate}/specs/Lib.antt").read_text()
+        checkout.write(f"crates/{crate}/specs/Lib.antt", UNPROVED)
+        actual = checkout.run("tools/make_dist")
+        again = {file.name: file.read_bytes() for file in dist.iterdir()}
+        yield f"{crate} is not proved", (1, before), (actual.status, again)
+        checkout.write(f"crates/{crate}/specs/Lib.antt", text)
+    checkout.write("crates/l6/src/main.rt", "another main\n")
+    (dist / "l6").chmod(0o600)
+    actual = checkout.run("tools/make_dist", umask=0o077)
+    yield "dist/ made of other sources", 0, actual.status
+    modes = {name: (dist / name).stat().st_mode & 0o777 for name in IN_DIST}
+    yield "the modes in dist/", {name: 0o755 if name in PROGRAMS else 0o644 for name in IN_DIST}, modes
+    yield "what is in dist/ then", IN_DIST, sorted(file.name for file in dist.iterdir())
+    checkout.forget_what_was_built()
+    expected = Answer(checkout.made_of, "", 0)
+    yield "the new program of dist/", expected, checkout.run("l6", has_rt=False)
+    before = {file.name: file.read_bytes() for file in dist.iterdir()}
+    cutting = checkout.folder / "cutting"  # a cp that writes the beginning of a file, and says that all is well
+    cutting.mkdir()
+    (cutting / "cp").write_text('#!/bin/sh\nhead -c 40 "$1" > "$2"\n')
+    (cutting / "cp").chmod(0o755)
+    actual = checkout.run("tools/make_dist", FIRST=str(cutting))
+    again = {file.name: file.read_bytes() for file in dist.iterdir()}
+    yield "copies that are cut", (1, before), (actual.status, again)
+    for name in ("web/build", "web/bundle", "ports/build", "ports/bundle"):
+        text = (checkout.top / name).read_text()
+        checkout.write(name, "#!/bin/sh\nexit 1\n")
+        actual = checkout.run("tools/make_dist")
+        again = {file.name: file.read_bytes() for file in dist.iterdir()}
+        yield f"{name} fails", (1, before), (actual.status, again)
+        checkout.write(name, text)
+    checkout.write("ports/bundle", text.replace("it=l6.mjs", "it=another"))
+    actual = checkout.run("tools/make_dist", "--node")
+    again = {file.name: file.read_bytes() for file in dist.iterdir()}
+    changed = sorted(name for name in again if again[name] != before[name])
+    yield "the program for Node made again", (0, ["l6.mjs", "l6.mjs.provenance"]), (actual.status, changed)
+
+
+GROUPS: tuple[Callable[[Checkout], Iterator[Trial]], ...] = (
+    distributed, changed_sources, damaged_distribution, built_program, failed_proofs,
+    edits_while_it_builds, crates_below, other_systems, damaged_programs, other_files, notes, places, cloned,
+    keyboard, making_dist,
+)
+
+
+def trials() -> Iterator[Trial]:
+    """All trials, each group on a checkout of its own."""
+    for group in GROUPS:
+        with tempfile.TemporaryDirectory() as folder:
+            for name, expected, actual in group(Checkout(Path(folder) / "checkout")):
+                yield f"{group.__name__}: {name}", expected, actual
+
+
+if __name__ == "__main__":
+    sys.exit(report(trials()))

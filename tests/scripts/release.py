@@ -1,0 +1,287 @@
+#!/usr/bin/env python3
+"""Tests what a release has besides the program: version, licences, citation, completions and packages.
+
+release.py PROGRAM [--quick] prints each difference, and last 'N passed, M failed'. It says what it skips where a
+tool is missing. Packages are made in a folder of their own, and installed into a root of their own; with
+--quick they are made once, and not looked through by lintian.
+"""
+from __future__ import annotations
+
+import datetime
+import hashlib
+import os
+import re
+import shutil
+import subprocess
+import sys
+import tempfile
+from collections.abc import Iterator
+from pathlib import Path
+
+sys.path.insert(0, str(Path(__file__).resolve().parents[1] / "harness"))
+from answers import answer, answer_of
+from trials import Trial, report
+
+TOP = Path(__file__).resolve().parents[2]
+KIT = Path(shutil.which("rt") or "/nowhere/bin/rt").resolve().parent.parent / "rattle"
+FIRST = b" (A,E,5)(A,PD)\n"
+PRINTED = answer(b"5\n== DONE AFTER 6 STEPS\n")
+DATE = r"\d{4}-\d\d-\d\d"
+
+# The SHA-256 sums of the texts, as they are known elsewhere: those of Rust's crates, and that of musl.
+LICENCES = {
+    "licenses/Apache-2.0.txt": "a60eea817514531668d7e00765731449fe14d059d3249e0bc93b36de45f759f2",
+    "LICENSE-APACHE": "a60eea817514531668d7e00765731449fe14d059d3249e0bc93b36de45f759f2",
+    "licenses/rust-MIT.txt": "23f18e03dc49df91622fe2a76176497404e46ced8a715d9d2b67a7446571cca3",
+    "licenses/itoa-MIT.txt": "23f18e03dc49df91622fe2a76176497404e46ced8a715d9d2b67a7446571cca3",
+    "licenses/thiserror-MIT.txt": "23f18e03dc49df91622fe2a76176497404e46ced8a715d9d2b67a7446571cca3",
+    "licenses/clap-MIT.txt": "6efb0476a1cc085077ed49357026d8c173bf33017278ef440f222fb9cbcb66e6",
+    "licenses/musl-COPYRIGHT.txt": "f9bc4423732350eb0b3f7ed7e91d530298476f8fec0c6c427a1c04ade22655af",
+}
+# Where the toolchain has the same texts.
+IN_KIT = {
+    "clap-MIT": "clap/LICENSE-MIT", "clap-Apache-2.0": "clap/LICENSE-APACHE", "strsim-MIT": "strsim/LICENSE",
+    "arrayvec-MIT": "arrayvec/LICENSE-MIT", "circular_buffer-BSD-3-Clause": "circular_buffer/LICENSE",
+    "indexmap-MIT": "indexmap/LICENSE-MIT", "itoa-MIT": "itoa/LICENSE", "thiserror-MIT": "thiserror/LICENSE",
+    "Apache-2.0": "indexmap/LICENSE-APACHE",
+}
+
+
+def text_of(name: str) -> str:
+    """The text of a file of the repository."""
+    return (TOP / name).read_text("utf-8")
+
+
+def found(pattern: str, name: str) -> str:
+    """What the first group of a pattern is in a file; nothing if it isn't there."""
+    match = re.search(pattern, text_of(name), re.MULTILINE)
+    return match[1] if match else ""
+
+
+def versions(program: str) -> Iterator[Trial]:
+    """The version is in one place of the sources, and everything else says the same."""
+    version = found(r'^const VERSION: &str = "([^",]+)', "crates/l6/src/arguments.rt")
+    said = answer_of([program, "--version"], input=b"").stderr.decode().split(",")[0]
+    yield "the version of the program", f"l6 {version}", said
+    for name, pattern in (
+        ("README.md", r"Version (\S+) is"), ("docs/l6.1", r"^\.Os L6 (\S+)$"),
+        ("dist/l6.html", r"<p>L6 ([^,<]+),"),
+        ("docs/command-line.md", r"^l6 ([^,]+), images"), ("CITATION.cff", r'^version: "(.*)"$'),
+        ("CHANGELOG.md", r"^## \[(.*)\] - "),
+    ):
+        yield f"the version in {name}", version, found(pattern, name)
+
+
+def citation() -> Iterator[Trial]:
+    """The citation has what its format asks for, and the changelog agrees with it."""
+    text = text_of("CITATION.cff")
+    keys = set(re.findall(r"^([a-z-]+):", text, re.MULTILINE))
+    needed = {"cff-version", "message", "type", "title", "authors", "version", "date-released", "license"}
+    yield "the keys of the citation", needed, keys & needed
+    known = {*needed, "abstract", "keywords", "references"}
+    yield "keys that the format does not know", set(), keys - known
+    yield "the format's version", "1.2.0", found(r"^cff-version: (.*)$", "CITATION.cff")
+    yield "who is cited", "The L6 contributors", found(r"^authors:\n  - name: (.*)$", "CITATION.cff")
+    licensed = re.findall(r"^  - (MIT|Apache-2.0)$", text, re.MULTILINE)
+    yield "the licences of the citation", ["MIT", "Apache-2.0"], licensed
+    date = found(rf"^date-released: ({DATE})$", "CITATION.cff")
+    yield "the date of the citation", date, datetime.date.fromisoformat(date).isoformat()
+    yield "lines of the citation that are no YAML of this kind", [], [
+        line for line in text.splitlines() if not re.fullmatch(r"#.*|( *(- )?[a-z-]+: ?.*)|  +.*|  - .*", line)
+    ]
+    yield "the date of the changelog", date, found(rf"^## \[[^]]+\] - ({DATE})$", "CHANGELOG.md")
+    headings = re.findall(r"^### (.*)$", text_of("CHANGELOG.md"), re.MULTILINE)
+    kinds = {"Added", "Changed", "Deprecated", "Removed", "Fixed", "Security"}
+    yield "the headings of the changelog", [], [it for it in headings if it not in kinds]
+
+
+def licences() -> Iterator[Trial]:
+    """Each text of a licence is whole, and each work of others is named with its texts."""
+    for name, digest in LICENCES.items():
+        yield f"the text of {name}", digest, hashlib.sha256((TOP / name).read_bytes()).hexdigest()
+    own = text_of("LICENSE-MIT")
+    holder = "Copyright (c) the L6 contributors\n\n"
+    yield "the text of LICENSE-MIT", holder + text_of("licenses/rust-MIT.txt"), own
+    common = Path("/usr/share/common-licenses/Apache-2.0")
+    if common.is_file():
+        yield "the words of LICENSE-APACHE", common.read_text().split(), text_of("LICENSE-APACHE").split()
+    if KIT.is_dir():
+        for name, source in IN_KIT.items():
+            expected = (KIT / source).read_text("utf-8")
+            yield f"{name}, as the toolchain has it", expected, text_of(f"licenses/{name}.txt")
+    else:
+        print("skipped: licences as the toolchain has them: rt is missing")
+    listed = text_of("THIRD-PARTY.md")
+    links = set(re.findall(r"(?:\(|^\[\S+\]: )(licenses/[^)\s]+)", listed, re.MULTILINE))
+    yield "texts that THIRD-PARTY.md names", {f"licenses/{it.name}" for it in (TOP / "licenses").iterdir()}, links
+    lines = [line.partition("#")[0] for line in text_of("crates.txt").splitlines()]
+    used = {name for line in lines for name in line.partition(":")[2].split()}
+    own_crates = {line.partition(":")[0].strip() for line in lines}
+    used -= {"core", "std_alloc"}  # parts of Rattle's std
+    missing = [name for name in sorted(used - own_crates) if f"| {name}, " not in listed]
+    yield "crates that THIRD-PARTY.md does not name", [], missing
+    for name in ("dist/l6.html", "dist/l6.mjs"):
+        texts = [own, *(text_of(f"licenses/{it}.txt") for it in IN_KIT if "Apache" not in it)]
+        yield f"licences in {name}", [], [text for text in texts if text.strip() not in text_of(name)]
+    spdx = "`MIT OR Apache-2.0`"
+    yield "the licences in README.md", True, spdx in text_of("README.md")
+
+
+# What each shell offers for the last word of a command line.
+COMPLETIONS: dict[str, set[str]] = {
+    "l6 r": {"run", "renew"},
+    "l6 --v": {"--version"},
+    "l6 run --s": {"--store", "--steps"},
+    "l6 asm --": {"--help"},
+    "l6 debug --store 2 --o": {"--output"},
+    "l6 help l": {"list", "load"},
+    "l6 trace --": {"--store", "--help"},
+}
+IN_BASH = """
+. completions/l6.bash
+COMP_WORDS=($1)
+COMP_CWORD=$((${#COMP_WORDS[@]} - 1))
+_l6
+printf '%s\\n' "${COMPREPLY[@]}"
+"""
+IN_FISH = 'source completions/l6.fish; complete -C "$argv[1]"'
+# In a shell of its own, on a terminal of its own, a function in place of zsh's prints each match that is offered.
+ZSH_SETUP = """
+fpath=($PWD/completions $fpath)
+autoload -Uz compinit && compinit -u -D
+compadd() {
+    if [[ ${@[1,(i)(-|--)]} == *-(O|A|D)\\ * ]]; then builtin compadd "$@"; return; fi
+    local -a hits
+    builtin compadd -A hits "$@"
+    (( $#hits )) && print -l -- MATCH:$^hits
+}
+zle-line-init() { print REA''DY }
+zle -N zle-line-init
+"""
+IN_ZSH = """
+zmodload zsh/zpty
+zpty shell 'TERM=dumb zsh -f -i'
+zpty -w shell 'source $HOME/setup.zsh'
+zpty -r shell ready '*READY*'
+zpty -w -n shell "$1"$'\\t'
+zpty -w shell $'\\C-uprint EN\'\'D'
+zpty -r shell answer '*END*'
+print -r -- $answer
+"""
+
+
+def completions() -> Iterator[Trial]:
+    """Each shell offers verbs, and the options of a verb."""
+    shells = {
+        "bash": ["bash", "-c", IN_BASH, "bash"], "fish": ["fish", "-c", IN_FISH],
+        "zsh": ["zsh", "-fc", IN_ZSH, "zsh"],
+    }
+    for shell, words in shells.items():
+        if not shutil.which(shell):
+            print(f"skipped: completions of {shell}: it is missing")
+            continue
+        with tempfile.TemporaryDirectory() as home:
+            Path(home, "setup.zsh").write_text(ZSH_SETUP)
+            for line, expected in COMPLETIONS.items():
+                ran = subprocess.run(
+                    [*words, line], cwd=TOP, capture_output=True, text=True, timeout=60,
+                    env={**os.environ, "HOME": home, "XDG_CONFIG_HOME": home, "XDG_DATA_HOME": home},
+                )
+                yield f"{shell} completes {line!r}", expected, offered(shell, line, ran.stdout)
+
+
+def offered(shell: str, line: str, printed: str) -> set[str]:
+    """The words that a shell offered for the last word of a line."""
+    last = line.split()[-1]
+    if shell == "zsh":
+        words = re.findall(r"MATCH:(\S+)", printed)
+    else:
+        words = [row.split("\t")[0] for row in printed.splitlines()]
+    return {word.partition("=")[0] for word in words if word.startswith(last)}
+
+
+def packages(is_quick: bool) -> Iterator[Trial]:
+    """The packages are made, twice the same, have no error, and are installed and removed."""
+    if not shutil.which("dpkg-deb"):
+        print("skipped: packages: dpkg-deb is missing")
+        return
+    with tempfile.TemporaryDirectory(prefix="l6-packages-") as room:
+        folders = [Path(room, name) for name in (["made"] if is_quick else ["made", "again"])]
+        for folder in folders:
+            ran = subprocess.run([TOP / "tools/make_deb", folder], capture_output=True, text=True)
+            yield f"tools/make_deb: {folder.name}", (0, ""), (ran.returncode, ran.stderr)
+        made, *again = ({file.name: file.read_bytes() for file in folder.iterdir()} for folder in folders)
+        yield "packages, made again", True, all(it == made for it in again)
+        version = found(r'^version: "(.*)"$', "CITATION.cff")
+        names = [f"l6-{version}-aarch64.tar.gz", f"l6-{version}-x86_64.tar.gz",
+                 f"l6_{version}_amd64.deb", f"l6_{version}_arm64.deb"]
+        yield "what is made", names, sorted(made)
+        has_lintian = shutil.which("lintian") is not None and not is_quick
+        for name in names[2:]:
+            if has_lintian:
+                words = ["lintian", "--fail-on", "error", str(folders[0] / name)]
+                ran = subprocess.run(words, capture_output=True, text=True)
+                errors = re.findall("^E:.*", ran.stdout, re.MULTILINE)
+                yield f"errors of {name}", (0, []), (ran.returncode, errors)
+            yield from installed(folders[0] / name, Path(room, name.removesuffix(".deb")))
+        if not has_lintian:
+            print(f"skipped: errors of the packages: {'as was asked' if is_quick else 'lintian is missing'}")
+        yield from unpacked(folders[0] / names[1], Path(room, "unpacked"))
+
+
+def installed(package: Path, root: Path) -> Iterator[Trial]:
+    """The trials on a package that is installed into an empty root, and removed again."""
+    (root / "var/lib/dpkg/info").mkdir(parents=True)
+    (root / "var/lib/dpkg/updates").mkdir()
+    (root / "var/lib/dpkg/status").touch()
+    forced = [f"--force-{it}" for it in ("not-root", "architecture", "bad-path")]
+    dpkg = ["dpkg", f"--root={root}", "--log=/dev/null", *forced]
+    ran = subprocess.run([*dpkg, "-i", package], capture_output=True, text=True)
+    yield f"{package.name} is installed", 0, ran.returncode
+    command = [str(root / "usr/bin/l6"), "run"]
+    if "arm64" in package.name:
+        command.insert(0, "qemu-aarch64-static")
+    if shutil.which(command[0]):
+        yield f"the program of {package.name}", PRINTED, answer_of(command, input=FIRST, preexec_fn=None)
+    for name in ("share/man/man1/l6.1.gz", "share/doc/l6/copyright", "share/doc/l6/examples/first.deck",
+                 "share/bash-completion/completions/l6", "share/zsh/vendor-completions/_l6"):
+        yield f"{name} of {package.name}", True, (root / "usr" / name).is_file()
+    ran = subprocess.run([*dpkg, "-P", "l6"], capture_output=True, text=True)
+    left = [it for it in (root / "usr").rglob("*")] if (root / "usr").exists() else []
+    yield f"{package.name} is removed", (0, []), (ran.returncode, left)
+
+
+def unpacked(archive: Path, folder: Path) -> Iterator[Trial]:
+    """The trials on an archive that is unpacked."""
+    folder.mkdir()
+    subprocess.run(["tar", "-C", folder, "-xzf", archive], check=True)
+    programs = [str(it) for it in folder.glob("*/bin/l6")]
+    yield "programs of the archive", 1, len(programs)
+    yield "the program of the archive", PRINTED, answer_of([*programs, "run"], input=FIRST)
+    texts = {it.name for it in folder.glob("*/share/doc/l6/*")}
+    yield "texts of the archive", set(), {"LICENSE-MIT", "LICENSE-APACHE", "THIRD-PARTY.md", "licenses"} - texts
+
+
+def links() -> Iterator[Trial]:
+    """What the pages at the top and beside the programs lead to is there."""
+    pages = [*TOP.glob("*.md"), TOP / "dist/README.md", TOP / "ports/README.md"]
+    for name in (str(page.relative_to(TOP)) for page in pages):
+        targets = re.findall(r"\]\(([^)#:]+)(?:#[^)]*)?\)", text_of(name))
+        missing = [it for it in targets if not (TOP / name).parent.joinpath(it).exists()]
+        yield f"links of {name} that lead nowhere", [], missing
+
+
+def trials(program: str, is_quick: bool) -> Iterator[Trial]:
+    """All trials."""
+    yield from versions(program)
+    yield from citation()
+    yield from licences()
+    yield from links()
+    yield from completions()
+    yield from packages(is_quick)
+
+
+if __name__ == "__main__":
+    if len(sys.argv) < 2 or sys.argv[2:] not in ([], ["--quick"]):
+        sys.exit(__doc__)
+    sys.exit(report(trials(sys.argv[1], sys.argv[2:] == ["--quick"])))

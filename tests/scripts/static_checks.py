@@ -1,0 +1,193 @@
+#!/usr/bin/env python3
+"""Checks scripts without running them, the types of Python's and the shell's, and how sources are set out.
+
+static_checks.py prints what mypy and shellcheck say, and which sources `rt fmt` would set out otherwise, and
+last 'N passed, M failed'. Each script and each crate is a trial. If mypy or shellcheck, both Debian's packages,
+is not installed, that is said, and a trial of its files is whether Python or the shell can read them. Without
+Rattle's toolchain the sources are not looked at.
+"""
+from __future__ import annotations
+
+import os
+import shutil
+import subprocess
+import sys
+import tempfile
+from collections.abc import Iterable, Iterator
+from concurrent.futures import ThreadPoolExecutor
+from dataclasses import dataclass
+from pathlib import Path
+
+sys.path.insert(0, str(Path(__file__).resolve().parents[1] / "harness"))
+from kept import kept_folder
+from trials import Trial, report
+
+TOP = Path(__file__).resolve().parents[2]
+BAD_PYTHON = "def length(text: str) -> int:\n    return text\n"
+BAD_SHELL = "#!/bin/sh\nrm $1\n"
+BAD_SOURCE = "fn one()->u8{1}\n"
+NO_SCRIPTS = {".git", "crates", "dist", "docs", "examples"}  # folders
+MADE = {"out", "__pycache__"}  # folders of what is made
+CLEAN = ""  # what is said of a file without a fault
+
+
+@dataclass(frozen=True)
+class Group:
+    """Scripts of Python that import each other by their names alone."""
+
+    folders: tuple[str, ...]  # whose modules they import
+    files: tuple[Path, ...]
+    flags: tuple[str, ...] = ("--strict",)
+
+
+def python_groups() -> list[Group]:
+    """All scripts of Python. Those of web/tests have answers of a browser, which are of any type."""
+    folders = (*(f"tests/{folder.name}" for folder in sorted(TOP.glob("tests/*/"))), "tools", "tools/drawing")
+    shared = tuple(sorted([*TOP.glob("tests/**/*.py"), *TOP.glob("tools/**/*.py")]))
+    bench = tuple(TOP / "bench" / name for name in ("run", "measure.py", "workloads.py"))
+    groups = [
+        Group(folders, shared),
+        Group(("bench", *folders), bench),
+        Group(("web/tests", *folders), tuple(sorted(TOP.glob("web/tests/*.py"))), ()),
+    ]
+    known = {file for group in groups for file in group.files}
+    others = [file for file in scripts() if first_line(file).endswith(" python3") and file not in known]
+    return [*groups, *(Group(("tools", str(file.parent.relative_to(TOP))), (file,)) for file in others)]
+
+
+def shell_scripts() -> list[Path]:
+    """All scripts of the shell, by their first lines; those that are sourced have no such line."""
+    files = [it for it in scripts() if first_line(it).endswith(("/sh", " bash"))]
+    return [*files, *sorted(TOP.glob("tools/*.sh"))]
+
+
+def scripts() -> Iterator[Path]:
+    """All files that may be run."""
+    folders = [it for it in TOP.iterdir() if it.is_dir() and it.name not in NO_SCRIPTS]
+    files = [it for it in TOP.iterdir() if it.is_file()]
+    for folder in folders:
+        files += [it for it in folder.rglob("*") if it.is_file() and MADE.isdisjoint(it.parts)]
+    yield from (file for file in sorted(files) if first_line(file).startswith("#!"))
+
+
+def first_line(file: Path) -> str:
+    """The first line of a file."""
+    with open(file, "rb") as opened:
+        return opened.readline().decode("utf-8", "replace").rstrip("\n")
+
+
+def said_by_mypy(group: Group) -> dict[Path, str]:
+    """What mypy says of each file of a group."""
+    path = ":".join(str(TOP / folder) for folder in group.folders)
+    # (what was read before is kept, so that the next time takes a second)
+    kept = kept_folder(f"mypy-{group.files[0].stem}")
+    cache = kept if kept else Path(os.devnull)
+    ended = subprocess.run(
+        [
+            "mypy",
+            *group.flags,
+            "--cache-dir",
+            cache,
+            "--scripts-are-modules",
+            "--no-error-summary",
+            *group.files,
+        ],
+        env={**os.environ, "MYPYPATH": path},
+        capture_output=True,
+        text=True,
+        cwd=TOP,
+    )
+    said = dict.fromkeys(group.files, CLEAN)
+    for line in (ended.stdout + ended.stderr).splitlines():
+        file = TOP / line.partition(":")[0]
+        said[file] = said.get(file, "") + line + "\n"
+    if ended.returncode and not any(said.values()):
+        said[group.files[0]] = f"mypy ended with status {ended.returncode}\n"
+    return said
+
+
+def said_by_shellcheck(file: Path) -> str:
+    """What shellcheck says of a file."""
+    ended = subprocess.run(["shellcheck", "-x", file], capture_output=True, text=True, cwd=TOP)
+    return ended.stdout + ended.stderr
+
+
+def said_by_python(file: Path) -> str:
+    """What Python says of a file that it reads and does not run."""
+    try:
+        compile(file.read_bytes(), str(file), "exec")
+    except SyntaxError as error:
+        return str(error)
+    return CLEAN
+
+
+def said_by_shell(file: Path) -> str:
+    """What the shell says of a file that it reads and does not run."""
+    shell = "bash" if "bash" in first_line(file) else "sh"
+    return subprocess.run([shell, "-n", file], capture_output=True, text=True).stderr
+
+
+def said_by_formatter(crate: Path) -> str:
+    """What `rt fmt` says of a crate's sources, which it would change: it runs on a copy of them."""
+    with tempfile.TemporaryDirectory() as room:
+        copy = Path(room, "crates", crate.name)
+        for part in ("src", "specs", "proofs"):
+            if (crate / part).is_dir():
+                shutil.copytree(crate / part, copy / part)
+        Path(room, "crates.txt").write_text(f"{crate.name}:\n")
+        ended = subprocess.run(["rt", "fmt"], capture_output=True, text=True, cwd=copy)
+    return ended.stdout + ended.stderr
+
+
+def is_there(tool: str) -> bool:
+    """Whether a tool is there; says if it is not."""
+    if shutil.which(tool):
+        return True
+    print(f"skipped: {tool} is not installed")
+    return False
+
+
+def trials() -> Iterator[Trial]:
+    """All trials."""
+    for group in python_groups():
+        said = said_by_mypy(group) if is_there("mypy") else {it: said_by_python(it) for it in group.files}
+        yield from (trial(f"the types of {name_of(file)}", what) for file, what in said.items())
+    judge = said_by_shellcheck if is_there("shellcheck") else said_by_shell
+    yield from (trial(f"the shell of {name_of(file)}", judge(file)) for file in shell_scripts())
+    if is_there("rt"):
+        crates = sorted(it.parent for it in TOP.glob("crates/*/src"))
+        with ThreadPoolExecutor(os.cpu_count()) as pool:
+            yield from map(trial, (f"how {it.name} is set out" for it in crates), pool.map(said_by_formatter, crates))
+    known = {file for group in python_groups() for file in group.files} | set(shell_scripts())
+    yield "scripts that nothing checks", [], [name_of(it) for it in scripts() if it not in known]
+
+
+def trial(name: str, said: str) -> Trial:
+    """The trial that nothing is said of a file."""
+    return name, CLEAN, said
+
+
+def name_of(file: Path) -> str:
+    """The name of a file from the top of the repository on."""
+    return str(file.relative_to(TOP)) if file.is_relative_to(TOP) else file.name
+
+
+def canaries() -> Iterable[Trial]:
+    """A file of each kind that must not be clean."""
+    with tempfile.TemporaryDirectory() as folder:
+        python, shell = Path(folder, "bad.py"), Path(folder, "bad.sh")
+        python.write_text(BAD_PYTHON if shutil.which("mypy") else "def")
+        shell.write_text(BAD_SHELL if shutil.which("shellcheck") else "if")
+        said = said_by_mypy(Group((), (python,)))[python] if shutil.which("mypy") else said_by_python(python)
+        yield "a wrong type", CLEAN, said
+        judge = said_by_shellcheck if shutil.which("shellcheck") else said_by_shell
+        yield "a wrong word of the shell", CLEAN, judge(shell)
+        if shutil.which("rt"):
+            source = Path(folder, "bad", "src", "lib.rt")
+            source.parent.mkdir(parents=True)
+            source.write_text(BAD_SOURCE)
+            yield "a source that is not set out as the others are", CLEAN, said_by_formatter(Path(folder, "bad"))
+
+
+if __name__ == "__main__":
+    sys.exit(report(trials(), canaries()))

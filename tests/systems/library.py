@@ -1,0 +1,218 @@
+#!/usr/bin/env python3
+"""Tries the library of the store from C, C++, Rust and Python: dist/l6_store.a, with library/.
+
+library.py [ARCHIVE] prints each difference, and last 'N passed, M failed'. With --prove the archive is made again,
+by rt, and compared with that of dist/. What is not installed (a C++ compiler,
+cargo) is left out with a line. The proved calls are compared with the plain buddy system of bench/allocators.c, and
+with the table of docs/allocator.md.
+"""
+from __future__ import annotations
+
+import os
+import re
+import shutil
+import subprocess
+import sys
+import tempfile
+from collections.abc import Iterator
+from pathlib import Path
+
+sys.path.insert(0, str(Path(__file__).resolve().parents[1] / "harness"))
+from trials import Trial, report
+
+TOP = Path(__file__).resolve().parents[2]
+LIBRARY = TOP / "library"
+CRATE = TOP / "crates/l6_store_c"
+CALLS = 200_000
+WARNINGS = ["-O2", "-Wall", "-Wextra", "-Werror"]
+FIRST = "place 1024, level 3, holds 1965\n"
+# Seven nodes of four words each, in a unit of 1,024 words.
+TREE = "free words 996\n7 10 36 255 1024 1965 1966 \nfree words 1024, largest level 10\n"
+# What a program does that has so many requests for memory granted: it opens the store with four.
+REFUSED = "".join(
+    f"{given} given: open -4, keeps 0, get -1, close -1, keeps 0\n" for given in range(4)
+) + "".join(f"{given} given: open 0, keeps 4, get 1024, close 0, keeps 0\n" for given in (4, 5))
+
+
+def run(words: list[str | Path], **options: object) -> tuple[int, str]:
+    """The status of a command, and what it prints."""
+    ran = subprocess.run(words, capture_output=True, text=True, timeout=300, **options)  # type: ignore[call-overload]
+    return ran.returncode, ran.stdout + ran.stderr
+
+
+def in_c(archive: Path, room: Path) -> Iterator[Trial]:
+    """Programs in C and C++."""
+    heap = LIBRARY / "heap.c"
+    first = f"{FIRST}freed: 0, joined 7\nfreed again: -6\n"
+    for name, sources, expected in (
+        ("first.c", [LIBRARY / "first.c", heap], first),
+        ("tree.c", [LIBRARY / "tree.c", heap], TREE),
+        ("first.c, with the heap of an array", [LIBRARY / "first.c", LIBRARY / "array_heap.c"], first),
+        ("refuse.c", [TOP / "tests/systems/library/refuse.c"], REFUSED),
+    ):
+        program = room / "program"
+        made = run(["cc", "-std=c11", *WARNINGS, f"-I{LIBRARY}", *sources, archive, "-o", program])
+        yield f"{name} compiles", (0, ""), made
+        yield name, (0, expected), run([program])
+    program = room / "compare"
+    sources = [TOP / "tests/systems/library/compare.c", heap]
+    made = run(["cc", "-std=c11", "-O2", "-D_POSIX_C_SOURCE=199309L", *sources, archive, "-o", program])
+    yield "compare.c compiles", 0, made[0]
+    status, printed = run([program, str(CALLS)])
+    counts = re.fullmatch(r"(\d+) gets, (\d+) refused, (\d+) frees\n", printed)
+    yield "the same as a plain buddy system", (0, CALLS), (
+        status, int(counts[1]) + int(counts[3]) if counts else printed)
+    yield "gets that both refuse", True, counts is not None and int(counts[2]) > 500
+    if not shutil.which("c++"):
+        print("skipped: C++: there is no compiler")
+        return
+    source = room / "first.cpp"
+    source.write_text((LIBRARY / "first.c").read_text().replace("%\" PRId64 \"", "%ld"), "ascii")
+    run(["cc", "-c", heap, "-o", room / "heap.o"])
+    made = run(["c++", "-std=c++17", *WARNINGS, f"-I{LIBRARY}", source, room / "heap.o", archive, "-o", room / "cpp"])
+    yield "first.c as C++ compiles", (0, ""), made
+    yield "first.c as C++", (0, first), run([room / "cpp"])
+
+
+def in_rust(archive: Path, room: Path) -> Iterator[Trial]:
+    """The crate, and its example."""
+    if not shutil.which("cargo"):
+        print("skipped: Rust: there is no cargo")
+        return
+    folder = room / "lib"
+    folder.mkdir()
+    shutil.copy(archive, folder / "l6_store.a")
+    status, printed = run(
+        ["cargo", "run", "--quiet", "--offline", "--example", "first", "--target-dir", room / "target"],
+        cwd=LIBRARY / "rust", env={**os.environ, "L6_STORE_LIB": str(folder)},
+    )
+    (LIBRARY / "rust/Cargo.lock").unlink(missing_ok=True)
+    yield "first.rs", (0, f"{FIRST}freed, joined 7\nfreed again: Err(NoBlock)\n"), (status, printed)
+
+
+def in_python(archive: Path, room: Path) -> Iterator[Trial]:
+    """The module, with the table of eight calls."""
+    shared = room / "libl6_store.so"
+    heap = room / "heap-pic.o"
+    run(["cc", "-c", "-fPIC", LIBRARY / "heap.c", "-o", heap])
+    whole: list[str | Path] = ["-Wl,--whole-archive", archive, "-Wl,--no-whole-archive"]
+    yield "a shared object", (0, ""), run(["cc", "-shared", *whole, heap, "-Wl,-z,text", "-o", shared])
+    known = {**os.environ, "L6_STORE_SO": str(shared), "PYTHONPATH": str(LIBRARY / "python")}
+    actual = run([sys.executable, "-B", LIBRARY / "python/first.py"], env=known)
+    yield "first.py", (0, f"{FIRST}freed, joined 7\nfreed again: NO_BLOCK\n"), actual
+    rows = re.findall(r"^\| (get, level \d+|free \d+) \| ?(\d*) ?\| (\d+) \| (.*) \|$",
+                      (TOP / "docs/allocator.md").read_text("utf-8"), re.MULTILINE)
+    yield "the calls of the table", 8, len(rows)
+    script = ["from l6_store import Store", "s = Store(1)"]
+    for call, *_ in rows:
+        number = call.split()[-1]
+        made = f"s.get({number})" if call.startswith("get") else f"s.free({number})"
+        script.append(f"print({made} or '', s.moves(), *(f'l.{{k}}: ' + ', '.join(map(str, s.list(k)))"
+                      " for k in range(11) if s.pieces(k)), sep='|')")
+    status, printed = run([sys.executable, "-B", "-c", "\n".join(script)], env=known)
+    for (call, place, moves, lists), line in zip(rows, printed.splitlines()):
+        yield f"{call}, {place or 'no place'}: place and moves", [place, moves], line.split("|")[:2]
+        shown = [it for it in lists.split(" · ") if ".. as before" not in it and it != ".."]
+        yield f"{call}, {place or 'no place'}: lists", shown, line.split("|")[2:2 + len(shown)]
+    faults = "; ".join(f"t({call})" for call in (
+        "lambda: Store(0)", "lambda: Store(256)", "lambda: s.get(11)", "lambda: s.free(1025)", "lambda: s.read(1024, 8)",
+        "lambda: s.write(1024, 0, 1 << 36)", "lambda: s.write(1024, 0, 1 << 64)", "lambda: s.copy(1024, 1024)",
+        "lambda: s.free((1 << 32) + 1024)", "lambda: s.close()", "lambda: s.live(1024)"))
+    code = (
+        "from l6_store import Store, StoreError\ns = Store(1); s.get(3)\n"
+        "def t(call):\n    try:\n        print(call())\n    except (StoreError, OverflowError) as error:\n"
+        f"        print(getattr(error, 'fault', error))\n{faults}"
+    )
+    expected = [-3, -3, -5, -6, -7, -8, "18446744073709551616 is no number of 64 bits", -9,
+                "4294968320 is no number of 32 bits", None, -1]
+    status, printed = run([sys.executable, "-B", "-c", code], env=known)
+    yield "faults", (0, list(map(str, expected))), (status, printed.splitlines())
+
+
+def numbers() -> Iterator[Trial]:
+    """The faults have the same numbers in the source, the header, the crate and the module."""
+    source = re.findall(r"CallFault::(\w+) => (-\d+)", (TOP / "crates/l6_store_c/src/fault.rt").read_text("utf-8"))
+    expected = {int(number): named_in_header(name) for name, number in source}
+    header = re.findall(r"L6_STORE_(\w+) = (-\d+)", (LIBRARY / "l6_store.h").read_text("ascii"))
+    module = re.findall(r"^    ([A-Z_]+) = (-\d+)$", (LIBRARY / "python/l6_store.py").read_text("ascii"), re.MULTILINE)
+    crate = re.findall(r"(-\d+) => Fault::(\w+)", (LIBRARY / "rust/src/lib.rs").read_text("ascii"))
+    yield "faults of the header", expected, {int(number): name for name, number in header}
+    yield "faults of the module", expected, {int(number): name for name, number in module}
+    yield "faults of the crate", {number: name.replace("_", "") for number, name in expected.items() if number < -2}, {
+        int(number): name.upper() for number, name in crate}
+    exports = re.findall(r'extern "C" fn (l6_store_\w+)', (TOP / "crates/l6_store_c/src/exports.rt").read_text("utf-8"))
+    for name in ("l6_store.h", "rust/src/lib.rs"):
+        found = re.findall(r"\b(l6_store_\w+)\(", (LIBRARY / name).read_text("ascii"))
+        yield f"the calls of {name}", sorted(exports), sorted(set(found))
+    text = (LIBRARY / "python/l6_store.py").read_text("ascii")
+    table = text.partition("_CALLS = {")[2].partition("}")[0]
+    found = [*re.findall(r'"(\w+)": \[', table), *re.findall(r"_library\.l6_store_(\w+)\.restype", text)]
+    yield "the calls of python/l6_store.py", sorted(exports), sorted(f"l6_store_{name}" for name in found)
+
+
+def faults_of_calls() -> Iterator[Trial]:
+    """The faults that the header names above each call are those of its clauses."""
+    outcomes = (CRATE / "specs/Outcome.antt").read_text("utf-8")
+    variants = set(re.findall(r"\w+", "".join(re.findall(r"TheVariants\.\{(.*)\}", outcomes))))
+    known: dict[str, set[str]] = {}
+    for word, body in re.findall(r"^abbrev pub (\w+) :.*\n((?:.+\n)+)", outcomes, re.MULTILINE):
+        # a definition may use those above it
+        known[word] = (variants & set(re.findall(r"\w+", body))).union(*(known[it] for it in known if it in body))
+    exports = (CRATE / "src/exports.rt").read_text("utf-8")
+    expected, closed = {}, set()
+    for call, clauses in re.findall(r'extern "C" fn (\w+)\(.*?\) -> i64\n(.*?)\n\{', exports, re.DOTALL):
+        faults = set(re.findall(r"CallFault\.(\w+)", clauses)).union(*(known[it] for it in known if it in clauses))
+        if "Closed" in faults or "answered" in clauses:
+            closed.add(call)
+        expected[call] = sorted(named_in_header(fault) for fault in faults - {"Closed"})
+    text = (LIBRARY / "l6_store.h").read_text("ascii")
+    found = {
+        call: sorted(re.findall(r"[A-Z]+_[A-Z]+|FULL", "".join(re.findall(r"Faults?: ([A-Z_, ]+)", comment))))
+        for comment, call in re.findall(r"/\*((?:[^*]|\*(?!/))*)\*/\nint64_t (l6_store_\w+)\(", text)
+    }
+    yield "the faults of each call in the header", expected, found
+    yield "the calls that answer IS_CLOSED", set(expected) - {"l6_store_open", "l6_store_level_for"}, closed
+
+
+def named_in_header(fault: str) -> str:
+    """The name of a fault in the header."""
+    return {"Closed": "IS_CLOSED", "Open": "IS_OPEN"}.get(fault, re.sub(r"(?<!^)([A-Z])", r"_\1", fault).upper())
+
+
+def made_again(archive: Path) -> Iterator[Trial]:
+    """The archive and the header of dist/ are those of these sources, byte for byte."""
+    status, printed = run(["rt", "lib"], cwd=CRATE)
+    yield "the archive is made again", (0, ""), (status, "" if status == 0 else printed)
+    built = CRATE / "out/libl6_store_c.a"
+    there = [file.read_bytes() if file.exists() else b"" for file in (built, archive)]
+    yield "the archive of dist/ is that of these sources", True, there[0] == there[1] != b""
+
+
+def header() -> Iterator[Trial]:
+    """The header of dist/ is the one of library/."""
+    files = (LIBRARY / "l6_store.h", TOP / "dist/l6_store.h")
+    ours, handed_out = (file.read_text("ascii") if file.exists() else "no file" for file in files)
+    yield "the header of dist/", ours, handed_out
+
+
+def main(words: list[str]) -> int:
+    """Makes the trials."""
+    is_gate = words == ["--prove"]
+    archive = Path(words[0]).resolve() if words and not is_gate else TOP / "dist/l6_store.a"
+    with tempfile.TemporaryDirectory(prefix="l6-library-") as room:
+        def trials() -> Iterator[Trial]:
+            yield from numbers()
+            yield from faults_of_calls()
+            if is_gate:
+                yield from made_again(archive)
+            if not words or is_gate:
+                yield from header()
+            yield from in_c(archive, Path(room))
+            yield from in_rust(archive, Path(room))
+            yield from in_python(archive, Path(room))
+
+        return report(trials())
+
+
+if __name__ == "__main__":
+    sys.exit(main(sys.argv[1:]))

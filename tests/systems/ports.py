@@ -1,0 +1,367 @@
+#!/usr/bin/env python3
+"""Tests the programs for other systems: the static ones, and the one for Node.
+
+ports.py [--quick] makes them again and compares them with those of dist/, byte for byte; runs the cases and
+the examples on each; and tries devices that fail, refused memory, and the largest jobs. It tries the static
+programs in a root that has the shell of busybox and no C library. On the static debuggers it plays sessions,
+at a terminal and over pipes (l6db.py). It says what it skips where a tool is missing. With --quick only 500 jobs are run on each program, the static ones are not made again, which takes a
+minute, and a program that was not made from the sources in the checkout is passed over.
+It prints each difference, and last 'N passed, M failed'.
+"""
+from __future__ import annotations
+
+import base64
+import json
+import os
+import resource
+import shlex
+import shutil
+import stat
+import subprocess
+import sys
+import tempfile
+from collections.abc import Callable, Iterable, Iterator
+from concurrent.futures import ThreadPoolExecutor
+from dataclasses import dataclass
+from pathlib import Path
+from unittest import mock
+
+sys.path[:0] = [str(Path(__file__).resolve().parents[1] / it) for it in ("harness", "program")]
+import answers
+from answers import Answer, answer, answer_of
+from cases import read_cases
+from l6db import at_terminal, one_by_one, page_sessions, words
+from largest_jobs import MAX_OUTPUT, debug_job, longest_image, run_job
+from program import cut_images, examples, failing_devices, helps, limited_files
+from trials import Trial, report
+
+HERE = Path(__file__).resolve().parent
+TOP = HERE.parents[1]
+DIST, EXAMPLES = TOP / "dist", TOP / "examples"
+FEW = 500  # jobs on each program, with --quick
+AT_A_TIME = 4
+SECONDS = 120  # for one run
+QEMU = "qemu-aarch64-static"
+MAX_JOB = 1 << 24
+FIRST = b" (A,E,5)(A,PD)\n"
+PRINTED = answer(b"5\n== DONE AFTER 6 STEPS\n")
+# What the scripts of a checkout need, besides dist/ and the sources that are summed.
+CHECKOUT = ("l6", "install", "tools", "docs/l6.1", "docs/l6db.1", "completions", "examples", "dist", "licenses",
+            "LICENSE-MIT", "LICENSE-APACHE", "THIRD-PARTY.md", "crates.txt", "HANDLES")
+
+
+@dataclass(frozen=True)
+class Job:
+    """Words of the command line and an input, with the right answer."""
+
+    name: str
+    words: list[str]
+    stdin: bytes
+    expected: Answer[bytes]
+    has_free_text: bool = False
+
+
+@dataclass(frozen=True)
+class Program:
+    """A program of dist/, and how it is run here."""
+
+    name: str
+    runner: tuple[str, ...] = ()  # what runs it
+    without_memory: tuple[str, ...] = ()  # further words of the runner, by which it has little memory
+    room: int | None = None  # bytes of addresses that it then has
+
+    @property
+    def command(self) -> list[str]:
+        """The words that run it."""
+        return [*self.runner, str(DIST / self.name)]
+
+    def answer(self, job: Job) -> Answer[bytes]:
+        """What it answers to a job."""
+        return answer_of([*self.command, *job.words], input=job.stdin, seconds=SECONDS, preexec_fn=None)
+
+
+DEBUGGERS = (Program("l6db-static"), Program("l6db-aarch64", (QEMU,)))
+PROGRAMS = (
+    Program("l6-static", room=8 << 20),
+    Program("l6-aarch64", (QEMU,), ("-R", "0x2c00000")),
+    Program("l6.mjs", ("node",), ("--wasm-max-mem-pages=128",)),
+)
+
+
+def jobs() -> list[Job]:
+    """All jobs with known answers: the examples, and the cases."""
+    found = []
+    for deck in sorted(EXAMPLES.glob("*.deck")):
+        printout = deck.with_suffix(".printout").read_bytes()
+        found.append(Job(f"the example {deck.stem}", ["run"], deck.read_bytes(), answer(printout)))
+    for listing in sorted(EXAMPLES.glob("*.listing")):
+        text, stdin = listing.read_bytes(), listing.with_suffix(".deck").read_bytes()
+        found.append(Job(f"the listing of the example {listing.stem}", ["list"], stdin, answer(text)))
+    for session in sorted(EXAMPLES.glob("*.session")):
+        transcript = session.with_suffix(".transcript").read_bytes()
+        found.append(Job(f"the session {session.stem}", ["debug"], session.read_bytes(), answer(transcript)))
+    for case in read_cases():
+        found.append(Job(case.name, case.args, case.stdin, case.expected, case.has_free_text))
+    return found
+
+
+def some(all_jobs: list[Job], count: int) -> list[Job]:
+    """So many of the jobs, from all parts of the list."""
+    return [all_jobs[place * len(all_jobs) // count] for place in range(min(count, len(all_jobs)))]
+
+
+def known_answers(program: Program, asked: list[Job], is_quick: bool) -> Iterator[Trial]:
+    """The trials on jobs with known answers."""
+    if is_quick and program.runner == ("node",):
+        answers: Iterable[Answer[bytes]] = answers_in_one_process(program, asked)
+    else:
+        with ThreadPoolExecutor(AT_A_TIME) as pool:
+            answers = list(pool.map(program.answer, asked))
+    for job, actual in zip(asked, answers, strict=True):
+        expected = job.expected
+        if job.has_free_text:
+            expected = answer(expected.stdout, actual.stderr or b"(some text)", expected.status)
+        yield f"{program.name}: {job.name}", expected, actual
+
+
+def answers_in_one_process(program: Program, asked: list[Job]) -> Iterator[Answer[bytes]]:
+    """What the program for Node answers to jobs, which one process does, one after another."""
+    lines = [{"words": job.words, "input": base64.b64encode(job.stdin).decode()} for job in asked]
+    ran = subprocess.run(
+        ["node", HERE / "ports_in_node.mjs", DIST / program.name], stdout=subprocess.PIPE, text=True,
+        input="".join(f"{json.dumps(line)}\n" for line in lines), timeout=SECONDS,
+    )
+    for line in ran.stdout.splitlines():
+        found = json.loads(line)
+        stdout, stderr = (base64.b64decode(found[which]) for which in ("output", "errors"))
+        yield answer(stdout, stderr, found["status"])
+
+
+def devices(program: Program) -> Iterator[Trial]:
+    """The trials on a full device, a folder, a closed pipe, a bad word, and a job that never ends."""
+    def run(*words: str | bytes, **options: object) -> Answer[bytes]:
+        return answer_of([*program.command, *words], seconds=SECONDS, preexec_fn=None, **options)
+
+    unwritten = answer(stderr=b"l6: write failed after 0 bytes\n", status=5)
+    with open("/dev/full", "wb") as full:
+        yield "a full device as output", unwritten, run("run", input=FIRST, stdout=full)
+        actual = run("run", input=b" (A,Q,1)\n", stderr=full)
+        yield "a bad deck with a full standard error", answer(status=4), actual
+    folder = os.open(TOP, os.O_RDONLY)
+    yield "a folder as input", answer(stderr=b"l6: read failed\n", status=5), run("run", stdin=folder)
+    os.close(folder)
+    source, sink = os.pipe()
+    os.close(source)
+    yield "a closed pipe as output", unwritten, run("run", input=FIRST, stdout=sink)
+    os.close(sink)
+    bad = answer(stderr=b"l6: a word is not UTF-8\n", status=64)
+    yield "a word that is not UTF-8", bad, run("run", b"\xff", input=b"")
+    too_long = answer(stderr=b"l6: job too long\n", status=4)
+    yield "a job that is a byte too long", too_long, run("run", input=b"\n" * (MAX_JOB + 1))
+    with subprocess.Popen(["yes"], stdout=subprocess.PIPE) as endless:
+        yield "a job without an end", too_long, run("run", stdin=endless.stdout)
+        endless.kill()
+    expected = answer(stderr=b"l6: deck too long\n", status=4)
+    yield "a job as long as may be", expected, run("run", input=b"\n" * MAX_JOB)
+    yield "words without a job", PRINTED, run("run", input=FIRST, env={"PATH": os.environ["PATH"]})
+
+
+def refused_memory(program: Program) -> Iterator[Trial]:
+    """The trials that it does a small job in little memory, and says so if a job needs more."""
+    def leave_room() -> None:
+        if program.room:
+            resource.setrlimit(resource.RLIMIT_AS, (program.room, program.room))
+
+    command = [*program.runner, *program.without_memory, str(DIST / program.name), "run"]
+    yield "little memory", PRINTED, answer_of(command, input=FIRST, preexec_fn=leave_room)
+    expected = answer(stderr=b"l6: out of memory\n", status=5)
+    largest_output = [*command, "--output", str(MAX_OUTPUT)]
+    if program.room:
+        actual = answer_of(largest_output, input=FIRST, preexec_fn=leave_room)
+        yield "memory refused to a run", expected, actual
+    command = [*largest_output[:-3], "load", "--store", "255", *largest_output[-2:]]
+    image = longest_image()[1]
+    yield "memory refused to an image", expected, answer_of(command, input=image, preexec_fn=leave_room)
+
+
+def as_the_native_one(program: Program) -> Iterator[Trial]:
+    """The trials of program.py on images, help and files of limited length, if nothing else has to run it."""
+    if program.runner:
+        return
+    path = str(DIST / program.name)
+    yield from examples(path)
+    yield from cut_images(path)
+    yield from failing_devices(path)
+    with tempfile.TemporaryDirectory() as folder:
+        yield from helps(path, folder)
+        yield from limited_files(path, folder)
+
+
+def largest(program: Program) -> Iterator[Trial]:
+    """The trials on the largest jobs."""
+    deck, image, printout = longest_image()
+    for words, stdin, stdout, status in (
+        (*run_job(), 2), (*debug_job(), 0), (["asm"], deck, image, 0), (["load"], image, printout, 0),
+    ):
+        job = Job("", words, stdin, answer(stdout, status=status))
+        yield f"the largest job of {words[0]}", job.expected, program.answer(job)
+
+
+def belongs(name: str) -> bool:
+    """Whether a program of dist/ was made from the sources in the checkout."""
+    script = 'top=$1; . "$top/tools/program.sh"; belongs "$top/dist/$2"'
+    return subprocess.run(["sh", "-c", script, "sh", TOP, name]).returncode == 0
+
+
+def programs(is_quick: bool, all_programs: tuple[Program, ...] = PROGRAMS) -> Iterator[Program]:
+    """The programs that can be tried here; it is said which are not."""
+    for program in all_programs:
+        missing = [it for it in program.runner if not shutil.which(it)]
+        if not missing and program.name.endswith("-static") and os.uname().machine != "x86_64":
+            missing = ["a processor for it"]
+        if missing:
+            print(f"skipped: {program.name}: {missing[0]} is missing")
+        elif is_quick and not belongs(program.name):
+            print(f"skipped: dist/{program.name}: it was not made from the sources in this checkout")
+        else:
+            yield program
+
+
+def made_again(is_quick: bool) -> Iterator[Trial]:
+    """The trials that the programs and what is said of them are those that are made here."""
+    with tempfile.TemporaryDirectory(prefix="l6-ports-") as room:
+        made = Path(room)
+        calls: list[list[str | Path]] = [[TOP / "ports/bundle", DIST / "l6.html", made / "l6.mjs"]]
+        if is_quick:
+            print("skipped: the static programs made again: as was asked")
+        elif why := unlike_here():
+            print(f"skipped: the static programs made again: {why}")
+        else:
+            calls += [[TOP / "ports/build", DIST / name, made] for name in ("l6", "l6db")]
+        for words in calls:
+            ran = subprocess.run(words, capture_output=True, text=True)
+            yield f"ports/{Path(words[0]).name} of {Path(words[1]).name} ends well", (0, ""), (ran.returncode, ran.stderr)
+        for program in sorted(made.glob("l6*")):
+            if program.suffix != ".made_of":
+                kept = DIST / program.name
+                yield f"{program.name} made again", True, kept.read_bytes() == program.read_bytes()
+                lines = program.with_name(f"{program.name}.made_of").read_text("utf-8")
+                named = kept.with_name(f"{program.name}.provenance").read_text("utf-8")
+                yield f"what {program.name} was made of", lines, "".join(named.splitlines(keepends=True)[1:-2])
+    if not is_quick:
+        for name in ("l6", "l6db", *(program.name for program in (*PROGRAMS, *DEBUGGERS))):
+            yield f"{name} belongs to the sources", True, belongs(name)
+
+
+def unlike_here() -> str:
+    """Why the static programs can't be made again here; nothing if they can be."""
+    if not shutil.which("rt"):
+        return "rt is missing"
+    for name, processor, debian in (
+        ("l6-static", "x86_64", "amd64"), ("l6-aarch64", "aarch64", "arm64"),
+        ("l6db-static", "x86_64", "amd64"), ("l6db-aarch64", "aarch64", "arm64"),
+    ):
+        library = Path(f"/usr/lib/{processor}-linux-musl/libc.a")
+        if not library.is_file():
+            return f"Debian's musl-dev:{debian} is missing"
+        ran = subprocess.run(["sha256sum", library], capture_output=True, text=True, check=True)
+        if ran.stdout.split()[0] not in (DIST / f"{name}.provenance").read_text("utf-8"):
+            return f"the musl of {debian} is another one than that of dist/{name}"
+    return ""
+
+
+def copy_checkout(target: Path) -> None:
+    """Makes a copy of what of the checkout its scripts need."""
+    for name in CHECKOUT:
+        (target / name).parent.mkdir(parents=True, exist_ok=True)
+        if (TOP / name).is_dir():
+            shutil.copytree(TOP / name, target / name, ignore=shutil.ignore_patterns("__pycache__", "out"))
+        else:
+            shutil.copy(TOP / name, target / name)
+    for part in ("src", "specs", "proofs"):
+        for folder in (TOP / "crates").glob(f"*/{part}"):
+            shutil.copytree(folder, target / folder.relative_to(TOP))
+
+
+def small_root() -> Iterator[Trial]:
+    """The trials in a root that has busybox and a checkout, and no C library, as a small Linux has."""
+    busybox = shutil.which("busybox")
+    with tempfile.TemporaryDirectory(prefix="l6-root-") as room:
+        root = Path(room)
+        (root / "bin").mkdir()
+        (root / "dev").mkdir()
+        enter = [shutil.which("chroot", path="/usr/sbin:/sbin") or "chroot", room]
+        if busybox and os.geteuid() == 0:
+            os.mknod(root / "dev/null", 0o666 | stat.S_IFCHR, os.makedev(1, 3))
+            shutil.copy(busybox, root / "bin/busybox")
+            listed = subprocess.run([busybox, "--list"], capture_output=True, text=True, check=True).stdout
+            for name in set(listed.split()) - {"busybox"}:
+                (root / "bin" / name).symlink_to("busybox")
+        if subprocess.run([*enter, "/bin/true"], capture_output=True).returncode:
+            print("skipped: a root without a C library: a static busybox is missing, or this is not root")
+            return
+        place = "/home/Jürgen Müller/l6 (a copy)"
+        copy_checkout(root / place[1:])
+
+        def run(command: str, **options: object) -> Answer[bytes]:
+            words = ["/bin/sh", "-c", f"cd {shlex.quote(place)} && {command}"]
+            return answer_of([*enter, *words], preexec_fn=None, seconds=SECONDS, **options)
+
+        yield from first_commands(run)
+
+
+def first_commands(run: Callable[..., Answer[bytes]]) -> Iterator[Trial]:
+    """The trials of the first commands of somebody on a small Linux."""
+    started = run("dist/l6 --version")
+    yield "dist/l6 does not start without its C library", True, started.status in (126, 127)
+    yield "the first command", PRINTED, run("./l6 run < examples/first.deck")
+    said = run("./l6 --version")
+    yield "the version", (64, True), (said.status, b"\nmusl " in said.stderr)
+    yield "with an empty environment", PRINTED, run("env -i ./l6 run < examples/first.deck")
+    yield "a second time", PRINTED, run("HOME=/home ./l6 run < examples/first.deck")
+    command = "./install /usr && l6 run < /usr/share/doc/l6/examples/first.deck"
+    actual = run(command, env={"PATH": "/bin:/usr/bin"})
+    yield "an installation", (0, True), (actual.status, actual.stdout.endswith(PRINTED.stdout))
+    yield "its removal", 0, run("./install --uninstall /usr && test ! -e /usr/bin/l6").status
+    changed = "crates/l6/src/job.rt"
+    actual = run(f"echo >> {changed} && ./l6 run < examples/first.deck")
+    names = f"l6:   {changed} has changed\nl6: dist/l6-static itself runs as it is".encode()
+    yield "a changed source is named", (1, True), (actual.status, names in actual.stderr)
+    yield "a program that is run by itself", PRINTED, run("dist/l6-static run < examples/first.deck")
+
+
+def sessions(debugger: Program) -> Iterator[Trial]:
+    """The trials on sessions of a debugger, at a terminal and over pipes."""
+    with tempfile.TemporaryDirectory(prefix="l6-sessions-") as room:
+        folder, caller = Path(room), Path(room, "l6db")
+        command = " ".join(shlex.quote(word) for word in debugger.command)
+        caller.write_text(f'#!/bin/sh\nexec {command} "$@"\n', "utf-8")
+        caller.chmod(0o755)
+        # (what runs a program of another processor needs more addresses than the program)
+        room_left = resource.RLIM_INFINITY if debugger.runner else answers.ROOM
+        with mock.patch.object(answers, "ROOM", room_left):
+            for group in (at_terminal, one_by_one, words, page_sessions):
+                yield from group(str(caller), folder)
+
+
+def trials(is_quick: bool) -> Iterator[Trial]:
+    """All trials."""
+    yield from made_again(is_quick)
+    for debugger in programs(is_quick, DEBUGGERS):
+        for name, expected, actual in sessions(debugger):
+            yield f"{debugger.name}: {name}", expected, actual
+    yield from small_root()
+    all_jobs = jobs()
+    for program in programs(is_quick):
+        asked = some(all_jobs, FEW) if is_quick else all_jobs
+        yield from known_answers(program, asked, is_quick)
+        groups = [devices, refused_memory, as_the_native_one, *([] if is_quick else [largest])]
+        for group in groups:
+            for name, expected, actual in group(program):
+                yield f"{program.name}: {name}", expected, actual
+
+
+if __name__ == "__main__":
+    if sys.argv[1:] not in ([], ["--quick"]):
+        sys.exit(__doc__)
+    sys.exit(report(trials(sys.argv[1:] == ["--quick"])))

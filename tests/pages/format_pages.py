@@ -159,7 +159,7 @@ def lessons(program: str) -> Iterator[Trial]:
         )
         if not found:
             continue
-        deck = (Path(__file__).parent.parent / "examples" / f"{found[1]}.deck").read_text()
+        deck = (Path(__file__).parents[2] / "examples" / f"{found[1]}.deck").read_text()
         cards, mark, given = deck.partition("$INPUT\n")
         times = COUNTS.index(found[3])
         go = "go\n" * times

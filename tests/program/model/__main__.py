@@ -1,4 +1,4 @@
-"""Does one job: python3 -m model run|list|asm|load|renew|debug [OPTIONS] < JOB, in the folder tests/."""
+"""Does one job: python3 -m model run|list|asm|load|renew|debug [OPTIONS] < JOB, in the folder tests/program/."""
 from __future__ import annotations
 
 import sys

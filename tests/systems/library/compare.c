@@ -3,9 +3,9 @@
    compare CALLS makes so many random gets and frees on both. After each, the places, the refusals and all free
    lists must be the same; words are written and read, and calls with wild numbers must answer faults. */
 #define main allocators_main
-#include "../../bench/allocators.c"
+#include "../../../bench/allocators.c"
 #undef main
-#include "../../library/l6_store.h"
+#include "../../../library/l6_store.h"
 
 enum { MOST_LIVE = 16384 };
 

@@ -3,7 +3,7 @@
 #include <stdbool.h>
 #include <stdio.h>
 #include <stdlib.h>
-#include "../../library/l6_store.h"
+#include "../../../library/l6_store.h"
 
 struct tried {
     bool ok;

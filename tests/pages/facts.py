@@ -29,12 +29,15 @@ from model import (
     programs,
     state,
     store,
+    trace,
 )
 from page_tables import TOP, canary, plain, spans_of, table_with, tables_of, text_of
 from trials import Trial, report
 
 LANGUAGE, SUMMARY, MANUAL = "docs/language.md", "docs/summary.md", "docs/l6.1"
 ROBUSTNESS, DEBUGGER, ALLOCATOR = "docs/robustness.md", "docs/debugger.md", "docs/allocator.md"
+TRACE, SESSIONS = "docs/trace.md", "docs/l6db.md"
+MOST_CHAINS = 8  # that a session watches, and displays
 RUNNING = ("run", "load", "debug")
 RANDOM_JOBS = 1_000  # numbers of model_jobs.py, each of which makes two
 STRIDE, CHECKPOINTS = (
@@ -152,6 +155,12 @@ SENTENCES: list[tuple[str, str, int, int]] = [
     (ALLOCATOR, "a free joins at most # times", 10, 1),
     (ALLOCATOR, "looks at no more than # heads", 11, 1),
     ("docs/image.md", "has at most # statements", 4_095, 2),
+    (TRACE, "A name has 1 to # bytes", trace.NAME_LIMIT, 1),
+    (TRACE, "A trace has at most # calls", trace.MOST_CALLS, 1),
+    (TRACE, "calls and # bytes", jobs.JOB_LIMIT, 1),
+    (TRACE, "at least so many words, 1 to #,", trace.MOST_NUMBER, 1),
+    (SESSIONS, "Up to # chains are watched", MOST_CHAINS, 1),
+    (SESSIONS, "Up to # chains are displayed", MOST_CHAINS, 1),
     ("docs/history.md", "1 to 128 | 2^k words, 1 to #", operations.SIZE_LIMIT, 1),
     ("docs/history.md", "up to # calls wait", operations.ENTRIES_LIMIT, 1),
     ("docs/history.md", "the same: # names", len(characters.NAMES), 1),
@@ -204,6 +213,19 @@ def limits() -> Iterator[Trial]:
     }
     for what in {**LIMITS, **rows}:
         yield f"{LANGUAGE}: the limit of {what}", LIMITS.get(what), rows.get(what)
+
+
+# What each exit status of the debugger that answers at once means.
+STATUSES = {"0": "The session ended", "4": "The job was refused", "5": "Memory ran out", "64": "The command line is wrong"}
+
+
+def statuses() -> Iterator[Trial]:
+    """The exit statuses of the manual page of l6db."""
+    text = text_of("docs/l6db.1").partition(".Sh EXIT STATUS")[2]
+    found = dict(re.findall(r"^\.It (\d+)\n(.*)$", text, re.MULTILINE))
+    yield "the exit statuses of docs/l6db.1", list(STATUSES), list(found)
+    for status, meaning in STATUSES.items():
+        yield f"the exit status {status} of docs/l6db.1", meaning, found.get(status, "")[:len(meaning)]
 
 
 def jobs_of_the_model() -> Iterator[Trial]:
@@ -419,6 +441,7 @@ def trials(program: str) -> Iterator[Trial]:
     """All trials."""
     yield from limits()
     yield from jobs_of_the_model()
+    yield from statuses()
     yield from options(program)
     yield from traps()
     yield from codes()

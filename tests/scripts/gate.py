@@ -50,7 +50,7 @@ STEPS = [
     "tests/systems/ports.py",
     "tests/scripts/release.py",
 ]
-GATE_STEPS = ["rt ci", *STEPS, "tests/edits/edits.py"]
+GATE_STEPS = ["rt ci", *STEPS, "tests/defects/defects.py", "tests/edits/edits.py"]
 PACKAGES = {  # without which tests are left out
     "binaryen", "nodejs", "chromium", "mypy", "shellcheck", "qemu-user-static", "busybox-static", "zsh", "fish",
     "lintian", "firefox-esr", "node-typescript", "python3-markdown",

@@ -37,9 +37,30 @@ DEBUGGER = (
 )
 
 
-def announced(place: str) -> str:
+NOT_SHIPPED = {"examples/traced.c"}  # files of those folders that stay in the repository
+
+
+def announced(place: str, debugger: str = "") -> str:
     """What is said of an installation."""
-    return f"installed {place}/bin/l6 and its manual page, completions, examples and licences\n"
+    return f"installed {place}/bin/l6{debugger}, manual pages, completions, examples and licences\n"
+
+
+def shipped() -> Iterator[Trial]:
+    """The list of what is shipped has each file of the folders that are shipped, once, with its mode."""
+    rows = [line.split() for line in (TOP / "tools/shipped").read_text().splitlines() if line[:1] not in ("#", "")]
+    found = {row[3]: sorted(str(it.relative_to(TOP)) for it in TOP.glob(row[3])) for row in rows if row[3] != "PROGRAM"}
+    listed = [name for names in found.values() for name in names]
+    folders = ("examples/*", "licenses/*", "completions/*", "docs/*.1", "LICENSE-*", "THIRD-PARTY.md")
+    there = {str(it.relative_to(TOP)) for pattern in folders for it in TOP.glob(pattern) if it.is_file()}
+    yield "what is shipped", sorted(there - NOT_SHIPPED), sorted(listed)
+    yield "what is not shipped is there", [], sorted(NOT_SHIPPED - there)
+    yield "lines that ship nothing", [], [name for name, names in found.items() if not names]
+    yield "programs that are shipped", [("l6db", "bin/l6db"), ("l6", "bin/l6")], [
+        (of, place) for of, _, place, files in rows if files == "PROGRAM"
+    ]
+    yield "modes", [], [row for row in rows if row[1] != ("755" if row[3] == "PROGRAM" else "644")]
+    own = [row for row in rows if ("l6db" in row[3] or "l6db" in row[2]) != (row[0] == "l6db")]
+    yield "what belongs to l6db", [], own
 
 
 def modes_of(place: Path) -> dict[str, int]:
@@ -111,6 +132,7 @@ def debuggers(checkout: Checkout) -> Iterator[Trial]:
     words = ["--program", str(named), "/usr"]
     actual = checkout.run("install", *words, has_rt=False, DESTDIR=str(folder))
     yield "a debugger beside a program", (0, ""), (actual.status, actual.stderr)
+    yield "what is said of it", announced(f"{folder}/usr", f", {folder}/usr/bin/l6db"), actual.stdout
     expected = sorted(f"usr/{name}" for name in (*INSTALLED, *DEBUGGER))
     yield "what is installed with it", expected, names_in(folder)
     placed = folder / "usr/bin/l6db"
@@ -131,7 +153,8 @@ def removals(checkout: Checkout) -> Iterator[Trial]:
     expected = Answer("removed a place/bin/l6 and what was installed with it\n", "", 0)
     yield "a removal", expected, actual
     yield "what is left", kept, names_in(place)
-    yield "the folder of its own", False, (place / "share/doc/l6").exists()
+    folders = sorted(str(it.relative_to(place)) for it in place.rglob("*") if it.is_dir())
+    yield "the folders that are left", ["bin", "share", "share/doc", "share/man", "share/man/man1"], folders
     actual = checkout.run("install", "--uninstall", "a place", has_rt=False)
     yield "a second removal", Answer("", "install: there is nothing of l6 in a place\n", 1), actual
     checkout.run("install", "a place", has_rt=False)
@@ -140,6 +163,10 @@ def removals(checkout: Checkout) -> Iterator[Trial]:
     expected = Answer(f"{expected.stdout}a place/share/doc/l6 has other files, and stays\n", "", 0)
     yield "a removal beside a file of somebody else", expected, actual
     yield "what is left then", sorted([*kept, "share/doc/l6/mine.deck"]), names_in(place)
+    checkout.run("install", "alone", has_rt=False)
+    checkout.run("install", "--uninstall", "alone", has_rt=False)
+    alone = checkout.folder / "alone"
+    yield "a removal of all leaves the prefix", (True, []), (alone.is_dir(), sorted(alone.iterdir()))
     folder: dict[str, Any] = {"DESTDIR": str(checkout.folder / "a stage")}
     checkout.run("install", "/usr", has_rt=False, **folder)
     actual = checkout.run("install", "--uninstall", "/usr", has_rt=False, **folder)
@@ -215,6 +242,7 @@ def damaged_program(checkout: Checkout) -> Iterator[Trial]:
 
 def trials() -> Iterator[Trial]:
     """All trials, each group on a checkout of its own."""
+    yield from shipped()
     for group in (
         arguments, installations, staged, debuggers, removals, running_program, refusals, damaged_program,
     ):

@@ -8,6 +8,7 @@ It also tries tools/prove.py and tools/make_dist.
 from __future__ import annotations
 
 import os
+import re
 import shutil
 import subprocess
 import sys
@@ -19,7 +20,7 @@ from typing import Any
 
 sys.path.insert(0, str(Path(__file__).resolve().parents[1] / "harness"))
 from answers import Answer
-from checkout import PROGRAMS, UNPROVED, Checkout
+from checkout import PROGRAMS, TOP, UNPROVED, Checkout
 from trials import Trial, report
 
 SOURCES = (
@@ -32,6 +33,7 @@ RUNS = "l6: dist/l6 itself runs as it is, whatever the sources say\n"
 BROKEN = "l6: dist/l6 is not the program that dist/l6.provenance names: it is missing, altered or incomplete\n"
 NO_RT = "l6: rt is not on the path; it is needed to prove and build the program (README.md)\n"
 PROVING = "l6: proving and building the program; from nothing this takes some 25 minutes on four processors\n"
+VERBS = ("asm", "list", "check", "run", "load", "renew", "debug", "trace")  # all, as the help lists them
 FRESH = 3.5  # seconds after which a file counts as older (tools/note.sh)
 IN_DIST = sorted([*PROGRAMS, *(f"{name}.provenance" for name in PROGRAMS), "l6.html", "l6.sources"])
 EDITED = "l6: the sources were edited meanwhile, so the program may not belong to them; call again\n"
@@ -394,9 +396,12 @@ def cloned(checkout: Checkout) -> Iterator[Trial]:
 
 def keyboard(checkout: Checkout) -> Iterator[Trial]:
     """On a terminal it is said once that the job comes from the keyboard, if one is read."""
+    page = (TOP / "docs/command-line.md").read_text("utf-8")
+    listed = re.findall(r"^  (\w+) +\w", page.partition("Commands:\n")[2].partition("Options:\n")[0], re.MULTILINE)
+    yield "the verbs of the help", [*VERBS, "help"], listed
     said = "l6: reading the job from the keyboard, up to Ctrl-D at the beginning of a line\n"
     calls: tuple[tuple[list[str], str | None], ...] = (
-        (["run"], said), (["debug", "--store", "2"], said), (["asm"], said), (["run", "--help"], ""),
+        *(([verb], said) for verb in VERBS), (["debug", "--store", "2"], said), (["run", "--help"], ""),
         (["--version"], None), (["nonsense"], ""), ([], ""),
     )
     for words, why in calls:

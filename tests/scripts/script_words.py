@@ -16,7 +16,7 @@ from pathlib import Path
 
 sys.path.insert(0, str(Path(__file__).resolve().parents[1] / "harness"))
 from answers import Answer
-from checkout import TOP, UNPROVED, Checkout
+from checkout import PLAIN, TOP, UNPROVED, Checkout
 from trials import CANARY, Trial, report
 
 # A stand-in for sort: another order than that of bytes, unless that is asked for.
@@ -46,6 +46,16 @@ echo made > out/rlib/stamp
 """
 # A program that starts, and fails to run a deck.
 FAILING = '#!/bin/sh\n[ "$*" != --version ] || exit 64\nexit 1\n'
+# A stand-in for macOS's command: it prints a sum of 256 bits only if that is asked for.
+SHASUM = """#!{python}
+import hashlib, sys
+words = sys.argv[1:]
+kind = "sha256" if words[:2] == ["-a", "256"] else "sha1"
+files = words[2:] if kind == "sha256" else words
+for name in files or ["-"]:
+    data = sys.stdin.buffer.read() if name == "-" else open(name, "rb").read()
+    print(f"{{hashlib.new(kind, data).hexdigest()}}  {{name}}")
+"""
 # Stand-ins for the commands that install files: they do nothing.
 NOTHING = "#!/bin/sh\nexit 0\n"
 
@@ -90,6 +100,24 @@ def other_systems(checkout: Checkout) -> Iterator[Trial]:
         actual = checkout.run("l6", has_rt=False, FIRST=first)
         yield f"dist/l6 on {system}", False, actual.stdout.startswith(checkout.made_of)
     yield "dist/l6 here", checkout.made_of, checkout.run("l6", has_rt=False).stdout
+
+
+def sums(checkout: Checkout) -> Iterator[Trial]:
+    """Where there is no sha256sum, as on macOS, shasum is asked for the same sums."""
+    folder = checkout.folder / "as on macOS"
+    folder.mkdir()
+    for name in PLAIN:
+        if name != "sha256sum":
+            (folder / name).symlink_to(shutil.which(name) or name)
+    (folder / "shasum").write_text(SHASUM.format(python=sys.executable))
+    (folder / "shasum").chmod(0o755)
+    where = {"PATH": str(folder), "STAND_IN": str(checkout.state)}
+    actual = checkout.run_words([str(checkout.top / "l6")], checkout.folder, where)
+    yield "the program of dist/ by shasum", Answer(checkout.made_of, "", 0), actual
+    checkout.write("crates/l6/src/main.rt", "a text for shasum\n")
+    actual = checkout.run_words([str(checkout.top / "l6")], checkout.folder, where)
+    yield "a changed source by shasum", (1, True), (actual.status, "crates/l6/src/main.rt has changed" in actual.stderr)
+    checkout.write("crates/l6/src/main.rt", "-- src/main.rt of l6\n")
 
 
 def orders(checkout: Checkout) -> Iterator[Trial]:
@@ -227,7 +255,7 @@ def tools(_checkout: Checkout) -> Iterator[Trial]:
 
 # Groups of trials; those of a line share a checkout.
 GROUPS: tuple[tuple[Callable[[Checkout], Iterator[Trial]], ...], ...] = (
-    (words, other_systems, orders, installing),
+    (words, other_systems, sums, orders, installing),
     (
         proofs_that_fail,
         edits_meanwhile,

@@ -117,14 +117,15 @@ def in_python(archive: Path, room: Path) -> Iterator[Trial]:
     faults = "; ".join(f"t({call})" for call in (
         "lambda: Store(0)", "lambda: Store(256)", "lambda: s.get(11)", "lambda: s.free(1025)", "lambda: s.read(1024, 8)",
         "lambda: s.write(1024, 0, 1 << 36)", "lambda: s.write(1024, 0, 1 << 64)", "lambda: s.copy(1024, 1024)",
-        "lambda: s.free((1 << 32) + 1024)", "lambda: s.close()", "lambda: s.live(1024)"))
+        "lambda: s.free((1 << 32) + 1024)", "lambda: s.free(1024)", "lambda: s.get(10)", "lambda: s.peek(0)",
+        "lambda: s.get(0)", "lambda: s.close()", "lambda: s.live(1024)"))
     code = (
         "from l6_store import Store, StoreError\ns = Store(1); s.get(3)\n"
         "def t(call):\n    try:\n        print(call())\n    except (StoreError, OverflowError) as error:\n"
         f"        print(getattr(error, 'fault', error))\n{faults}"
     )
     expected = [-3, -3, -5, -6, -7, -8, "18446744073709551616 is no number of 64 bits", -9,
-                "4294968320 is no number of 32 bits", None, -1]
+                "4294968320 is no number of 32 bits", None, 1024, None, None, None, -1]
     status, printed = run([sys.executable, "-B", "-c", code], env=known)
     yield "faults", (0, list(map(str, expected))), (status, printed.splitlines())
 
@@ -174,6 +175,27 @@ def faults_of_calls() -> Iterator[Trial]:
     yield "the calls that answer IS_CLOSED", set(expected) - {"l6_store_open", "l6_store_level_for"}, closed
 
 
+CONSTANTS = {"LARGEST_LEVEL": "10", "UNIT": "1024", "MOST_UNITS": "255"}  # of the language
+# What the crate says of each fault, as a user would have it: the header's words.
+TEXTS = {
+    "BadUnits": "units out of range", "NoMemory": "out of memory", "BadLevel": "no such level",
+    "NoBlock": "no block begins there", "NoWord": "no such word", "BadWord": "more than 36 bits",
+    "NotAlike": "not two blocks of one size", "Full": "no piece is free",
+}
+
+
+def constants_and_texts() -> Iterator[Trial]:
+    """The constants of the header, and the texts of the crate's faults."""
+    header = (LIBRARY / "l6_store.h").read_text("ascii")
+    yield "constants of the header", CONSTANTS, dict(re.findall(r"L6_STORE_(\w+) = (\d+)", header))
+    crate = (LIBRARY / "rust/src/lib.rs").read_text("ascii")
+    yield "texts of the crate", TEXTS, dict(re.findall(r'Fault::(\w+) => f\.write_str\("(.*)"\)', crate))
+    page = (TOP / "docs/library.md").read_text("utf-8")
+    sizes = re.findall(r"for ([\d,]+) \(m \+ 1\) bytes and (\d+) more", page)
+    arrays = re.findall(r"room\[(\d+) \* \(UNITS \+ 1\) \+ (\d+)\]", page)
+    yield "how much memory a store takes, by the page and by its array", [(sizes[0][0].replace(",", ""), sizes[0][1])], arrays
+
+
 def named_in_header(fault: str) -> str:
     """The name of a fault in the header."""
     return {"Closed": "IS_CLOSED", "Open": "IS_OPEN"}.get(fault, re.sub(r"(?<!^)([A-Z])", r"_\1", fault).upper())
@@ -203,6 +225,7 @@ def main(words: list[str]) -> int:
         def trials() -> Iterator[Trial]:
             yield from numbers()
             yield from faults_of_calls()
+            yield from constants_and_texts()
             if is_gate:
                 yield from made_again(archive)
             if not words or is_gate:

@@ -11,6 +11,7 @@ It prints each difference, and last 'N passed, M failed'.
 from __future__ import annotations
 
 import base64
+import hashlib
 import json
 import os
 import resource
@@ -32,6 +33,7 @@ from answers import Answer, answer, answer_of
 from cases import read_cases
 from l6db import at_terminal, one_by_one, page_sessions, words
 from largest_jobs import MAX_OUTPUT, debug_job, longest_image, run_job
+from node_devices import node_devices
 from program import cut_images, examples, failing_devices, helps, limited_files
 from trials import Trial, report
 
@@ -80,11 +82,12 @@ class Program:
         return answer_of([*self.command, *job.words], input=job.stdin, seconds=SECONDS, preexec_fn=None)
 
 
+NODE = "l6.mjs"
 DEBUGGERS = (Program("l6db-static"), Program("l6db-aarch64", (QEMU,)))
 PROGRAMS = (
     Program("l6-static", room=8 << 20),
     Program("l6-aarch64", (QEMU,), ("-R", "0x2c00000")),
-    Program("l6.mjs", ("node",), ("--wasm-max-mem-pages=128",)),
+    Program(NODE, ("node",), ("--wasm-max-mem-pages=128",)),
 )
 
 
@@ -205,6 +208,19 @@ def largest(program: Program) -> Iterator[Trial]:
     ):
         job = Job("", words, stdin, answer(stdout, status=status))
         yield f"the largest job of {words[0]}", job.expected, program.answer(job)
+
+
+def hosts() -> Iterator[Trial]:
+    """The trials that each program was made with the host that is here: a host that was changed is found at once."""
+    for name, host in (
+        *((it.name, "ports/host.c") for it in (*PROGRAMS, *DEBUGGERS) if it.name != NODE), (NODE, "web/host.c"),
+    ):
+        total = hashlib.sha256((TOP / host).read_bytes()).hexdigest()
+        noted = (DIST / f"{name}.provenance").read_text("utf-8").splitlines()
+        yield f"{name} has the {host} that is here", True, f"host {total}" in noted
+    total = hashlib.sha256((TOP / "ports/command.js").read_bytes()).hexdigest()
+    noted = (DIST / f"{NODE}.provenance").read_text("utf-8").splitlines()
+    yield f"{NODE} has the ports/command.js that is here", True, f"command {total}" in noted
 
 
 def belongs(name: str) -> bool:
@@ -347,6 +363,7 @@ def sessions(debugger: Program) -> Iterator[Trial]:
 def trials(is_quick: bool) -> Iterator[Trial]:
     """All trials."""
     yield from made_again(is_quick)
+    yield from hosts()
     for debugger in programs(is_quick, DEBUGGERS):
         for name, expected, actual in sessions(debugger):
             yield f"{debugger.name}: {name}", expected, actual
@@ -359,6 +376,8 @@ def trials(is_quick: bool) -> Iterator[Trial]:
         for group in groups:
             for name, expected, actual in group(program):
                 yield f"{program.name}: {name}", expected, actual
+        if program.name == NODE:
+            yield from node_devices(DIST / NODE, DIST / "l6")
 
 
 if __name__ == "__main__":

@@ -10,7 +10,7 @@ use crate::help::{self, Help};
 use crate::job::Verb;
 use clap::error::ErrorKind;
 use clap::{ArgMatches, Command};
-use l6_options::{chosen_options, store, with_options};
+use l6_options::{chosen_options, store_option, with_options};
 use l6_run::Options;
 use std::alloc::{AllocError, Global};
 use std::io::{self, ErrorKind as IoErrorKind};

@@ -2,5 +2,5 @@ pub mod ChangeRows
 pub mod Kept
 pub mod NumberedMachines
 pub mod Rings
-pub mod Sights
+pub mod Snapshots
 pub mod Sought

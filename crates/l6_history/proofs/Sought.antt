@@ -15,36 +15,36 @@ use Rattle.l6_steps.specs.State.{RunContext, State}
 use Rattle.l6_history.specs.History.{number_to, run_state_at}
 use Rattle.l6_history.specs.Stop.{Stop, changes_between, differs, is_at_breakpoint, is_shallow, some_differ, stops_at, stops_nowhere, value_of, values_of}
 use Rattle.l6_history.specs.Seeking.{greatest, next_stop, previous_stop, stops_back, stops_forward}
-use Rattle.l6_history.specs.inner.Seeking.{ComesTo, IsLast, IsLastIn, NoneAfter, NoneIn, Sight, later_of, sight_of}
+use Rattle.l6_history.specs.inner.Seeking.{ComesTo, IsLast, IsLastIn, NoneAfter, NoneIn, Snapshot, later_of, snapshot_of}
 use Rattle.l6_history.specs.inner.Watches.{ChainWatch, chains_changed}
-use Rattle.l6_history.proofs.Sights.{none-differ, same-values}
+use Rattle.l6_history.proofs.Snapshots.{none-differ, same-values}
 
 -- ---- what is seen
-pub sight-at : (rule : Rule) (context : RunContext) (number : ℕ) (stop : Stop) (there : RunState)
-    (sight : Sight) → there ≡ run_state_at rule context number →
-    sight ≡ sight_of stop there.configuration.state →
-    sight ≡ sight_of stop (state_at rule context number)
-sight-at rule context number stop there sight is seen =
-    seen ∙ ap (λ (s : RunState). sight_of stop s.configuration.state) is
+pub snapshot-at : (rule : Rule) (context : RunContext) (number : ℕ) (stop : Stop) (there : RunState)
+    (snapshot : Snapshot) → there ≡ run_state_at rule context number →
+    snapshot ≡ snapshot_of stop there.configuration.state →
+    snapshot ≡ snapshot_of stop (state_at rule context number)
+snapshot-at rule context number stop there snapshot is seen =
+    seen ∙ ap (λ (s : RunState). snapshot_of stop s.configuration.state) is
 
 -- as many values are seen as chains are watched
-pub sight-length : (stop : Stop) (state : State) (sight : Sight) → sight ≡ sight_of stop state →
-    length sight.values ≡ length stop.watched
-sight-length stop state sight seen =
-    ap (λ (s : Sight). length s.values) seen ∙ length-map stop.watched (value_of state.memory)
+pub snapshot-length : (stop : Stop) (state : State) (snapshot : Snapshot) → snapshot ≡ snapshot_of stop state →
+    length snapshot.values ≡ length stop.watched
+snapshot-length stop state snapshot seen =
+    ap (λ (s : Snapshot). length s.values) seen ∙ length-map stop.watched (value_of state.memory)
 
-pub back-is : (rule : Rule) (context : RunContext) (stop : Stop) (n : ℕ) (there following : Sight)
-    (differ : Bool) → there ≡ sight_of stop (state_at rule context n) →
-    following ≡ sight_of stop (state_at rule context (n + 1)) →
+pub back-is : (rule : Rule) (context : RunContext) (stop : Stop) (n : ℕ) (there following : Snapshot)
+    (differ : Bool) → there ≡ snapshot_of stop (state_at rule context n) →
+    following ≡ snapshot_of stop (state_at rule context (n + 1)) →
     differ ≡ some_differ there.values following.values →
     stops_back rule context stop n ≡ (there.stops || differ)
 unfolding stops_back
 back-is rule context stop n there following differ seen seen_following is =
-    ap (λ (s : Sight). s.stops || changes_between stop (state_at rule context n)
+    ap (λ (s : Snapshot). s.stops || changes_between stop (state_at rule context n)
     (state_at rule context (n + 1))) (sym seen)
     ∙ ap (λ (b : Bool). there.stops || b)
-    (sym (is ∙ ap (λ (s : Sight). some_differ s.values following.values) seen
-    ∙ ap (λ (s : Sight). some_differ (values_of stop.watched (state_at rule context n).memory)
+    (sym (is ∙ ap (λ (s : Snapshot). some_differ s.values following.values) seen
+    ∙ ap (λ (s : Snapshot). some_differ (values_of stop.watched (state_at rule context n).memory)
     s.values) seen_following))
 
 -- ---- forward
@@ -186,22 +186,22 @@ none-nearer test begin end number first rest k from below =
 -- ---- a step
 -- a state more, which is the next one, and what is seen of it
 pub record StepsOn (rule : Rule) (context : RunContext) (stop : Stop) (from number : ℕ)
-    (sight : Sight) : Type 0 where
+    (snapshot : Snapshot) : Type 0 where
   pub on : number ≡ from + 1
   pub below : from < last_number rule context
-  pub seen : sight ≡ sight_of stop (state_at rule context number)
+  pub seen : snapshot ≡ snapshot_of stop (state_at rule context number)
 
 pub steps-on : (rule : Rule) (context now there : RunContext) (stop : Stop) (from number : ℕ)
-    (run_state : RunState) (sight : Sight) → now ≡ context → there ≡ now →
+    (run_state : RunState) (snapshot : Snapshot) → now ≡ context → there ≡ now →
     number ≡ number_to rule now (from + 1) → from < last_number rule now →
-    run_state ≡ run_state_at rule there number → sight ≡ sight_of stop run_state.configuration.state →
-    StepsOn rule context stop from number sight
-steps-on rule context now there stop from number run_state sight same same_there is below at seen =
+    run_state ≡ run_state_at rule there number → snapshot ≡ snapshot_of stop run_state.configuration.state →
+    StepsOn rule context stop from number snapshot
+steps-on rule context now there stop from number run_state snapshot same same_there is below at seen =
     record {
       on = omega (arith, is, below);
       below = subst (λ (w : RunContext). from < last_number rule w) same below;
-      seen = sight-at rule there number stop run_state sight at seen
-          ∙ ap (λ (w : RunContext). sight_of stop (state_at rule w number)) (same_there ∙ same);
+      seen = snapshot-at rule there number stop run_state snapshot at seen
+          ∙ ap (λ (w : RunContext). snapshot_of stop (state_at rule w number)) (same_there ∙ same);
     }
 
 pub last-next : (test : ℕ → Bool) (begin from next number : ℕ) (last answer : Option ℕ)

@@ -7,7 +7,7 @@ mod laws;
 mod numbered_machine;
 mod ring;
 mod seeking;
-mod sight;
+mod snapshot;
 mod stop;
 mod watches;
 

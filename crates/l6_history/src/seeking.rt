@@ -8,7 +8,7 @@ ghost use Rattle.l6_history.specs.Seeking.{next_stop, previous_stop, stops_back}
 ghost use Rattle.l6_history.specs.inner.Seeking.{ComesTo, IsLastIn, later_of};
 
 use crate::history::History;
-use crate::sight::Sight;
+use crate::snapshot::Snapshot;
 use crate::stop::Stop;
 use crate::watches::{BreakpointWatch, BugWatch, ChainWatch, ChangeWatch, PlaceWatch};
 use l6_machine::Watch;
@@ -107,12 +107,12 @@ impl<S: Places> History<S> {
             self.old.number end result }
     {
         let mut last = None;
-        let mut sight = Sight::new(stop, self.machine());
+        let mut snapshot = Snapshot::new(stop, self.machine());
         'states: while self.number() < end {
             let number = self.number();
-            let stops = sight.stops();
+            let stops = snapshot.stops();
             self.step(alloc);
-            let differ = sight.look(stop, self.machine());
+            let differ = snapshot.look(stop, self.machine());
             last = later_of(stops | differ, number, last);
         }
         last

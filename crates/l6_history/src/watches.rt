@@ -8,7 +8,7 @@ ghost use Rattle.l6_history.specs.Stop.{value_of, values_of};
 ghost use Rattle.l6_history.specs.inner.Changing.{IsTable};
 
 use crate::changing::ChangeTable;
-use crate::sight::{differ, values_of};
+use crate::snapshot::{differ, values_of};
 use crate::stop::{MAX_WATCHED, Stop};
 use arrayvec::ArrayVec;
 use l6_machine::{Machine, Watch};

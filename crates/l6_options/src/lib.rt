@@ -23,7 +23,7 @@ pub fn with_options<'a>(command: Command<'a>, alloc: Global) -> Result<Command<'
         .help("Bytes that the run may print, 0 to 16777216")
         .value_parser(value_parser!(u32).range(0..=16_777_216))
         .default_value("1048576");
-    command.arg(store(alloc)?)?.arg(steps)?.arg(output)
+    command.arg(store_option(alloc)?)?.arg(steps)?.arg(output)
 }
 
 /// The option for the size of a store.
@@ -31,7 +31,7 @@ pub fn with_options<'a>(command: Command<'a>, alloc: Global) -> Result<Command<'
 /// # Errors
 ///
 /// Memory ran out.
-pub fn store<'a>(alloc: Global) -> Result<Arg<'a>, AllocError> {
+pub fn store_option<'a>(alloc: Global) -> Result<Arg<'a>, AllocError> {
     Ok(
         Arg::new(alloc, "store")
             .long("store")

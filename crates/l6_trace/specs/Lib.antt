@@ -1,4 +1,5 @@
 pub mod Numerals
+pub mod Number
 pub mod Limits
 pub mod Tracing
 pub mod Following

@@ -9,6 +9,10 @@ most_calls = 1000000
 abbrev pub most_number : ℕ
 most_number = 999999999
 
+-- the base of the numbers that lines give
+abbrev pub base : ℕ
+base = 10
+
 -- how many bytes a name may have
 abbrev pub most_name_bytes : ℕ
 most_name_bytes = 64

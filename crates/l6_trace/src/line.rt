@@ -1,13 +1,16 @@
 //! What a line of a trace says.
 
-ghost use Rattle.std.specs.Prelude.{◌≤◌, IfSome};
-ghost use Rattle.l6_trace.specs.Numerals.{most_number};
+ghost use Rattle.std.specs.Prelude.{◌≡◌};
+ghost use Rattle.l6_trace.specs.Number as spec;
 
 use crate::call::Reply;
 use l6_word::without_return;
 
 /// The greatest number that a line may give.
 pub const MAX_NUMBER: u32 = 999_999_999;
+
+/// The base of the numbers that lines give.
+const BASE: u32 = 10;
 
 /// The most bytes that a name may have.
 pub(crate) const MAX_NAME_BYTES: usize = 64;
@@ -111,24 +114,32 @@ fn is_name(word: &[u8]) -> bool {
     !word.is_empty() && word.len() <= MAX_NAME_BYTES && word != b"=".as_slice()
 }
 
-/// The number that decimal digits write, if it is at most `MAX_NUMBER`.
-fn number_of(digits: &[u8]) -> Option<u32>
-    ensures { IfSome result (λ number. number ≤ most_number) }
+/// The number that the decimal digits of a word write, if it is at most `MAX_NUMBER`.
+fn number_of(word: &[u8]) -> Option<u32>
+    ensures { result ≡ spec.number_of word.now }
 {
-    if digits.is_empty() {
-        return None;
-    }
     let mut number: u32 = 0;
-    for &byte in digits {
-        if !byte.is_ascii_digit() {
+    let mut has_digit = false;
+    for byte in word {
+        let digit = digit_of(*byte)?;
+        if number > MAX_NUMBER / BASE {
             return None;
         }
-        number = number.checked_mul(10)?.checked_add(u32::from(byte - b'0'))?;
-        if MAX_NUMBER < number {
-            return None;
-        }
+        number = number * BASE + digit;
+        has_digit = true;
     }
-    Some(number)
+    if has_digit { Some(number) } else { None }
+}
+
+/// The digit that a byte is.
+fn digit_of(byte: u8) -> Option<u32>
+    ensures { result ≡ spec.digit_of byte }
+{
+    if byte.is_ascii_digit() {
+        Some(u32::from(byte - b'0'))
+    } else {
+        None
+    }
 }
 
 /// The first word of a line and what follows it. Both are empty where it has none.

@@ -5,12 +5,12 @@ use Rattle.l6_history.specs.Stop.{Stop, stops_at, values_of}
 
 -- what is seen of a state: whether one stops there wherever one comes from, and what the watched
 -- chains read as
-pub record Sight : Type 0 where
+pub record Snapshot : Type 0 where
   pub stops : Bool
   pub values : List (Option ℕ)
 
-abbrev pub sight_of : Stop → State → Sight
-sight_of stop state =
+abbrev pub snapshot_of : Stop → State → Snapshot
+snapshot_of stop state =
     record { stops = stops_at stop state; values = values_of stop.watched state.memory }
 
 -- no number after one, up to another, passes a test

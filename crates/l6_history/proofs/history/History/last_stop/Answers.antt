@@ -3,7 +3,7 @@ use Rattle.std.specs.Prelude.{◌||◌}
 use Rattle.l6_steps.specs.Configuration.{state_at}
 use Rattle.l6_steps.specs.Numbering.{last_number}
 use Rattle.l6_history.specs.Seeking.{stops_back}
-use Rattle.l6_history.specs.inner.Seeking.{sight_of}
+use Rattle.l6_history.specs.inner.Seeking.{snapshot_of}
 use Rattle.l6_history.proofs.Sought.{back-is, last-next, steps-on}
 use Rattle.l6_history.proofs.history.History.last_stop.Goals as goal
 
@@ -19,11 +19,11 @@ states-preserved g c =
     let next = steps-on rule context c.states.self.context c.step.new.self.context stop number
     c.step.new.self.number c.machine-in-states.result.now c.look-differ.new.self
     c.states.invariant.context c.step.ensures.context c.step.ensures.number
-    below c.machine-in-states.ensures.value c.look-differ.ensures.sight in
-    let seen : c.look-differ.new.self ≡ sight_of stop (state_at rule context (number + 1)) =
-    next.seen ∙ ap (λ n. sight_of stop (state_at rule context n)) next.on in
-    let passes : stops_back rule context stop number ≡ (c.states.sight.stops || c.look-differ.result) =
-    back-is rule context stop number c.states.sight c.look-differ.new.self c.look-differ.result
+    below c.machine-in-states.ensures.value c.look-differ.ensures.snapshot in
+    let seen : c.look-differ.new.self ≡ snapshot_of stop (state_at rule context (number + 1)) =
+    next.seen ∙ ap (λ n. snapshot_of stop (state_at rule context n)) next.on in
+    let passes : stops_back rule context stop number ≡ (c.states.snapshot.stops || c.look-differ.result) =
+    back-is rule context stop number c.states.snapshot c.look-differ.new.self c.look-differ.result
     c.states.invariant.seen seen c.look-differ.ensures.differ in
     let passed : stops_back rule context stop number ≡ (c.stops-stops.result || c.look-differ.result) =
     passes ∙ ap (λ b. b || c.look-differ.result) (sym c.stops-stops.ensures) in

@@ -1,0 +1,234 @@
+#!/usr/bin/env python3
+"""Tries that the tests find defects: each is put into a copy of this checkout, in which a step must then fail.
+
+What edits are for proofs, these are for tests. A defect is a file NAME.defect in a folder of this one, by what has
+the defect: scripts, the page, programs for other systems, the library, pages, the model, or the tests themselves. It
+has lines
+
+    file: install             the file that is changed
+    old: TEXT                 a text that is in it just once; \\n, \\t and \\\\ in it are a line feed, a tab and a \\
+    new: TEXT                 what stands in its place
+    step: install             the step of ./test that must fail
+    trial: a removal          perhaps: the one trial of it that is made, for speed
+
+and perhaps more pairs. A step fails by a trial that fails, or by having other trials than tests/counts says.
+
+defects.py tries those on which verdicts (beside this script) has no verdict of the files as they are, and a
+twentieth of the others, which the commit chooses. With --all all are tried, with --only WORD those with a word
+in their names. What a step found is written to verdicts. The last line is 'N passed, M failed'.
+"""
+from __future__ import annotations
+
+import argparse
+import functools
+import hashlib
+import re
+import shutil
+import subprocess
+import sys
+import tempfile
+from collections.abc import Iterator
+from concurrent.futures import ThreadPoolExecutor
+from dataclasses import dataclass, field
+from pathlib import Path
+
+HERE = Path(__file__).resolve().parent
+TOP = HERE.parents[1]
+sys.path.insert(0, str(HERE.parent / "harness"))
+from trials import Trial, report
+
+VERDICTS = HERE / "verdicts"
+LINE = re.compile(r"(?P<name>[\w/]+) (?P<sum>[0-9a-f]{64})")
+SAMPLE = 20  # of so many defects that were found before one is tried again
+AT_ONCE = 4
+SECONDS = 900  # for a step
+ESCAPES = {"n": "\n", "t": "\t"}
+LEAST = 80  # defects that there are
+PAGE = "page"  # the step of which a trial is made in Chromium
+COUNT = re.compile(r"^(\d+) passed, (\d+) failed$")
+
+
+class BadDefect(Exception):
+    """A defect that can't be put in place: why not."""
+
+
+@dataclass
+class Defect:
+    """A file of defects."""
+
+    path: Path
+    step: str = ""
+    trial: str = ""
+    pairs: list[tuple[str, str, str]] = field(default_factory=list)  # a file, the old text, the new one
+
+    @property
+    def name(self) -> str:
+        """Its folder and its name."""
+        return f"{self.path.parent.name}/{self.path.stem}"
+
+    @property
+    def key(self) -> str:
+        """A sum of all that a verdict on it depends on: itself, the files that it changes, and those that find it."""
+        files = {TOP / name for name, _, _ in self.pairs} | set(scripts_of(self.step))
+        total = hashlib.sha256(self.path.read_bytes())
+        for file in sorted(files):
+            total.update(f"{file.relative_to(TOP)} {hashlib.sha256(file.read_bytes()).hexdigest()}\n".encode())
+        return total.hexdigest()
+
+    def apply(self, top: Path) -> None:
+        """Puts it into a copy of the checkout."""
+        for name, old, new in self.pairs:
+            file = top / name
+            text = file.read_text("utf-8")
+            if text.count(old) != 1:
+                raise BadDefect(f"an old text is in {name} {text.count(old)} times")
+            file.write_text(text.replace(old, new), "utf-8")
+
+
+def read_defect(path: Path) -> Defect:
+    """Reads the file of a defect."""
+    defect, name, old = Defect(path), "", None
+    for line in path.read_text("utf-8").splitlines():
+        word, _, text = line.partition(":")
+        text = re.sub(r"\\(.)", lambda it: ESCAPES.get(it[1], it[1]), text.removeprefix(" "))
+        if word == "file":
+            name = text
+        elif word == "old":
+            old = text
+        elif word == "new" and old is not None:
+            defect.pairs.append((name, old, text))
+            old = None
+        elif word in ("step", "trial"):
+            setattr(defect, word, text)
+        else:
+            raise BadDefect(f"{path.name} has a line {line!r}")
+    if not defect.pairs or not defect.step or old is not None:
+        raise BadDefect(f"{path.name} has no pair of texts, or no step")
+    return defect
+
+
+@functools.cache
+def scripts_of(step: str) -> tuple[Path, ...]:
+    """The scripts of a step: its own, those beside it, and the harness."""
+    text = (TOP / "test").read_text("utf-8")
+    found = re.findall(rf"^ *step {step} .*?((?:web/tests|tests/\w+|bench)/\w+)", text, re.MULTILINE | re.DOTALL)
+    folders = {TOP / Path(name).parent for name in found[:1]} | {TOP / "tests/harness"}
+    if not found:
+        raise BadDefect(f"there is no step {step}")
+    return tuple(sorted(it for folder in folders for it in folder.iterdir() if it.is_file()))
+
+
+def sources() -> list[str]:
+    """The files of the checkout."""
+    ran = subprocess.run(["git", "ls-files", "-z", "--cached", "--others", "--exclude-standard"], cwd=TOP,
+                         capture_output=True, check=True)
+    return [name for name in ran.stdout.decode().split("\0") if name and (TOP / name).is_file()]
+
+
+def copy_checkout(top: Path) -> None:
+    """Copies the checkout, so that what a step writes changes nothing here."""
+    for name in sources():
+        target = top / name
+        target.parent.mkdir(parents=True, exist_ok=True)
+        shutil.copy2(TOP / name, target, follow_symlinks=False)
+
+
+def finds(step: str, trial: str, top: Path) -> tuple[bool, str]:
+    """Whether a step of a copy, or a trial of it, fails; and the end of what was printed."""
+    words = ["./test", "--only", step]
+    if step == PAGE and trial:
+        page = top / "dist/l6.html"
+        bundled = subprocess.run(["web/bundle", "--same-module", str(page)], cwd=top, capture_output=True, text=True)
+        if bundled.returncode:
+            return True, bundled.stdout + bundled.stderr
+        words = [sys.executable, "web/tests/chromium.py", str(page), "--only", trial]
+    elif trial:
+        words = ["./test", "--only", trial]
+    ran = subprocess.run(words, cwd=top, stdin=subprocess.DEVNULL, capture_output=True, text=True, errors="replace",
+                         timeout=SECONDS)
+    last = (ran.stdout.splitlines() or [""])[-1]
+    found = COUNT.match(last)
+    return ran.returncode != 0 and found is not None and found[2] != "0", ran.stdout[-1500:]
+
+
+def tried(defect: Defect) -> str:
+    """What becomes of a defect: `found`, or why not."""
+    with tempfile.TemporaryDirectory(prefix="l6-defect-") as room:
+        copy_checkout(Path(room))
+        try:
+            defect.apply(Path(room))
+        except BadDefect as why:
+            return f"BAD DEFECT: {why}"
+        try:
+            is_found, said = finds(defect.step, defect.trial, Path(room))
+        except subprocess.TimeoutExpired:
+            return f"the step {defect.step} takes more than {SECONDS} seconds"
+    return "found" if is_found else f"the step {defect.step} finds nothing: ..{said[-300:]}"
+
+
+def passes(step: str, trial: str) -> str:
+    """What a step says in a copy without a defect: `passes`, or what fails."""
+    with tempfile.TemporaryDirectory(prefix="l6-defect-") as room:
+        copy_checkout(Path(room))
+        is_found, said = finds(step, trial, Path(room))
+    return said if is_found else "passes"
+
+
+def known() -> dict[str, str]:
+    """The sums of the defects that were found before."""
+    lines = VERDICTS.read_text("utf-8").splitlines() if VERDICTS.is_file() else []
+    return {found["name"]: found["sum"] for found in map(LINE.fullmatch, lines) if found}
+
+
+def chosen(defects: list[Defect], is_all: bool, commit: str) -> list[Defect]:
+    """The defects that are tried: those without a verdict of the files as they are, and some of the others."""
+    before = known()
+    def is_sampled(name: str) -> bool:
+        return int(hashlib.sha256(f"{commit} {name}".encode()).hexdigest(), 16) % SAMPLE == 0
+    return [it for it in defects if is_all or before.get(it.name) != it.key or is_sampled(it.name)]
+
+
+def read_all(word: str) -> list[Defect]:
+    """All defects with a word in their names."""
+    return [it for it in map(read_defect, sorted(HERE.glob("*/*.defect"))) if word in it.name]
+
+
+def trials(word: str, is_all: bool) -> Iterator[Trial]:
+    """The trials that each step passes without a defect, and that each defect is found."""
+    defects = read_all(word)
+    commit = subprocess.run(["git", "rev-parse", "HEAD"], cwd=TOP, capture_output=True, text=True).stdout
+    wanted = chosen(defects, is_all, commit)
+    verdicts = known() if word else {}
+    verdicts |= {it.name: it.key for it in defects if it not in wanted}
+    with ThreadPoolExecutor(AT_ONCE) as pool:
+        plain = {(it.step, it.trial): pool.submit(passes, it.step, it.trial) for it in wanted}
+        runs = {it.name: pool.submit(tried, it) for it in wanted}
+        for defect in wanted:
+            alone, became = plain[defect.step, defect.trial].result(), runs[defect.name].result()
+            if alone != "passes":
+                became = f"the step {defect.step} fails without a defect, too: ..{alone[-300:]}"
+            yield f"{defect.name}, by {defect.step}", "found", became
+            if became == "found":
+                verdicts[defect.name] = defect.key
+            else:
+                verdicts.pop(defect.name, None)
+    before = known()
+    for defect in defects:
+        if defect not in wanted:
+            yield f"{defect.name}, as it was found before", before[defect.name], defect.key
+    VERDICTS.write_text("".join(f"{name} {key}\n" for name, key in sorted(verdicts.items())), "utf-8")
+    if not word:
+        yield "how many defects there are", True, len(defects) >= LEAST
+
+
+def main() -> int:
+    """Tries defects; returns the exit status."""
+    parser = argparse.ArgumentParser(description=__doc__.split("\n", 1)[0])
+    parser.add_argument("--only", default="", metavar="WORD", help="only defects with this in their names")
+    parser.add_argument("--all", action="store_true", help="try those that were found before, too")
+    options = parser.parse_args()
+    return report(trials(options.only, options.all))
+
+
+if __name__ == "__main__":
+    sys.exit(main())

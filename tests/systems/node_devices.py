@@ -1,0 +1,79 @@
+"""Trials of the program for Node with stand-ins for its devices: busy ones, a terminal, the console of Windows.
+
+A script that Node loads before the program puts a function of its own in the place of readSync or writeSync, which
+answers so many times as that device does, and then as the system's.
+"""
+from __future__ import annotations
+
+import os
+import pty
+import subprocess
+import tempfile
+from collections.abc import Iterator
+from pathlib import Path
+
+from answers import Answer, answer, answer_of
+from trials import Trial
+
+SECONDS = 60
+STAND_IN = """
+const files = require("fs");
+const real = files.{call};
+let left = {times};
+files.{call} = (...given) => {{
+  if (left-- > 0) throw Object.assign(new Error("{code}"), {{code: "{code}"}});
+  return real(...given);
+}};
+require("module").syncBuiltinESMExports();
+"""
+DECK = b" (A,E,5)(A,PD)\n"
+PRINTED = answer(b"5\n== DONE AFTER 6 STEPS\n")
+KEYBOARD = b"l6: reading the job from the keyboard, up to Ctrl-D at the beginning of a line\n"
+ENDLESS = 1_000_000
+
+
+def node_devices(program: Path, native: Path) -> Iterator[Trial]:
+    """All of these trials; the native program says what wrong words are answered by."""
+    with tempfile.TemporaryDirectory(prefix="l6-node-") as room:
+        yield from stand_ins(program, Path(room))
+    yield from many_words(program, native)
+    yield from terminals(program)
+
+
+def stand_ins(program: Path, room: Path) -> Iterator[Trial]:
+    """A device that is busy is asked again; one that ends as a console of Windows does, ends; another fails."""
+    def run(call: str, code: str, times: int) -> Answer[bytes]:
+        script = room / f"{call}-{code}.cjs"
+        script.write_text(STAND_IN.format(call=call, code=code, times=times))
+        return answer_of(["node", "--require", script, program, "run"], input=DECK, seconds=SECONDS, preexec_fn=None)
+
+    yield "a busy standard input in Node", PRINTED, run("readSync", "EAGAIN", 3)
+    yield "a busy standard output in Node", PRINTED, run("writeSync", "EAGAIN", 3)
+    nothing = answer(b"== DONE AFTER 2 STEPS\n")
+    yield "a standard input that ends as a console of Windows", nothing, run("readSync", "EOF", ENDLESS)
+    failed = answer(stderr=b"l6: read failed\n", status=5)
+    yield "a standard input that fails in Node", failed, run("readSync", "EIO", ENDLESS)
+    yield "a standard output that fails in Node", 5, run("writeSync", "EIO", ENDLESS).status
+
+
+def many_words(program: Path, native: Path) -> Iterator[Trial]:
+    """More words than a right command line has are answered as the native program answers them."""
+    for count in (14, 15, 16, 40):
+        words = ["run", *["--steps"] * count]
+        expected = answer_of([native, *words], input=DECK)
+        actual = answer_of(["node", program, *words], input=DECK, seconds=SECONDS, preexec_fn=None)
+        yield f"{count} words too many in Node", expected, actual
+
+
+def terminals(program: Path) -> Iterator[Trial]:
+    """What is read from a terminal is announced; what is written to one is not."""
+    ours, theirs = pty.openpty()
+    os.write(ours, DECK + b"\4\4")
+    ran = subprocess.run(["node", program, "run"], stdin=theirs, capture_output=True, timeout=SECONDS)
+    yield "a terminal as standard input of Node", (PRINTED.stdout, KEYBOARD), (ran.stdout, ran.stderr)
+    ran = subprocess.run(["node", program, "run"], input=DECK, stdout=theirs, stderr=subprocess.PIPE, timeout=SECONDS)
+    yield "a terminal as standard output of Node", (b"", 0), (ran.stderr, ran.returncode)
+    ran = subprocess.run(["node", program, "nonsense"], stdin=theirs, capture_output=True, timeout=SECONDS)
+    yield "wrong words at a terminal of Node", (False, 64), (KEYBOARD in ran.stderr, ran.returncode)
+    os.close(ours)
+    os.close(theirs)

@@ -183,7 +183,6 @@ def samples(edits: Edits) -> Iterator[Trial]:
     least = -(-sum(sizes.values()) // SAMPLE)
     yield "the least size of a sample", True, all(sum(sizes[it] for it in names) >= least for names in found)
     yield "the crates of 500 samples", set(sizes), set.union(*found)
-    yield "the sample of a commit", sample(sizes, "one"), sample(sizes, "one")
 
 
 def forged(edits: Edits) -> str:

@@ -381,8 +381,8 @@ def canaries(program: str) -> Iterator[Trial]:
         page.settle()
     wrong = [trial for trial in page.trials if trial[1] != trial[2]]
     yield from wrong
-    if len(wrong) < BAD_TRIALS:
-        yield f"a bad page has {len(wrong)} trials that fail, and must have {BAD_TRIALS}", True, True
+    # (a canary must fail)
+    yield f"a bad page has {len(wrong)} trials that fail, and must have {BAD_TRIALS}", len(wrong) < BAD_TRIALS, True
 
 
 def trials(program: str) -> Iterator[Trial]:

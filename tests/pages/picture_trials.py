@@ -323,8 +323,7 @@ def canaries() -> Iterator[Trial]:
     yield from pictures_that_are_wrong()
     wrong = list(described("a picture", "Four words with the fields C and X", texts["hand.svg"]))
     yield from wrong
-    if len(wrong) != 2:
-        yield "a wrong description", True, True
+    yield "a wrong description", len(wrong) != 2, True  # (a canary must fail)
 
 
 if __name__ == "__main__":

@@ -8,6 +8,7 @@ Rattle's toolchain the sources are not looked at.
 """
 from __future__ import annotations
 
+import ast
 import os
 import shutil
 import subprocess
@@ -28,6 +29,8 @@ BAD_SHELL = "#!/bin/sh\nrm $1\n"
 BAD_SOURCE = "fn one()->u8{1}\n"
 NO_SCRIPTS = {".git", "crates", "dist", "docs", "examples"}  # folders
 MADE = {"out", "__pycache__"}  # folders of what is made
+CODE = ("*.rt", "*.antt", "*.py", "*.js", "*.mjs", "*.c", "*.sh")
+LONG, LONGEST, ONE_IN = 400, 600, 20  # lines of a file, and of how many files one may be long
 CLEAN = ""  # what is said of a file without a fault
 
 
@@ -139,6 +142,45 @@ def said_by_formatter(crate: Path) -> str:
     return ended.stdout + ended.stderr
 
 
+def lengths() -> Iterator[Trial]:
+    """No file of code is too long, and few are long."""
+    ran = subprocess.run(["git", "ls-files", *CODE], cwd=TOP, capture_output=True, text=True)
+    files = [TOP / name for name in ran.stdout.splitlines() if (TOP / name).is_file()] or code_files()
+    files = [it for it in files if it.relative_to(TOP).parts[0] != "dist"]
+    counts = {str(file.relative_to(TOP)): file.read_bytes().count(b"\n") for file in files}
+    too_long = [name for name, count in counts.items() if count > LONGEST]
+    yield f"files with more than {LONGEST} lines", [], too_long
+    long = [name for name, count in counts.items() if count > LONG]
+    yield f"one file in {ONE_IN} has more than {LONG} lines", True, len(long) * ONE_IN <= len(counts)
+
+
+def code_files() -> list[Path]:
+    """The files of code, where git is missing."""
+    return [file for pattern in CODE for file in TOP.rglob(pattern) if MADE.isdisjoint(file.parts)]
+
+
+def comparisons() -> Iterator[Trial]:
+    """No script compares an expression with itself: neither by == or !=, nor as a trial's two values."""
+    for file in [it for group in python_groups() for it in group.files]:
+        same = [it.lineno for it in ast.walk(ast.parse(file.read_text("utf-8"))) if is_of_itself(it)]
+        yield f"comparisons with itself in {file.relative_to(TOP)}, by line", [], same
+
+
+def is_of_itself(node: ast.AST) -> bool:
+    """Whether a comparison, a trial that is yielded, or a call of `same` has the same expression twice."""
+    if isinstance(node, ast.Compare):
+        return ast.dump(node.left) == ast.dump(node.comparators[0])
+    if isinstance(node, ast.Yield) and isinstance(node.value, ast.Tuple) and len(node.value.elts) == 3:
+        _, expected, actual = node.value.elts
+    elif isinstance(node, ast.Call) and isinstance(node.func, ast.Attribute) and node.func.attr == "same":
+        if len(node.args) != 3:
+            return False
+        _, expected, actual = node.args
+    else:
+        return False
+    return ast.dump(expected) == ast.dump(actual)
+
+
 def is_there(tool: str) -> bool:
     """Whether a tool is there; says if it is not."""
     if shutil.which(tool):
@@ -160,6 +202,8 @@ def trials() -> Iterator[Trial]:
             yield from map(trial, (f"how {it.name} is set out" for it in crates), pool.map(said_by_formatter, crates))
     known = {file for group in python_groups() for file in group.files} | set(shell_scripts())
     yield "scripts that nothing checks", [], [name_of(it) for it in scripts() if it not in known]
+    yield from lengths()
+    yield from comparisons()
 
 
 def trial(name: str, said: str) -> Trial:
@@ -182,6 +226,9 @@ def canaries() -> Iterable[Trial]:
         yield "a wrong type", CLEAN, said
         judge = said_by_shellcheck if shutil.which("shellcheck") else said_by_shell
         yield "a wrong word of the shell", CLEAN, judge(shell)
+        for text in ("a == a", "one(1) != one(1)", "yield 'a', b[0], b[0]", "page.same('a', b, b)"):
+            node = next(it for it in ast.walk(ast.parse(text)) if isinstance(it, (ast.Compare, ast.Yield, ast.Call)))
+            yield f"a comparison with itself: {text}", False, is_of_itself(node)
         if shutil.which("rt"):
             source = Path(folder, "bad", "src", "lib.rt")
             source.parent.mkdir(parents=True)

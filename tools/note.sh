@@ -12,7 +12,7 @@
 
 note=${XDG_CACHE_HOME:-${HOME:+$HOME/.cache}}
 case $note in
-    /*) note=$note/l6/program ;;
+    /*) note=$note/l6/$program_name ;;
     *) note='' ;;
 esac
 fresh='3 seconds ago'

@@ -309,7 +309,7 @@ def damaged_programs(checkout: Checkout) -> Iterator[Trial]:
 
 def notes(checkout: Checkout) -> Iterator[Trial]:
     """With a note of what was summed, nothing is summed again, until a file changes in whatever way."""
-    note = checkout.folder / "home/.cache/l6/program"
+    note = checkout.folder / "home/.cache/l6/l6"
     home: dict[str, Any] = {"has_rt": False, "HOME": str(checkout.folder / "home")}
     expected = Answer(checkout.made_of, "", 0)
     yield "the first call", expected, checkout.run("l6", **home)

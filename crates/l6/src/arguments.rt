@@ -138,7 +138,7 @@ fn program<'a>(alloc: Global) -> Result<Command<'a>, AllocError> {
         .subcommand(with_options(described(alloc, "load", help::LOAD), alloc)?)?
         .subcommand(described(alloc, "renew", help::RENEW))?
         .subcommand(with_options(described(alloc, "debug", help::DEBUG), alloc)?)?
-        .subcommand(described(alloc, "trace", help::TRACE).arg(store(alloc)?)?)
+        .subcommand(described(alloc, "trace", help::TRACE).arg(store_option(alloc)?)?)
 }
 
 /// A command with its name and its help.

@@ -1,0 +1,381 @@
+#!/usr/bin/env python3
+"""Tries l6db at a terminal: the front end of terminal/, its launcher, and what is there without Python.
+
+terminal.py PROGRAM prints each difference, and last 'N passed, M failed'. PROGRAM is l6db. It runs on
+pseudoterminals, so no screen is needed. Waits are for texts, but for two after a key.
+"""
+from __future__ import annotations
+
+import contextlib
+import fcntl
+import os
+import pty
+import random
+import re
+import select
+import shutil
+import signal
+import struct
+import subprocess
+import sys
+import tempfile
+import termios
+import time
+from collections.abc import Iterator
+from pathlib import Path
+
+sys.path.insert(0, str(Path(__file__).resolve().parents[1] / "harness"))
+from trials import Trial, report
+
+TOP = Path(__file__).resolve().parents[2]
+FRONT = [sys.executable, "-I", str(TOP / "terminal/l6db.py")]
+PROMPT = b"(l6db) "
+SECONDS = 60  # for one answer on a machine that is busy
+AFTER_A_KEY = 0.3  # seconds: a signal right after a key, before readline waits again, shows at the next key alone
+INTERRUPTIONS = 6
+LIST = b"""* A LIST OF TWO BLOCKS, WHICH IS PRINTED
+       (0,DV,0,17)(0,DN,18,35)
+MAKE   (L,GT,1)(LV,E,7)
+       (M,GT,1)(MV,E,8)(LN,E,M)
+       (SHOW,DO) DONE
+SHOW   (K,E,L)
+NEXT   IF (K,E,0) THEN DONE
+       (KV,PD)(PL)(K,E,KN) NEXT
+"""
+SPIN = b"""* COUNTS FOR EVER
+       (A,E,0)
+LOOP   (A,A,1)(B,E,A)
+       IF (A,E,1) THEN (C,E,5)
+       (D,E,1) LOOP
+"""
+# The tools that the launcher uses when neither Python nor rlwrap is there.
+TOOLS = ("sh", "awk", "basename", "cat", "cmp", "cut", "dirname", "find", "grep", "mkdir", "mv", "readlink", "rm", "sed",
+         "sha256sum", "sort", "stty", "tr", "uname", "uniq", "xargs")
+
+
+class Terminal:
+    """A program on a pseudoterminal."""
+
+    def __init__(self, command: list[str], **further: str) -> None:
+        self.shown = b""  # and not taken yet
+        self.process, self.device = pty.fork()
+        if self.process == 0:
+            for number in (signal.SIGINT, signal.SIGQUIT, signal.SIGHUP):
+                signal.signal(number, signal.SIG_DFL)
+            known = {**os.environ, "TERM": "xterm", "NO_COLOR": "1", "PAGER": "cat", "HOME": "/nowhere", **further}
+            os.execvpe(command[0], command, known)
+        self.resize(30, 90)
+
+    def resize(self, rows: int, columns: int) -> None:
+        """Gives the terminal another size."""
+        fcntl.ioctl(self.device, termios.TIOCSWINSZ, struct.pack("HHHH", rows, columns, 0, 0))
+
+    def give(self, keys: bytes) -> None:
+        """Types keys."""
+        os.write(self.device, keys)
+
+    def until(self, text: bytes) -> bytes:
+        """What is shown up to a text, or all that is shown if it does not come."""
+        end = time.monotonic() + SECONDS
+        while text not in self.shown and time.monotonic() < end:
+            if select.select([self.device], [], [], 0.1)[0]:
+                try:
+                    more = os.read(self.device, 1 << 16)
+                except OSError:
+                    break
+                if not more:
+                    break
+                self.shown += more
+        before, found, self.shown = self.shown.partition(text)
+        return before + found
+
+    def has(self, name: str, keys: bytes, text: bytes) -> Trial:
+        """The trial that a text is shown after keys, and that the prompt comes then."""
+        self.give(keys)
+        shown = self.until(text)
+        if text in shown:
+            shown += self.until(PROMPT)
+        return name, (True, True), (text in shown, shown.endswith(PROMPT))
+
+    def answer(self, line: bytes) -> bytes:
+        """What is shown up to the next prompt, after a line and its echo."""
+        self.give(line + b"\r")
+        return self.until(b"\n") + self.until(PROMPT)
+
+    def status(self) -> int:
+        """The status with which it ends; it is killed if it does not."""
+        end = time.monotonic() + SECONDS
+        while time.monotonic() < end:
+            process, status = os.waitpid(self.process, os.WNOHANG)
+            if process:
+                return os.waitstatus_to_exitcode(status)
+            time.sleep(0.01)
+        os.kill(self.process, signal.SIGKILL)
+        return os.waitstatus_to_exitcode(os.waitpid(self.process, 0)[1])
+
+    def end(self) -> int:
+        """Ends it by Ctrl-D; answers its status."""
+        time.sleep(AFTER_A_KEY)
+        self.give(b"\x04")
+        return self.status()
+
+
+class Bench:
+    """Decks in a folder, and the front end over an engine."""
+
+    def __init__(self, engine: str, folder: Path) -> None:
+        self.engine, self.folder = engine, folder
+        self.deck, self.spin = folder / "my.deck", folder / "spin.deck"
+        self.deck.write_bytes(LIST)
+        self.spin.write_bytes(SPIN)
+
+    def begin(self, *words: str | Path, **further: str) -> Terminal:
+        """A session with these words, at its first prompt."""
+        given = [str(it) for it in words or (self.deck,)]
+        terminal = Terminal([*FRONT, self.engine, *given], XDG_STATE_HOME=str(self.folder / "state"), **further)
+        terminal.until(PROMPT)
+        return terminal
+
+
+def editing(bench: Bench) -> Iterator[Trial]:
+    """Lines are completed, repeated, dropped, searched and kept."""
+    terminal = bench.begin()
+    yield terminal.has("Tab completes a command", b"finis\t\r", b"No call waits")
+    yield terminal.has("Tab completes a label", b"b NEX\t\r", b"Breakpoint at 5 NEXT")
+    yield terminal.has("Tab completes a chain", b"p K\t\x15p L\r", b"L = 0")
+    yield terminal.has("an empty line", b"s\r", b"AFTER 1 STEPS")
+    yield terminal.has("an empty line repeats the last one", b"\r", b"AFTER 2 STEPS")
+    terminal.give(b"quit")
+    terminal.until(b"quit")
+    time.sleep(AFTER_A_KEY)
+    yield terminal.has("Ctrl-C drops the line", b"\x03", b"^C")
+    yield terminal.has("Ctrl-C drops nothing else", b"stats\r", b"STATE 2 ")
+    yield terminal.has("a search in the history", b"\x12NEX\r", b"Breakpoint at 5 NEXT")
+    yield "the status after Ctrl-D", 0, terminal.end()
+    terminal = bench.begin()
+    yield terminal.has("the history of the session before", b"\x10\r", b"Breakpoint at 5 NEXT")
+    terminal.end()
+    mode = (bench.folder / "state/l6/l6db_history").stat().st_mode & 0o777
+    yield "who may read the history", 0o600, mode
+
+
+def files(bench: Bench) -> Iterator[Trial]:
+    """Stops are saved and brought back, and a deck that was changed is read again."""
+    saved = bench.folder / "my.stops"
+    terminal = bench.begin()
+    for line, said in (
+        (b"b 6", b"Breakpoint at 6 NEXT+1"), (b"tb 3", b"Temporary breakpoint at 3 MAKE+2"), (b"watch LN", b"watch"),
+        (b"display K", b"display"), (b"c", b"AT 1.2"), (f"save {saved}".encode(), b"4 commands"),
+    ):
+        yield line.decode().replace(str(saved), "FILE"), True, said in terminal.answer(line)
+    bench.deck.write_bytes(LIST.replace(b"MAKE ", b"       (Z,E,1)\nMAKE "))
+    yield terminal.has("a deck that has changed", b"s 0\r", b"has changed")
+    yield terminal.has("reload", b"reload\r", b"again")
+    shown = terminal.answer(b"info")
+    for stop in (b"break 7 NEXT+1", b"tbreak 4 MAKE+2", b": LN", b": K"):
+        yield f"reload keeps {stop.decode()}", True, stop in shown
+    yield terminal.has("reload keeps the state", b"stats\r", b"STATE 6 ")
+    bench.deck.write_bytes(LIST.replace(b"(L,GT,1)", b"(L,GQ,1)"))
+    yield terminal.has("a deck with errors", b"reload\r", b"error")
+    yield terminal.has("a deck with errors leaves the session", b"stats\r", b"STATE 6 ")
+    bench.deck.write_bytes(LIST)
+    yield terminal.has("run reads the deck again", b"run\r", b"again")
+    terminal.answer(b"delete")
+    yield terminal.has("source", b"source " + str(saved).encode() + b"\r", b"Breakpoint at 6 NEXT+1")
+    yield terminal.has("source of no file", b"source nothing\r", b"nothing: No such file")
+    yield terminal.has("save into no folder", b"save no/where\r", b"no/where: No such file")
+    terminal.end()
+
+
+def stops(bench: Bench) -> Iterator[Trial]:
+    """Ctrl-C in a long command leaves the session as it was, and no engine is left behind."""
+    terminal = bench.begin("--steps", "1000000000", bench.spin)
+    terminal.answer(b"watch C")
+    terminal.answer(b"display A")
+    terminal.answer(b"tb 0")
+    terminal.answer(b"goto 200000000")
+    before = settled(terminal)
+    terminal.give(b"rc\r")
+    yield "it is shown that a command goes on", True, b"Ctrl-C stops" in terminal.until(b"Ctrl-C stops")
+    terminal.give(b"\x03")
+    shown = terminal.until(b"as before") + terminal.until(PROMPT)
+    yield "Ctrl-C stops the command", True, b"the session is at state 200000000, as before" in shown
+    yield "the session after Ctrl-C", before, settled(terminal)
+    chance = random.Random(1)
+    for number in range(INTERRUPTIONS):
+        terminal.give(chance.choice([b"rc\r", b"c\r", b"end\r", b"rc 3\r"]))
+        terminal.until(b"\n")
+        time.sleep(chance.uniform(0.05, 1.5))
+        terminal.give(b"\x03")
+        terminal.until(PROMPT)
+        if b"^C" in terminal.shown or settled(terminal) != before:  # (the command may have ended before)
+            terminal.answer(b"delete")
+            terminal.answer(b"watch C")
+            terminal.answer(b"tb 0")
+            terminal.answer(b"goto 200000000")
+        yield f"the session after a command that may be stopped, {number}", before, settled(terminal)
+    engines = processes_of(bench.engine)
+    os.kill(terminal.process, signal.SIGKILL)
+    terminal.status()
+    end = time.monotonic() + SECONDS
+    while processes_of(bench.engine) & engines and time.monotonic() < end:
+        time.sleep(0.05)
+    yield "an engine whose front end was killed", set(), processes_of(bench.engine) & engines
+
+
+def settled(terminal: Terminal) -> tuple[bytes, list[bytes]]:
+    """The state of a session and what it stops at, as it says them."""
+    state = re.search(rb"STATE \d+ ", terminal.answer(b"stats"))
+    info = re.findall(rb"^(?:t?break|watch|display) .*$", terminal.answer(b"info").replace(b"\r", b""), re.MULTILINE)
+    return (state[0] if state else b""), info
+
+
+def terminals(bench: Bench) -> Iterator[Trial]:
+    """Ctrl-Z and fg, a terminal of another size, cards in view, colours, and a terminal without any."""
+    # (a process group without a shell is never stopped by the terminal, so a shell is needed)
+    terminal = Terminal(["bash", "--norc", "-i"], XDG_STATE_HOME=str(bench.folder / "state"))
+    terminal.give(" ".join([*FRONT, bench.engine, str(bench.deck)]).encode() + b"\r")
+    terminal.until(PROMPT)
+    terminal.answer(b"s")
+    terminal.give(b"\x1a")
+    yield "Ctrl-Z", True, b"Stopped" in terminal.until(b"Stopped")
+    terminal.give(b"fg\r")
+    terminal.until(PROMPT)
+    yield terminal.has("fg", b"stats\r", b"STATE 1 ")
+    terminal.give(b"\x04")
+    os.kill(terminal.process, signal.SIGHUP)
+    terminal.status()
+    terminal = bench.begin()
+    terminal.give(b"view\r")
+    yield "cards in view", True, b"\x1b[11;30r" in terminal.until(b"\x1b[11;30r")
+    terminal.until(PROMPT)
+    terminal.resize(24, 70)
+    terminal.give(b"s\r")
+    yield "cards in view after a resize", True, b"\x1b[11;24r" in terminal.until(b"\x1b[11;24r")
+    terminal.until(PROMPT)
+    time.sleep(AFTER_A_KEY)
+    terminal.give(b"\x04")
+    yield "the terminal is given back", True, b"\x1b[r" in terminal.until(b"\x1b[r")
+    terminal.status()
+    for name, further, is_painted in (("a terminal with colours", {"NO_COLOR": ""}, True), ("NO_COLOR", {}, False)):
+        terminal = bench.begin(**further)
+        yield name, is_painted, b"\x1b[1mAT 0.1" in terminal.answer(b"s")
+        terminal.end()
+
+
+def faults(bench: Bench) -> Iterator[Trial]:
+    """What is wrong with a deck or the words is said as the engine says it."""
+    bad = bench.folder / "bad.deck"
+    bad.write_bytes(b" (A,E,5)\n (A,ZZ,5)\n")
+    for words in ([str(bad)], ["nothing.deck"], ["--units", "3", str(bench.deck)]):
+        said = []
+        for command in ([*FRONT, bench.engine], [bench.engine]):
+            ran = subprocess.run([*command, *words], stdin=subprocess.DEVNULL, capture_output=True, cwd=bench.folder)
+            said.append((ran.returncode, ran.stdout, ran.stderr))
+        yield f"the words {' '.join(words[:2])}".replace(str(bench.folder), "FOLDER"), said[1], said[0]
+        yield f"the words {' '.join(words[:2])} are wrong".replace(str(bench.folder), "FOLDER"), True, said[0][0] != 0
+
+
+def launcher(bench: Bench) -> Iterator[Trial]:
+    """./l6db chooses the front end, rlwrap or the engine; scripts see the engine alone."""
+    state = {"XDG_STATE_HOME": str(bench.folder / "state")}
+    words = [str(TOP / "l6db"), str(bench.deck)]
+    terminal = Terminal(words, **state)
+    terminal.until(PROMPT)
+    yield terminal.has("./l6db with Python", b"b NEX\t\r", b"Breakpoint at 5 NEXT")
+    terminal.end()
+    tools = bench.folder / "tools"
+    tools.mkdir()
+    for name in TOOLS:
+        if there := shutil.which(name):
+            (tools / name).symlink_to(there)
+    for name, path, further in (
+        ("./l6db without Python", str(tools), {}),
+        ("./l6db that is to be plain", os.environ["PATH"], {"L6DB_PLAIN": "1"}),
+        ("./l6db at a dumb terminal", os.environ["PATH"], {"TERM": "dumb"}),
+    ):
+        terminal = Terminal(words, PATH=path, **{**state, **further})
+        terminal.until(PROMPT)
+        yield terminal.has(name, b"s\r", b"AFTER 1 STEPS")
+        yield terminal.has(f"{name} has no commands of its own", b"view\r", b"Not a command")
+        terminal.give(b"\x04")
+        yield f"the status of {name}", 0, terminal.status()
+    if shutil.which("rlwrap"):
+        for name in ("rlwrap", "perl"):
+            (tools / name).symlink_to(shutil.which(name) or name)
+        terminal = Terminal(words, PATH=str(tools), **state)
+        terminal.until(PROMPT)
+        yield terminal.has("./l6db with rlwrap", b"s\r", b"AFTER 1 STEPS")
+        yield terminal.has("rlwrap completes a command", b"finis\t\r", b"No call waits")
+        time.sleep(AFTER_A_KEY)
+        terminal.give(b"\x03")
+        yield terminal.has("Ctrl-C with rlwrap", b"stats\r", b"STATE 1 ")
+        terminal.end()
+    else:
+        print("skipped: rlwrap: it is missing")
+    for given in (["--batch", "-x", "/dev/null"], ["--help"], ["--version"]):
+        ran = [
+            subprocess.run([*command, *given, *words[1:]], capture_output=True, stdin=subprocess.DEVNULL)
+            for command in ([words[0]], [bench.engine])
+        ]
+        expected, actual = ((it.returncode, it.stdout, it.stderr) for it in reversed(ran))
+        yield f"./l6db {' '.join(given)}", expected, actual
+    ran = [
+        subprocess.run([*command, *words[1:]], capture_output=True, input=b"s\ninfo\n")
+        for command in ([words[0]], [bench.engine])
+    ]
+    yield "./l6db over pipes", ran[1].stdout, ran[0].stdout
+
+
+def without_readline(bench: Bench) -> Iterator[Trial]:
+    """Without readline lines are read as they are typed."""
+    script = bench.folder / "plain.py"
+    script.write_text(
+        "import sys\nsys.modules['readline'] = None\n"
+        f"sys.path.insert(0, {str(TOP / 'terminal')!r})\nfrom front import play\nsys.exit(play(sys.argv[1], sys.argv[2:]))\n"
+    )
+    terminal = Terminal([sys.executable, str(script), bench.engine, str(bench.deck)])
+    terminal.until(PROMPT)
+    yield terminal.has("a line without readline", b"s\r", b"AFTER 1 STEPS")
+    yield "the status without readline", 0, terminal.end()
+
+
+def words_of_completion(bench: Bench) -> Iterator[Trial]:
+    """The words that are completed are those that the engine's help lists, and the engine knows each."""
+    known = (TOP / "terminal/words").read_text("utf-8").split()
+    yield "the order of the words", sorted(set(known)), known
+    ran = subprocess.run([bench.engine, str(bench.deck)], input=b"help\n", capture_output=True)
+    listed = set()
+    for row in ran.stdout.decode().splitlines():
+        for column in (row[1:24], row[40:62]) if row.startswith(" ") and len(row) > 40 else (row[1:24],):
+            if row.startswith(" "):
+                listed |= {it for it in re.split(r"[|, ]+", column.partition("[")[0]) if re.fullmatch(r"[a-z-]{3,}", it)}
+    yield "words of the help that are not completed", set(), listed - set(known) - {"fin"}
+    given = "".join(f"help {word}\n" for word in known).encode()
+    ran = subprocess.run([bench.engine, "--echo", str(bench.deck)], input=given, capture_output=True)
+    yield "words that the engine does not know", 0, ran.stdout.count(b"No such command")
+
+
+def processes_of(program: str) -> set[str]:
+    """The processes of a program."""
+    kept = set()
+    for folder in Path("/proc").glob("[0-9]*"):
+        with contextlib.suppress(OSError):
+            if os.readlink(folder / "exe") == os.path.realpath(program):
+                kept.add(folder.name)
+    return kept
+
+
+def trials(engine: str) -> Iterator[Trial]:
+    """All trials, each group with a folder of its own."""
+    for group in (
+        editing, files, stops, terminals, faults, launcher, without_readline, words_of_completion,
+    ):
+        with tempfile.TemporaryDirectory(prefix="l6-terminal-") as folder:
+            yield from group(Bench(engine, Path(folder)))
+
+
+if __name__ == "__main__":
+    if len(sys.argv) != 2:
+        sys.exit(__doc__)
+    sys.exit(report(trials(str(Path(sys.argv[1]).resolve()))))

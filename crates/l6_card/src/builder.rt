@@ -274,6 +274,7 @@ impl StatementBuilder {
 
 impl StatementBuilder {
     /// Why a group with these columns may not stand next.
+    #[inline(never)] // so that items that are taken pay nothing for it
     pub(crate) fn group_reason(&self, columns: &[u8]) -> Reason
         ensures { let is_test = is_some (test_of columns.now) in
             let expected = spec.expected_in (kept_builder self.now) in
@@ -294,6 +295,7 @@ impl StatementBuilder {
     }
 
     /// Why a word with these columns may not stand next.
+    #[inline(never)] // so that items that are taken pay nothing for it
     pub(crate) fn word_reason(&self, columns: &[u8]) -> Reason
         ensures { let has_then = is_some (after_then (spelled columns.now)) in
             result ≡ order.word_reason (spec.expected_in (kept_builder self.now)) has_then }

@@ -182,6 +182,7 @@ impl<'a> Reader<'a> {
     }
 
     /// A group objects, whose `(` has this offset, with these columns between its parentheses.
+    #[inline(never)] // so that items that are taken pay nothing for it
     fn group_objects(&self, offset: usize, columns: &[u8], reason: Reason) -> ReadError
         requires end { offset + length columns.now + 2 ≤ most_deck_bytes }
         requires begin { length self.now.body.front.now ≤ self.now.body.offset }
@@ -194,6 +195,7 @@ impl<'a> Reader<'a> {
     }
 
     /// A word of the letters of these columns objects, the first of which has this offset.
+    #[inline(never)] // so that items that are taken pay nothing for it
     fn word_objects(&self, offset: usize, columns: &[u8], reason: Reason) -> ReadError
         requires end { offset + length columns.now ≤ most_deck_bytes }
         requires begin { length self.now.body.front.now ≤ self.now.body.offset }
@@ -294,6 +296,7 @@ impl<'a> Reader<'a> {
 }
 
 /// Columns of a card object: those from one on to the one before another.
+#[inline(never)]
 fn objects(card: u32, from: usize, to: usize, reason: Reason) -> ReadError
     ensures { objection_in result ≡ Some (spec.objects card from to reason) }
 {
@@ -306,6 +309,7 @@ fn objects(card: u32, from: usize, to: usize, reason: Reason) -> ReadError
 }
 
 /// The card of a body objects, but for the blanks at both ends.
+#[inline(never)]
 fn card_objects(body: Body<'_>, reason: Reason) -> ReadError
     ensures { objection_in result ≡ Some (spec.card_objects (body_seen body.entry) reason) }
 {
@@ -318,6 +322,7 @@ fn card_objects(body: Body<'_>, reason: Reason) -> ReadError
 }
 
 /// Why columns are no label.
+#[inline(never)]
 fn label_reason(columns: &[u8]) -> Reason
     ensures { result ≡ spec.label_reason columns.now }
 {

@@ -190,11 +190,11 @@ record IsWord (i : PlacedItem) : Type 0 where
 
 is_word : (what : Item) (card : ℕ) (c : Cond) → condition_in what ≡ Some c →
     IsWord (item_on card what)
-is_word (word columns) card c found =
+is_word (word at past columns) card c found =
     record { no_operation = refl; exit = condition_is_exit (spelled columns) c found }
 is_word (group offset columns) card c found = absurd (cc)
-is_word unclosed card c found = absurd (cc)
-is_word (unopened columns) card c found = absurd (cc)
+is_word (unclosed at) card c found = absurd (cc)
+is_word (unopened at columns) card c found = absurd (cc)
 
 worded_begins : (i : PlacedItem) (items more : List PlacedItem) (c : Cond) →
     condition_in i.what ≡ Some c → are_whole (i ∷ items ++ more) ≡ true →
@@ -296,7 +296,7 @@ abbrev pub Grows : List PlacedItem → Type 0
 Grows items = (more : List PlacedItem) × (are_whole (items ++ more) ≡ true)
 
 abbrev then_item : PlacedItem
-then_item = item_on 0 (word (codes "THEN"))
+then_item = item_on 0 (word 0 0 (codes "THEN"))
 
 condition_grows : (i : PlacedItem) (items : List PlacedItem) (c : Cond) →
     condition_in i.what ≡ Some c → may_have c (count_tests items) ≡ true →

@@ -76,9 +76,9 @@ further_taken (group offset columns) card c before one n many fits room is_one =
     (test_of columns) n many fits
     ∙ test_made card (group_span offset columns) (builder_at Tested c before [] Next) c
     (test_of columns) one room is_one
-further_taken (word columns) card c before one n many fits room is_one = absurd (cc)
-further_taken unclosed card c before one n many fits room is_one = absurd (cc)
-further_taken (unopened columns) card c before one n many fits room is_one = absurd (cc)
+further_taken (word at past columns) card c before one n many fits room is_one = absurd (cc)
+further_taken (unclosed at) card c before one n many fits room is_one = absurd (cc)
+further_taken (unopened at columns) card c before one n many fits room is_one = absurd (cc)
 
 -- the groups of further tests are taken
 tests_taken : (groups others : List PlacedItem) (more : Tests) (c : Cond) (before : Tests)
@@ -127,7 +127,7 @@ rest_taken columns card items following c tests (Some []) is_found leads =
     ap (builder_of (builder_at Open c tests [] Next)) same
 rest_taken columns card items following c tests (Some (x ∷ xs)) is_found leads =
     let again = following_then_spelled columns (x ∷ xs) is_found in
-    let same : item_on card (word (x ∷ xs)) ∷ items ≡ following = cc in
+    let same : item_on card (word 0 0 (x ∷ xs)) ∷ items ≡ following = cc in
     let made =
     λ (found : Option (Exit Label)). builder_then
     (with_placed card (builder_at Open c tests [] Next) Closed found)
@@ -141,11 +141,11 @@ then_taken : (what : Item) (card : ℕ) (items following : List PlacedItem) (c :
     following_then (item_on card what ∷ items) ≡ Some following →
     builder_of (builder_at Tested c tests [] Next) (item_on card what ∷ items)
     ≡ builder_of (builder_at Open c tests [] Next) following
-then_taken (word columns) card items following c tests leads =
+then_taken (word at past columns) card items following c tests leads =
     rest_taken columns card items following c tests (after_then (spelled columns)) refl leads
 then_taken (group offset columns) card items following c tests leads = absurd (cc)
-then_taken unclosed card items following c tests leads = absurd (cc)
-then_taken (unopened columns) card items following c tests leads = absurd (cc)
+then_taken (unclosed at) card items following c tests leads = absurd (cc)
+then_taken (unopened at columns) card items following c tests leads = absurd (cc)
 
 others_taken : (others following : List PlacedItem) (c : Cond) (tests : Tests) →
     following_then others ≡ Some following →
@@ -165,9 +165,9 @@ first_test_taken (group offset columns) card w exit one is_one =
     test_made card (group_span offset columns) (builder_at (Worded w) Always [] [] exit) w
     (test_of columns) one
     (omega arith) is_one
-first_test_taken (word columns) card w exit one is_one = absurd (cc)
-first_test_taken unclosed card w exit one is_one = absurd (cc)
-first_test_taken (unopened columns) card w exit one is_one = absurd (cc)
+first_test_taken (word at past columns) card w exit one is_one = absurd (cc)
+first_test_taken (unclosed at) card w exit one is_one = absurd (cc)
+first_test_taken (unopened at columns) card w exit one is_one = absurd (cc)
 
 -- a condition word is taken as an exit first
 record WordTaken (i : PlacedItem) (c : Cond) : Type 0 where
@@ -189,7 +189,7 @@ word_made card c found (Some given) is_found is_one = (
 
 word_taken : (what : Item) (card : ℕ) (c : Cond) →
     condition_in what ≡ Some c → WordTaken (item_on card what) c
-word_taken (word columns) card c is_found =
+word_taken (word at past columns) card c is_found =
     let made = word_made card c (condition_from (spelled columns)) (exit_from (spelled columns))
     is_found (condition_is_exit (spelled columns) c is_found) in
     record {
@@ -198,8 +198,8 @@ word_taken (word columns) card c is_found =
       needs = found_needs_test conditions (spelled columns) c refl is_found;
     }
 word_taken (group offset columns) card c is_found = absurd (cc)
-word_taken unclosed card c is_found = absurd (cc)
-word_taken (unopened columns) card c is_found = absurd (cc)
+word_taken (unclosed at) card c is_found = absurd (cc)
+word_taken (unopened at columns) card c is_found = absurd (cc)
 
 -- a condition with its tests is taken
 condition_taken : (i : PlacedItem) (groups others following : List PlacedItem) (c : Cond)

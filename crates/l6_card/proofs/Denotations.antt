@@ -101,20 +101,20 @@ then_denoted i items following c before final leads denote =
           (sym (append-nil before)) denote;
     }
 
-then_word : (columns : List ℕ) (card : ℕ) (items : List PlacedItem) (c : Cond) (before : Tests)
+then_word : (columns : List ℕ) (at past card : ℕ) (items : List PlacedItem) (c : Cond) (before : Tests)
     (final : StatementBuilder) (found : Option (List ℕ)) →
     after_then (spelled columns) ≡ found →
     builder_then (with_rest card (builder_at Tested c before [] Next) found)
     (λ next. builder_of next items)
     ≡ Some final →
-    TestedSaid (item_on card (word columns) ∷ items) c before final
-then_word columns card items c before final None is_found made = absurd (cc)
-then_word columns card items c before final (Some []) is_found made =
-    then_denoted (item_on card (word columns)) items items c before final
+    TestedSaid (item_on card (word at past columns) ∷ items) c before final
+then_word columns at past card items c before final None is_found made = absurd (cc)
+then_word columns at past card items c before final (Some []) is_found made =
+    then_denoted (item_on card (word at past columns)) items items c before final
     (ap (option_map (λ characters. word_on card characters ++ items)) is_found)
     (open_denoted items c before [] final made)
-then_word columns card items c before final (Some (x ∷ xs)) is_found made =
-    let i = item_on card (word (x ∷ xs)) in
+then_word columns at past card items c before final (Some (x ∷ xs)) is_found made =
+    let i = item_on card (word 0 0 (x ∷ xs)) in
     let builder = builder_at Tested c before [] Next in
     let first =
     is_prefix (with_placed card builder Closed (exit_from (x ∷ xs)))
@@ -122,7 +122,7 @@ then_word columns card items c before final (Some (x ∷ xs)) is_found made =
     made in
     let one = exited card builder Closed (exit_from (x ∷ xs)) first.next first.is_made in
     let again = following_then_spelled columns (x ∷ xs) is_found in
-    then_denoted (item_on card (word columns)) items (i ∷ items) c before final
+    then_denoted (item_on card (word at past columns)) items (i ∷ items) c before final
     (ap (option_map (λ characters. word_on card characters ++ items)) is_found)
     (exit_denoted i items c before [] one.given final
     (ap (λ cs. option_map (placed_exit card) (exit_from cs)) again
@@ -154,10 +154,10 @@ tested_item (group offset columns) card items c before final each made =
     one.is_found)
     (each (before ++ placed ∷ [])
     (ap (λ (d : StatementBuilder). builder_of d items) (sym one.same) ∙ first.rest))
-tested_item (word columns) card items c before final each made =
-    then_word columns card items c before final (after_then (spelled columns)) refl made
-tested_item unclosed card items c before final each made = absurd (cc)
-tested_item (unopened columns) card items c before final each made = absurd (cc)
+tested_item (word at past columns) card items c before final each made =
+    then_word columns at past card items c before final (after_then (spelled columns)) refl made
+tested_item (unclosed at) card items c before final each made = absurd (cc)
+tested_item (unopened at columns) card items c before final each made = absurd (cc)
 
 tested_denoted : (items : List PlacedItem) (c : Cond) (before : Tests) (final : StatementBuilder) →
     is_whole final ≡ true →
@@ -235,9 +235,9 @@ worded_item i (group offset columns) card items w exit label final is_word whole
     (test_denoted (item_on card (group offset columns)) items w [] placed final
     (ap (option_map (λ t. record { reading = t; card = card; span = group_span offset columns }))
     one.is_found) denoted)
-worded_item i (word columns) card items w exit label final is_word whole made = absurd (cc)
-worded_item i unclosed card items w exit label final is_word whole made = absurd (cc)
-worded_item i (unopened columns) card items w exit label final is_word whole made = absurd (cc)
+worded_item i (word at past columns) card items w exit label final is_word whole made = absurd (cc)
+worded_item i (unclosed at) card items w exit label final is_word whole made = absurd (cc)
+worded_item i (unopened at columns) card items w exit label final is_word whole made = absurd (cc)
 
 worded_denoted : (i : PlacedItem) (items : List PlacedItem) (w : Cond) (given : Exit Label)
     (label : Option PlacedLabel) (final : StatementBuilder) →
@@ -294,18 +294,18 @@ first_item_denoted (group offset columns) card items label final whole made =
     one.is_found)
     (open_denoted items Always [] (placed ∷ []) final
     (ap (λ (d : StatementBuilder). builder_of d items) (sym one.same) ∙ first.rest)))
-first_item_denoted (word columns) card items label final whole made =
+first_item_denoted (word at past columns) card items label final whole made =
     let phase = phase_of (condition_from (spelled columns)) in
     let found = exit_from (spelled columns) in
     let first =
     is_prefix (with_placed card new_builder phase found) (λ next. builder_of next items) final made in
     let one = exited card new_builder phase found first.next first.is_made in
-    first_word_denoted (item_on card (word columns)) items (condition_from (spelled columns)) one.given
+    first_word_denoted (item_on card (word at past columns)) items (condition_from (spelled columns)) one.given
     label final refl
     (ap (option_map (placed_exit card)) one.is_found) whole
     (ap (λ (d : StatementBuilder). builder_of d items) (sym one.same) ∙ first.rest)
-first_item_denoted unclosed card items label final whole made = absurd (cc)
-first_item_denoted (unopened columns) card items label final whole made = absurd (cc)
+first_item_denoted (unclosed at) card items label final whole made = absurd (cc)
+first_item_denoted (unopened at columns) card items label final whole made = absurd (cc)
 
 -- items that make a whole builder say its statement
 pub denote_when_made : (items : List PlacedItem) (label : Option PlacedLabel)

@@ -5,17 +5,17 @@ use Rattle.l6_card.specs.Numerals.{card_width}
 use Rattle.l6_card.specs.Items.{PlacedItem, group, word, item_on}
 use Rattle.l6_card.specs.Card.{Body, Card, plain, labelled, continued, cards_of}
 use Rattle.l6_card.specs.ReadsAs.{placed_items, continued_items, continuations, Denotes, DenotesFrom, CardsDenote}
-use Rattle.l6_card.specs.Worked.{LoopIsRead, HalfIsRefused, loop_deck, set_statement, count_statement}
+use Rattle.l6_card.specs.Worked.{LoopIsRead, HalfIsRefused, loop_deck, set_statement, count_statement, TestIsRefused, WordIsRefused}
 
 -- the bodies of the cards
 abbrev set_body : Body
-set_body = record { card = 1; offset = 1; columns = codes "(A,E,3)" }
+set_body = record { card = 1; offset = 1; front = codes " "; columns = codes "(A,E,3)" }
 
 abbrev if_body : Body
-if_body = record { card = 2; offset = 13; columns = codes " IF (A,G,0)" }
+if_body = record { card = 2; offset = 13; front = codes "NEXT"; columns = codes " IF (A,G,0)" }
 
 abbrev then_body : Body
-then_body = record { card = 3; offset = 26; columns = codes " THEN (A,PD)(A,S,1) NEXT" }
+then_body = record { card = 3; offset = 26; front = codes "+"; columns = codes " THEN (A,PD)(A,S,1) NEXT" }
 
 -- the cards
 abbrev loop_cards : List Card
@@ -28,7 +28,7 @@ cards_computed = refl
 -- the items of the second statement: its condition word, the group of its test, and what is
 -- from THEN on
 abbrev first_item : PlacedItem
-first_item = item_on 2 (word (codes "IF"))
+first_item = item_on 2 (word 14 16 (codes "IF"))
 
 abbrev test_items : List PlacedItem
 test_items = item_on 2 (group 17 (codes "A,G,0")) ∷ []
@@ -37,10 +37,10 @@ abbrev operation_items : List PlacedItem
 operation_items = item_on 3 (group 32 (codes "A,PD")) ∷ item_on 3 (group 38 (codes "A,S,1")) ∷ []
 
 abbrev last_items : List PlacedItem
-last_items = item_on 3 (word (codes "NEXT")) ∷ []
+last_items = item_on 3 (word 46 50 (codes "NEXT")) ∷ []
 
 abbrev then_items : List PlacedItem
-then_items = item_on 3 (word (codes "THEN")) ∷ operation_items ++ last_items
+then_items = item_on 3 (word 27 31 (codes "THEN")) ∷ operation_items ++ last_items
 
 abbrev count_items : List PlacedItem
 count_items = first_item ∷ test_items ++ then_items
@@ -120,4 +120,12 @@ loop_read = record {
 
 pub half_refused : HalfIsRefused
 unfolding card_width
-half_refused = refl
+half_refused = (refl, refl)
+
+pub test_refused : TestIsRefused
+unfolding card_width
+test_refused = refl
+
+pub word_refused : WordIsRefused
+unfolding card_width
+word_refused = refl

@@ -304,10 +304,10 @@ pub item_sound : (card : ℕ) (builder next : StatementBuilder) (i : Item) →
 item_sound card builder next (group offset columns) sound made =
     group_sound builder.phase card (group_span offset columns) builder next columns sound
     sound.condition sound.fresh made
-item_sound card builder next (word columns) sound made =
+item_sound card builder next (word at past columns) sound made =
     word_sound builder.phase card builder next (spelled columns) sound sound.condition sound.fresh made
-item_sound card builder next unclosed sound made = absurd (cc)
-item_sound card builder next (unopened columns) sound made = absurd (cc)
+item_sound card builder next (unclosed at) sound made = absurd (cc)
+item_sound card builder next (unopened at columns) sound made = absurd (cc)
 
 pub items_sound : (items : List PlacedItem) (builder final : StatementBuilder) →
     IsSound builder → builder_of builder items ≡ Some final → IsSound final

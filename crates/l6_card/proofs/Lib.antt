@@ -1,11 +1,13 @@
 pub mod Bodies
 pub mod Words
+pub mod Solids
 pub mod Characters
 pub mod Steps
 pub mod Fitness
 pub mod Spellings
 pub mod Forms
 pub mod Viewing
+pub mod Expected
 pub mod Objections
 pub mod OperationsDenoted
 pub mod Denotations
@@ -17,6 +19,7 @@ pub mod Following
 pub mod Beginnings
 pub mod WholeItems
 pub mod Settling
+pub mod Refusals
 pub mod Passes
 pub mod PartPasses
 pub mod Composing

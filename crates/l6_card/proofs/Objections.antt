@@ -19,7 +19,7 @@ use Rattle.l6_card.specs.declared.span.Span.{Span}
 use Rattle.l6_card.specs.Spans.{group_span}
 use Rattle.l6_card.specs.DeckFault.{DeckFault, form, limit}
 use Rattle.l6_card.specs.Items.{Item, group, word, unclosed, unopened, PlacedItem, item_on}
-use Rattle.l6_card.specs.Fault.{fault_in}
+use Rattle.l6_card.specs.Fault.{objection_met}
 use Rattle.l6_card.specs.Form.{condition_in, then_in, is_operation, is_test, is_exit, following_then}
 use Rattle.l6_card.specs.inner.StatementBuilder.{StatementBuilder, Phase, New, Worded, Tested, Open, Closed, phase_of, is_whole, is_whole_in, with_operation, with_test, with_further_test, with_placed, with_rest, with_word_in, with_group_in, with_item}
 use Rattle.l6_card.proofs.Fitness.{IsSound, IsFreshIn, is_sound_in, worded_fits, tested_always}
@@ -44,7 +44,7 @@ fine card n m whole tests operations =
 -- one more, where there is room for it or not
 room_for_operation : (room : Bool) (card n m : ℕ) (whole : Bool) (builder : StatementBuilder) →
     ltb m most_operations ≡ room → n ≤ most_tests →
-    fault_in (cond room (Ok builder) (Err (limit card)))
+    objection_met (cond room (Ok builder) (Err (limit card)))
     ≡ objection_of card
     (record { whole = whole; prefix = true; tests = n; operations = m + 1 + 0 })
 room_for_operation true card n m whole builder is_room tests =
@@ -56,7 +56,7 @@ room_for_operation false card n m whole builder is_room tests =
 
 room_for_test : (room : Bool) (card n : ℕ) (whole : Bool) (builder : StatementBuilder) →
     ltb n most_tests ≡ room →
-    fault_in (cond room (Ok builder) (Err (limit card)))
+    objection_met (cond room (Ok builder) (Err (limit card)))
     ≡ objection_of card
     (record { whole = whole; prefix = true; tests = n + 1 + 0; operations = 0 })
 room_for_test true card n whole builder is_room =
@@ -70,7 +70,7 @@ room_for_test false card n whole builder is_room =
 operation_objects : (i : PlacedItem) (card : ℕ) (span : Span) (builder : StatementBuilder)
     (found : Option (Op Label)) →
     is_operation i ≡ is_some found → is_exit i ≡ false → length builder.tests ≤ most_tests →
-    fault_in (with_operation card span builder found)
+    objection_met (with_operation card span builder found)
     ≡ objection_of card (plain_view (length builder.tests) (length builder.operations) (i ∷ []))
 operation_objects i card span builder None is_no is_none tests = rw (is_no, is_none) refl
 operation_objects i card span builder (Some operation) is_one is_none tests =
@@ -83,7 +83,7 @@ operation_objects i card span builder (Some operation) is_one is_none tests =
 exit_objects : (i : PlacedItem) (card n m : ℕ) (builder : StatementBuilder) (phase : Phase)
     (found : Option (Exit Label)) →
     is_operation i ≡ false → is_exit i ≡ is_some found → n ≤ most_tests → m ≤ most_operations →
-    fault_in (with_placed card builder phase found) ≡ objection_of card (plain_view n m (i ∷ []))
+    objection_met (with_placed card builder phase found) ≡ objection_of card (plain_view n m (i ∷ []))
 exit_objects i card n m builder phase None is_no is_none tests operations =
     rw (is_no, is_none) refl
 exit_objects i card n m builder phase (Some given) is_no is_one tests operations =
@@ -102,7 +102,7 @@ test_objects : (i : PlacedItem) (card : ℕ) (span : Span) (builder : StatementB
     (found : Option Test) →
     is_test i ≡ is_some found → then_in i.what ≡ None →
     may_have c (length builder.tests + 1) ≡ true →
-    fault_in (with_test card span builder c found)
+    objection_met (with_test card span builder c found)
     ≡ objection_of card (tested_view c (length builder.tests) (i ∷ []))
 test_objects i card span builder c None is_no no_then fits =
     no_test_objects i card (length builder.tests) c is_no no_then
@@ -136,7 +136,7 @@ further_objects : (i : PlacedItem) (card : ℕ) (span : Span) (builder : Stateme
     (found : Option Test) →
     is_test i ≡ is_some found → then_in i.what ≡ None →
     is_sound_in Tested c (length builder.tests) ≡ true →
-    fault_in (with_further_test card span builder c found)
+    objection_met (with_further_test card span builder c found)
     ≡ objection_of card (tested_view c (length builder.tests) (i ∷ []))
 further_objects i card span builder Always found same no_then sound =
     absurd (tested_always (length builder.tests) sound)
@@ -163,7 +163,7 @@ group_objects : (phase : Phase) (card offset : ℕ) (builder : StatementBuilder)
     IsSound builder →
     is_sound_in phase builder.condition (length builder.tests) ≡ true →
     IsFreshIn phase (length builder.operations) →
-    fault_in (with_group_in phase card (group_span offset columns) builder columns)
+    objection_met (with_group_in phase card (group_span offset columns) builder columns)
     ≡ objection_of card
     (view_from phase builder.condition (length builder.tests) (length builder.operations)
     (item_on card (group offset columns) ∷ []))
@@ -199,7 +199,7 @@ first_objects : (i : PlacedItem) (card : ℕ) (builder : StatementBuilder) (foun
     (given : Option (Exit Label)) →
     condition_in i.what ≡ found → is_operation i ≡ false → is_exit i ≡ is_some given →
     ((c : Cond) → found ≡ Some c → is_some given ≡ true) →
-    fault_in (with_placed card builder (phase_of found) given)
+    objection_met (with_placed card builder (phase_of found) given)
     ≡ objection_of card (view_of (i ∷ []))
 first_objects i card builder None None is_found is_no is_one exits =
     exit_objects i card 0 0 builder Closed None is_no is_one (omega arith) (omega arith)
@@ -212,26 +212,26 @@ first_objects i card builder found (Some given) is_found is_no is_one exits =
     ∙ ap (objection_of card) (sym (first_seen i found builder.condition [] is_found is_no is_one))
 
 -- what follows THEN in the same word
-rest_objects : (card : ℕ) (builder : StatementBuilder) (columns : List ℕ) (found : Option (List ℕ)) →
+rest_objects : (card at past : ℕ) (builder : StatementBuilder) (columns : List ℕ) (found : Option (List ℕ)) →
     after_then (spelled columns) ≡ found → length builder.tests ≤ most_tests →
     may_have builder.condition (length builder.tests) ≡ true →
-    fault_in (with_rest card builder found)
+    objection_met (with_rest card builder found)
     ≡ objection_of card
-    (tested_view builder.condition (length builder.tests) (item_on card (word columns) ∷ []))
-rest_objects card builder columns None is_found tests fits =
-    no_test_objects (item_on card (word columns)) card (length builder.tests) builder.condition refl
+    (tested_view builder.condition (length builder.tests) (item_on card (word at past columns) ∷ []))
+rest_objects card at past builder columns None is_found tests fits =
+    no_test_objects (item_on card (word at past columns)) card (length builder.tests) builder.condition refl
     is_found
-rest_objects card builder columns (Some []) is_found tests fits =
+rest_objects card at past builder columns (Some []) is_found tests fits =
     sym (fine card (length builder.tests) (0 + 0) true tests (omega arith))
     ∙ ap (objection_of card)
-    (sym (then_leads (item_on card (word columns)) builder.condition (length builder.tests) [] [] refl
+    (sym (then_leads (item_on card (word at past columns)) builder.condition (length builder.tests) [] [] refl
     is_found fits))
-rest_objects card builder columns (Some (x ∷ xs)) is_found tests fits =
+rest_objects card at past builder columns (Some (x ∷ xs)) is_found tests fits =
     let again = following_then_spelled columns (x ∷ xs) is_found in
-    exit_objects (item_on card (word (x ∷ xs))) card (length builder.tests) 0 builder Closed
+    exit_objects (item_on card (word 0 0 (x ∷ xs))) card (length builder.tests) 0 builder Closed
     (exit_from (x ∷ xs)) refl (ap (λ cs. is_some (exit_from cs)) again) tests (omega arith)
     ∙ ap (objection_of card)
-    (sym (then_leads (item_on card (word columns)) builder.condition (length builder.tests) (x ∷ xs) []
+    (sym (then_leads (item_on card (word at past columns)) builder.condition (length builder.tests) (x ∷ xs) []
     refl is_found fits))
 
 -- a condition word without a test is no prefix with THEN
@@ -260,64 +260,64 @@ joined_objects : (card n : ℕ) (following : Option (List PlacedItem)) →
 joined_objects card n None = refl
 joined_objects card n (Some following) = refl
 
-word_objects : (phase : Phase) (card : ℕ) (builder : StatementBuilder) (columns : List ℕ) →
+word_objects : (phase : Phase) (card at past : ℕ) (builder : StatementBuilder) (columns : List ℕ) →
     IsSound builder →
     is_sound_in phase builder.condition (length builder.tests) ≡ true →
-    fault_in (with_word_in phase card builder (spelled columns))
+    objection_met (with_word_in phase card builder (spelled columns))
     ≡ objection_of card
     (view_from phase builder.condition (length builder.tests) (length builder.operations)
-    (item_on card (word columns) ∷ []))
-word_objects New card builder columns whole sound =
-    first_objects (item_on card (word columns)) card builder (condition_from (spelled columns))
+    (item_on card (word at past columns) ∷ []))
+word_objects New card at past builder columns whole sound =
+    first_objects (item_on card (word at past columns)) card builder (condition_from (spelled columns))
     (exit_from (spelled columns)) refl refl refl
     (λ c found. condition_is_exit (spelled columns) c found)
-word_objects Open card builder columns whole sound =
-    exit_objects (item_on card (word columns)) card (length builder.tests) (length builder.operations)
+word_objects Open card at past builder columns whole sound =
+    exit_objects (item_on card (word at past columns)) card (length builder.tests) (length builder.operations)
     builder Closed (exit_from (spelled columns)) refl refl whole.tests whole.operations
-word_objects Tested card builder columns whole sound =
+word_objects Tested card at past builder columns whole sound =
     let parts =
     and_parts (ltb 0 (length builder.tests))
     (may_have builder.condition (length builder.tests)) sound in
-    rest_objects card builder columns (after_then (spelled columns)) refl whole.tests parts.1
-word_objects (Worded w) card builder columns whole sound =
-    let i = item_on card (word columns) in
+    rest_objects card at past builder columns (after_then (spelled columns)) refl whole.tests parts.1
+word_objects (Worded w) card at past builder columns whole sound =
+    let i = item_on card (word at past columns) in
     let n = length builder.tests in
     joined_objects card n (following_then (i ∷ []))
     ∙ ap (λ b. objection_of card (joined_view b n (following_then (i ∷ []))))
     (sym (worded_none w builder.condition n sound))
     ∙ ap (objection_of card) (sym (no_more_tests i w n [] refl))
-word_objects Closed card builder columns whole sound = refl
+word_objects Closed card at past builder columns whole sound = refl
 
 -- a parenthesis without its partner has no place anywhere
-unclosed_objects : (phase : Phase) (card n m : ℕ) (c : Cond) →
-    Some (form card) ≡ objection_of card (view_from phase c n m (item_on card unclosed ∷ []))
-unclosed_objects New card n m c = refl
-unclosed_objects (Worded w) card n m c = refl
-unclosed_objects Tested card n m c = refl
-unclosed_objects Open card n m c = refl
-unclosed_objects Closed card n m c = refl
+unclosed_objects : (phase : Phase) (card at n m : ℕ) (c : Cond) →
+    Some (form card) ≡ objection_of card (view_from phase c n m (item_on card (unclosed at) ∷ []))
+unclosed_objects New card at n m c = refl
+unclosed_objects (Worded w) card at n m c = refl
+unclosed_objects Tested card at n m c = refl
+unclosed_objects Open card at n m c = refl
+unclosed_objects Closed card at n m c = refl
 
-unopened_objects : (phase : Phase) (card n m : ℕ) (c : Cond) (columns : List ℕ) →
+unopened_objects : (phase : Phase) (card at n m : ℕ) (c : Cond) (columns : List ℕ) →
     Some (form card)
-    ≡ objection_of card (view_from phase c n m (item_on card (unopened columns) ∷ []))
-unopened_objects New card n m c columns = refl
-unopened_objects (Worded w) card n m c columns = refl
-unopened_objects Tested card n m c columns = refl
-unopened_objects Open card n m c columns = refl
-unopened_objects Closed card n m c columns = refl
+    ≡ objection_of card (view_from phase c n m (item_on card (unopened at columns) ∷ []))
+unopened_objects New card at n m c columns = refl
+unopened_objects (Worded w) card at n m c columns = refl
+unopened_objects Tested card at n m c columns = refl
+unopened_objects Open card at n m c columns = refl
+unopened_objects Closed card at n m c columns = refl
 
 -- an item objects what the view of the builder and the item says
 pub item_objects : (card : ℕ) (builder : StatementBuilder) (i : Item) → IsSound builder →
-    fault_in (with_item card builder i) ≡ objection_of card (view builder (item_on card i ∷ []))
+    objection_met (with_item card builder i) ≡ objection_of card (view builder (item_on card i ∷ []))
 item_objects card builder (group offset columns) sound =
     group_objects builder.phase card offset builder columns sound sound.condition sound.fresh
-item_objects card builder (word columns) sound =
-    word_objects builder.phase card builder columns sound sound.condition
-item_objects card builder unclosed sound =
-    unclosed_objects builder.phase card (length builder.tests) (length builder.operations)
+item_objects card builder (word at past columns) sound =
+    word_objects builder.phase card at past builder columns sound sound.condition
+item_objects card builder (unclosed at) sound =
+    unclosed_objects builder.phase card at (length builder.tests) (length builder.operations)
     builder.condition
-item_objects card builder (unopened columns) sound =
-    unopened_objects builder.phase card (length builder.tests) (length builder.operations)
+item_objects card builder (unopened at columns) sound =
+    unopened_objects builder.phase card at (length builder.tests) (length builder.operations)
     builder.condition columns
 
 -- items are whole exactly if their builder is

@@ -156,9 +156,10 @@ card_holds deck from number offset (column ∷ columns) cards after has are_pref
     let run = run_of (column ∷ columns) in
     let following = following_run (column ∷ columns) in
     let parts : column ∷ columns ≡ run ++ following = run_parts (column ∷ columns) in
-    let body : Body = record { card = number; offset = offset + 1; columns = columns } in
+    let body : Body =
+    record { card = number; offset = offset + 1; front = column ∷ []; columns = columns } in
     let other : Body =
-    record { card = number; offset = offset + length run; columns = following } in
+    record { card = number; offset = offset + length run; front = run; columns = following } in
     let none = are_prefix from (omega arith) in
     let inside : BodyStands deck from body × CardsArePrefixes deck (end_of body) cards = (
       record { after = omega arith; bytes = last_bytes deck offset (column ∷ []) columns has },
@@ -235,9 +236,9 @@ ItemsArePrefix deck from [] end = from ≤ end
 ItemsArePrefix deck from (group offset columns ∷ items) end =
     (from ≤ offset) × GroupStands deck offset columns
     × ItemsArePrefix deck (offset + length columns + 2) items end
-ItemsArePrefix deck from (word columns ∷ items) end = ItemsArePrefix deck from items end
-ItemsArePrefix deck from (unclosed ∷ items) end = ItemsArePrefix deck from items end
-ItemsArePrefix deck from (unopened columns ∷ items) end = ItemsArePrefix deck from items end
+ItemsArePrefix deck from (word at past columns ∷ items) end = ItemsArePrefix deck from items end
+ItemsArePrefix deck from (unclosed at ∷ items) end = ItemsArePrefix deck from items end
+ItemsArePrefix deck from (unopened at columns ∷ items) end = ItemsArePrefix deck from items end
 
 -- they are there from any earlier offset on
 pub sooner : (deck : List ℕ) (from later : ℕ) (items : List Item) (end : ℕ) →
@@ -245,11 +246,11 @@ pub sooner : (deck : List ℕ) (from later : ℕ) (items : List Item) (end : ℕ
 sooner deck from later [] end soon are_prefix = omega (arith, are_prefix)
 sooner deck from later (group offset columns ∷ items) end soon are_prefix =
     (omega (arith, are_prefix.0), are_prefix.1, are_prefix.2)
-sooner deck from later (word columns ∷ items) end soon are_prefix =
+sooner deck from later (word at past columns ∷ items) end soon are_prefix =
     sooner deck from later items end soon are_prefix
-sooner deck from later (unclosed ∷ items) end soon are_prefix =
+sooner deck from later (unclosed at ∷ items) end soon are_prefix =
     sooner deck from later items end soon are_prefix
-sooner deck from later (unopened columns ∷ items) end soon are_prefix =
+sooner deck from later (unopened at columns ∷ items) end soon are_prefix =
     sooner deck from later items end soon are_prefix
 
 -- items in a row
@@ -266,31 +267,31 @@ items_fit-append deck from middle end
       items_fit-append deck next middle end front following
           are_prefix.2 are_prefix',
     )
-items_fit-append deck from middle end (word columns ∷ front) following are_prefix are_prefix' =
+items_fit-append deck from middle end (word at past columns ∷ front) following are_prefix are_prefix' =
     items_fit-append deck from middle end front following are_prefix are_prefix'
-items_fit-append deck from middle end (unclosed ∷ front) following are_prefix are_prefix' =
+items_fit-append deck from middle end (unclosed at ∷ front) following are_prefix are_prefix' =
     items_fit-append deck from middle end front following are_prefix are_prefix'
-items_fit-append deck from middle end (unopened columns ∷ front) following are_prefix are_prefix' =
+items_fit-append deck from middle end (unopened at columns ∷ front) following are_prefix are_prefix' =
     items_fit-append deck from middle end front following are_prefix are_prefix'
 
 -- so do items whose first may be a `)` with what is before it, right at this offset
 abbrev pub ItemsBegin : List ℕ → ℕ → List Item → ℕ → Type 0
-ItemsBegin deck from (unopened columns ∷ items) end =
+ItemsBegin deck from (unopened at columns ∷ items) end =
     (list_all is_inner columns ≡ true) × HasBytes deck from (columns ++ byte ")" ∷ [])
     × ItemsArePrefix deck (from + length columns + 1) items end
 ItemsBegin deck from [] end = ItemsArePrefix deck from [] end
 ItemsBegin deck from (group offset columns ∷ items) end =
     ItemsArePrefix deck from (group offset columns ∷ items) end
-ItemsBegin deck from (word columns ∷ items) end = ItemsArePrefix deck from (word columns ∷ items) end
-ItemsBegin deck from (unclosed ∷ items) end = ItemsArePrefix deck from (unclosed ∷ items) end
+ItemsBegin deck from (word at past columns ∷ items) end = ItemsArePrefix deck from (word at past columns ∷ items) end
+ItemsBegin deck from (unclosed at ∷ items) end = ItemsArePrefix deck from (unclosed at ∷ items) end
 
 begun_hold : (deck : List ℕ) (from : ℕ) (items : List Item) (end : ℕ) →
     ItemsBegin deck from items end → ItemsArePrefix deck from items end
 begun_hold deck from [] end begin = begin
 begun_hold deck from (group offset columns ∷ items) end begin = begin
-begun_hold deck from (word columns ∷ items) end begin = begin
-begun_hold deck from (unclosed ∷ items) end begin = begin
-begun_hold deck from (unopened columns ∷ items) end begin =
+begun_hold deck from (word at past columns ∷ items) end begin = begin
+begun_hold deck from (unclosed at ∷ items) end begin = begin
+begun_hold deck from (unopened at columns ∷ items) end begin =
     sooner deck from (from + length columns + 1) items end (omega arith) begin.2
 
 -- the bytes of a group
@@ -311,23 +312,23 @@ opening_begins : (deck : List ℕ) (offset : ℕ) (rest : List ℕ) (items : Lis
 opening_begins deck offset rest [] end text begin = omega (arith, begin)
 opening_begins deck offset rest (group at columns ∷ items) end text begin =
     sooner deck offset (offset + 1) (group at columns ∷ items) end (omega arith) begin
-opening_begins deck offset rest (word columns ∷ items) end text begin =
-    sooner deck offset (offset + 1) (word columns ∷ items) end (omega arith) begin
-opening_begins deck offset rest (unclosed ∷ items) end text begin =
-    sooner deck offset (offset + 1) (unclosed ∷ items) end (omega arith) begin
-opening_begins deck offset rest (unopened columns ∷ items) end text begin = (
+opening_begins deck offset rest (word at past columns ∷ items) end text begin =
+    sooner deck offset (offset + 1) (word at past columns ∷ items) end (omega arith) begin
+opening_begins deck offset rest (unclosed at ∷ items) end text begin =
+    sooner deck offset (offset + 1) (unclosed at ∷ items) end (omega arith) begin
+opening_begins deck offset rest (unopened at columns ∷ items) end text begin = (
   omega arith,
   group_holds deck offset columns begin.0
       (more_bytes deck offset (byte "(") rest (columns ++ byte ")" ∷ []) text begin.1),
   subst (λ (o : ℕ). ItemsArePrefix deck o items end) (omega arith) begin.2,
 )
 
-joined_begins : (deck : List ℕ) (offset column : ℕ) (rest columns : List ℕ) (items : List Item)
+joined_begins : (deck : List ℕ) (offset column at : ℕ) (rest columns : List ℕ) (items : List Item)
     (end : ℕ) →
     drop offset deck ≡ column ∷ rest → is_inner column ≡ true →
-    ItemsBegin deck (offset + 1) (unopened columns ∷ items) end →
-    ItemsBegin deck offset (unopened (column ∷ columns) ∷ items) end
-joined_begins deck offset column rest columns items end text inner begin = (
+    ItemsBegin deck (offset + 1) (unopened at columns ∷ items) end →
+    ItemsBegin deck offset (unopened at (column ∷ columns) ∷ items) end
+joined_begins deck offset column at rest columns items end text inner begin = (
   and_from (is_inner column) (list_all is_inner columns) inner begin.0,
   more_bytes deck offset column rest (columns ++ byte ")" ∷ []) text begin.1,
   subst (λ (o : ℕ). ItemsArePrefix deck o items end) (omega arith) begin.2,
@@ -340,35 +341,35 @@ blank_begins : (deck : List ℕ) (offset column : ℕ) (rest : List ℕ) (items 
 blank_begins deck offset column rest [] end text inner begin = omega (arith, begin)
 blank_begins deck offset column rest (group at columns ∷ items) end text inner begin =
     sooner deck offset (offset + 1) (group at columns ∷ items) end (omega arith) begin
-blank_begins deck offset column rest (word columns ∷ items) end text inner begin =
-    sooner deck offset (offset + 1) (word columns ∷ items) end (omega arith) begin
-blank_begins deck offset column rest (unclosed ∷ items) end text inner begin =
-    sooner deck offset (offset + 1) (unclosed ∷ items) end (omega arith) begin
-blank_begins deck offset column rest (unopened columns ∷ items) end text inner begin =
-    joined_begins deck offset column rest columns items end text inner begin
+blank_begins deck offset column rest (word at past columns ∷ items) end text inner begin =
+    sooner deck offset (offset + 1) (word at past columns ∷ items) end (omega arith) begin
+blank_begins deck offset column rest (unclosed at ∷ items) end text inner begin =
+    sooner deck offset (offset + 1) (unclosed at ∷ items) end (omega arith) begin
+blank_begins deck offset column rest (unopened at columns ∷ items) end text inner begin =
+    joined_begins deck offset column at rest columns items end text inner begin
 
 letter_begins : (deck : List ℕ) (offset column : ℕ) (rest : List ℕ) (items : List Item) (end : ℕ) →
     drop offset deck ≡ column ∷ rest → is_inner column ≡ true →
     ItemsBegin deck (offset + 1) items end →
-    ItemsBegin deck offset (after_letter column items) end
+    ItemsBegin deck offset (after_letter offset column items) end
 letter_begins deck offset column rest [] end text inner begin = omega (arith, begin)
 letter_begins deck offset column rest (group at columns ∷ items) end text inner begin =
     sooner deck offset (offset + 1) (group at columns ∷ items) end (omega arith) begin
-letter_begins deck offset column rest (word columns ∷ items) end text inner begin =
+letter_begins deck offset column rest (word at past columns ∷ items) end text inner begin =
     sooner deck offset (offset + 1) items end (omega arith) begin
-letter_begins deck offset column rest (unclosed ∷ items) end text inner begin =
+letter_begins deck offset column rest (unclosed at ∷ items) end text inner begin =
     sooner deck offset (offset + 1) items end (omega arith) begin
-letter_begins deck offset column rest (unopened columns ∷ items) end text inner begin =
-    joined_begins deck offset column rest columns items end text inner begin
+letter_begins deck offset column rest (unopened at columns ∷ items) end text inner begin =
+    joined_begins deck offset column at rest columns items end text inner begin
 
 column_begins : (deck : List ℕ) (offset column : ℕ) (rest : List ℕ) (items : List Item) (end : ℕ)
     (closes opens blank : Bool) →
     drop offset deck ≡ column ∷ rest → ItemsBegin deck (offset + 1) items end →
     eqb column (byte ")") ≡ closes → eqb column (byte "(") ≡ opens →
     ItemsBegin deck offset
-    (cond closes (unopened [] ∷ items)
+    (cond closes (unopened offset [] ∷ items)
     (cond opens (after_opening offset items)
-    (cond blank (after_blank column items) (after_letter column items))))
+    (cond blank (after_blank column items) (after_letter offset column items))))
     end
 column_begins deck offset column rest items end true opens blank text begin closes opens' = (
   refl,

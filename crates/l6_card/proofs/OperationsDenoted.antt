@@ -50,9 +50,9 @@ closed_item : (what : Item) (card : ℕ) (c : Cond) (tests : Tests) (operations 
     builder_then (with_item card (builder_at Closed c tests operations exit) what) step ≡ Some final →
     ⊥
 closed_item (group offset columns) card c tests operations exit step final made = cc
-closed_item (word columns) card c tests operations exit step final made = cc
-closed_item unclosed card c tests operations exit step final made = cc
-closed_item (unopened columns) card c tests operations exit step final made = cc
+closed_item (word at past columns) card c tests operations exit step final made = cc
+closed_item (unclosed at) card c tests operations exit step final made = cc
+closed_item (unopened at columns) card c tests operations exit step final made = cc
 
 closed_denoted : (items : List PlacedItem) (c : Cond) (tests : Tests) (operations : Operations)
     (exit : Exit PlacedLabel) (final : StatementBuilder) →
@@ -176,18 +176,18 @@ open_item (group offset columns) card items c tests before final each made =
     one.is_found)
     (each (before ++ placed ∷ [])
     (ap (λ (d : StatementBuilder). builder_of d items) (sym one.same) ∙ first.rest))
-open_item (word columns) card items c tests before final each made =
+open_item (word at past columns) card items c tests before final each made =
     let builder = builder_at Open c tests before Next in
     let first =
     is_prefix (with_placed card builder Closed (exit_from (spelled columns)))
     (λ next. builder_of next items) final made in
     let one =
     exited card builder Closed (exit_from (spelled columns)) first.next first.is_made in
-    exit_denoted (item_on card (word columns)) items c tests before one.given final
+    exit_denoted (item_on card (word at past columns)) items c tests before one.given final
     (ap (option_map (placed_exit card)) one.is_found)
     (ap (λ (d : StatementBuilder). builder_of d items) (sym one.same) ∙ first.rest)
-open_item unclosed card items c tests before final each made = absurd (cc)
-open_item (unopened columns) card items c tests before final each made = absurd (cc)
+open_item (unclosed at) card items c tests before final each made = absurd (cc)
+open_item (unopened at columns) card items c tests before final each made = absurd (cc)
 
 pub open_denoted : (items : List PlacedItem) (c : Cond) (tests : Tests) (before : Operations)
     (final : StatementBuilder) →

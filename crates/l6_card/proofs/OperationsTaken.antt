@@ -62,9 +62,9 @@ operation_taken Tested (group offset columns) card c tests before exit one takes
     absurd (cc)
 operation_taken Closed (group offset columns) card c tests before exit one takes room is_one =
     absurd (cc)
-operation_taken phase (word columns) card c tests before exit one takes room is_one = absurd (cc)
-operation_taken phase unclosed card c tests before exit one takes room is_one = absurd (cc)
-operation_taken phase (unopened columns) card c tests before exit one takes room is_one =
+operation_taken phase (word at past columns) card c tests before exit one takes room is_one = absurd (cc)
+operation_taken phase (unclosed at) card c tests before exit one takes room is_one = absurd (cc)
+operation_taken phase (unopened at columns) card c tests before exit one takes room is_one =
     absurd (cc)
 
 -- the groups of operations are taken
@@ -116,7 +116,7 @@ last_taken : (phase : Phase) (what : Item) (card : ℕ) (c : Cond) (tests : Test
     takes_operations phase ≡ true →
     exit_on (item_on card what ∷ []) ≡ Some exit →
     Ended (builder_at phase c tests operations Next) (item_on card what ∷ []) c tests operations exit
-last_taken New (word columns) card c tests operations exit takes is_exit =
+last_taken New (word at past columns) card c tests operations exit takes is_exit =
     let phase = phase_of (condition_from (spelled columns)) in
     let builder = builder_at New c tests operations Next in
     record {
@@ -125,7 +125,7 @@ last_taken New (word columns) card c tests operations exit takes is_exit =
       made = ap (λ r. builder_then r (λ next. Some next))
           (exit_made card builder phase (exit_from (spelled columns)) exit is_exit);
     }
-last_taken Open (word columns) card c tests operations exit takes is_exit =
+last_taken Open (word at past columns) card c tests operations exit takes is_exit =
     let builder = builder_at Open c tests operations Next in
     record {
       phase = Closed;
@@ -133,12 +133,12 @@ last_taken Open (word columns) card c tests operations exit takes is_exit =
       made = ap (λ r. builder_then r (λ next. Some next))
           (exit_made card builder Closed (exit_from (spelled columns)) exit is_exit);
     }
-last_taken (Worded w) (word columns) card c tests operations exit takes is_exit = absurd (cc)
-last_taken Tested (word columns) card c tests operations exit takes is_exit = absurd (cc)
-last_taken Closed (word columns) card c tests operations exit takes is_exit = absurd (cc)
+last_taken (Worded w) (word at past columns) card c tests operations exit takes is_exit = absurd (cc)
+last_taken Tested (word at past columns) card c tests operations exit takes is_exit = absurd (cc)
+last_taken Closed (word at past columns) card c tests operations exit takes is_exit = absurd (cc)
 last_taken phase (group offset columns) card c tests operations exit takes is_exit = absurd (cc)
-last_taken phase unclosed card c tests operations exit takes is_exit = absurd (cc)
-last_taken phase (unopened columns) card c tests operations exit takes is_exit = absurd (cc)
+last_taken phase (unclosed at) card c tests operations exit takes is_exit = absurd (cc)
+last_taken phase (unopened at columns) card c tests operations exit takes is_exit = absurd (cc)
 
 whole_there : (phase : Phase) → takes_operations phase ≡ true → is_whole_in phase ≡ true
 whole_there New takes = refl

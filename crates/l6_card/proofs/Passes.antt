@@ -1,19 +1,23 @@
 -- The pass of a deck, card after card.
-use Rattle.std.proofs.Common.{◌≡◌, ℕ, ◌+◌, ◌-◌, ◌≤◌, List, [], ◌∷◌, ◌++◌, map, length, Bool, true, false, cond, eqb, arith, Option, Some, None, IfSome, Result, Ok, Err, refl, sym, ap, ◌∙◌}
+use Rattle.std.proofs.Common.{◌≡◌, ℕ, ◌+◌, ◌-◌, ◌≤◌, List, [], ◌∷◌, ◌++◌, map, length, Bool, true, false, cond, eqb, arith, Option, Some, None, IfSome, Result, Ok, Err, refl, sym, ap, subst, ◌∙◌}
 use Rattle.std.specs.List.{onto_first}
+use Rattle.std.specs.Option.{option_map}
 use Rattle.std.specs.Str.{byte}
 use Rattle.l6_word.specs.Lines.{lines_of}
 use Rattle.l6_card.specs.Card.{card_of, cards_from, columns_of}
 use Rattle.l6_card.specs.Items.{Item, group, word, items_of}
 use Rattle.l6_card.specs.inner.Token.{GroupFirst, WordFirst, letters_of}
 use Rattle.l6_card.specs.Pieces.{Piece, ends, item, pieces_of_card, pieces_of_cards}
-use Rattle.l6_card.specs.DeckFault.{DeckFault}
+use Rattle.l6_card.specs.declared.objection.Objection.{Objection}
+use Rattle.l6_card.specs.declared.objection.ReadError.{ReadError}
+use Rattle.l6_card.specs.Objection.{fault_in, count_solid}
+use Rattle.l6_card.specs.inner.Reader.{Follows}
 use Rattle.l6_card.specs.inner.Pass.{Stage, after_piece, after_pieces, pass_of}
 use Rattle.l6_card.specs.Laws.{IsFirstFault}
 use Rattle.l6_card.specs.Fault.{and_then}
 use Rattle.l6_card.proofs.Settling.{first_fault_met}
 
-and_then-append : (pass : Result Stage DeckFault) (front following : List Piece) →
+and_then-append : (pass : Result Stage Objection) (front following : List Piece) →
     ((known : Stage) →
     after_pieces known (front ++ following) ≡ and_then (after_pieces known front)
     (λ next. after_pieces next following)) →
@@ -31,6 +35,25 @@ after_pieces-append [] following known = refl
 after_pieces-append (piece ∷ front) following known =
     and_then-append (after_piece known piece) front following (after_pieces-append front following)
 
+-- pieces that were taken leave the others to take
+pub pieces_go : {X : Type 0} (result : Result X ReadError) (front following : List Piece)
+    (known next final : Stage) →
+    after_pieces known front ≡ Ok next → Follows result final (after_pieces next following) →
+    Follows result final (after_pieces known (front ++ following))
+pieces_go result front following known next final taken follows =
+    subst (Follows result final)
+    (sym (after_pieces-append front following known
+    ∙ ap (λ r. and_then r (λ k. after_pieces k following)) taken)) follows
+
+-- pieces that met an objection are where the pass stops
+pub pieces_stop : (found : Option Objection) (front following : List Piece) (known : Stage) →
+    IfSome found (λ objection. after_pieces known front ≡ Err objection) →
+    IfSome found (λ objection. after_pieces known (front ++ following) ≡ Err objection)
+pieces_stop None front following known stops = tt
+pieces_stop (Some objection) front following known stops =
+    after_pieces-append front following known
+    ∙ ap (λ r. and_then r (λ k. after_pieces k following)) stops
+
 -- the first card of a text, by its columns, and the text after it
 pub record FirstCard (text columns following : List ℕ) : Type 0 where
   pub line : List ℕ
@@ -39,7 +62,7 @@ pub record FirstCard (text columns following : List ℕ) : Type 0 where
 
 -- a first item that was taken leaves the others to take
 pub item_goes : {all others : List Item} {i : Item} (number : ℕ) (known next : Stage)
-    (pass : Result Stage DeckFault) →
+    (pass : Result Stage Objection) →
     all ≡ i ∷ others → after_pieces known (map (item number) all) ≡ pass →
     after_piece known (item number i) ≡ Ok next →
     after_pieces next (map (item number) others) ≡ pass
@@ -50,7 +73,7 @@ item_goes {all} {others} {i} number known next pass split before taken =
 
 -- a first item that met an objection is where the pass stops
 pub item_stops : {all others : List Item} {i : Item} (number : ℕ) (known : Stage)
-    (pass : Result Stage DeckFault) (found : Option DeckFault) →
+    (pass : Result Stage Objection) (found : Option Objection) →
     all ≡ i ∷ others → after_pieces known (map (item number) all) ≡ pass →
     IfSome found (λ fault. after_piece known (item number i) ≡ Err fault) →
     IfSome found (λ fault. pass ≡ Err fault)
@@ -76,11 +99,19 @@ group_split end rest columns following left one =
 -- the word that columns begin with which end at this offset, and the items after it
 pub word_split : (end : ℕ) (rest columns following : List ℕ) → length rest ≤ end →
     WordFirst (end - length rest) rest columns following →
+    let opening = end - length following - length columns in
     items_of (end - length rest) rest
-    ≡ word (letters_of columns) ∷ items_of (end - length following) following
+    ≡ word opening (opening + count_solid columns) (letters_of columns)
+    ∷ items_of (end - length following) following
 word_split end rest columns following left one =
-    let next : one.next ≡ end - length following = omega (arith, one.ends) in
-    one.items ∙ ap (λ o. word (letters_of columns) ∷ items_of o following) next
+    let opens : one.opening ≡ end - length following - length columns = omega (arith, one.ends) in
+    let next : one.opening + length columns ≡ end - length following = omega (arith, one.ends) in
+    one.items
+    ∙ ap (λ o. word o (o + count_solid columns) (letters_of columns)
+    ∷ items_of (one.opening + length columns) following) opens
+    ∙ ap (λ o. word (end - length following - length columns)
+    (end - length following - length columns + count_solid columns) (letters_of columns)
+    ∷ items_of o following) next
 
 -- the pieces of a text, whose first card has this number and this offset
 abbrev pub text_pieces : ℕ → ℕ → List ℕ → List Piece
@@ -104,7 +135,7 @@ first_card text columns following number offset known first =
 
 -- a card that was taken leaves the others to take
 pub pass_goes : (text columns following : List ℕ) (number offset : ℕ) (known next : Stage)
-    (pass : Result Stage DeckFault) →
+    (pass : Result Stage Objection) →
     (first : FirstCard text columns following) →
     after_pieces known (text_pieces number offset text) ≡ pass →
     after_pieces known (pieces_of_card (card_of number offset columns)) ≡ Ok next →
@@ -117,7 +148,7 @@ pass_goes text columns following number offset known next pass first before take
 
 -- a card that met an objection is where the pass stops
 pub pass_stops : (text columns following : List ℕ) (number offset : ℕ) (known : Stage)
-    (fault : DeckFault) (pass : Result Stage DeckFault) →
+    (fault : Objection) (pass : Result Stage Objection) →
     FirstCard text columns following →
     after_pieces known (text_pieces number offset text) ≡ pass →
     after_pieces known (pieces_of_card (card_of number offset columns)) ≡ Err fault →
@@ -130,7 +161,7 @@ pass_stops text columns following number offset known fault pass first before st
 
 -- where no card is left the last statement is over
 pub pass_over : (text : List ℕ) (number offset : ℕ) (known final : Stage)
-    (pass : Result Stage DeckFault) →
+    (pass : Result Stage Objection) →
     lines_of text ≡ [] →
     after_pieces known (text_pieces number offset text) ≡ pass →
     after_piece known ends ≡ Ok final →
@@ -142,12 +173,12 @@ pass_over text number offset known final pass none before taken =
 
 -- a fault that a card met, if it is one of the deck, is the first of the deck
 pub refused : (deck text columns following : List ℕ) (number offset : ℕ) (known : Stage)
-    (found : Option DeckFault) →
+    (found : Option Objection) →
     FirstCard text columns following →
     after_pieces known (text_pieces number offset text) ≡ pass_of deck →
     IfSome found
     (λ fault. after_pieces known (pieces_of_card (card_of number offset columns)) ≡ Err fault) →
-    IfSome found (IsFirstFault deck)
+    IfSome (option_map fault_in found) (IsFirstFault deck)
 refused deck text columns following number offset known None first before stops = tt
 refused deck text columns following number offset known (Some fault) first before stops =
     first_fault_met deck fault
@@ -155,11 +186,11 @@ refused deck text columns following number offset known (Some fault) first befor
 
 -- the objection of the last statement's end, if there is one, is the first of the deck
 pub refused_at_end : (deck text : List ℕ) (number offset : ℕ) (known : Stage)
-    (found : Option DeckFault) →
+    (found : Option Objection) →
     lines_of text ≡ [] →
     after_pieces known (text_pieces number offset text) ≡ pass_of deck →
     IfSome found (λ fault. after_piece known ends ≡ Err fault) →
-    IfSome found (IsFirstFault deck)
+    IfSome (option_map fault_in found) (IsFirstFault deck)
 refused_at_end deck text number offset known None none before stops = tt
 refused_at_end deck text number offset known (Some fault) none before stops =
     first_fault_met deck fault

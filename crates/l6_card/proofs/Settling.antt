@@ -1,17 +1,19 @@
 -- The fault of a deck and what it says settle each other.
 use Rattle.std.proofs.Common.{◌≡◌, ℕ, List, [], ◌∷◌, true, Some, None, Result, Ok, Err, refl, sym, ap, ◌∙◌, arith, length, subst}
 use Rattle.std.specs.List.{list_all}
+use Rattle.std.specs.Option.{option_map}
 use Rattle.std.proofs.lemmas.Bool.{and_from}
 use Rattle.l6_card.specs.Card.{Card, skipped, plain, labelled, continued, unknown, cards_of}
 use Rattle.l6_card.specs.Statement.{DeckStatementParts, is_fit}
-use Rattle.l6_card.specs.DeckFault.{DeckFault}
+use Rattle.l6_card.specs.declared.objection.Objection.{Objection}
+use Rattle.l6_card.specs.Objection.{fault_in}
 use Rattle.l6_card.specs.inner.Pass.{Stage, pass_of}
 use Rattle.l6_card.specs.ReadsAs.{ReadsAs, CardsDenote}
 use Rattle.l6_card.specs.Laws.{AreWithinLimits, ReadsOnlyWithoutFault, ReadsWithoutFault, ReadsInOneWay, IsOnlyReading, IsFirstFault}
-use Rattle.l6_card.specs.Fault.{fault_in, fault_of}
+use Rattle.l6_card.specs.Fault.{objection_met, fault_of}
 use Rattle.l6_card.proofs.Statements.{cards_denoted}
 use Rattle.l6_card.proofs.Takings.{cards_go, same_statements}
-use Rattle.l6_card.proofs.Following.{fault_of_pass}
+use Rattle.l6_card.proofs.Following.{objection_of_pass}
 
 -- a deck whose pieces are all taken reads
 pub reads_when_taken : (deck : List ℕ) (final : Stage) → pass_of deck ≡ Ok final →
@@ -28,17 +30,18 @@ reads_when_taken deck final taken =
 pub reads_only_without_fault : ReadsOnlyWithoutFault
 reads_only_without_fault deck statements reads =
     let taken = cards_go (cards_of deck) statements reads.begins reads.cards reads.fits in
-    fault_of_pass deck ∙ ap fault_in taken.1
+    ap (option_map fault_in) (objection_of_pass deck ∙ ap objection_met taken.1)
 
-reads_by_pass : (deck : List ℕ) (pass : Result Stage DeckFault) →
-    pass_of deck ≡ pass → fault_in pass ≡ None →
+reads_by_pass : (deck : List ℕ) (pass : Result Stage Objection) →
+    pass_of deck ≡ pass → option_map fault_in (objection_met pass) ≡ None →
     (statements : List DeckStatementParts) × ReadsAs deck statements
 reads_by_pass deck (Ok final) taken none = (final.statements, reads_when_taken deck final taken)
 reads_by_pass deck (Err fault) taken none = absurd (cc)
 
 pub reads_without_fault : ReadsWithoutFault
 reads_without_fault deck none =
-    reads_by_pass deck (pass_of deck) refl (sym (fault_of_pass deck) ∙ none)
+    reads_by_pass deck (pass_of deck) refl
+    (sym (ap (option_map fault_in) (objection_of_pass deck)) ∙ none)
 
 pub reads_in_one_way : ReadsInOneWay
 reads_in_one_way deck one other reads reads' =
@@ -53,7 +56,8 @@ only_reading_taken deck final taken others reads =
 -- the deck has no fault then
 pub no_fault_taken : (deck : List ℕ) (final : Stage) → pass_of deck ≡ Ok final →
     fault_of deck ≡ None
-no_fault_taken deck final taken = fault_of_pass deck ∙ ap fault_in taken
+no_fault_taken deck final taken =
+    ap (option_map fault_in) (objection_of_pass deck ∙ ap objection_met taken)
 
 -- each statement that cards say is fit
 each_fit : (cards : List Card) (statements : List DeckStatementParts) →
@@ -81,10 +85,11 @@ within_limits deck statements reads = record {
 }
 
 -- a reader that met an objection knows the fault of the deck
-pub first_fault_met : (deck : List ℕ) (fault : DeckFault) → pass_of deck ≡ Err fault →
-    IsFirstFault deck fault
-first_fault_met deck fault met =
-    let first : fault_of deck ≡ Some fault = fault_of_pass deck ∙ ap fault_in met in
+pub first_fault_met : (deck : List ℕ) (objection : Objection) → pass_of deck ≡ Err objection →
+    IsFirstFault deck (fault_in objection)
+first_fault_met deck objection met =
+    let first : fault_of deck ≡ Some (fault_in objection) =
+    ap (option_map fault_in) (objection_of_pass deck ∙ ap objection_met met) in
     record {
       first = first;
       unread = λ statements reads. let none = reads_only_without_fault deck statements reads in cc;

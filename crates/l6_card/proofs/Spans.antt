@@ -288,15 +288,15 @@ item_left (group offset columns) deck from end card builder next items left made
       left.builder_holds left.builder_holds.may_have left.items_fit.0 left.items_fit.1 made;
   items_fit = left.items_fit.2;
 }
-item_left (word columns) deck from end card builder next items left made = record {
+item_left (word at past columns) deck from end card builder next items left made = record {
   middle = left.middle;
   builder_holds = word_holds_in builder.phase deck from left.middle card builder next
       (spelled columns)
       left.builder_holds left.builder_holds.may_have made;
   items_fit = left.items_fit;
 }
-item_left unclosed deck from end card builder next items left made = absurd (cc)
-item_left (unopened columns) deck from end card builder next items left made = absurd (cc)
+item_left (unclosed at) deck from end card builder next items left made = absurd (cc)
+item_left (unopened at columns) deck from end card builder next items left made = absurd (cc)
 
 items_left : (items : List PlacedItem) (deck : List ℕ) (from end : ℕ)
     (builder final : StatementBuilder) →

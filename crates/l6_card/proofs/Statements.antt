@@ -6,12 +6,14 @@ use Rattle.l6_card.specs.Numerals.{most_deck_statements, most_continuations}
 use Rattle.l6_card.specs.Items.{items_of}
 use Rattle.l6_card.specs.Card.{Body, Card, skipped, plain, labelled, continued, unknown}
 use Rattle.l6_card.specs.Statement.{DeckStatementParts, label_on}
-use Rattle.l6_card.specs.DeckFault.{DeckFault, form, limit}
+use Rattle.l6_card.specs.declared.objection.Objection.{Objection}
+use Rattle.l6_card.specs.declared.objection.Reason.TheVariants.{Column, Unfinished, TooManyStatements, TooManyContinuations}
+use Rattle.l6_card.specs.Objection.{card_objects}
 use Rattle.l6_card.specs.inner.StatementBuilder.{StatementBuilder, new_builder, is_whole, statement_from, builder_of}
 use Rattle.l6_card.specs.Pieces.{begins, label, items_on, pieces_of_cards}
 use Rattle.l6_card.specs.inner.Pass.{Stage, first_stage, stage_if, after_pieces}
 use Rattle.l6_card.specs.ReadsAs.{placed_items, continued_items, continuations, DenotesFrom, CardsDenote}
-use Rattle.l6_card.specs.Fault.{and_then}
+use Rattle.l6_card.specs.Fault.{and_then, column_objects}
 use Rattle.l6_card.proofs.Building.{denotes_of}
 use Rattle.l6_card.proofs.Steps.{opened, went_if, went_labelled, Taken, items_taken, builder_of-append}
 
@@ -42,9 +44,9 @@ begun_denoted : (given : Option PlacedLabel) (body : Body) (cards : List Card)
     (over : List DeckStatementParts) (final : Stage) →
     length over < most_deck_statements →
     (taken : Taken (items_of body.offset body.columns) body.card
-    (opened over given new_builder body.card 0) final
+    (opened over given new_builder body 0) final
     (pieces_of_cards cards)) →
-    OpenSaid cards (opened over given taken.builder body.card 0) final →
+    OpenSaid cards (opened over given taken.builder body 0) final →
     Begun given body cards over final
 begun_denoted given body cards over final room taken denoted =
     record {
@@ -71,15 +73,15 @@ begun_denoted given body cards over final room taken denoted =
 -- the cards after one that begins a statement, within the statement before
 open_begun : (cards : List Card) (statements : List DeckStatementParts)
     (given : Option PlacedLabel)
-    (builder : StatementBuilder) (card further : ℕ) (final : Stage) →
+    (builder : StatementBuilder) (last : Body) (further : ℕ) (final : Stage) →
     is_whole builder ≡ true →
     (next : List DeckStatementParts) →
     CardsDenote cards next →
     final.statements ≡ (statements ++ statement_from given builder ∷ []) ++ next →
     length (statements ++ statement_from given builder ∷ []) + length next ≤ most_deck_statements →
     continued_items cards ≡ [] → continuations cards ≡ 0 →
-    OpenSaid cards (opened statements given builder card further) final
-open_begun cards statements given builder card further final whole next denote all fits none_more
+    OpenSaid cards (opened statements given builder last further) final
+open_begun cards statements given builder last further final whole next denote all fits none_more
     none =
     record {
       builder = builder;
@@ -93,18 +95,18 @@ open_begun cards statements given builder card further final whole next denote a
     }
 
 -- an unknown card is never taken
-unknown_stops : (holds : Bool) (objection other : DeckFault) (known final : Stage) →
+unknown_stops : (holds : Bool) (objection other : Objection) (known final : Stage) →
     and_then (stage_if holds objection known) (λ next. Err other) ≡ Ok final → ⊥
 unknown_stops true objection other known final taken = cc
 unknown_stops false objection other known final taken = cc
 
 pub open_denoted : (cards : List Card) (statements : List DeckStatementParts)
     (given : Option PlacedLabel)
-    (builder : StatementBuilder) (card further : ℕ) (final : Stage) →
-    after_pieces (opened statements given builder card further) (pieces_of_cards cards)
+    (builder : StatementBuilder) (last : Body) (further : ℕ) (final : Stage) →
+    after_pieces (opened statements given builder last further) (pieces_of_cards cards)
     ≡ Ok final →
-    OpenSaid cards (opened statements given builder card further) final
-open_denoted [] statements given builder card further final taken =
+    OpenSaid cards (opened statements given builder last further) final
+open_denoted [] statements given builder last further final taken =
     let over = statements ++ statement_from given builder ∷ [] in
     let next : Stage =
     record {
@@ -112,11 +114,10 @@ open_denoted [] statements given builder card further final taken =
       is_open = false;
       label = None;
       builder = new_builder;
-      card =
-          card;
+      body = last;
       continuations = further;
     } in
-    let went = went_if (is_whole builder) (form card) next (λ known. Ok known) final taken in
+    let went = went_if (is_whole builder) (card_objects last Unfinished) next (λ known. Ok known) final taken in
     let same : next ≡ final = cc (went.rest) in
     record {
       builder = builder;
@@ -128,8 +129,8 @@ open_denoted [] statements given builder card further final taken =
       all = sym (ap (λ (k : Stage). k.statements) same);
       fits = λ few. omega arith;
     }
-open_denoted (skipped ∷ cards) statements given builder card further final taken =
-    let denoted = open_denoted cards statements given builder card further final taken in
+open_denoted (skipped ∷ cards) statements given builder last further final taken =
+    let denoted = open_denoted cards statements given builder last further final taken in
     record {
       builder = denoted.builder;
       made = denoted.made;
@@ -140,17 +141,18 @@ open_denoted (skipped ∷ cards) statements given builder card further final tak
       all = denoted.all;
       fits = denoted.fits;
     }
-open_denoted (continued body ∷ cards) statements given builder card further final taken =
+open_denoted (continued body ∷ cards) statements given builder last further final taken =
     let rest = pieces_of_cards cards in
-    let went = went_if (ltb further most_continuations) (limit body.card)
-    (opened statements given builder body.card (further + 1))
+    let went = went_if (ltb further most_continuations)
+    (column_objects body.card TooManyContinuations)
+    (opened statements given builder body (further + 1))
     (λ next. after_pieces next (items_on body ++ rest)) final taken in
     let items =
     items_taken (items_of body.offset body.columns) body.card
-    (opened statements given builder body.card (further + 1))
+    (opened statements given builder body (further + 1))
     final rest went.rest in
     let denoted =
-    open_denoted cards statements given items.builder body.card
+    open_denoted cards statements given items.builder body
     (further + 1) final items.rest_goes in
     let room = ltb-true further most_continuations went.sound in
     record {
@@ -165,7 +167,7 @@ open_denoted (continued body ∷ cards) statements given builder card further fi
       all = denoted.all;
       fits = denoted.fits;
     }
-open_denoted (plain body ∷ cards) statements given builder card further final taken =
+open_denoted (plain body ∷ cards) statements given builder last further final taken =
     let over = statements ++ statement_from given builder ∷ [] in
     let closed : Stage =
     record {
@@ -173,29 +175,29 @@ open_denoted (plain body ∷ cards) statements given builder card further final 
       is_open = false;
       label = None;
       builder = new_builder;
-      card =
-          card;
+      body = last;
       continuations = further;
     } in
     let rest = pieces_of_cards cards in
-    let ended = went_if (is_whole builder) (form card) closed
-    (λ next. after_pieces next (begins body.card ∷ items_on body ++ rest)) final taken in
+    let ended = went_if (is_whole builder) (card_objects last Unfinished) closed
+    (λ next. after_pieces next (begins body ∷ items_on body ++ rest)) final taken in
     let began =
-    went_if (ltb (length over) most_deck_statements) (limit body.card)
-    (opened over None new_builder body.card 0)
+    went_if (ltb (length over) most_deck_statements)
+    (card_objects body TooManyStatements)
+    (opened over None new_builder body 0)
     (λ next. after_pieces next (items_on body ++ rest)) final ended.rest in
     let items =
     items_taken (items_of body.offset body.columns) body.card
-    (opened over None new_builder body.card 0)
+    (opened over None new_builder body 0)
     final rest began.rest in
-    let denoted = open_denoted cards over None items.builder body.card 0 final items.rest_goes in
+    let denoted = open_denoted cards over None items.builder body 0 final items.rest_goes in
     let begun =
     begun_denoted None body cards over final (ltb-true (length over) most_deck_statements began.sound)
     items denoted in
-    open_begun (plain body ∷ cards) statements given builder card further final ended.sound
+    open_begun (plain body ∷ cards) statements given builder last further final ended.sound
     (begun.statement ∷ begun.statements) (begun.denotes, begun.denote) begun.all
     (omega (arith, begun.fits)) refl refl
-open_denoted (labelled columns body ∷ cards) statements given builder card further final taken =
+open_denoted (labelled columns body ∷ cards) statements given builder last further final taken =
     let over = statements ++ statement_from given builder ∷ [] in
     let closed : Stage =
     record {
@@ -203,38 +205,38 @@ open_denoted (labelled columns body ∷ cards) statements given builder card fur
       is_open = false;
       label = None;
       builder = new_builder;
-      card =
-          card;
+      body = last;
       continuations = further;
     } in
     let rest = pieces_of_cards cards in
-    let ended = went_if (is_whole builder) (form card) closed
+    let ended = went_if (is_whole builder) (card_objects last Unfinished) closed
     (λ next. after_pieces next
-    (begins body.card ∷ label body.card columns ∷ items_on body ++ rest)) final taken in
+    (begins body ∷ label body.card columns ∷ items_on body ++ rest)) final taken in
     let began =
-    went_if (ltb (length over) most_deck_statements) (limit body.card)
-    (opened over None new_builder body.card 0)
+    went_if (ltb (length over) most_deck_statements)
+    (card_objects body TooManyStatements)
+    (opened over None new_builder body 0)
     (λ next. after_pieces next (label body.card columns ∷ items_on body ++ rest))
     final ended.rest in
-    let found = went_labelled body.card (label_on body.card columns)
-    (opened over None new_builder body.card 0)
+    let found = went_labelled body.card columns (label_on body.card columns)
+    (opened over None new_builder body 0)
     (λ next. after_pieces next (items_on body ++ rest)) final began.rest in
     let items =
     items_taken (items_of body.offset body.columns) body.card
-    (opened over (Some found.given) new_builder body.card 0)
+    (opened over (Some found.given) new_builder body 0)
     final rest found.rest in
     let denoted =
     open_denoted cards over
-    (Some found.given) items.builder body.card 0 final items.rest_goes in
+    (Some found.given) items.builder body 0 final items.rest_goes in
     let begun =
     begun_denoted (Some found.given) body cards over final
     (ltb-true (length over) most_deck_statements began.sound) items denoted in
     open_begun (labelled columns body ∷ cards)
-    statements given builder card further final ended.sound
+    statements given builder last further final ended.sound
     (begun.statement ∷ begun.statements) ((found.given, found.is_found, begun.denotes), begun.denote)
     begun.all (omega (arith, begun.fits)) refl refl
-open_denoted (unknown number ∷ cards) statements given builder card further final taken =
-    absurd (unknown_stops (is_whole builder) (form card) (form number) _ final taken)
+open_denoted (unknown number ∷ cards) statements given builder last further final taken =
+    absurd (unknown_stops (is_whole builder) (card_objects last Unfinished) (column_objects number Column) _ final taken)
 
 -- what cards say that were taken from the start
 pub record CardsSaid (cards : List Card) (final : Stage) : Type 0 where
@@ -271,8 +273,8 @@ cards_denoted (plain body ∷ cards) final taken =
     let rest = pieces_of_cards cards in
     let items =
     items_taken (items_of body.offset body.columns) body.card
-    (opened [] None new_builder body.card 0) final rest taken in
-    let denoted = open_denoted cards [] None items.builder body.card 0 final items.rest_goes in
+    (opened [] None new_builder body 0) final rest taken in
+    let denoted = open_denoted cards [] None items.builder body 0 final items.rest_goes in
     let begun = begun_denoted None body cards [] final (omega arith) items denoted in
     record {
       statements = begun.statement ∷ begun.statements;
@@ -283,15 +285,15 @@ cards_denoted (plain body ∷ cards) final taken =
     }
 cards_denoted (labelled columns body ∷ cards) final taken =
     let rest = pieces_of_cards cards in
-    let found = went_labelled body.card (label_on body.card columns)
-    (opened [] None new_builder body.card 0)
+    let found = went_labelled body.card columns (label_on body.card columns)
+    (opened [] None new_builder body 0)
     (λ next. after_pieces next (items_on body ++ rest)) final taken in
     let items =
     items_taken (items_of body.offset body.columns) body.card
-    (opened [] (Some found.given) new_builder body.card 0)
+    (opened [] (Some found.given) new_builder body 0)
     final rest found.rest in
     let denoted =
-    open_denoted cards [] (Some found.given) items.builder body.card 0 final items.rest_goes in
+    open_denoted cards [] (Some found.given) items.builder body 0 final items.rest_goes in
     let begun = begun_denoted (Some found.given) body cards [] final (omega arith) items denoted in
     record {
       statements = begun.statement ∷ begun.statements;

@@ -2,7 +2,9 @@
 use Rattle.std.proofs.Common.{◌≡◌, ℕ, List, [], ◌∷◌, ◌++◌, map, Bool, true, false, Option, Some, None, Result, Ok, Err, refl, ap, ◌∙◌}
 use Rattle.l6_card.specs.declared.cards.PlacedLabel.{PlacedLabel}
 use Rattle.l6_card.specs.Statement.{DeckStatementParts}
+use Rattle.l6_card.specs.declared.objection.Objection.{Objection}
 use Rattle.l6_card.specs.DeckFault.{DeckFault}
+use Rattle.l6_card.specs.Card.{Body}
 use Rattle.l6_card.specs.Items.{Item, PlacedItem}
 use Rattle.l6_card.specs.inner.StatementBuilder.{StatementBuilder, with_item, builder_then, builder_of}
 use Rattle.l6_card.specs.Pieces.{Piece, item}
@@ -10,24 +12,24 @@ use Rattle.l6_card.specs.inner.Pass.{Stage, stage_if, when_built, when_labelled,
 use Rattle.l6_card.specs.Fault.{and_then}
 
 -- what is known within a statement
-abbrev pub opened : List DeckStatementParts → Option PlacedLabel → StatementBuilder → ℕ → ℕ → Stage
-opened statements label builder card continuations =
+abbrev pub opened : List DeckStatementParts → Option PlacedLabel → StatementBuilder → Body → ℕ → Stage
+opened statements label builder body continuations =
     record {
       statements = statements;
       is_open = true;
       label = label;
       builder = builder;
-      card = card;
+      body = body;
       continuations = continuations;
     }
 
 -- a test that held, and a pass that went on
-pub record Went (holds : Bool) (pass : Result Stage DeckFault) (final : Stage) : Type 0 where
+pub record Went (holds : Bool) (pass : Result Stage Objection) (final : Stage) : Type 0 where
   pub sound : holds ≡ true
   pub rest : pass ≡ Ok final
 
-pub went_if : (holds : Bool) (objection : DeckFault) (known : Stage) (step : Stage →
-    Result Stage DeckFault)
+pub went_if : (holds : Bool) (objection : Objection) (known : Stage) (step : Stage →
+    Result Stage Objection)
     (final : Stage) →
     and_then (stage_if holds objection known) step ≡ Ok final → Went holds (step known) final
 went_if true objection known step final went = record { sound = refl; rest = went }
@@ -35,33 +37,33 @@ went_if false objection known step final went = absurd (cc)
 
 -- a builder that was made, and a pass that went on with it
 pub record WentDrafted (made : Result StatementBuilder DeckFault) (known : Stage) (step : Stage →
-    Result Stage DeckFault)
+    Result Stage Objection)
     (final : Stage) : Type 0 where
   pub builder : StatementBuilder
   pub is_made : made ≡ Ok builder
   pub rest : step (record known { builder = builder }) ≡ Ok final
 
-went_built : (made : Result StatementBuilder DeckFault) (known : Stage) (step : Stage →
-    Result Stage DeckFault)
+went_built : (i : Item) (made : Result StatementBuilder DeckFault) (known : Stage) (step : Stage →
+    Result Stage Objection)
     (final : Stage) →
-    and_then (when_built made known) step ≡ Ok final → WentDrafted made known step final
-went_built (Ok builder) known step final went =
+    and_then (when_built i made known) step ≡ Ok final → WentDrafted made known step final
+went_built i (Ok builder) known step final went =
     record { builder = builder; is_made = refl; rest = went }
-went_built (Err objection) known step final went = absurd (cc)
+went_built i (Err fault) known step final went = absurd (cc)
 
 -- a label that was found, and a pass that went on with it
 pub record WentLabelled (found : Option PlacedLabel) (known : Stage) (step : Stage →
-    Result Stage DeckFault)
+    Result Stage Objection)
     (final : Stage) : Type 0 where
   pub given : PlacedLabel
   pub is_found : found ≡ Some given
   pub rest : step (record known { label = Some given }) ≡ Ok final
 
-pub went_labelled : (card : ℕ) (found : Option PlacedLabel) (known : Stage)
-    (step : Stage → Result Stage DeckFault) (final : Stage) →
-    and_then (when_labelled card found known) step ≡ Ok final → WentLabelled found known step final
-went_labelled card None known step final went = absurd (cc)
-went_labelled card (Some given) known step final went =
+pub went_labelled : (card : ℕ) (columns : List ℕ) (found : Option PlacedLabel) (known : Stage)
+    (step : Stage → Result Stage Objection) (final : Stage) →
+    and_then (when_labelled card columns found known) step ≡ Ok final → WentLabelled found known step final
+went_labelled card columns None known step final went = absurd (cc)
+went_labelled card columns (Some given) known step final went =
     record { given = given; is_found = refl; rest = went }
 
 -- items on the card of this number
@@ -81,7 +83,7 @@ pub items_taken : (items : List Item) (number : ℕ) (known final : Stage) (rest
 items_taken [] number known final rest taken =
     record { builder = known.builder; made = refl; rest_goes = taken }
 items_taken (i ∷ items) number known final rest taken =
-    let first = went_built (with_item number known.builder i) known
+    let first = went_built i (with_item number known.builder i) known
     (λ next. after_pieces next (map (item number) items ++ rest)) final taken in
     let others =
     items_taken items number (record known { builder = first.builder }) final rest first.rest in
@@ -151,7 +153,7 @@ items_go (i ∷ items) more number known builder rest makes =
       middle = others.middle;
       makes = others.makes;
       goes = ap
-          (λ r. and_then (when_built r known)
+          (λ r. and_then (when_built i r known)
           (λ next. after_pieces next (map (item number) items ++ rest))) first.is_made
           ∙ others.goes;
     }

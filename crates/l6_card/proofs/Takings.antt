@@ -4,50 +4,52 @@ use Rattle.std.proofs.lemmas.Bool.{lt-ltb}
 use Rattle.l6_card.specs.declared.cards.PlacedLabel.{PlacedLabel}
 use Rattle.l6_card.specs.Numerals.{most_deck_statements, most_continuations}
 use Rattle.l6_card.specs.Items.{items_of, PlacedItem}
-use Rattle.l6_card.specs.Card.{Card, skipped, plain, labelled, continued, unknown}
+use Rattle.l6_card.specs.Card.{Body, Card, skipped, plain, labelled, continued, unknown}
 use Rattle.l6_card.specs.Statement.{DeckStatementParts, label_on}
-use Rattle.l6_card.specs.DeckFault.{DeckFault, form, limit}
+use Rattle.l6_card.specs.declared.objection.Objection.{Objection}
+use Rattle.l6_card.specs.declared.objection.Reason.TheVariants.{Unfinished, TooManyStatements, TooManyContinuations}
+use Rattle.l6_card.specs.Objection.{card_objects}
 use Rattle.l6_card.specs.inner.StatementBuilder.{StatementBuilder, new_builder, is_whole, statement_from, builder_of}
 use Rattle.l6_card.specs.Pieces.{begins, label, items_on, pieces_of_cards}
 use Rattle.l6_card.specs.inner.Pass.{Stage, first_stage, stage_if, when_labelled, after_pieces}
 use Rattle.l6_card.specs.ReadsAs.{continued_items, continuations, Denotes, CardsDenote}
-use Rattle.l6_card.specs.Fault.{and_then}
+use Rattle.l6_card.specs.Fault.{and_then, column_objects}
 use Rattle.l6_card.proofs.Building.{builders_of}
 use Rattle.l6_card.proofs.Steps.{opened, items_go}
 
 -- a pass that ends well
-abbrev pub EndsWell : Result Stage DeckFault → Type 0
+abbrev pub EndsWell : Result Stage Objection → Type 0
 EndsWell pass = (final : Stage) × (pass ≡ Ok final)
 
 -- a step whose test holds goes on
-go_if : (holds : Bool) (objection : DeckFault) (known : Stage) (step : Stage →
-    Result Stage DeckFault) →
+go_if : (holds : Bool) (objection : Objection) (known : Stage) (step : Stage →
+    Result Stage Objection) →
     holds ≡ true → and_then (stage_if holds objection known) step ≡ step known
 go_if holds objection known step sound = ap (λ b. and_then (stage_if b objection known) step) sound
 
 -- a label that is found goes on
-go_labelled : (card : ℕ) (found : Option PlacedLabel) (given : PlacedLabel) (known : Stage)
-    (step : Stage → Result Stage DeckFault) →
+go_labelled : (card : ℕ) (columns : List ℕ) (found : Option PlacedLabel) (given : PlacedLabel) (known : Stage)
+    (step : Stage → Result Stage Objection) →
     found ≡ Some given →
-    and_then (when_labelled card found known) step ≡ step (record known { label = Some given })
-go_labelled card found given known step is_found =
-    ap (λ f. and_then (when_labelled card f known) step) is_found
+    and_then (when_labelled card columns found known) step ≡ step (record known { label = Some given })
+go_labelled card columns found given known step is_found =
+    ap (λ f. and_then (when_labelled card columns f known) step) is_found
 
 -- what goes on to a pass that ends well ends well
-well : (pass rest : Result Stage DeckFault) → pass ≡ rest → EndsWell rest → EndsWell pass
+well : (pass rest : Result Stage Objection) → pass ≡ rest → EndsWell rest → EndsWell pass
 well pass rest goes ends' = (ends'.0, goes ∙ ends'.1)
 
 pub open_goes : (cards : List Card) (statements : List DeckStatementParts)
     (given : Option PlacedLabel)
-    (builder : StatementBuilder) (card further : ℕ) (made : StatementBuilder)
+    (builder : StatementBuilder) (last : Body) (further : ℕ) (made : StatementBuilder)
     (next : List DeckStatementParts) →
     builder_of builder (continued_items cards) ≡ Some made → is_whole made ≡ true →
     further + continuations cards ≤ most_continuations → CardsDenote cards next →
     length statements + 1 + length next ≤ most_deck_statements →
-    EndsWell (after_pieces (opened statements given builder card further) (pieces_of_cards cards))
-open_goes [] statements given builder card further made
+    EndsWell (after_pieces (opened statements given builder last further) (pieces_of_cards cards))
+open_goes [] statements given builder last further made
     (statement ∷ next) makes whole few denote fits = absurd denote
-open_goes [] statements given builder card further made [] makes whole few denote fits =
+open_goes [] statements given builder last further made [] makes whole few denote fits =
     let over = statements ++ statement_from given builder ∷ [] in
     let closed : Stage =
     record {
@@ -55,33 +57,33 @@ open_goes [] statements given builder card further made [] makes whole few denot
       is_open = false;
       label = None;
       builder = new_builder;
-      card =
-          card;
+      body = last;
       continuations = further;
     } in
     let same : builder ≡ made = cc in (
       closed,
-      go_if (is_whole builder) (form card) closed (λ known. Ok known) (ap is_whole same
+      go_if (is_whole builder) (card_objects last Unfinished) closed (λ known. Ok known) (ap is_whole same
           ∙ whole),
     )
-open_goes (skipped ∷ cards) statements given builder card further made next makes whole few denote
+open_goes (skipped ∷ cards) statements given builder last further made next makes whole few denote
     fits =
-    open_goes cards statements given builder card further made next makes whole few denote fits
-open_goes (continued body ∷ cards) statements given builder card further made next makes whole few
+    open_goes cards statements given builder last further made next makes whole few denote fits
+open_goes (continued body ∷ cards) statements given builder last further made next makes whole few
     denote fits =
     let rest = pieces_of_cards cards in
-    let known = opened statements given builder body.card (further + 1) in
+    let known = opened statements given builder body (further + 1) in
     let items =
     items_go (items_of body.offset body.columns) (continued_items cards) body.card known made rest
     makes in
     let room = lt-ltb further most_continuations (omega arith) in
-    well _ _ (go_if (ltb further most_continuations) (limit body.card) known
+    well _ _ (go_if (ltb further most_continuations)
+    (column_objects body.card TooManyContinuations) known
     (λ k. after_pieces k (items_on body ++ rest)) room ∙ items.goes)
-    (open_goes cards statements given items.middle body.card
+    (open_goes cards statements given items.middle body
     (further + 1) made next items.makes whole (omega arith) denote fits)
-open_goes (plain body ∷ cards) statements given builder card further made [] makes whole few denote
+open_goes (plain body ∷ cards) statements given builder last further made [] makes whole few denote
     fits = absurd denote
-open_goes (plain body ∷ cards) statements given builder card further made
+open_goes (plain body ∷ cards) statements given builder last further made
     (statement ∷ next) makes whole few denote fits =
     let over = statements ++ statement_from given builder ∷ [] in
     let closed : Stage =
@@ -90,29 +92,29 @@ open_goes (plain body ∷ cards) statements given builder card further made
       is_open = false;
       label = None;
       builder = new_builder;
-      card =
-          card;
+      body = last;
       continuations = further;
     } in
     let same : builder ≡ made = cc in
     let count = length-append statements (statement_from given builder ∷ []) in
     let rest = pieces_of_cards cards in
-    let known = opened over None new_builder body.card 0 in
+    let known = opened over None new_builder body 0 in
     let denotes = builders_of None _ _ statement denote.0 in
     let items =
     items_go (items_of body.offset body.columns) (continued_items cards) body.card known
     denotes.builder rest denotes.items_make in
     let room = lt-ltb (length over) most_deck_statements (omega (arith, count)) in
-    well _ _ (go_if (is_whole builder) (form card) closed
-    (λ k. after_pieces k (begins body.card ∷ items_on body ++ rest)) (ap is_whole same ∙ whole)
-    ∙ go_if (ltb (length over) most_deck_statements) (limit body.card) known
+    well _ _ (go_if (is_whole builder) (card_objects last Unfinished) closed
+    (λ k. after_pieces k (begins body ∷ items_on body ++ rest)) (ap is_whole same ∙ whole)
+    ∙ go_if (ltb (length over) most_deck_statements)
+    (card_objects body TooManyStatements) known
     (λ k. after_pieces k (items_on body ++ rest)) room
     ∙ items.goes)
-    (open_goes cards over None items.middle body.card 0 denotes.builder next items.makes denotes.whole
+    (open_goes cards over None items.middle body 0 denotes.builder next items.makes denotes.whole
     (omega (arith, denotes.few)) denote.1 (omega (arith, count)))
-open_goes (labelled columns body ∷ cards) statements given builder card further made [] makes whole
+open_goes (labelled columns body ∷ cards) statements given builder last further made [] makes whole
     few denote fits = absurd denote
-open_goes (labelled columns body ∷ cards) statements given builder card further made
+open_goes (labelled columns body ∷ cards) statements given builder last further made
     (statement ∷ next) makes whole few denote fits =
     let over = statements ++ statement_from given builder ∷ [] in
     let closed : Stage =
@@ -121,8 +123,7 @@ open_goes (labelled columns body ∷ cards) statements given builder card furthe
       is_open = false;
       label = None;
       builder = new_builder;
-      card =
-          card;
+      body = last;
       continuations = further;
     } in
     let same : builder ≡ made = cc in
@@ -130,24 +131,25 @@ open_goes (labelled columns body ∷ cards) statements given builder card furthe
     let rest = pieces_of_cards cards in
     let own = denote.0.0 in
     let denotes = builders_of (Some own) _ _ statement denote.0.2 in
-    let begun = opened over None new_builder body.card 0 in
-    let known = opened over (Some own) new_builder body.card 0 in
+    let begun = opened over None new_builder body 0 in
+    let known = opened over (Some own) new_builder body 0 in
     let items =
     items_go (items_of body.offset body.columns) (continued_items cards) body.card known
     denotes.builder rest denotes.items_make in
     let room = lt-ltb (length over) most_deck_statements (omega (arith, count)) in
-    well _ _ (go_if (is_whole builder) (form card) closed
-    (λ k. after_pieces k (begins body.card ∷ label body.card columns ∷ items_on body ++ rest))
+    well _ _ (go_if (is_whole builder) (card_objects last Unfinished) closed
+    (λ k. after_pieces k (begins body ∷ label body.card columns ∷ items_on body ++ rest))
     (ap is_whole same ∙ whole)
-    ∙ go_if (ltb (length over) most_deck_statements) (limit body.card) begun
+    ∙ go_if (ltb (length over) most_deck_statements)
+    (card_objects body TooManyStatements) begun
     (λ k. after_pieces k (label body.card columns ∷ items_on body ++ rest)) room
-    ∙ go_labelled body.card (label_on body.card columns) own begun
+    ∙ go_labelled body.card columns (label_on body.card columns) own begun
     (λ k. after_pieces k (items_on body ++ rest)) denote.0.1
     ∙ items.goes)
     (open_goes cards over
-    (Some own) items.middle body.card 0 denotes.builder next items.makes denotes.whole
+    (Some own) items.middle body 0 denotes.builder next items.makes denotes.whole
     (omega (arith, denotes.few)) denote.1 (omega (arith, count)))
-open_goes (unknown number ∷ cards) statements given builder card further made next makes whole few
+open_goes (unknown number ∷ cards) statements given builder last further made next makes whole few
     denote fits = absurd denote
 
 pub cards_go : (cards : List Card) (statements : List DeckStatementParts) →
@@ -161,13 +163,13 @@ cards_go (continued body ∷ cards) statements none denote fits = absurd (omega 
 cards_go (plain body ∷ cards) [] none denote fits = absurd denote
 cards_go (plain body ∷ cards) (statement ∷ statements) none denote fits =
     let rest = pieces_of_cards cards in
-    let known = opened [] None new_builder body.card 0 in
+    let known = opened [] None new_builder body 0 in
     let denotes = builders_of None _ _ statement denote.0 in
     let items =
     items_go (items_of body.offset body.columns) (continued_items cards) body.card known
     denotes.builder rest denotes.items_make in
     well _ _ items.goes
-    (open_goes cards [] None items.middle body.card 0 denotes.builder statements items.makes
+    (open_goes cards [] None items.middle body 0 denotes.builder statements items.makes
     denotes.whole
     (omega (arith, denotes.few)) denote.1 (omega arith))
 cards_go (labelled columns body ∷ cards) [] none denote fits = absurd denote
@@ -175,15 +177,15 @@ cards_go (labelled columns body ∷ cards) (statement ∷ statements) none denot
     let rest = pieces_of_cards cards in
     let own = denote.0.0 in
     let denotes = builders_of (Some own) _ _ statement denote.0.2 in
-    let begun = opened [] None new_builder body.card 0 in
-    let known = opened [] (Some own) new_builder body.card 0 in
+    let begun = opened [] None new_builder body 0 in
+    let known = opened [] (Some own) new_builder body 0 in
     let items =
     items_go (items_of body.offset body.columns) (continued_items cards) body.card known
     denotes.builder rest denotes.items_make in
-    well _ _ (go_labelled body.card (label_on body.card columns) own begun
+    well _ _ (go_labelled body.card columns (label_on body.card columns) own begun
     (λ k. after_pieces k (items_on body ++ rest)) denote.0.1 ∙ items.goes)
     (open_goes cards []
-    (Some own) items.middle body.card 0 denotes.builder statements items.makes denotes.whole
+    (Some own) items.middle body 0 denotes.builder statements items.makes denotes.whole
     (omega (arith, denotes.few)) denote.1 (omega arith))
 cards_go (unknown number ∷ cards) statements none denote fits = absurd denote
 

@@ -156,59 +156,59 @@ first_seen i None c rest is_found is_no is_one =
 first_seen i (Some w) c rest is_found is_no is_one = new_condition i w rest is_found is_no is_one
 
 -- what follows THEN in the same word
-rest_seen : (card : ℕ) (builder next : StatementBuilder) (columns : List ℕ) (found : Option (List ℕ))
+rest_seen : (card at past : ℕ) (builder next : StatementBuilder) (columns : List ℕ) (found : Option (List ℕ))
     (rest : List PlacedItem) →
     after_then (spelled columns) ≡ found →
     may_have builder.condition (length builder.tests) ≡ true → length builder.operations ≡ 0 →
     with_rest card builder found ≡ Ok next →
-    tested_view builder.condition (length builder.tests) (item_on card (word columns) ∷ rest)
+    tested_view builder.condition (length builder.tests) (item_on card (word at past columns) ∷ rest)
     ≡ view next rest
-rest_seen card builder next columns None rest is_found fits fresh made = absurd (cc)
-rest_seen card builder next columns (Some []) rest is_found fits fresh made =
+rest_seen card at past builder next columns None rest is_found fits fresh made = absurd (cc)
+rest_seen card at past builder next columns (Some []) rest is_found fits fresh made =
     let same : record builder { phase = Open } ≡ next = cc in
-    then_leads (item_on card (word columns)) builder.condition (length builder.tests) [] rest refl
+    then_leads (item_on card (word at past columns)) builder.condition (length builder.tests) [] rest refl
     is_found fits
     ∙ ap (λ m. plain_view (length builder.tests) m rest) (sym fresh)
     ∙ ap (λ (d : StatementBuilder). view d rest) same
-rest_seen card builder next columns (Some (x ∷ xs)) rest is_found fits fresh made =
+rest_seen card at past builder next columns (Some (x ∷ xs)) rest is_found fits fresh made =
     let one = exit_seen card builder next Closed (exit_from (x ∷ xs)) rest made in
     let again = following_then_spelled columns (x ∷ xs) is_found in
     let is_one = ap (λ cs. is_some (exit_from cs)) again ∙ one.is_found in
-    then_leads (item_on card (word columns)) builder.condition (length builder.tests) (x ∷ xs) rest
+    then_leads (item_on card (word at past columns)) builder.condition (length builder.tests) (x ∷ xs) rest
     refl is_found fits
-    ∙ open_exit (item_on card (word (x ∷ xs))) (length builder.tests) 0 rest refl is_one
+    ∙ open_exit (item_on card (word 0 0 (x ∷ xs))) (length builder.tests) 0 rest refl is_one
     ∙ ap (λ m. closed_view (length builder.tests) m rest) (sym fresh)
     ∙ one.same
 
-word_seen : (phase : Phase) (card : ℕ) (builder next : StatementBuilder) (columns : List ℕ)
+word_seen : (phase : Phase) (card at past : ℕ) (builder next : StatementBuilder) (columns : List ℕ)
     (rest : List PlacedItem) →
     is_sound_in phase builder.condition (length builder.tests) ≡ true →
     IsFreshIn phase (length builder.operations) →
     with_word_in phase card builder (spelled columns) ≡ Ok next →
     view_from phase builder.condition (length builder.tests) (length builder.operations)
-    (item_on card (word columns) ∷ rest)
+    (item_on card (word at past columns) ∷ rest)
     ≡ view next rest
-word_seen New card builder next columns rest sound fresh made =
+word_seen New card at past builder next columns rest sound fresh made =
     let found = condition_from (spelled columns) in
     let none = none_so_far builder.condition (length builder.tests) sound in
     let one =
     exit_seen card builder next (phase_of found) (exit_from (spelled columns)) rest made in
-    first_seen (item_on card (word columns)) found builder.condition rest refl refl one.is_found
+    first_seen (item_on card (word at past columns)) found builder.condition rest refl refl one.is_found
     ∙ ap (λ n. view_from (phase_of found) builder.condition n 0 rest) (sym none)
     ∙ ap (λ m. view_from (phase_of found) builder.condition (length builder.tests) m rest) (sym fresh)
     ∙ one.same
-word_seen Open card builder next columns rest sound fresh made =
+word_seen Open card at past builder next columns rest sound fresh made =
     let one = exit_seen card builder next Closed (exit_from (spelled columns)) rest made in
-    open_exit (item_on card (word columns)) (length builder.tests) (length builder.operations) rest
+    open_exit (item_on card (word at past columns)) (length builder.tests) (length builder.operations) rest
     refl one.is_found
     ∙ one.same
-word_seen Tested card builder next columns rest sound fresh made =
+word_seen Tested card at past builder next columns rest sound fresh made =
     let parts =
     and_parts (ltb 0 (length builder.tests))
     (may_have builder.condition (length builder.tests)) sound in
-    rest_seen card builder next columns (after_then (spelled columns)) rest refl parts.1 fresh made
-word_seen (Worded w) card builder next columns rest sound fresh made = absurd (cc)
-word_seen Closed card builder next columns rest sound fresh made = absurd (cc)
+    rest_seen card at past builder next columns (after_then (spelled columns)) rest refl parts.1 fresh made
+word_seen (Worded w) card at past builder next columns rest sound fresh made = absurd (cc)
+word_seen Closed card at past builder next columns rest sound fresh made = absurd (cc)
 
 -- an item that is taken leaves the view
 pub item_seen : (card : ℕ) (builder next : StatementBuilder) (i : Item) (rest : List PlacedItem) →
@@ -216,10 +216,10 @@ pub item_seen : (card : ℕ) (builder next : StatementBuilder) (i : Item) (rest 
     view builder (item_on card i ∷ rest) ≡ view next rest
 item_seen card builder next (group offset columns) rest sound made =
     group_seen builder.phase card offset builder next columns rest sound.condition sound.fresh made
-item_seen card builder next (word columns) rest sound made =
-    word_seen builder.phase card builder next columns rest sound.condition sound.fresh made
-item_seen card builder next unclosed rest sound made = absurd (cc)
-item_seen card builder next (unopened columns) rest sound made = absurd (cc)
+item_seen card builder next (word at past columns) rest sound made =
+    word_seen builder.phase card at past builder next columns rest sound.condition sound.fresh made
+item_seen card builder next (unclosed at) rest sound made = absurd (cc)
+item_seen card builder next (unopened at columns) rest sound made = absurd (cc)
 
 -- items that make a builder leave the view
 pub items_seen : (items : List PlacedItem) (builder final : StatementBuilder) (rest : List PlacedItem) →

@@ -10,7 +10,7 @@ use Rattle.l6_card.specs.Form.{are_whole, are_prefix, are_within_limits}
 use Rattle.l6_card.specs.declared.cards.PlacedLabel.{PlacedLabel}
 use Rattle.l6_card.specs.Statement.{DeckStatementParts, is_fit}
 use Rattle.l6_card.specs.Denotes.{ItemsDenote}
-use Rattle.l6_card.specs.Fault.{fault_in}
+use Rattle.l6_card.specs.Fault.{objection_met}
 use Rattle.l6_card.specs.inner.StatementBuilder.{StatementBuilder, Phase, New, Worded, Tested, Open, Closed, new_builder, statement_from, with_item, builder_then, builder_of}
 use Rattle.l6_card.proofs.Steps.{builder_of-append}
 use Rattle.l6_card.proofs.Fitness.{items_sound, new_sound, statement_fit}
@@ -24,7 +24,7 @@ use Rattle.l6_card.proofs.Forms.{View, view_of, view_from}
 use Rattle.l6_card.proofs.Beginnings.{whole_begins, few_begin}
 
 -- an item that is not objected to is taken
-taken_item : (made : Result StatementBuilder DeckFault) → fault_in made ≡ None →
+taken_item : (made : Result StatementBuilder DeckFault) → objection_met made ≡ None →
     (next : StatementBuilder) × (made ≡ Ok next)
 taken_item (Ok next) none = (next, refl)
 taken_item (Err fault) none = absurd (cc)

@@ -34,12 +34,12 @@ blanks_vanish offset blank columns is_one open' =
     blank_column offset blank items is_one ∙ nothing_blank blank items open'
 
 opened_unclosed : (offset : ℕ) (items : List Item) → closes_first items ≡ false →
-    after_opening offset items ≡ unclosed ∷ items
+    after_opening offset items ≡ unclosed offset ∷ items
 opened_unclosed offset [] open' = refl
 opened_unclosed offset (group at columns ∷ items) open' = refl
-opened_unclosed offset (word columns ∷ items) open' = refl
-opened_unclosed offset (unclosed ∷ items) open' = refl
-opened_unclosed offset (unopened columns ∷ items) open' = absurd (cc)
+opened_unclosed offset (word first past columns ∷ items) open' = refl
+opened_unclosed offset (unclosed at ∷ items) open' = refl
+opened_unclosed offset (unopened closing columns ∷ items) open' = absurd (cc)
 
 pub openings_need_closings : OpeningsNeedClosings
 openings_need_closings offset columns lacking =
@@ -53,7 +53,7 @@ openings_do_not_nest offset columns following inner =
 
 -- what is no parenthesis and no blank is a letter or the like
 letter_column : (offset letter : ℕ) (items : List Item) → is_blank letter ≡ false →
-    is_inner letter ≡ true → after_column offset letter items ≡ after_letter letter items
+    is_inner letter ≡ true → after_column offset letter items ≡ after_letter offset letter items
 letter_column offset letter items not_blank inner =
     let both = and_parts (not (eqb letter (byte "("))) (not (eqb letter (byte ")"))) inner in
     let no_opening = not-true (eqb letter (byte "(")) both.0 in
@@ -61,19 +61,19 @@ letter_column offset letter items not_blank inner =
     rw (no_closing, no_opening, not_blank) refl
 
 pub letters_make_words : LettersMakeWords
-letters_make_words offset letter columns letters items not_blank inner before =
+letters_make_words offset letter first past columns letters items not_blank inner before =
     ap (after_column offset letter) before
-    ∙ letter_column offset letter (word letters ∷ items) not_blank inner
+    ∙ letter_column offset letter (word first past letters ∷ items) not_blank inner
 
-begun_word : (letter : ℕ) (items : List Item) → end_a_word items ≡ true →
-    after_letter letter items ≡ word (letter ∷ []) ∷ items
-begun_word letter [] ends = refl
-begun_word letter (group at columns ∷ items) ends = refl
-begun_word letter (word columns ∷ items) ends = absurd (cc)
-begun_word letter (unclosed ∷ items) ends = absurd (cc)
-begun_word letter (unopened columns ∷ items) ends = absurd (cc)
+begun_word : (offset letter : ℕ) (items : List Item) → end_a_word items ≡ true →
+    after_letter offset letter items ≡ word offset (offset + 1) (letter ∷ []) ∷ items
+begun_word offset letter [] ends = refl
+begun_word offset letter (group at columns ∷ items) ends = refl
+begun_word offset letter (word first past columns ∷ items) ends = absurd (cc)
+begun_word offset letter (unclosed at ∷ items) ends = absurd (cc)
+begun_word offset letter (unopened closing columns ∷ items) ends = absurd (cc)
 
 pub letters_begin_words : LettersBeginWords
 letters_begin_words offset letter columns not_blank inner ends =
     let items = items_of (offset + 1) columns in
-    letter_column offset letter items not_blank inner ∙ begun_word letter items ends
+    letter_column offset letter items not_blank inner ∙ begun_word offset letter items ends

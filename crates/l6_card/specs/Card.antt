@@ -21,11 +21,12 @@ following_run [] = []
 following_run (column ∷ columns) =
     if is_letter_or_digit column then following_run columns else column ∷ columns
 
--- the columns of a card after its column 1 or its label; with the card's number, and the offset of
--- the first of them in the deck
+-- the columns of a card after its column 1 or its label; with the card's number, the offset of the
+-- first of them in the deck, and what is in front of them: column 1, or the label
 pub record Body : Type 0 where
   pub card : ℕ
   pub offset : ℕ
+  pub front : List ℕ
   pub columns : List ℕ
 
 -- what a card is: skipped; a statement without a label, with this body; a statement with these
@@ -46,13 +47,14 @@ card_of number offset [] = skipped
 card_of number offset (column ∷ columns) =
     if column == byte "*" || list_all is_blank (column ∷ columns) then skipped
     else if is_blank column then
-    plain (record { card = number; offset = offset + 1; columns = columns })
+    plain (record { card = number; offset = offset + 1; front = column ∷ []; columns = columns })
     else if column == byte "+" then
-    continued (record { card = number; offset = offset + 1; columns = columns })
+    continued (record { card = number; offset = offset + 1; front = column ∷ []; columns = columns })
     else if is_letter column then
     labelled (run_of (column ∷ columns)) (record {
       card = number;
       offset = offset + length (run_of (column ∷ columns));
+      front = run_of (column ∷ columns);
       columns = following_run (column ∷ columns);
     })
     else unknown number

@@ -25,16 +25,16 @@ test_in (group offset columns) = test_of columns
 test_in _ = None
 
 abbrev pub exit_in : Item → Option (Exit Label)
-exit_in (word columns) = exit_from (spelled columns)
+exit_in (word first end columns) = exit_from (spelled columns)
 exit_in _ = None
 
 abbrev pub condition_in : Item → Option Cond
-condition_in (word columns) = condition_from (spelled columns)
+condition_in (word first end columns) = condition_from (spelled columns)
 condition_in _ = None
 
 -- the characters after the THEN that a word begins with
 abbrev pub then_in : Item → Option (List ℕ)
-then_in (word columns) = after_then (spelled columns)
+then_in (word first end columns) = after_then (spelled columns)
 then_in _ = None
 
 -- the item spells an operation, a test, an exit
@@ -53,10 +53,11 @@ are_operations_and_exit [] = true
 are_operations_and_exit (i ∷ []) = is_operation i || is_exit i
 are_operations_and_exit (i ∷ items) = is_operation i && are_operations_and_exit items
 
--- the characters that follow THEN in the same word are a word of their own, if there are any
+-- the characters that follow THEN in the same word are a word of their own, if there are any; its place
+-- tells nothing
 abbrev pub word_on : ℕ → List ℕ → List PlacedItem
 word_on card [] = []
-word_on card characters = item_on card (word characters) ∷ []
+word_on card characters = item_on card (word 0 0 characters) ∷ []
 
 -- what follows the THEN that items begin with; `THENL` is THEN and the word `L`
 abbrev pub following_then : List PlacedItem → Option (List PlacedItem)

@@ -84,7 +84,7 @@ GroupsAreInParentheses =
 
 -- the first item is a `)` that no `(` opens
 abbrev pub closes_first : List Item → Bool
-closes_first (unopened columns ∷ items) = true
+closes_first (unopened closing columns ∷ items) = true
 closes_first items = false
 
 -- outside of groups blanks vanish: inside a word, in front of any item, and at the end
@@ -97,10 +97,10 @@ BlanksVanish =
 -- a letter or the like in front of a word belongs to it
 abbrev pub LettersMakeWords : Type 0
 LettersMakeWords =
-    (offset letter : ℕ) (columns letters : List ℕ) (items : List Item) →
+    (offset letter first end : ℕ) (columns letters : List ℕ) (items : List Item) →
     is_blank letter ≡ false → is_inner letter ≡ true →
-    items_of (offset + 1) columns ≡ word letters ∷ items →
-    items_of offset (letter ∷ columns) ≡ word (letter ∷ letters) ∷ items
+    items_of (offset + 1) columns ≡ word first end letters ∷ items →
+    items_of offset (letter ∷ columns) ≡ word offset end (letter ∷ letters) ∷ items
 
 -- there is no item, or the items begin with a group: a word in front of them ends there
 abbrev pub end_a_word : List Item → Bool
@@ -115,19 +115,19 @@ LettersBeginWords =
     is_blank letter ≡ false → is_inner letter ≡ true →
     end_a_word (items_of (offset + 1) columns) ≡ true →
     items_of offset (letter ∷ columns)
-    ≡ word (letter ∷ []) ∷ items_of (offset + 1) columns
+    ≡ word offset (offset + 1) (letter ∷ []) ∷ items_of (offset + 1) columns
 
 -- a `(` is unclosed where no `)` follows, or another `(` comes before it
 abbrev pub OpeningsNeedClosings : Type 0
 OpeningsNeedClosings =
     (offset : ℕ) (columns : List ℕ) → lacks (byte ")") columns ≡ true →
-    items_of offset (byte "(" ∷ columns) ≡ unclosed ∷ items_of (offset + 1) columns
+    items_of offset (byte "(" ∷ columns) ≡ unclosed offset ∷ items_of (offset + 1) columns
 
 abbrev pub OpeningsDoNotNest : Type 0
 OpeningsDoNotNest =
     (offset : ℕ) (columns following : List ℕ) → list_all is_inner columns ≡ true →
     items_of offset (byte "(" ∷ columns ++ byte "(" ∷ following)
-    ≡ unclosed ∷ items_of (offset + 1) (columns ++ byte "(" ∷ following)
+    ≡ unclosed offset ∷ items_of (offset + 1) (columns ++ byte "(" ∷ following)
 
 -- the statements are no more than a deck may write, and each is fit for a program
 pub record AreWithinLimits (statements : List DeckStatementParts) : Type 0 where

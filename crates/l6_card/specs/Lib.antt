@@ -6,6 +6,8 @@ pub mod Statement
 pub mod Spans
 pub mod DeckFault
 pub mod Form
+pub mod Objection
+pub mod Order
 pub mod Pieces
 pub mod Fault
 pub mod Denotes

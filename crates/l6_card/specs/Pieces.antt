@@ -4,12 +4,12 @@ use Rattle.l6_card.specs.Items.{Item, items_of}
 use Rattle.l6_card.specs.Card.{Body, Card, skipped, plain, labelled, continued, unknown, cards_of}
 
 -- a piece: the statement before is over; a card begins a statement; a card continues one; a card
--- has a column 1 that is not allowed; a card gives its statement a label; a card has an item. Cards
--- go by their numbers.
+-- has a column 1 that is not allowed; a card gives its statement a label; a card has an item. A card
+-- that belongs to a statement goes by its body, and else by its number.
 pub data Piece : Type 0 where
   ends : Piece
-  begins : ℕ → Piece
-  continues : ℕ → Piece
+  begins : Body → Piece
+  continues : Body → Piece
   unknown_card : ℕ → Piece
   label : ℕ → List ℕ → Piece
   item : ℕ → Item → Piece
@@ -21,10 +21,10 @@ items_on body = map (item body.card) (items_of body.offset body.columns)
 -- the pieces of a card: a statement is complete only if a card does not continue it
 abbrev pub pieces_of_card : Card → List Piece
 pieces_of_card skipped = []
-pieces_of_card (plain body) = ends ∷ begins body.card ∷ items_on body
+pieces_of_card (plain body) = ends ∷ begins body ∷ items_on body
 pieces_of_card (labelled columns body) =
-    ends ∷ begins body.card ∷ label body.card columns ∷ items_on body
-pieces_of_card (continued body) = continues body.card ∷ items_on body
+    ends ∷ begins body ∷ label body.card columns ∷ items_on body
+pieces_of_card (continued body) = continues body ∷ items_on body
 pieces_of_card (unknown number) = ends ∷ unknown_card number ∷ []
 
 -- the pieces of cards

@@ -8,7 +8,9 @@ use Rattle.l6_prog.specs.declared.operation.Op.TheVariants.{Set, Subtract, Print
 use Rattle.l6_prog.specs.declared.exit.Exit.TheVariants.{Next, Label as ToLabel}
 use Rattle.l6_card.specs.Statement.{DeckStatementParts}
 use Rattle.l6_card.specs.DeckFault.{form}
-use Rattle.l6_card.specs.Fault.{fault_of}
+use Rattle.l6_card.specs.declared.objection.Reason.TheVariants.{TestForOperation, NoExit, Unfinished}
+use Rattle.l6_card.specs.Objection.{objects}
+use Rattle.l6_card.specs.Fault.{objection_to, fault_of}
 use Rattle.l6_card.specs.ReadsAs.{ReadsAs}
 
 -- a deck that counts A down from 3; its last two cards are one statement, with a label, a condition
@@ -66,5 +68,22 @@ LoopIsRead = ReadsAs loop_deck (set_statement ∷ count_statement ∷ [])
 
 -- a condition and its test that no THEN follows are the fault of the statement's last card: the
 -- comment and the blank card are not its cards, and the next statement begins on card 5
+abbrev pub half_deck : List ℕ
+half_deck = codes " IF (A,G,0)\n* THEN\n+\n \nNEXT\n"
+
 abbrev pub HalfIsRefused : Type 0
-HalfIsRefused = fault_of (codes " IF (A,G,0)\n* THEN\n+\n \nNEXT\n") ≡ Some (form 3)
+HalfIsRefused =
+    (fault_of half_deck ≡ Some (form 3))
+    × (objection_to half_deck ≡ Some (objects 3 0 1 Unfinished))
+
+-- a test where an operation must stand objects with its parentheses, in columns that count from 0; the
+-- word after it is not reached
+abbrev pub TestIsRefused : Type 0
+TestIsRefused =
+    objection_to (codes " (PL)\nLOOP (PL) (A,G,0) GO ON\n")
+    ≡ Some (objects 2 10 17 TestForOperation)
+
+-- a word objects from its first letter to its last, with the blanks in it
+abbrev pub WordIsRefused : Type 0
+WordIsRefused =
+    objection_to (codes " (PL)   A LONG EXIT \n") ≡ Some (objects 1 8 19 NoExit)

@@ -1,18 +1,22 @@
 //! Builders of statements, item by item.
 
-ghost use Rattle.std.specs.Prelude.{◌≡◌, ◌+◌, ◌≤◌, [], length, IfOk, OnOk};
+ghost use Rattle.std.specs.Prelude.{◌≡◌, ◌+◌, ◌≤◌, ◌==◌, ◌&&◌, [], length, is_some, IfOk, IfErr, IfSome, OnOk};
 ghost use Rattle.l6_group.specs.Operation.{operation_of};
 ghost use Rattle.l6_group.specs.Test.{test_of};
-ghost use Rattle.l6_group.specs.Word.{condition_from};
+ghost use Rattle.l6_group.specs.Character.{spelled};
+ghost use Rattle.l6_group.specs.Word.{condition_from, after_then};
+ghost use Rattle.l6_card.specs.DeckFault.{deck_fault};
+ghost use Rattle.l6_card.specs.Order as order;
 ghost use Rattle.l6_card.specs.Numerals.{most_deck_bytes};
 ghost use Rattle.l6_card.specs.inner.StatementBuilder as spec;
-ghost use Rattle.l6_card.specs.Items.{group, word};
+ghost use Rattle.l6_card.specs.Items.{group};
 ghost use Rattle.l6_card.specs.Statement.{placed_exit};
-ghost use Rattle.l6_card.specs.inner.Token.{letters_of};
 ghost use Rattle.l6_card.specs.inner.KeptBuilder.{phase_of_kept, kept_builder, statement_of_parts, Takes};
 
 use crate::cards::{Parts, Placed, PlacedLabel};
 use crate::fault::CardFault;
+use crate::objection::Reason;
+use crate::solid::has_then;
 use crate::span::Span;
 use l6_group::{
     Label, Spelling, after_then, condition_from, exit_from, operation_of, spelled, test_of,
@@ -120,8 +124,10 @@ impl StatementBuilder {
         columns: &[u8],
     ) -> Result<(), CardFault>
         requires { offset + length columns.now + 2 ≤ most_deck_bytes }
-        ensures { let made = spec.with_item card (kept_builder self.old) (group offset columns.now) in
+        ensures taken { let made = spec.with_item card (kept_builder self.old) (group offset columns.now) in
             Takes result (kept_builder self.new) made }
+        ensures left { IfErr result (λ fault. IfSome (deck_fault fault) (λ _.
+            kept_builder self.new ≡ kept_builder self.old)) }
     {
         // A deck is shorter than a `u32` can say.
         let span = Span {
@@ -141,9 +147,11 @@ impl StatementBuilder {
 
     /// The operation that a group with these columns spells, if it is one.
     fn take_operation(&mut self, card: u32, span: Span, columns: &[u8]) -> Result<(), CardFault>
-        ensures { let operation = operation_of columns.now in
+        ensures taken { let operation = operation_of columns.now in
             let made = spec.with_operation card span (kept_builder self.old) operation in
             Takes result (kept_builder self.new) made }
+        ensures left { IfErr result (λ fault. IfSome (deck_fault fault) (λ _.
+            kept_builder self.new ≡ kept_builder self.old)) }
     {
         let reading = operation_of(columns).ok_or(CardFault::Form(card))?;
         if self.operations.len() >= MAX_OPERATIONS {
@@ -168,9 +176,11 @@ impl StatementBuilder {
         condition: Cond,
         columns: &[u8],
     ) -> Result<(), CardFault>
-        ensures { let test = test_of columns.now in
+        ensures taken { let test = test_of columns.now in
             let made = spec.with_test card span (kept_builder self.old) condition test in
             Takes result (kept_builder self.new) made }
+        ensures left { IfErr result (λ fault. IfSome (deck_fault fault) (λ _.
+            kept_builder self.new ≡ kept_builder self.old)) }
     {
         let reading = test_of(columns).ok_or(CardFault::Form(card))?;
         if self.tests.len() >= MAX_TESTS {
@@ -191,8 +201,10 @@ impl StatementBuilder {
 
     /// A word on this card, of the letters of these columns.
     pub(crate) fn take_word(&mut self, card: u32, columns: &[u8]) -> Result<(), CardFault>
-        ensures { let item = word (letters_of columns.now) in
-            Takes result (kept_builder self.new) (spec.with_item card (kept_builder self.old) item) }
+        ensures taken { let made = spec.with_characters card (kept_builder self.old) (spelled columns.now) in
+            Takes result (kept_builder self.new) made }
+        ensures left { IfErr result (λ fault. IfSome (deck_fault fault) (λ _.
+            kept_builder self.new ≡ kept_builder self.old)) }
     {
         let characters: Option<Spelling<'_, MAX_WORD>> = spelled(columns);
         match characters {
@@ -203,8 +215,10 @@ impl StatementBuilder {
 
     /// A word of these characters.
     fn take_characters(&mut self, card: u32, characters: &[u8]) -> Result<(), CardFault>
-        ensures { let made = spec.with_characters card (kept_builder self.old) characters.now in
+        ensures taken { let made = spec.with_characters card (kept_builder self.old) characters.now in
             Takes result (kept_builder self.new) made }
+        ensures left { IfErr result (λ fault. IfSome (deck_fault fault) (λ _.
+            kept_builder self.new ≡ kept_builder self.old)) }
     {
         match self.phase {
             Phase::New => self.take_first(card, characters),
@@ -216,8 +230,10 @@ impl StatementBuilder {
 
     /// A first word of these characters.
     fn take_first(&mut self, card: u32, characters: &[u8]) -> Result<(), CardFault>
-        ensures { let made = spec.with_first card (kept_builder self.old) characters.now in
+        ensures taken { let made = spec.with_first card (kept_builder self.old) characters.now in
             Takes result (kept_builder self.new) made }
+        ensures left { IfErr result (λ fault. IfSome (deck_fault fault) (λ _.
+            kept_builder self.new ≡ kept_builder self.old)) }
     {
         let phase = first_phase(characters);
         self.take_exit(card, phase, characters)
@@ -225,8 +241,10 @@ impl StatementBuilder {
 
     /// A word that must begin with THEN.
     fn take_then(&mut self, card: u32, characters: &[u8]) -> Result<(), CardFault>
-        ensures { let made = spec.with_then card (kept_builder self.old) characters.now in
+        ensures taken { let made = spec.with_then card (kept_builder self.old) characters.now in
             Takes result (kept_builder self.new) made }
+        ensures left { IfErr result (λ fault. IfSome (deck_fault fault) (λ _.
+            kept_builder self.new ≡ kept_builder self.old)) }
     {
         match after_then(characters) {
             None => Err(CardFault::Form(card)),
@@ -242,13 +260,105 @@ impl StatementBuilder {
 
     /// The exit that characters spell, and the phase that it leads to.
     fn take_exit(&mut self, card: u32, phase: Phase, characters: &[u8]) -> Result<(), CardFault>
-        ensures { let made = spec.with_exit card (kept_builder self.old) (phase_of_kept phase) characters.now in
+        ensures taken { let made = spec.with_exit card (kept_builder self.old) (phase_of_kept phase) characters.now in
             Takes result (kept_builder self.new) made }
+        ensures left { IfErr result (λ fault. IfSome (deck_fault fault) (λ _.
+            kept_builder self.new ≡ kept_builder self.old)) }
     {
         let exit = exit_from(characters).ok_or(CardFault::Form(card))?;
         self.exit = placed_exit(card, exit);
         self.phase = phase;
         Ok(())
+    }
+}
+
+impl StatementBuilder {
+    /// Why a group with these columns may not stand next.
+    #[inline(never)] // so that items that are taken pay nothing for it
+    pub(crate) fn group_reason(&self, columns: &[u8]) -> Reason
+        ensures { let is_test = is_some (test_of columns.now) in
+            let expected = spec.expected_in (kept_builder self.now) in
+            result ≡ order.group_reason expected is_test (is_some (operation_of columns.now)) }
+    {
+        match self.phase {
+            Phase::New | Phase::Open => no_operation(columns),
+            Phase::Worded(_) => no_first_test(columns),
+            Phase::Tested => no_further_test(columns),
+            Phase::Closed => {
+                if self.is_word_alone() {
+                    Reason::NoCondition
+                } else {
+                    Reason::AfterExit
+                }
+            }
+        }
+    }
+
+    /// Why a word with these columns may not stand next.
+    #[inline(never)] // so that items that are taken pay nothing for it
+    pub(crate) fn word_reason(&self, columns: &[u8]) -> Reason
+        ensures { let has_then = is_some (after_then (spelled columns.now)) in
+            result ≡ order.word_reason (spec.expected_in (kept_builder self.now)) has_then }
+    {
+        match self.phase {
+            Phase::New | Phase::Open => Reason::NoExit,
+            Phase::Tested => {
+                if has_then(columns) {
+                    Reason::NoExit
+                } else {
+                    Reason::NoThen
+                }
+            }
+            Phase::Worded(_) | Phase::Closed => Reason::AfterExit,
+        }
+    }
+
+    /// Whether there is neither a test nor an operation.
+    fn is_word_alone(&self) -> bool
+        ensures { let builder = kept_builder self.now in
+            result ≡ (length builder.tests == 0 && length builder.operations == 0) }
+    {
+        self.tests.is_empty() && self.operations.is_empty()
+    }
+}
+
+/// Why a group with these columns is no operation.
+fn no_operation(columns: &[u8]) -> Reason
+    ensures { let is_test = is_some (test_of columns.now) in
+        result ≡ order.group_reason order.operation_or_exit is_test
+        (is_some (operation_of columns.now)) }
+{
+    if test_of(columns).is_some() {
+        Reason::TestForOperation
+    } else {
+        Reason::NoOperation
+    }
+}
+
+/// Why a group with these columns is no first test.
+fn no_first_test(columns: &[u8]) -> Reason
+    ensures { let is_test = is_some (test_of columns.now) in
+        result ≡ order.group_reason order.first_test is_test (is_some (operation_of columns.now)) }
+{
+    if operation_of(columns).is_some() {
+        Reason::OperationForTest
+    } else {
+        Reason::NoTest
+    }
+}
+
+/// Why a group with these columns is no further test.
+fn no_further_test(columns: &[u8]) -> Reason
+    ensures { let is_test = is_some (test_of columns.now) in
+        result ≡ order.group_reason order.test_or_then is_test
+        (is_some (operation_of columns.now)) }
+{
+    if test_of(columns).is_some() {
+        Reason::SecondTest
+    } else if operation_of(columns).is_some() {
+        Reason::ThenMissing
+    } else {
+        Reason::NoTest
     }
 }
 

@@ -17,6 +17,8 @@ pub(crate) struct Body<'a> {
     pub(crate) card: u32,
     /// How many bytes of the deck are before the first column.
     pub(crate) offset: usize,
+    /// What is in front of the columns: column 1, or the label.
+    pub(crate) front: &'a [u8],
     /// The columns.
     pub(crate) columns: &'a [u8],
 }
@@ -27,8 +29,8 @@ pub(crate) enum Kind<'a> {
     Skipped,
     /// A statement without a label, with this body.
     Plain(Body<'a>),
-    /// A statement with these columns as its label, and with this body.
-    Labelled(&'a [u8], Body<'a>),
+    /// A statement with this body, and what is in front of it as its label.
+    Labelled(Body<'a>),
     /// It continues the latest statement with this body.
     Continued(Body<'a>),
     /// A card with a column 1 that is not allowed.
@@ -69,6 +71,7 @@ pub(crate) fn kind_of(card: u32, offset: usize, columns: &[u8]) -> Kind<'_>
             let body = Body {
                 card,
                 offset: offset + 1,
+                front: &columns[..1],
                 columns: following,
             };
             if *column == b'*' || are_blank(columns) {
@@ -79,12 +82,12 @@ pub(crate) fn kind_of(card: u32, offset: usize, columns: &[u8]) -> Kind<'_>
                 Kind::Continued(body)
             } else if is_letter(*column) {
                 let (label, following) = split_label(columns);
-                let body = Body {
+                Kind::Labelled(Body {
                     card,
                     offset: offset + label.len(),
+                    front: label,
                     columns: following,
-                };
-                Kind::Labelled(label, body)
+                })
             } else {
                 Kind::Unknown
             }

@@ -15,8 +15,10 @@ pub enum Token<'a> {
     Group(&'a [u8], &'a [u8]),
     /// A word with these columns, and what follows it.
     Word(&'a [u8], &'a [u8]),
-    /// A parenthesis without its partner.
-    Other,
+    /// A `(` that no `)` closes, with the columns from there on.
+    Unclosed(&'a [u8]),
+    /// A `)` that no `(` opens, with the columns from there on.
+    Unopened(&'a [u8]),
 }
 
 /// What a body begins with, blanks aside.
@@ -39,7 +41,7 @@ fn first_of(body: &[u8]) -> Token<'_>
             if *column == b'(' {
                 match first_group(inside) {
                     Some((columns, following)) => Token::Group(columns, following),
-                    None => Token::Other,
+                    None => Token::Unclosed(body),
                 }
             } else {
                 first_word(body)
@@ -72,7 +74,7 @@ fn first_word(body: &[u8]) -> Token<'_>
 {
     let (word, rest) = split_at_parenthesis(body);
     if begins_with_closing(rest) {
-        Token::Other
+        Token::Unopened(rest)
     } else {
         Token::Word(word, rest)
     }

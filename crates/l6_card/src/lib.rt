@@ -9,9 +9,11 @@ mod fault;
 mod item;
 mod laws;
 mod limits;
+mod objection;
 mod part;
 mod reader;
 mod role;
+mod solid;
 mod span;
 mod worked;
 
@@ -27,7 +29,8 @@ pub use laws::{
     whole_items_denote_statements,
 };
 pub use limits::MAX_DECK_BYTES;
+pub use objection::{Objection, ReadError, Reason};
 pub use part::read_part;
 pub use role::{Role, role_of};
 pub use span::Span;
-pub use worked::{half_is_refused, loop_is_read};
+pub use worked::{half_is_refused, loop_is_read, pieces_are_refused};

@@ -3,16 +3,16 @@
 ghost use Rattle.std.specs.Prelude.{◌≡◌, ◌+◌, ◌≤◌, Some, None, length, take, IfOk, MatchResult, IfSome};
 ghost use Rattle.l6_word.specs.Lines.{lines_of};
 ghost use Rattle.l6_card.specs.Numerals.{most_deck_bytes};
-ghost use Rattle.l6_card.specs.DeckFault.{deck_fault};
+ghost use Rattle.l6_card.specs.Objection.{objection_in};
 ghost use Rattle.l6_card.specs.Card.{cards_from};
 ghost use Rattle.l6_card.specs.Pieces.{pieces_of_cards};
 ghost use Rattle.l6_card.specs.inner.Pass.{after_pieces};
 ghost use Rattle.l6_card.specs.inner.Reader.{stage_of, Follows};
-ghost use Rattle.l6_card.specs.ReadAlone.{fault_of_lines, LinesReadAs};
+ghost use Rattle.l6_card.specs.ReadAlone.{objection_to_lines, LinesReadAs};
 
 use crate::card::columns_of;
 use crate::cards::Cards;
-use crate::fault::CardFault;
+use crate::objection::ReadError;
 use crate::reader::Reader;
 use l6_word::first_line;
 use std::alloc::Global;
@@ -23,15 +23,15 @@ use std::alloc::Global;
 ///
 /// # Errors
 ///
-/// The first objection to these cards; or out of memory.
-pub fn read_part(alloc: Global, before: u32, text: &[u8], count: u32) -> Result<Cards, CardFault>
+/// The first objection to these cards, with its columns and its reason; or out of memory.
+pub fn read_part(alloc: Global, before: u32, text: &[u8], count: u32) -> Result<Cards, ReadError>
     requires { before + length text.now ≤ most_deck_bytes }
     ensures reads { let lines = take count (lines_of text.now) in
         IfOk result (λ cards. LinesReadAs (before + 1) lines cards) }
-    ensures fault { let fault = fault_of_lines (before + 1) (take count (lines_of text.now)) in
+    ensures objection { let first = objection_to_lines (before + 1) (take count (lines_of text.now)) in
         MatchResult result
-        (λ _. fault ≡ None)
-        (λ met. IfSome (deck_fault met) (λ f. fault ≡ Some f)) }
+        (λ _. first ≡ None)
+        (λ error. IfSome (objection_in error) (λ met. first ≡ Some met)) }
 {
     let mut reader = Reader::new(alloc);
     take_lines(&mut reader, before, text, count)?;
@@ -40,7 +40,12 @@ pub fn read_part(alloc: Global, before: u32, text: &[u8], count: u32) -> Result<
 
 /// The reader takes the first cards of a text, so many of them, and the end of their last statement.
 /// So many cards are before them.
-fn take_lines(reader: &mut Reader, before: u32, text: &[u8], count: u32) -> Result<(), CardFault>
+fn take_lines<'a>(
+    reader: &mut Reader<'a>,
+    before: u32,
+    text: &'a [u8],
+    count: u32,
+) -> Result<(), ReadError>
     requires { before + length text.now ≤ most_deck_bytes }
     ensures { let cards = cards_from (before + 1) 0 (take count (lines_of text.now)) in
         let pass = after_pieces (stage_of reader.old) (pieces_of_cards cards) in

@@ -28,7 +28,7 @@ pub fn role_of(line: &[u8]) -> Role
 {
     match kind_of(1, 0, columns_of(line)) {
         Kind::Skipped => Role::Skipped,
-        Kind::Plain(_) | Kind::Labelled(_, _) => Role::First,
+        Kind::Plain(_) | Kind::Labelled(_) => Role::First,
         Kind::Continued(_) => Role::Further,
         Kind::Unknown => Role::Unknown,
     }

@@ -1,14 +1,11 @@
 -- How findings that are added say one thing more.
-use Rattle.std.proofs.Common.{◌≡◌, ℕ, ◌<◌, ◌≤◌, suc, Bool, true, false, cond, ltb, ltb-true, ltb-false, leb-true, List, [], ◌∷◌, ◌++◌, map, length, take, Option, Some, None, All, arith, refl, sym, ap, ◌∙◌, length-append, length-take, take_all, append-nil, subst, IfOk, OnOk, Result, Ok, Err}
+use Rattle.std.proofs.Common.{◌≡◌, ℕ, ◌<◌, ◌≤◌, suc, Bool, true, false, cond, ltb, ltb-true, ltb-false, leb-true, List, [], ◌∷◌, ◌++◌, map, length, take, Option, Some, All, arith, refl, sym, ap, ◌∙◌, length-append, length-take, take_all, append-nil, subst, IfOk, OnOk, Result, Ok, Err}
 use Rattle.std.proofs.lemmas.List.{take-append-le}
 use Rattle.std.proofs.lemmas.List.Elements.{All-push}
-use Rattle.l6_card.specs.DeckFault.{DeckFault}
-use Rattle.l6_asm.specs.AssemblyFault.{AssemblyFault, unread}
-use Rattle.l6_check.specs.Statements.{fault_list}
 use Rattle.l6_check.specs.Warnings.{card_if}
 use Rattle.l6_check.specs.declared.finding.Finding.{Finding}
 use Rattle.l6_check.specs.declared.findings.Findings.{Findings}
-use Rattle.l6_check.specs.Kept.{most_findings, are_full, IsSkipped, HasNone, IsAdded, Say, SaysMore}
+use Rattle.l6_check.specs.Kept.{most_findings, are_full, IsSkipped, HasNone, IsAdded, Say}
 
 said-append : {A : Type 0} (said : Finding → Option A) (front : List Finding) (finding : Finding) →
     map said (front ++ finding ∷ []) ≡ map said front ++ said finding ∷ []
@@ -124,23 +121,6 @@ if_ok (Err error) holds leads = tt
 pub held_ok : {X E : Type 0} {P : Type 0} (result : Result X E) → P → OnOk result P
 held_ok (Ok x) holds = holds
 held_ok (Err e) holds = tt
-
--- no fault says nothing more
-pub none_more : (said : Finding → Option AssemblyFault) (faults : List AssemblyFault)
-    (fault : Option DeckFault) (findings : Findings) → fault ≡ None → Say said faults findings →
-    Say said (faults ++ fault_list fault) findings
-none_more said faults fault findings none says =
-    subst (λ (l : List AssemblyFault). Say said l findings)
-    (sym (append-nil faults) ∙ sym (ap (λ f. faults ++ fault_list f) none)) says
-
--- a fault that is said more is said
-pub fault_said : (said : Finding → Option AssemblyFault) (faults : List AssemblyFault)
-    (fault : Option DeckFault) (met : DeckFault) (before after : Findings) →
-    fault ≡ Some met → SaysMore said (unread met) before after →
-    Say said faults before → Say said (faults ++ fault_list fault) after
-fault_said said faults fault met before after is more says =
-    subst (λ (l : List AssemblyFault). Say said l after)
-    (sym (ap (λ f. faults ++ fault_list f) is)) (more faults says)
 
 -- what holds of each finding that is kept holds of one more
 pub kept_all : (P : Finding → Type 0) (kept : List Finding) (finding : Finding) (room : Bool) →

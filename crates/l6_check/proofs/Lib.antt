@@ -2,6 +2,7 @@ pub mod CardSteps
 pub mod FieldSteps
 pub mod Flat
 pub mod Keeping
+pub mod Explaining
 pub mod LabelSteps
 pub mod Marking
 pub mod MissingParts

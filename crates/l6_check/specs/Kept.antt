@@ -41,3 +41,16 @@ pub record Say {A : Type 0} (said : Finding → Option A) (things : List A) (fin
 abbrev pub SaysMore : {A : Type 0} → (Finding → Option A) → A → Findings → Findings → Type 0
 SaysMore said thing before after =
     (things : List _) → Say said things before → Say said (things ++ thing ∷ []) after
+
+-- each finding is so related to the thing at its place, and there are as many
+abbrev pub Match : {A : Type 0} → (Finding → A → Type 0) → List Finding → List A → Type 0
+Match R [] [] = Unit {0}
+Match R (finding ∷ findings) (thing ∷ things) = R finding thing × Match R findings things
+Match R findings things = ⊥
+
+-- the findings are so related to these things, each to the one at its place: the first are kept, and all
+-- are counted
+pub record AreOf {A : Type 0} (R : Finding → A → Type 0) (things : List A) (findings : Findings) :
+    Type 0 where
+  pub kept : Match R findings.kept.items (take most_findings things)
+  pub counted : findings.count ≡ length things

@@ -1,10 +1,5 @@
 -- The numbers of what is said of decks.
-use Rattle.std.specs.Prelude.{ℕ, ◌+◌, codes, length}
-use Rattle.l6_group.specs.Numerals.{most_label_characters}
-
--- how many characters a word of a card may have: those of THEN and of a label
-abbrev pub most_word_characters : ℕ
-most_word_characters = length (codes "THEN") + most_label_characters
+use Rattle.std.specs.Prelude.{ℕ, codes, length}
 
 -- how many elements a group may have
 abbrev pub most_elements : ℕ

@@ -5,10 +5,10 @@ use Rattle.l6_check.specs.declared.finding.Finding.{Finding}
 use Rattle.l6_check.specs.declared.report.Report.{Report}
 use Rattle.l6_check.specs.declared.cards.CardWarnings.{CardWarnings}
 use Rattle.l6_check.specs.declared.report.ProgramWarnings.{ProgramWarnings}
-use Rattle.l6_check.specs.Kept.{HasNone, Say}
+use Rattle.l6_check.specs.Kept.{HasNone, Say, AreOf}
 use Rattle.l6_check.specs.OnCard.{AreOnTheirCards}
-use Rattle.l6_check.specs.Faults.{fault_of_finding}
-use Rattle.l6_check.specs.Statements.{statement_faults}
+use Rattle.l6_check.specs.Faults.{fault_of_finding, Explains}
+use Rattle.l6_check.specs.Statements.{statement_faults, statement_objections}
 use Rattle.l6_check.specs.Labels.{labels_given, twice_labelled, twice_said}
 use Rattle.l6_check.specs.Missing.{SayMissing}
 use Rattle.l6_check.specs.Warnings.{condition_card, condition_cards, past_card, past_cards}
@@ -40,13 +40,15 @@ pub record IsClean (deck : List ℕ) (report : Report) : Type 0 where
   pub none : HasNoErrors report
   pub warnings : WarnsOf deck program report.program
 
--- the report has this first error and these warnings, and: each statement's error as a deck of its own;
+-- the report has this first error and these warnings, and: each statement's error as a deck of its own,
+-- its card, its columns and the kind of its reason;
 -- each card whose label an earlier card gives, with that card; and each label that is named and that no
 -- card gives
 pub record HasErrors (deck : List ℕ) (first : Finding) (cards : CardWarnings) (report : Report) :
     Type 0 where
   pub first_is : report.first ≡ Some first
   pub reading : Say fault_of_finding (statement_faults deck) report.reading
+  pub explained : AreOf Explains (statement_objections deck) report.reading
   pub reading_places : AreOnTheirCards report.reading
   pub twice : Say twice_said (twice_labelled deck) report.twice
   pub twice_places : AreOnTheirCards report.twice

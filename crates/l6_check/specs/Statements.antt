@@ -1,11 +1,12 @@
 -- The faults of statements, each read by itself.
-use Rattle.std.specs.Prelude.{ℕ, ◌+◌, Bool, true, false, List, [], ◌∷◌, ◌++◌, length, Option, Some, None, if◌then◌else◌}
+use Rattle.std.specs.Prelude.{ℕ, ◌+◌, Bool, true, false, List, [], ◌∷◌, ◌++◌, map, length, option_to_list, if◌then◌else◌}
 use Rattle.l6_word.specs.Lines.{lines_of}
 use Rattle.l6_card.specs.declared.role.Role.{Role}
 use Rattle.l6_card.specs.declared.role.Role.TheVariants.{Skipped, First, Further, Unknown}
 use Rattle.l6_card.specs.Role.{role_of}
-use Rattle.l6_card.specs.DeckFault.{DeckFault}
-use Rattle.l6_card.specs.ReadAlone.{fault_of_lines}
+use Rattle.l6_card.specs.declared.objection.Objection.{Objection}
+use Rattle.l6_card.specs.Objection.{fault_in}
+use Rattle.l6_card.specs.ReadAlone.{objection_to_lines}
 use Rattle.l6_asm.specs.AssemblyFault.{AssemblyFault, unread}
 
 -- a card of this role belongs to the statement before it
@@ -33,18 +34,21 @@ abbrev pub parts_of : List (List ℕ) → List (List (List ℕ))
 parts_of [] = []
 parts_of (line ∷ lines) = onto_part line (parts_of lines)
 
--- a fault of reading as one of a deck, if there is one
-abbrev pub fault_list : Option DeckFault → List AssemblyFault
-fault_list None = []
-fault_list (Some fault) = unread fault ∷ []
+-- the objections to parts, each read as a deck of its own, of which the first begins with the card of
+-- this number
+abbrev pub objections_from : ℕ → List (List (List ℕ)) → List Objection
+objections_from number [] = []
+objections_from number (part ∷ parts) =
+    option_to_list (objection_to_lines number part) ++ objections_from (number + length part) parts
 
--- the faults of parts, each read as a deck of its own, of which the first begins with the card of this
--- number
-abbrev pub faults_from : ℕ → List (List (List ℕ)) → List AssemblyFault
-faults_from number [] = []
-faults_from number (part ∷ parts) =
-    fault_list (fault_of_lines number part) ++ faults_from (number + length part) parts
+-- the objections to a deck's statements, each read as a deck of its own
+abbrev pub statement_objections : List ℕ → List Objection
+statement_objections deck = objections_from 1 (parts_of (lines_of deck))
+
+-- the fault of a deck that an objection is
+abbrev pub objected : Objection → AssemblyFault
+objected objection = unread (fault_in objection)
 
 -- the faults of a deck's statements, each read as a deck of its own
 abbrev pub statement_faults : List ℕ → List AssemblyFault
-statement_faults deck = faults_from 1 (parts_of (lines_of deck))
+statement_faults deck = map objected (statement_objections deck)

@@ -2,4 +2,3 @@ pub mod Marks
 pub mod CardTests
 pub mod StatementTests
 pub mod Names
-pub mod Reading

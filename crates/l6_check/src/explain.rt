@@ -1,58 +1,91 @@
-//! The findings of what the reader of cards objects to: where on the card, and why.
+//! The findings of what the reader of cards objects to.
 
-ghost use Rattle.std.specs.Prelude.{◌≡◌, ℕ, ◌+◌, ◌≤◌, Some, length};
-ghost use Rattle.l6_card.specs.Numerals.{most_deck_bytes};
-ghost use Rattle.l6_asm.specs.AssemblyFault.{unread};
-ghost use Rattle.l6_check.specs.Faults.{fault_of_finding, fault_on};
+ghost use Rattle.std.specs.Prelude.{◌≡◌, Some};
+ghost use Rattle.l6_card.specs.declared.objection.Reason.TheVariants as kind;
+ghost use Rattle.l6_check.specs.Faults.{form_kind, kind_of, Explains};
 ghost use Rattle.l6_check.specs.OnCard.{IsOnCard, IsOnItsCard};
-ghost use Rattle.l6_check.specs.inner.Reading.{fault_met};
 
+use crate::conditions::gives_condition;
 use crate::finding::{Finding, Span};
-use crate::label_places::Part;
-use crate::reason::{FormReason, LimitReason, Reason};
-use crate::scan::{without_blanks, without_last_blanks};
-use crate::walk::{self, Objection, Walk, Why};
-use l6_card::columns_of;
+use crate::group::{operation_objection, test_objection};
+use crate::label_places::{Part, columns_on};
+use crate::reason::{FormReason, GroupFault, LimitReason, Reason};
+use l6_card::{Objection, Reason as Kind};
 use l6_word::first_line;
 
-/// How a card is in error where it is read.
-#[derive(Clone, Copy, Debug)]
-pub(crate) enum ReadingError {
-    /// It has no reading, or the statement that ends on it is not whole.
-    Form,
-    /// It is past a limit.
-    Limit,
-}
-
-/// The error of a card of a part.
-pub(crate) fn reading_error(card: u32, error: ReadingError, part: Part<'_>) -> Finding<'_>
-    requires { part.before + length part.text.now ≤ most_deck_bytes }
-    ensures fault { fault_of_finding result ≡ Some (unread (fault_met error card)) }
+/// The error that an objection to a part is.
+pub(crate) fn reading_error(objection: Objection, part: Part<'_>) -> Finding<'_>
+    ensures explains { Explains result objection }
     ensures place { IsOnItsCard result }
 {
-    let (columns, objection) = objection_on(card, part);
-    found(card, columns, objection, reason_of(error, objection.reason))
-}
-
-/// The reason of an error, of which the walk found this.
-fn reason_of(error: ReadingError, why: Why) -> Reason
-    ensures { (card : ℕ) → fault_on card result ≡ Some (unread (fault_met error card)) }
-{
-    match (error, why) {
-        (ReadingError::Form, Why::Form(reason)) => Reason::Form(reason),
-        (ReadingError::Form, Why::Limit(_)) => Reason::Form(FormReason::Unread),
-        (ReadingError::Limit, Why::Limit(reason)) => Reason::Limit(reason),
-        (ReadingError::Limit, Why::Form(_)) => Reason::Limit(LimitReason::Statements),
+    let columns = columns_on(objection.card, part);
+    let piece = Span::on_card(objection.from, objection.to);
+    match objection.reason {
+        Kind::NoOperation => {
+            let why = operation_objection(inside(columns, piece));
+            let span = piece.part(why.start, why.length);
+            let reason = FormReason::NoOperation(why.fault);
+            found(objection.card, columns, span, Reason::Form(reason))
+        }
+        Kind::NoTest => {
+            let why = test_objection(inside(columns, piece));
+            let span = piece.part(why.start, why.length);
+            let reason = FormReason::NoTest(why.fault);
+            found(objection.card, columns, span, Reason::Form(reason))
+        }
+        Kind::TestForOperation => {
+            let reason = Reason::Form(test_reason(part));
+            found(objection.card, columns, piece, reason)
+        }
+        kind => found(objection.card, columns, piece, piece_reason(kind)),
     }
 }
 
+/// Why a group that is a test may not stand where an operation must: the condition before it may be in
+/// column 1.
+fn test_reason(part: Part<'_>) -> FormReason
+    ensures { form_kind result ≡ Some kind.TestForOperation }
+{
+    match first_line(part.text) {
+        Some((line, _)) if gives_condition(line) => FormReason::ConditionInColumn1,
+        _ => FormReason::TestForOperation,
+    }
+}
+
+/// The reason of an objection for which nothing more is looked at.
+fn piece_reason(kind: Kind) -> Reason
+    ensures { kind_of result ≡ Some kind }
+{
+    Reason::Form(match kind {
+        Kind::Column => FormReason::Column,
+        Kind::ContinuesNothing => FormReason::ContinuesNothing,
+        Kind::LabelTooLong => FormReason::LabelTooLong,
+        Kind::LabelBarred => FormReason::LabelBarred,
+        Kind::Unclosed => FormReason::Unclosed,
+        Kind::Unopened => FormReason::Unopened,
+        Kind::NoOperation => FormReason::NoOperation(GroupFault::Unread),
+        Kind::TestForOperation => FormReason::TestForOperation,
+        Kind::NoTest => FormReason::NoTest(GroupFault::Unread),
+        Kind::OperationForTest => FormReason::OperationForTest,
+        Kind::ThenMissing => FormReason::ThenMissing,
+        Kind::SecondTest => FormReason::SecondTest,
+        Kind::NoCondition => FormReason::NoCondition,
+        Kind::AfterExit => FormReason::AfterExit,
+        Kind::NoExit => FormReason::NoExit,
+        Kind::NoThen => FormReason::NoThen,
+        Kind::Unfinished => FormReason::Unfinished,
+        Kind::TooManyStatements => return Reason::Limit(LimitReason::Statements),
+        Kind::TooManyContinuations => return Reason::Limit(LimitReason::Continuations),
+        Kind::TooManyGroups => return Reason::Limit(LimitReason::Groups),
+    })
+}
+
 /// A finding on a card with these columns.
-fn found<'a>(card: u32, columns: &'a [u8], objection: Objection, reason: Reason) -> Finding<'a>
+fn found(card: u32, columns: &[u8], span: Span, reason: Reason) -> Finding<'_>
     ensures card { result.card ≡ card }
     ensures reason { result.reason ≡ reason }
-    ensures place { IsOnCard result.span }
+    ensures span { result.span ≡ span }
 {
-    let span = Span::on_card(objection.from, objection.to);
     Finding {
         card,
         span,
@@ -61,36 +94,22 @@ fn found<'a>(card: u32, columns: &'a [u8], objection: Objection, reason: Reason)
     }
 }
 
+/// The columns between the parentheses of a group that is at this piece of columns.
+fn inside(columns: &[u8], piece: Span) -> &[u8]
+    requires { IsOnCard piece }
+{
+    text_at(
+        columns,
+        Span {
+            from: piece.from + 1,
+            to: piece.to - 1,
+        },
+    )
+}
+
 /// What columns have at a span, as far as there are any.
 pub(crate) fn text_at(columns: &[u8], span: Span) -> &[u8] {
     let to = span.to.min(columns.len());
     let from = span.from.min(to);
     &columns[from..to]
-}
-
-/// What objects on a card of a part's first statement, and the columns of the card.
-fn objection_on(card: u32, part: Part<'_>) -> (&[u8], Objection)
-    requires { part.before + length part.text.now ≤ most_deck_bytes }
-{
-    let mut walk = Walk::new();
-    let mut rest = part.text;
-    let mut number = part.before;
-    while let Some((line, following)) = first_line(rest) {
-        number += 1;
-        let columns = columns_of(line);
-        match walk.after_card(columns) {
-            Err(objection) => return (columns, objection),
-            Ok(_) if number >= card => return (columns, unfinished(columns)),
-            Ok(further) => walk = further,
-        }
-        rest = following;
-    }
-    (b"", walk::form(0, 0, FormReason::Unread))
-}
-
-/// What a statement that is not whole objects on its last card.
-fn unfinished(columns: &[u8]) -> Objection {
-    let from = columns.len().saturating_sub(without_blanks(columns).len());
-    let to = without_last_blanks(columns).len();
-    walk::form(from, to, FormReason::Unfinished)
 }

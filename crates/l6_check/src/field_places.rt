@@ -95,7 +95,7 @@ impl<'a> FieldPlaces<'a> {
         let mut rest = columns_from(columns, body_start(columns));
         loop {
             match first_item(rest) {
-                Token::End | Token::Other => return,
+                Token::End | Token::Unclosed(_) | Token::Unopened(_) => return,
                 Token::Word(_, following) => rest = following,
                 Token::Group(inside, following) => {
                     let end = columns.len().saturating_sub(following.len());

@@ -1,6 +1,7 @@
 //! What is found on a card.
 
 ghost use Rattle.std.specs.Prelude.{◌≡◌, ◌≤◌};
+ghost use Rattle.l6_check.specs.Faults as spec;
 ghost use Rattle.l6_check.specs.OnCard.{IsOnCard};
 
 use crate::reason::Reason;
@@ -38,12 +39,28 @@ impl Span {
     /// The columns from one to before another, as far as they are on a card, and at least one.
     #[tactic(auto, unfolding(l6_card::specs::Numerals::card_width))]
     pub(crate) fn on_card(from: usize, to: usize) -> Self
-        ensures { IsOnCard result }
+        ensures place { IsOnCard result }
+        ensures value { result ≡ spec.on_card from to }
     {
         let from = from.min(WIDTH - 1);
         Span {
             from,
             to: to.min(WIDTH).max(from + 1),
+        }
+    }
+
+    /// So many columns of what is inside these, which are a group's, after so many: as far as they are
+    /// among these, and at least one.
+    pub(crate) fn part(self, start: usize, length: usize) -> Self
+        requires { IsOnCard self }
+        ensures place { IsOnCard result }
+        ensures part { spec.ArePartOf self result }
+    {
+        let from = self.from.saturating_add(1).saturating_add(start);
+        let from = from.min(self.to - 1);
+        Span {
+            from,
+            to: from.saturating_add(length).min(self.to).max(from + 1),
         }
     }
 }

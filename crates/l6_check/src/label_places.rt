@@ -41,7 +41,7 @@ pub(crate) fn span_of(columns: &[u8], label: &Label) -> Span
     loop {
         let from = columns.len().saturating_sub(without_blanks(rest).len());
         match first_item(rest) {
-            Token::End | Token::Other => return Span::whole(),
+            Token::End | Token::Unclosed(_) | Token::Unopened(_) => return Span::whole(),
             Token::Group(inside, following) => {
                 if let Some(span) = span_in_group(from.saturating_add(1), inside, label) {
                     return span;

@@ -30,7 +30,6 @@ mod slips;
 mod targets;
 mod texts;
 mod verdict;
-mod walk;
 mod ways;
 mod writing;
 

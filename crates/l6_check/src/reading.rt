@@ -1,27 +1,26 @@
 //! The errors of reading: statement after statement, each as a deck of its own.
 
-ghost use Rattle.std.specs.Prelude.{◌≡◌, ◌+◌, ◌*◌, ◌≤◌, ◌^◌, ◌<◌, ◌++◌, [], ◌∷◌, List, length, take, drop, MatchOption, IfSome, IfOk, OnOk};
+ghost use Rattle.std.specs.Prelude.{◌≡◌, ◌+◌, ◌*◌, ◌≤◌, ◌^◌, ◌<◌, ◌++◌, [], ◌∷◌, List, length, take, drop, option_to_list, MatchOption, IfSome, IfOk, OnOk};
 ghost use Rattle.l6_word.specs.Lines.{lines_of};
 ghost use Rattle.l6_card.specs.Numerals.{most_deck_bytes};
-ghost use Rattle.l6_card.specs.ReadAlone.{fault_of_lines};
+ghost use Rattle.l6_card.specs.ReadAlone.{objection_to_lines};
+ghost use Rattle.l6_card.specs.declared.objection.Objection.{Objection};
 ghost use Rattle.l6_card.specs.Role.{role_of};
-ghost use Rattle.l6_asm.specs.AssemblyFault.{AssemblyFault, unread};
-ghost use Rattle.l6_check.specs.Faults.{fault_of_finding};
-ghost use Rattle.l6_check.specs.Kept.{Say, SaysMore};
+ghost use Rattle.l6_check.specs.Faults.{fault_of_finding, Explains};
+ghost use Rattle.l6_check.specs.Kept.{Say, AreOf};
 ghost use Rattle.l6_check.specs.OnCard.{AreOnTheirCards, StayOnTheirCards};
 ghost use Rattle.l6_check.specs.Labels.{labels_given};
 ghost use Rattle.l6_check.specs.Missing.{MissingInPart, SayMissing};
 ghost use Rattle.l6_check.specs.inner.Names as inner;
-ghost use Rattle.l6_check.specs.inner.Reading.{fault_met};
 ghost use Rattle.l6_check.specs.Statements as spec;
 
-use crate::explain::{ReadingError, reading_error};
+use crate::explain::reading_error;
 use crate::fault::OutOfMemory;
 use crate::findings::Findings;
 use crate::label_places::Part;
 use crate::labels::Labels;
 use crate::names::add_missing;
-use l6_card::{CardFault, Role, read_part, role_of};
+use l6_card::{Objection, ReadError, Role, read_part, role_of};
 use l6_word::first_line;
 use std::alloc::{AllocError, Global};
 
@@ -46,7 +45,10 @@ pub fn statement_errors<'a>(
     deck: &'a [u8],
 ) -> Result<StatementErrors<'a>, OutOfMemory>
     requires { length deck.now ≤ most_deck_bytes }
-    // A statement's error is the fault that it has as a deck of its own.
+    // A statement's error is the objection to it as a deck of its own: its card, its columns and the kind
+    // of its reason, and so its fault.
+    ensures explained { let objections = spec.statement_objections deck.now in
+        IfOk result (λ found. AreOf Explains objections found.reading) }
     ensures reading { let faults = spec.statement_faults deck.now in
         IfOk result (λ found. Say fault_of_finding faults found.reading) }
     ensures places { IfOk result (λ found. AreOnTheirCards found.reading) }
@@ -88,9 +90,9 @@ fn add_errors<'a>(
     requires room { reading.old.count + 1 < 2 ^ 32 }
     requires missing_room { missing.old.count + inner.most_names * count < 2 ^ 32 }
     ensures reading { let lines = take count (lines_of part.entry.text.now) in
-        let fault = fault_of_lines (part.entry.before + 1) lines in
-        OnOk result ((faults : List AssemblyFault) → Say fault_of_finding faults reading.old →
-        Say fault_of_finding (faults ++ spec.fault_list fault) reading.new) }
+        let more = option_to_list (objection_to_lines (part.entry.before + 1) lines) in
+        OnOk result ((objections : List Objection) → AreOf Explains objections reading.old →
+        AreOf Explains (objections ++ more) reading.new) }
     ensures count { OnOk result (reading.new.count ≤ reading.old.count + 1) }
     ensures places { OnOk result (StayOnTheirCards reading.old reading.new) }
     ensures missing { let lines = take count (lines_of part.entry.text.now) in
@@ -101,23 +103,21 @@ fn add_errors<'a>(
 {
     match read_part(alloc, part.before, part.text, count) {
         Ok(cards) => Ok(add_missing(given, missing, cards.statements(), part)?),
-        Err(CardFault::Form(card)) => Ok(add_error(reading, card, ReadingError::Form, part)?),
-        Err(CardFault::Limit(card)) => Ok(add_error(reading, card, ReadingError::Limit, part)?),
-        Err(CardFault::NoMemory) => Err(OutOfMemory),
+        Err(ReadError::Objection(objection)) => Ok(add_error(reading, objection, part)?),
+        Err(ReadError::NoMemory) => Err(OutOfMemory),
     }
 }
 
-/// Adds the error of a card of a part.
+/// Adds the error that an objection to a part is.
 fn add_error<'a>(
     found: &mut Findings<'a>,
-    card: u32,
-    error: ReadingError,
+    objection: Objection,
     part: Part<'a>,
 ) -> Result<(), AllocError>
-    requires few { part.before + length part.text.now ≤ most_deck_bytes }
-    requires room { found.old.count + 1 < 2 ^ 32 }
-    ensures said { let fault = unread (fault_met error card) in
-        OnOk result (SaysMore fault_of_finding fault found.old found.new) }
+    requires { found.old.count + 1 < 2 ^ 32 }
+    ensures said { OnOk result ((objections : List Objection) →
+        AreOf Explains objections found.old →
+        AreOf Explains (objections ++ objection ∷ []) found.new) }
     ensures count { OnOk result (found.new.count ≤ found.old.count + 1) }
     ensures places { OnOk result (StayOnTheirCards found.old found.new) }
 {
@@ -125,7 +125,7 @@ fn add_error<'a>(
         found.skip();
         return Ok(());
     }
-    found.add(reading_error(card, error, part))
+    found.add(reading_error(objection, part))
 }
 
 /// What follows the first card of a statement.

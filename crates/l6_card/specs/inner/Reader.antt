@@ -1,18 +1,20 @@
 -- The stage of a reader, and how its steps follow the pieces.
 use Rattle.std.specs.Prelude.{◌≡◌, IfSome, Result, Ok, Err, MatchResult}
-use Rattle.l6_card.specs.declared.fault.CardFault.{CardFault}
+use Rattle.l6_card.specs.declared.objection.Objection.{Objection}
+use Rattle.l6_card.specs.declared.objection.ReadError.{ReadError}
 use Rattle.l6_card.specs.declared.reader.Reader.{Reader}
-use Rattle.l6_card.specs.DeckFault.{DeckFault, deck_fault}
+use Rattle.l6_card.specs.Objection.{objection_in}
+use Rattle.l6_card.specs.inner.Kinds.{body_seen}
 use Rattle.l6_card.specs.inner.Pass.{Stage}
 use Rattle.l6_card.specs.inner.KeptBuilder.{kept_builder}
 
 -- a step of a reader that is at this stage afterwards took the pass, or stopped at the objection
 -- that the pass met; out of memory may stop it anywhere
-abbrev pub Follows : {X : Type 0} → Result X CardFault → Stage → Result Stage DeckFault → Type 0
+abbrev pub Follows : {X : Type 0} → Result X ReadError → Stage → Result Stage Objection → Type 0
 Follows result known pass =
     MatchResult result
     (λ _. pass ≡ Ok known)
-    (λ fault. IfSome (deck_fault fault) (λ objection. pass ≡ Err objection))
+    (λ error. IfSome (objection_in error) (λ objection. pass ≡ Err objection))
 
 -- the stage of the reader
 abbrev pub stage_of : Reader → Stage
@@ -22,6 +24,6 @@ stage_of reader =
       is_open = reader.is_open;
       label = reader.label;
       builder = kept_builder reader.builder;
-      card = reader.card;
+      body = body_seen reader.body;
       continuations = reader.continuations;
     }

@@ -1,5 +1,5 @@
 -- Builders: a builder is what the items of a statement so far make of it, as a reader takes them.
-use Rattle.std.specs.Prelude.{ℕ, Bool, true, false, List, [], ◌∷◌, ◌++◌, length, nat_lt, Option, Some, None, Result, Ok, Err, if◌then◌else◌}
+use Rattle.std.specs.Prelude.{ℕ, ◌==◌, ◌&&◌, Bool, true, false, List, [], ◌∷◌, ◌++◌, length, nat_lt, Option, Some, None, Result, Ok, Err, if◌then◌else◌}
 use Rattle.l6_prog.specs.Numerals.{most_tests, most_operations}
 use Rattle.l6_prog.specs.declared.condition.Cond.{Cond}
 use Rattle.l6_prog.specs.declared.condition.Cond.TheVariants.{Always, If, Not}
@@ -16,6 +16,7 @@ use Rattle.l6_card.specs.declared.cards.Placed.{Placed}
 use Rattle.l6_card.specs.declared.cards.PlacedLabel.{PlacedLabel}
 use Rattle.l6_card.specs.declared.span.Span.{Span}
 use Rattle.l6_card.specs.DeckFault.{DeckFault, form, limit}
+use Rattle.l6_card.specs.Order.{Expected, operation_or_exit, first_test, test_or_then, none_after}
 use Rattle.l6_card.specs.Spans.{group_span}
 use Rattle.l6_card.specs.Items.{Item, group, word, PlacedItem}
 use Rattle.l6_card.specs.Statement.{DeckStatementParts, placed_exit}
@@ -49,6 +50,18 @@ is_whole_in _ = true
 
 abbrev pub is_whole : StatementBuilder → Bool
 is_whole builder = is_whole_in builder.phase
+
+-- what may follow the items
+abbrev pub expected_in_phase : Phase → Bool → Expected
+expected_in_phase New alone = operation_or_exit
+expected_in_phase (Worded condition) alone = first_test
+expected_in_phase Tested alone = test_or_then
+expected_in_phase Open alone = operation_or_exit
+expected_in_phase Closed alone = none_after alone
+
+abbrev pub expected_in : StatementBuilder → Expected
+expected_in builder =
+    expected_in_phase builder.phase (length builder.tests == 0 && length builder.operations == 0)
 
 -- the statement with this label that the builder makes
 abbrev pub statement_from : Option PlacedLabel → StatementBuilder → DeckStatementParts
@@ -153,7 +166,7 @@ with_characters card builder characters = with_word_in builder.phase card builde
 abbrev pub with_item : ℕ → StatementBuilder → Item → Result StatementBuilder DeckFault
 with_item card builder (group offset columns) =
     with_group_in builder.phase card (group_span offset columns) builder columns
-with_item card builder (word columns) = with_characters card builder (spelled columns)
+with_item card builder (word first end columns) = with_characters card builder (spelled columns)
 with_item card builder _ = Err (form card)
 
 -- the builder after an item, if it is accepted

@@ -1,7 +1,7 @@
 use Rattle.std.proofs.Common.{arith, ◌+◌, ◌∙◌, ◌≡◌, Ok, sym, ap, subst, List}
 use Rattle.std.proofs.lemmas.Result.{err_from_is_err_and}
 use Rattle.l6_card.specs.Statement.{DeckStatementParts}
-use Rattle.l6_card.specs.DeckFault.{deck_fault}
+use Rattle.l6_card.specs.Objection.{objection_in}
 use Rattle.l6_card.specs.inner.Pass.{after_pieces, pass_of}
 use Rattle.l6_card.specs.ReadsAs.{ReadsAs}
 use Rattle.l6_card.specs.Laws.{AreWithinLimits, IsOnlyReading}
@@ -23,7 +23,7 @@ returns-in_err-take_card-clause-fault c =
     rw (p.1, p.2)
     (refused c.args.deck.now c.loop-line.rest.now c.columns_of.result.now c.in-Some.following.now
     (c.loop-line.card + 1) c.loop-line.offset (stage_of c.loop-line.reader)
-    (deck_fault c.in_err-take_card.field-0.0)
+    (objection_in c.in_err-take_card.field-0.0)
     first c.loop-line.invariant.pass c.in_err-take_card.ensures)
 
 pub returns-in_err-end-clause-fault : goal.returns-in_err-end-clause-fault
@@ -31,7 +31,7 @@ returns-in_err-end-clause-fault c =
     let p = err_from_is_err_and c.from_residual-in_err-end.result
     c.from_residual-in_err-end.ensures.1 in
     rw (p.1, p.2) (refused_at_end c.args.deck.now c.loop-line.rest.now (c.loop-line.card + 1)
-    c.loop-line.offset (stage_of c.loop-line.reader) (deck_fault c.in_err-end.field-0.0)
+    c.loop-line.offset (stage_of c.loop-line.reader) (objection_in c.in_err-end.field-0.0)
     c.in_default.ensures.lines c.loop-line.invariant.pass c.in_err-end.ensures)
 
 pub loop-line-init : goal.loop-line-init

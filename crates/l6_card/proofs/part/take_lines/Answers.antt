@@ -1,7 +1,7 @@
 use Rattle.std.proofs.Common.{arith, rules, refl, ◌+◌, ◌-◌, ◌∙◌, ap, take}
 use Rattle.std.proofs.lemmas.Result.{err_from_is_err_and}
 use Rattle.l6_word.specs.Lines.{lines_of}
-use Rattle.l6_card.specs.DeckFault.{deck_fault}
+use Rattle.l6_card.specs.Objection.{objection_in}
 use Rattle.l6_card.specs.inner.Pass.{after_pieces}
 use Rattle.l6_card.specs.inner.Reader.{stage_of}
 use Rattle.l6_card.proofs.Passes.{bytes_in, bytes_in-lines}
@@ -32,7 +32,7 @@ returns-in_err-take_card-in-Some c =
     rw (p.1, p.2)
     (line_stops line (take (c.loop-left.left - 1) others) (c.loop-left.card + 1)
     c.loop-left.offset (stage_of c.loop-left.reader) _
-    (deck_fault c.in_err-take_card-in-Some.field-0.0) split c.loop-left.invariant.pass
+    (objection_in c.in_err-take_card-in-Some.field-0.0) split c.loop-left.invariant.pass
     (rw c.columns_of.ensures.value at c.in_err-take_card-in-Some.ensures))
 
 pub loop-left-preserved : goal.loop-left-preserved

@@ -2,12 +2,13 @@ use Rattle.std.proofs.Common.{◌+◌, List, [], take, length-take, is_some, ref
 use Rattle.std.proofs.Math.Logic.{inl, inr}
 use Rattle.std.specs.List.{flat_map}
 use Rattle.l6_word.specs.Lines.{lines_of}
-use Rattle.l6_card.specs.DeckFault.{form, limit}
-use Rattle.l6_card.specs.ReadAlone.{fault_of_lines, LinesReadAs}
+use Rattle.std.specs.Option.{option_map}
+use Rattle.l6_card.specs.Objection.{fault_in}
+use Rattle.l6_card.specs.ReadAlone.{objection_to_lines, LinesReadAs}
 use Rattle.l6_card.specs.Statement.{DeckStatementParts}
-use Rattle.l6_check.specs.Faults.{fault_of_finding}
+use Rattle.l6_check.specs.Faults.{Explains}
 use Rattle.l6_check.specs.Missing.{missing_in}
-use Rattle.l6_check.proofs.Keeping.{fault_said}
+use Rattle.l6_check.proofs.Explaining.{none_further, one_further}
 use Rattle.l6_check.proofs.MissingParts.{part_is_fit, part_is_short}
 use Rattle.l6_check.proofs.MissingSteps.{say_none}
 use Rattle.l6_check.proofs.reading.add_errors.Goals as goal
@@ -57,42 +58,30 @@ returns-in_ok-add_missing-in-Ok-clause-missing_count c =
     let short = part_is_short number lines c.statements.result.now reads in
     omega (arith, short, length-take c.args.count all, c.in_ok-add_missing-in-Ok.ensures.count)
 
-pub returns-in_ok-add_error-in-Err-Form-clause-missing :
-    goal.returns-in_ok-add_error-in-Err-Form-clause-missing
-returns-in_ok-add_error-in-Err-Form-clause-missing c = record {
+pub returns-in_ok-add_error-in-Err-Objection-clause-missing :
+    goal.returns-in_ok-add_error-in-Err-Objection-clause-missing
+returns-in_ok-add_error-in-Err-Objection-clause-missing c = record {
   here = [];
   are = inr (record {
-    fault = ap is_some (rw c.in-Err-Form.field-0-is at c.in-Err-Form.ensures.fault);
+    fault = ap is_some (ap (option_map fault_in)
+        (rw c.in-Err-Objection.field-0-is at c.in-Err-Objection.ensures.objection));
     none = refl;
   });
   said = say_none [] c.args.missing.now refl;
 }
 
-pub returns-in_ok-add_error-in-Err-Form-clause-reading :
-    goal.returns-in_ok-add_error-in-Err-Form-clause-reading
-returns-in_ok-add_error-in-Err-Form-clause-reading c faults says =
+pub returns-in_ok-add_error-in-Err-Objection-clause-reading :
+    goal.returns-in_ok-add_error-in-Err-Objection-clause-reading
+returns-in_ok-add_error-in-Err-Objection-clause-reading c objections are =
     let lines = take c.args.count (lines_of c.args.part.text.now) in
-    fault_said fault_of_finding faults (fault_of_lines (c.args.part.before + 1) lines)
-    (form c.in-Err-Form.card) c.args.reading.now c.add_error.new.found
-    (rw c.in-Err-Form.field-0-is at c.in-Err-Form.ensures.fault)
-    c.in_ok-add_error-in-Err-Form.ensures.said says
+    one_further Explains objections (objection_to_lines (c.args.part.before + 1) lines)
+    c.in-Err-Objection.objection c.add_error.new.found
+    (rw c.in-Err-Objection.field-0-is at c.in-Err-Objection.ensures.objection)
+    (c.in_ok-add_error-in-Err-Objection.ensures.said objections are)
 
-pub returns-in_ok-add_error-in-Err-Limit-clause-missing :
-    goal.returns-in_ok-add_error-in-Err-Limit-clause-missing
-returns-in_ok-add_error-in-Err-Limit-clause-missing c = record {
-  here = [];
-  are = inr (record {
-    fault = ap is_some (rw c.in-Err-Limit.field-0-is at c.in-Err-Limit.ensures.fault);
-    none = refl;
-  });
-  said = say_none [] c.args.missing.now refl;
-}
-
-pub returns-in_ok-add_error-in-Err-Limit-clause-reading :
-    goal.returns-in_ok-add_error-in-Err-Limit-clause-reading
-returns-in_ok-add_error-in-Err-Limit-clause-reading c faults says =
+pub returns-in_ok-add_missing-in-Ok-clause-reading :
+    goal.returns-in_ok-add_missing-in-Ok-clause-reading
+returns-in_ok-add_missing-in-Ok-clause-reading c objections are =
     let lines = take c.args.count (lines_of c.args.part.text.now) in
-    fault_said fault_of_finding faults (fault_of_lines (c.args.part.before + 1) lines)
-    (limit c.in-Err-Limit.card) c.args.reading.now c.add_error-in-Err-Limit.new.found
-    (rw c.in-Err-Limit.field-0-is at c.in-Err-Limit.ensures.fault)
-    c.in_ok-add_error-in-Err-Limit.ensures.said says
+    none_further Explains objections (objection_to_lines (c.args.part.before + 1) lines)
+    c.args.reading.now c.in-Ok.ensures.objection are

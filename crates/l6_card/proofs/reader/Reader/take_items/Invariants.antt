@@ -1,4 +1,4 @@
-use Rattle.std.proofs.Common.{◌≡◌, ◌-◌, ◌≤◌, length, map}
+use Rattle.std.proofs.Common.{◌≡◌, ◌+◌, ◌-◌, ◌≤◌, length, map}
 use Rattle.l6_card.specs.Items.{items_of}
 use Rattle.l6_card.specs.Pieces.{item, items_on}
 use Rattle.l6_card.specs.inner.Pass.{after_pieces}
@@ -11,8 +11,9 @@ abbrev pub invariant-loop-columns : goal.invariant-loop-columns
 invariant-loop-columns l = record {
   pass : after_pieces (stage_of l.self)
       (map (item l.card) (items_of (l.end - length l.rest) l.rest))
-      ≡ after_pieces (stage_of l.fn.self) (items_on (body_seen l.body));
-  left : length l.rest ≤ l.end;
+      ≡ after_pieces (stage_of l.fn.self) (items_on (body_seen l.fn.self.body));
+  left : l.fn.self.body.offset + length l.rest ≤ l.end;
+  stays : l.self.body ≡ l.fn.self.body;
 }
 
 abbrev pub decreases-loop-columns : goal.decreases-loop-columns

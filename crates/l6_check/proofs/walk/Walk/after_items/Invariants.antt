@@ -1,5 +1,0 @@
-use Rattle.std.proofs.Common.{length}
-use Rattle.l6_check.proofs.walk.Walk.after_items.Given as goal
-
-abbrev pub decreases-loop-inside : goal.decreases-loop-inside
-decreases-loop-inside l = length l.rest

@@ -6,10 +6,6 @@ use Rattle.l6_group.specs.Numerals.{most_label_characters}
 abbrev pub most_word_characters : ℕ
 most_word_characters = length (codes "THEN") + most_label_characters
 
--- how many elements a group may have
-abbrev pub most_elements : ℕ
-most_elements = 5
-
 -- how many characters of a word are looked at for advice
 abbrev pub most_advised : ℕ
 most_advised = 8

@@ -43,6 +43,7 @@ pub(crate) fn past_on(card: u32, line: &[u8]) -> Finding<'_>
             to: all.len(),
         },
         text: without_last_blanks(past),
+        line: all,
         reason: Reason::Warning(WarningReason::PastColumns),
     }
 }

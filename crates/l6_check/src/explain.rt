@@ -13,7 +13,7 @@ use crate::reason::{FormReason, LimitReason, Reason};
 use crate::scan::{without_blanks, without_last_blanks};
 use crate::walk::{self, Objection, Walk, Why};
 use l6_card::columns_of;
-use l6_word::first_line;
+use l6_word::{first_line, without_return};
 
 /// How a card is in error where it is read.
 #[derive(Clone, Copy, Debug)]
@@ -30,8 +30,8 @@ pub(crate) fn reading_error(card: u32, error: ReadingError, part: Part<'_>) -> F
     ensures fault { fault_of_finding result ≡ Some (unread (fault_met error card)) }
     ensures place { IsOnItsCard result }
 {
-    let (columns, objection) = objection_on(card, part);
-    found(card, columns, objection, reason_of(error, objection.reason))
+    let (line, objection) = objection_on(card, part);
+    found(card, line, objection, reason_of(error, objection.reason))
 }
 
 /// The reason of an error, of which the walk found this.
@@ -46,8 +46,8 @@ fn reason_of(error: ReadingError, why: Why) -> Reason
     }
 }
 
-/// A finding on a card with these columns.
-fn found<'a>(card: u32, columns: &'a [u8], objection: Objection, reason: Reason) -> Finding<'a>
+/// A finding on a card with this line.
+fn found<'a>(card: u32, line: &'a [u8], objection: Objection, reason: Reason) -> Finding<'a>
     ensures card { result.card ≡ card }
     ensures reason { result.reason ≡ reason }
     ensures place { IsOnCard result.span }
@@ -56,7 +56,8 @@ fn found<'a>(card: u32, columns: &'a [u8], objection: Objection, reason: Reason)
     Finding {
         card,
         span,
-        text: text_at(columns, span),
+        text: text_at(columns_of(line), span),
+        line: without_return(line),
         reason,
     }
 }
@@ -68,7 +69,7 @@ pub(crate) fn text_at(columns: &[u8], span: Span) -> &[u8] {
     &columns[from..to]
 }
 
-/// What objects on a card of a part's first statement, and the columns of the card.
+/// What objects on a card of a part's first statement, and the line of the card.
 fn objection_on(card: u32, part: Part<'_>) -> (&[u8], Objection)
     requires { part.before + length part.text.now ≤ most_deck_bytes }
 {
@@ -79,8 +80,8 @@ fn objection_on(card: u32, part: Part<'_>) -> (&[u8], Objection)
         number += 1;
         let columns = columns_of(line);
         match walk.after_card(columns) {
-            Err(objection) => return (columns, objection),
-            Ok(_) if number >= card => return (columns, unfinished(columns)),
+            Err(objection) => return (line, objection),
+            Ok(_) if number >= card => return (line, unfinished(columns)),
             Ok(further) => walk = further,
         }
         rest = following;

@@ -57,11 +57,24 @@ pub struct Finding<'a> {
     pub span: Span,
     /// What these columns have.
     pub text: &'a [u8],
+    /// The whole line of the card.
+    pub line: &'a [u8],
     /// What is wrong there.
     pub reason: Reason,
 }
 
-impl Finding<'_> {
+impl<'a> Finding<'a> {
+    /// What is on its card before these columns.
+    pub(crate) fn before(&self) -> &'a [u8] {
+        &self.line[..self.span.from.min(self.line.len())]
+    }
+
+    /// Whether these columns are between the parentheses of a group, all of them.
+    pub(crate) fn is_whole_group(&self) -> bool {
+        let after = &self.line[self.span.to.min(self.line.len())..];
+        self.before().last() == Some(&b'(') && after.first() == Some(&b')')
+    }
+
     /// How bad it is.
     pub fn severity(&self) -> Severity {
         match self.reason {

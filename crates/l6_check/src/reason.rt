@@ -1,6 +1,6 @@
 //! Why something is found.
 
-use l6_group::MAX_LABEL_CHARACTERS;
+use l6_group::{GroupFault, MAX_LABEL_CHARACTERS};
 
 /// Why something is found on a card.
 #[derive(Clone, Copy, Debug)]
@@ -76,54 +76,6 @@ pub enum FormReason {
     Unfinished,
     /// Nothing more is known.
     Unread,
-}
-
-/// Why a group is no operation, or no test.
-#[derive(Clone, Copy, Debug)]
-pub enum GroupFault {
-    /// Nothing is spelled so.
-    Spelling,
-    /// An element is empty.
-    EmptyElement,
-    /// It has too few elements.
-    TooFew,
-    /// It has too many elements.
-    TooMany,
-    /// A comma is in a text.
-    CommaInText,
-    /// It looks like a definition, and begins with the field.
-    FieldFirst,
-    /// An element is not what stands there.
-    Element(Shape),
-    /// Nothing more is known.
-    Unread,
-}
-
-/// What an element has to be.
-#[derive(Clone, Copy, Debug, PartialEq, Eq)]
-pub enum Shape {
-    /// The spelling of the operation or the test.
-    Spelling,
-    /// A chain.
-    Chain,
-    /// A chain or a number.
-    Operand,
-    /// An octal number.
-    Octal,
-    /// A text that denotes a number.
-    Text,
-    /// A text that is printed.
-    LongText,
-    /// A label.
-    Label,
-    /// A field.
-    Field,
-    /// A chain, or nothing.
-    OptionalChain,
-    /// Nothing.
-    Nothing,
-    /// `S` or `R`.
-    SaveOrRestore,
 }
 
 /// What there is too much of.

@@ -52,6 +52,25 @@ pub(crate) fn begins_with(text: &[u8], word: &[u8]) -> bool {
     left.is_empty()
 }
 
+/// A text without a word that it begins with, small letters read as capitals and blanks left out.
+pub(crate) fn without_word<'a>(text: &'a [u8], word: &[u8]) -> &'a [u8] {
+    let mut left = word;
+    let mut rest = text;
+    while let Some((byte, following)) = rest.split_first() {
+        let Some((first, others)) = left.split_first() else {
+            return rest;
+        };
+        if !is_blank(*byte) {
+            if byte.to_ascii_uppercase() != *first {
+                return text;
+            }
+            left = others;
+        }
+        rest = following;
+    }
+    text
+}
+
 /// Whether a text has a word, small letters read as capitals and blanks left out.
 pub(crate) fn has_word(text: &[u8], word: &[u8]) -> bool {
     let mut rest = text;

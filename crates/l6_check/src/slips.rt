@@ -63,6 +63,21 @@ pub(crate) fn test_advice(characters: &[u8]) -> &'static str {
     }
 }
 
+/// What to write in place of a condition that is spelled so, if that is known.
+pub(crate) fn condition_word_advice(characters: &[u8]) -> &'static str {
+    advised! {
+        characters;
+        b"DONE" | b"FAIL" => "an exit stands after the groups: (A,PD) DONE",
+        b"IFNOT" => "NOT alone is the condition: NOT (A,E,0) THEN DONE",
+        b"WHILE" | b"UNTIL" | b"FOR" | b"REPEAT" => "there are no loops: an exit to a label before it repeats a statement",
+        b"ELSE" | b"ELSEIF" | b"ELIF" | b"ELSIF" =>
+            "there is no ELSE: the next statement follows where a test does not hold",
+        b"THEN" => "THEN follows a condition and its tests, in the same statement: + in column 1 continues it",
+        b"GOTO" => "there is no GOTO: an exit is the label alone, after the groups",
+        b"CALL" | b"DO" => "(L,DO) calls the statement L",
+    }
+}
+
 /// What to write in place of an exit to a label that is spelled so, if that is known.
 pub(crate) fn exit_word_advice(characters: &[u8]) -> &'static str {
     advised! {

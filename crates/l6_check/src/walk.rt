@@ -1,13 +1,13 @@
 //! Where a statement objects, and why. The reader of cards decides whether one does, and on which card;
 //! this walk only finds the columns and the words.
 
-use crate::group::{GroupObjection, operation_objection, test_objection};
 use crate::reason::{FormReason, LimitReason};
 use crate::scan::{begins_with, columns_from, without_blanks, without_last_blanks};
 use l6_card::{Token, first_item, split_label};
 use l6_group::{
-    MAX_LABEL_CHARACTERS, Spelling, after_then, are_blank, condition_from, exit_from, is_blank,
-    is_letter, label_of, operation_of, spelled, test_of,
+    GroupObjection, MAX_LABEL_CHARACTERS, Spelling, after_then, are_blank, condition_from,
+    exit_from, is_blank, is_letter, label_of, operation_objection, operation_of, spelled,
+    test_objection, test_of,
 };
 use l6_prog::{Cond, MAX_OPERATIONS, MAX_TESTS};
 
@@ -293,8 +293,10 @@ fn long_word_reason(phase: Phase, word: &[u8]) -> FormReason {
 /// The objection of a group that is no operation: it may be a test.
 fn no_operation(from: usize, to: usize, inside: &[u8], has_condition_label: bool) -> Objection {
     if test_of(inside).is_none() {
-        let why = operation_objection(inside);
-        return in_group(from, why, FormReason::NoOperation(why.fault));
+        return match operation_objection(inside) {
+            None => form(from, to, FormReason::Unread),
+            Some(why) => in_group(from, why, FormReason::NoOperation(why.fault)),
+        };
     }
     if has_condition_label {
         return form(from, to, FormReason::ConditionInColumn1);
@@ -349,8 +351,10 @@ fn no_test(from: usize, to: usize, inside: &[u8], if_operation: FormReason) -> O
     if operation_of(inside).is_some() {
         return form(from, to, if_operation);
     }
-    let why = test_objection(inside);
-    in_group(from, why, FormReason::NoTest(why.fault))
+    match test_objection(inside) {
+        None => form(from, to, FormReason::Unread),
+        Some(why) => in_group(from, why, FormReason::NoTest(why.fault)),
+    }
 }
 
 /// What objects in a group whose `(` is at this column.

@@ -21,7 +21,7 @@ use crate::scan::{without_blanks, without_last_blanks};
 use crate::targets::named_statements;
 use l6_card::{Role, columns_of, role_of};
 use l6_prog::Program;
-use l6_word::first_line;
+use l6_word::{first_line, without_return};
 use std::alloc::{AllocError, Global};
 
 /// The warnings of a deck's statements.
@@ -198,6 +198,7 @@ fn unreached_on(card: u32, line: &[u8]) -> Finding<'_>
         card,
         span: Span::on_card(from, from.saturating_add(text.len())),
         text,
+        line: without_return(line),
         reason: Reason::Warning(WarningReason::UnreachedStatement),
     }
 }

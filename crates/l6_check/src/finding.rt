@@ -1,6 +1,7 @@
 //! What is found on a card.
 
-ghost use Rattle.std.specs.Prelude.{◌≡◌, ◌≤◌};
+ghost use Rattle.std.specs.Prelude.{◌≡◌, ◌+◌, ◌-◌, min, max};
+ghost use Rattle.l6_card.specs.Numerals.{card_width};
 ghost use Rattle.l6_check.specs.OnCard.{IsOnCard};
 
 use crate::reason::Reason;
@@ -38,7 +39,9 @@ impl Span {
     /// The columns from one to before another, as far as they are on a card, and at least one.
     #[tactic(auto, unfolding(l6_card::specs::Numerals::card_width))]
     pub(crate) fn on_card(from: usize, to: usize) -> Self
-        ensures { IsOnCard result }
+        ensures place { IsOnCard result }
+        ensures from { result.from ≡ min from (card_width - 1) }
+        ensures to { result.to ≡ max (min to card_width) (result.from + 1) }
     {
         let from = from.min(WIDTH - 1);
         Span {

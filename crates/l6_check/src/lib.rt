@@ -3,6 +3,7 @@
 
 mod advice;
 mod cards;
+mod certain;
 mod columns;
 mod conditions;
 mod element;
@@ -43,8 +44,10 @@ pub use l6_group::{GroupFault, Shape};
 pub use labels::{Labels, LabelsFound, labels_of};
 pub use laws::checks_have_their_limits;
 pub use reading::{StatementErrors, statement_errors};
-pub use reason::{FormReason, LabelText, LimitReason, MissingLabel, Reason, WarningReason};
+pub use reason::{
+    CertainTrap, FormReason, LabelText, LimitReason, MissingLabel, Reason, WarningReason,
+};
 pub use report::{ProgramWarnings, Report, check};
 pub use verdict::first_error;
 pub use ways::{StatementWarnings, statement_warnings};
-pub use writing::{CheckedText, checked_text};
+pub use writing::{CheckedText, Layout, checked_text, checked_text_of};

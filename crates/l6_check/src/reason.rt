@@ -89,6 +89,19 @@ pub enum LimitReason {
     Groups,
 }
 
+/// How an operation always traps.
+#[derive(Clone, Copy, Debug, PartialEq, Eq)]
+pub enum CertainTrap {
+    /// A field is defined by a word, or by bits, that none can have.
+    BadDefinition,
+    /// A number is divided by 0.
+    ZeroDivisor,
+    /// A block of no words, or of too many, is asked for.
+    BadSize,
+    /// No characters, or too many, are taken or printed.
+    BadCount,
+}
+
 /// What is worth a warning.
 #[derive(Clone, Copy, Debug, PartialEq, Eq)]
 pub enum WarningReason {
@@ -100,6 +113,10 @@ pub enum WarningReason {
     UnnamedLabel,
     /// No way leads to the statement.
     UnreachedStatement,
+    /// An operation always traps.
+    AlwaysTraps(CertainTrap),
+    /// An operation on a further card of the statement always traps.
+    LaterTraps(CertainTrap),
     /// Nothing in the deck defines the field whose name has this number, from 0 to 35.
     UndefinedField(u8),
     /// The card is a line that separates the parts of a job.

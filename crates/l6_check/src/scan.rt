@@ -1,5 +1,8 @@
 //! Scans of columns: blanks, and words.
 
+ghost use Rattle.std.specs.Prelude.{◌≡◌, ◌+◌, length};
+ghost use Rattle.l6_check.specs.Warnings.{blanks_before};
+
 use l6_group::is_blank;
 
 /// Columns from one of them on.
@@ -12,7 +15,9 @@ pub(crate) fn columns_from(columns: &[u8], start: usize) -> &[u8] {
 }
 
 /// Columns without the blanks that they begin with.
-pub(crate) fn without_blanks(columns: &[u8]) -> &[u8] {
+pub(crate) fn without_blanks(columns: &[u8]) -> &[u8]
+    ensures { length result.now + blanks_before columns.now ≡ length columns.now }
+{
     let mut rest = columns;
     while let Some((first, following)) = rest.split_first() {
         if !is_blank(*first) {

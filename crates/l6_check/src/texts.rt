@@ -7,7 +7,7 @@ use crate::advice::{
 use crate::finding::{Finding, Severity};
 use crate::forms::plain_word_advice;
 use crate::group_words::{operation_words, test_words};
-use crate::reason::{FormReason, LabelText, LimitReason, Reason, WarningReason};
+use crate::reason::{CertainTrap, FormReason, LabelText, LimitReason, Reason, WarningReason};
 use l6_prog::{DIGITS, NAMES};
 use std::{fmt, str};
 
@@ -53,37 +53,105 @@ impl fmt::Display for Severity {
 /// advice, if there is any.
 impl fmt::Display for Finding<'_> {
     fn fmt<W: fmt::Write>(&self, f: &mut fmt::Formatter<W>) -> fmt::Result {
-        let card = self.card;
-        let column = self.span.from.saturating_add(1);
-        let severity = self.severity();
         let words = words_of(self);
-        let text = if words.is_quoted {
-            shown(self.text)
-        } else {
-            ""
-        };
-        let front = words.front;
-        let back = words.back;
-        write!(f, "{card}:{column}: {severity}: {front}{text}{back}")?;
-        match self.reason {
-            Reason::TwiceLabelled(first) => write!(f, "{first}, too"),
-            Reason::NoLabel(missing) => write_nearest(f, &missing.near, words.advice),
-            Reason::Warning(WarningReason::UndefinedField(field)) => {
-                let name = char::from(character_of(field));
-                write!(f, "{name}, which nothing defines")?;
-                write_field_advice(f, words.advice, plain_word_advice(self.text))
-            }
-            _ => write_advice(f, words.advice),
-        }
+        write_sentence(f, self, words)?;
+        write_hint(f, self, words, "    ")
     }
 }
 
-/// Writes advice on a line of its own, if there is any.
-fn write_advice<W: fmt::Write>(f: &mut fmt::Formatter<W>, advice: &str) -> fmt::Result {
+/// A finding with its card, on lines of their own before the advice, and signs under its columns.
+#[derive(Clone, Copy, Debug)]
+pub(crate) struct WithCard<'a>(pub(crate) Finding<'a>);
+
+impl fmt::Display for WithCard<'_> {
+    fn fmt<W: fmt::Write>(&self, f: &mut fmt::Formatter<W>) -> fmt::Result {
+        let words = words_of(&self.0);
+        write_sentence(f, &self.0, words)?;
+        write_card(f, &self.0)?;
+        write_hint(f, &self.0, words, "      = ")
+    }
+}
+
+/// Writes the card, the column and what is wrong.
+fn write_sentence<W: fmt::Write>(
+    f: &mut fmt::Formatter<W>,
+    finding: &Finding<'_>,
+    words: Words,
+) -> fmt::Result {
+    let card = finding.card;
+    let column = finding.span.from.saturating_add(1);
+    let severity = finding.severity();
+    let text = if words.is_quoted {
+        shown(finding.text)
+    } else {
+        ""
+    };
+    let front = words.front;
+    let back = words.back;
+    write!(f, "{card}:{column}: {severity}: {front}{text}{back}")?;
+    match finding.reason {
+        Reason::TwiceLabelled(first) => write!(f, "{first}, too"),
+        Reason::Warning(WarningReason::UndefinedField(field)) => {
+            let name = char::from(character_of(field));
+            write!(f, "{name}, which nothing defines")
+        }
+        _ => Ok(()),
+    }
+}
+
+/// Writes a card as it is, and signs under the columns of a finding, if it is text that can be shown.
+fn write_card<W: fmt::Write>(f: &mut fmt::Formatter<W>, finding: &Finding<'_>) -> fmt::Result {
+    let line = finding.line;
+    let from = finding.span.from.min(line.len());
+    let to = finding.span.to.min(line.len());
+    let text = shown(line);
+    if text.len() != line.len() || from >= to {
+        return Ok(());
+    }
+    let card = finding.card;
+    write!(f, "\n{card:>5} | {text}\n      | ")?;
+    write_signs(f, &line[..from], " ")?;
+    write_signs(f, &line[from..to], "^")
+}
+
+/// Writes a sign for each character of a text, and a tab for each tab before it.
+fn write_signs<W: fmt::Write>(f: &mut fmt::Formatter<W>, text: &[u8], sign: &str) -> fmt::Result {
+    for byte in text {
+        if *byte == b'\t' {
+            f.write_str("\t")?;
+        } else if *byte < 0x80 || *byte >= 0xC0 {
+            f.write_str(sign)?;
+        }
+    }
+    Ok(())
+}
+
+/// Writes advice on a finding, or the label that is nearly the one that was read, after these signs.
+fn write_hint<W: fmt::Write>(
+    f: &mut fmt::Formatter<W>,
+    finding: &Finding<'_>,
+    words: Words,
+    signs: &str,
+) -> fmt::Result {
+    match &finding.reason {
+        Reason::NoLabel(missing) => write_nearest(f, &missing.near, words.advice, signs),
+        Reason::Warning(WarningReason::UndefinedField(_)) => {
+            write_field_advice(f, words.advice, plain_word_advice(finding.text), signs)
+        }
+        _ => write_advice(f, words.advice, signs),
+    }
+}
+
+/// Writes advice on a line of its own after these signs, if there is any.
+fn write_advice<W: fmt::Write>(
+    f: &mut fmt::Formatter<W>,
+    advice: &str,
+    signs: &str,
+) -> fmt::Result {
     if advice.is_empty() {
         return Ok(());
     }
-    write!(f, "\n    {advice}")
+    write!(f, "\n{signs}{advice}")
 }
 
 /// Writes advice on a chain with a field that nothing defines; if the chain is spelled as an operation,
@@ -92,11 +160,12 @@ fn write_field_advice<W: fmt::Write>(
     f: &mut fmt::Formatter<W>,
     advice: &str,
     form: &str,
+    signs: &str,
 ) -> fmt::Result {
     if form.is_empty() {
-        return write_advice(f, advice);
+        return write_advice(f, advice, signs);
     }
-    write!(f, "\n    the word of an operation stands second: {form}")
+    write!(f, "\n{signs}the word of an operation stands second: {form}")
 }
 
 /// Writes the label that is nearly the one that was read, or else advice.
@@ -104,12 +173,13 @@ fn write_nearest<W: fmt::Write>(
     f: &mut fmt::Formatter<W>,
     near: &Option<LabelText>,
     advice: &str,
+    signs: &str,
 ) -> fmt::Result {
     match near {
-        None => write_advice(f, advice),
+        None => write_advice(f, advice, signs),
         Some(near) => {
             let label = shown(characters_of(near));
-            write!(f, "\n    is it `{label}`?")
+            write!(f, "\n{signs}is it `{label}`?")
         }
     }
 }
@@ -304,6 +374,12 @@ fn warning_words(reason: WarningReason, text: &[u8]) -> Words {
                 "no statement that a run can come to names it or goes on to it",
             )
         }
+        WarningReason::AlwaysTraps(trap) => row("`", "` always traps", trap_advice(trap)),
+        WarningReason::LaterTraps(trap) => row(
+            "an operation of the statement that `",
+            "` begins always traps",
+            trap_advice(trap),
+        ),
         WarningReason::UndefinedField(_) => {
             row(
                 "the chain `",
@@ -319,6 +395,18 @@ fn warning_words(reason: WarningReason, text: &[u8]) -> Words {
                 "l6 load runs an image",
             )
         }
+    }
+}
+
+/// Advice on an operation that always traps so.
+fn trap_advice(trap: CertainTrap) -> &'static str {
+    match trap {
+        CertainTrap::BadDefinition => {
+            "a word is 0 to 1023, a bit is 0 to 35, and the first bit is not after the last: (0,DN,18,35)"
+        }
+        CertainTrap::ZeroDivisor => "nothing can be divided by 0",
+        CertainTrap::BadSize => "a block has 1 to 1024 words",
+        CertainTrap::BadCount => "1 to 6 characters are taken or printed at once",
     }
 }
 

@@ -93,13 +93,14 @@ where_same test other same number card (line ∷ lines) =
     (where_same test other same (number_after number line) (card + 1) lines)
 
 -- what is said by marks is what is said by the program
-pub unnamed_same : (program : List Parts) (marks : List Bool) →
+pub unnamed_same : (program : List Parts) (marks : List Bool) (reached : ℕ → Bool) →
     AreMarks (flat_map targets_of program) marks → (lines : List (List ℕ)) →
-    statements_where (is_unnamed (is_marked marks)) 0 1 lines
-    ≡ statements_where (is_unnamed (is_named program)) 0 1 lines
-unnamed_same program marks are lines =
-    where_same (is_unnamed (is_marked marks)) (is_unnamed (is_named program))
-    (λ number line. ap (λ b. is_some (label_on_line line) && not b) (are number)) 0 1 lines
+    statements_where (is_unnamed (is_marked marks) reached) 0 1 lines
+    ≡ statements_where (is_unnamed (is_named program) reached) 0 1 lines
+unnamed_same program marks reached are lines =
+    where_same (is_unnamed (is_marked marks) reached) (is_unnamed (is_named program) reached)
+    (λ number line. ap (λ b. is_some (label_on_line line) && not b && not (reached number)) (are number))
+    0 1 lines
 
 -- only a card that begins a statement gives a label
 labelled_first : (read : Card) (card : ℕ) →

@@ -7,6 +7,8 @@ pub mod Labels
 pub mod Missing
 pub mod Warnings
 pub mod Ways
+pub mod Slips
+pub mod Certain
 pub mod Fields
 pub mod JobText
 pub mod Verdict

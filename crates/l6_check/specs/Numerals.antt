@@ -1,10 +1,6 @@
 -- The numbers of what is said of decks.
 use Rattle.std.specs.Prelude.{ℕ, codes, length}
 
--- how many elements a group may have
-abbrev pub most_elements : ℕ
-most_elements = 5
-
 -- how many characters of a word are looked at for advice
 abbrev pub most_advised : ℕ
 most_advised = 8

@@ -13,7 +13,8 @@ use Rattle.l6_check.specs.Labels.{labels_given, twice_labelled, twice_said}
 use Rattle.l6_check.specs.Missing.{SayMissing}
 use Rattle.l6_check.specs.Warnings.{condition_card, condition_cards, past_card, past_cards}
 use Rattle.l6_check.specs.JobText.{image_card, image_cards, mark_card, mark_cards}
-use Rattle.l6_check.specs.Ways.{unnamed_card, unnamed_cards, SayUnreached}
+use Rattle.l6_check.specs.Certain.{trapping_card}
+use Rattle.l6_check.specs.Ways.{trapping_cards, SayUnnamed, SayUnreached}
 use Rattle.l6_check.specs.Fields.{field_said, undefined_fields}
 use Rattle.l6_check.specs.Verdict.{IsProgramOf, IsErrorOf}
 
@@ -25,12 +26,13 @@ pub record HasNoErrors (report : Report) : Type 0 where
   pub missing : HasNone report.missing
 
 -- the warnings are those of a deck that spells this program: of labels that are spelled as conditions
--- are, of labels that no statement names, of statements that no way leads to, and of fields that are used
--- and not defined
+-- are, of labels that no statement names, of statements that no way leads to, of operations that always
+-- trap, and of fields that are used and not defined
 pub record WarnsOf (deck : List ℕ) (program : List Parts) (warnings : ProgramWarnings) : Type 0 where
   pub conditions : Say condition_card (condition_cards deck) warnings.conditions
-  pub unnamed : Say unnamed_card (unnamed_cards program deck) warnings.unnamed
+  pub unnamed : SayUnnamed program deck warnings.unnamed
   pub unreached : SayUnreached program deck warnings.unreached
+  pub trapping : Say trapping_card (trapping_cards program deck) warnings.trapping
   pub fields : Say field_said (undefined_fields program) warnings.fields
 
 -- the report has no errors, and the warnings of the program that the deck spells

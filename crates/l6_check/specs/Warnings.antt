@@ -1,5 +1,5 @@
 -- What cards are warned of.
-use Rattle.std.specs.Prelude.{ℕ, ◌+◌, ◌==◌, not, ◌&&◌, Bool, true, false, List, [], ◌∷◌, ◌++◌, drop, is_some, Option, Some, None}
+use Rattle.std.specs.Prelude.{ℕ, ◌+◌, ◌==◌, not, ◌&&◌, Bool, true, false, List, [], ◌∷◌, ◌++◌, drop, length, is_some, if◌then◌else◌, Option, Some, None}
 use Rattle.std.specs.List.{list_all}
 use Rattle.std.specs.Str.{byte}
 use Rattle.l6_word.specs.Lines.{lines_of, without_return}
@@ -22,6 +22,15 @@ is_comment (column ∷ columns) = column == byte "*"
 -- what a line has past the columns that count
 abbrev pub past_of : List ℕ → List ℕ
 past_of line = drop card_width (without_return line)
+
+-- how many blanks columns begin with
+abbrev pub blanks_before : List ℕ → ℕ
+blanks_before [] = 0
+blanks_before (column ∷ columns) = if is_blank column then blanks_before columns + 1 else 0
+
+-- how many columns of a line are before what is past those that count
+abbrev pub past_start : List ℕ → ℕ
+past_start line = length (columns_of line) + blanks_before (past_of line)
 
 -- the line is no comment, and has something past the columns that count
 abbrev pub has_past : List ℕ → Bool

@@ -11,6 +11,7 @@ use Rattle.l6_prog.specs.declared.exit.Exit.TheVariants.{Next}
 use Rattle.l6_card.specs.declared.role.Role.{Role}
 use Rattle.l6_card.specs.declared.role.Role.TheVariants.{First}
 use Rattle.l6_card.specs.Role.{role_of}
+use Rattle.l6_check.specs.Certain.{traps_in}
 use Rattle.l6_check.specs.Kept.{Say}
 use Rattle.l6_check.specs.Labels.{label_on_line}
 use Rattle.l6_check.specs.Warnings.{card_if}
@@ -87,13 +88,11 @@ statements_where test number card (line ∷ lines) =
     statement_on test number card line
     ++ statements_where test (number_after number line) (card + 1) lines
 
--- the card of a statement gives a label, and nothing names the statement
-abbrev pub is_unnamed : (ℕ → Bool) → ℕ → List ℕ → Bool
-is_unnamed named number line = is_some (label_on_line line) && not (named number)
-
--- the cards of a deck that give a label which no statement of its program names
-abbrev pub unnamed_cards : List Parts → List ℕ → List ℕ
-unnamed_cards program deck = statements_where (is_unnamed (is_named program)) 0 1 (lines_of deck)
+-- the card of a statement gives a label, nothing names the statement, and no way leads to it: a label
+-- that is fallen into is a name for people
+abbrev pub is_unnamed : (ℕ → Bool) → (ℕ → Bool) → ℕ → List ℕ → Bool
+is_unnamed named reached number line =
+    is_some (label_on_line line) && not (named number) && not (reached number)
 
 -- the card that a finding says to give such a label
 abbrev pub unnamed_said : ℕ → Reason → Option ℕ
@@ -114,6 +113,18 @@ unreached_card finding = unreached_said finding.card finding.reason
 -- by these answers no way leads to a statement
 abbrev pub is_unreached : (ℕ → Bool) → ℕ → List ℕ → Bool
 is_unreached reached number line = not (reached number)
+
+-- the findings say just the cards of a deck that give a label which no statement of its program names,
+-- and begin a statement to which no way leads
+pub record SayUnnamed (program : List Parts) (deck : List ℕ) (findings : Findings) : Type 0 where
+  pub reached : ℕ → Bool
+  pub are : AreReached program reached
+  pub said :
+      Say unnamed_card (statements_where (is_unnamed (is_named program) reached) 0 1 (lines_of deck)) findings
+
+-- the cards of a deck that begin a statement of its program which has an operation that always traps
+abbrev pub trapping_cards : List Parts → List ℕ → List ℕ
+trapping_cards program deck = statements_where (traps_in program) 0 1 (lines_of deck)
 
 -- the findings say just the cards of a deck that begin a statement of its program to which no way leads
 pub record SayUnreached (program : List Parts) (deck : List ℕ) (findings : Findings) : Type 0 where

@@ -31,7 +31,8 @@ pub(crate) fn is_comment(columns: &[u8]) -> bool
 
 /// The warning of a card that has something past the columns that count.
 pub(crate) fn past_on(card: u32, line: &[u8]) -> Finding<'_>
-    ensures { spec.past_card result ≡ Some card }
+    ensures card { spec.past_card result ≡ Some card }
+    ensures from { result.span.from ≡ spec.past_start line.now }
 {
     let all = without_return(line);
     let columns = columns_of(line);
@@ -39,10 +40,11 @@ pub(crate) fn past_on(card: u32, line: &[u8]) -> Finding<'_>
     Finding {
         card,
         span: Span {
-            from: all.len().saturating_sub(past.len()),
+            from: all.len() - past.len(),
             to: all.len(),
         },
         text: without_last_blanks(past),
+        line: all,
         reason: Reason::Warning(WarningReason::PastColumns),
     }
 }

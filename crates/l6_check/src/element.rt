@@ -1,7 +1,5 @@
 //! The elements of a group.
 
-ghost use Rattle.std.specs.Prelude.{◌≡◌, ◌+◌, ◌≤◌, length, IfSome};
-
 use l6_word::split_once;
 
 /// An element of a group.
@@ -30,15 +28,4 @@ pub(crate) fn nth_element(columns: &[u8], number: usize) -> Option<Element<'_>> 
         return Some(Element { start, text: rest });
     }
     None
-}
-
-/// How many elements a group with these columns has.
-pub(crate) fn element_count(columns: &[u8]) -> usize {
-    let mut count: usize = 1;
-    for column in columns {
-        if *column == b',' {
-            count = count.saturating_add(1);
-        }
-    }
-    count
 }

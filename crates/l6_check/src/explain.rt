@@ -2,15 +2,15 @@
 
 ghost use Rattle.std.specs.Prelude.{◌≡◌, Some};
 ghost use Rattle.l6_card.specs.declared.objection.Reason.TheVariants as kind;
-ghost use Rattle.l6_check.specs.Faults.{form_kind, kind_of, Explains};
+ghost use Rattle.l6_check.specs.Faults.{form_kind, kind_of, ArePartOf, Explains};
 ghost use Rattle.l6_check.specs.OnCard.{IsOnCard, IsOnItsCard};
 
 use crate::conditions::gives_condition;
 use crate::finding::{Finding, Span};
-use crate::group::{operation_objection, test_objection};
-use crate::label_places::{Part, columns_on};
-use crate::reason::{FormReason, GroupFault, LimitReason, Reason};
-use l6_card::{Objection, Reason as Kind};
+use crate::label_places::{Part, line_on};
+use crate::reason::{FormReason, LimitReason, Reason};
+use l6_card::{Objection, Reason as Kind, columns_of};
+use l6_group::{GroupFault, GroupObjection, operation_objection, test_objection};
 use l6_word::first_line;
 
 /// The error that an objection to a part is.
@@ -18,26 +18,36 @@ pub(crate) fn reading_error(objection: Objection, part: Part<'_>) -> Finding<'_>
     ensures explains { Explains result objection }
     ensures place { IsOnItsCard result }
 {
-    let columns = columns_on(objection.card, part);
+    let line = line_on(objection.card, part);
     let piece = Span::on_card(objection.from, objection.to);
     match objection.reason {
         Kind::NoOperation => {
-            let why = operation_objection(inside(columns, piece));
-            let span = piece.part(why.start, why.length);
-            let reason = FormReason::NoOperation(why.fault);
-            found(objection.card, columns, span, Reason::Form(reason))
+            let (span, fault) = group_part(piece, operation_objection(inside(line, piece)));
+            let reason = FormReason::NoOperation(fault);
+            found(objection.card, line, span, Reason::Form(reason))
         }
         Kind::NoTest => {
-            let why = test_objection(inside(columns, piece));
-            let span = piece.part(why.start, why.length);
-            let reason = FormReason::NoTest(why.fault);
-            found(objection.card, columns, span, Reason::Form(reason))
+            let (span, fault) = group_part(piece, test_objection(inside(line, piece)));
+            let reason = FormReason::NoTest(fault);
+            found(objection.card, line, span, Reason::Form(reason))
         }
         Kind::TestForOperation => {
             let reason = Reason::Form(test_reason(part));
-            found(objection.card, columns, piece, reason)
+            found(objection.card, line, piece, reason)
         }
-        kind => found(objection.card, columns, piece, piece_reason(kind)),
+        kind => found(objection.card, line, piece, piece_reason(kind)),
+    }
+}
+
+/// The columns of a group at a piece of a card that something is wrong in, and what.
+fn group_part(piece: Span, objection: Option<GroupObjection>) -> (Span, GroupFault)
+    requires { IsOnCard piece }
+    ensures place { IsOnCard result.0 }
+    ensures part { ArePartOf piece result.0 }
+{
+    match objection {
+        None => (piece, GroupFault::Unread),
+        Some(why) => (piece.part(why.start, why.length), why.fault),
     }
 }
 
@@ -80,8 +90,8 @@ fn piece_reason(kind: Kind) -> Reason
     })
 }
 
-/// A finding on a card with these columns.
-fn found(card: u32, columns: &[u8], span: Span, reason: Reason) -> Finding<'_>
+/// A finding on a card with this line.
+fn found(card: u32, line: &[u8], span: Span, reason: Reason) -> Finding<'_>
     ensures card { result.card ≡ card }
     ensures reason { result.reason ≡ reason }
     ensures span { result.span ≡ span }
@@ -89,7 +99,8 @@ fn found(card: u32, columns: &[u8], span: Span, reason: Reason) -> Finding<'_>
     Finding {
         card,
         span,
-        text: text_at(columns, span),
+        text: text_at(columns_of(line), span),
+        line: without_return(line),
         reason,
     }
 }

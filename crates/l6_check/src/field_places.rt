@@ -2,14 +2,12 @@
 
 use crate::columns::is_comment;
 use crate::element::nth_element;
-use crate::group::{MAX_ELEMENTS, shapes_of};
 use crate::label_places::body_start;
-use crate::reason::Shape;
 use crate::scan::columns_from;
 use l6_card::{Token, columns_of, first_item};
-use l6_group::chain_of;
+use l6_group::{Shape, chain_of, shapes_as_operation, shapes_as_test};
 use l6_prog::{NAMES, Name};
-use l6_word::first_line;
+use l6_word::{first_line, without_return};
 
 /// Columns of a card.
 #[derive(Clone, Copy, Debug)]
@@ -22,6 +20,8 @@ pub(crate) struct Place<'a> {
     pub(crate) to: usize,
     /// What these columns have.
     pub(crate) text: &'a [u8],
+    /// The line of the card, without a return.
+    pub(crate) line: &'a [u8],
 }
 
 /// The first place of each field, by the number of its name.
@@ -47,6 +47,7 @@ impl<'a> FieldPlaces<'a> {
                 from: 0,
                 to: usize::MAX,
                 text: b"",
+                line: b"",
             },
         }
     }
@@ -73,10 +74,10 @@ impl<'a> FieldPlaces<'a> {
 
     /// Adds the places of fields in a group, which has these columns between its parentheses. So many
     /// columns of the card are before them.
-    fn add_group(&mut self, card: u32, start: usize, inside: &'a [u8]) {
+    fn add_group(&mut self, card: u32, line: &'a [u8], start: usize, inside: &'a [u8]) {
         let shapes = shapes_of(inside);
-        for number in 0..MAX_ELEMENTS {
-            if number < shapes.len() && may_be_chain(shapes[number]) {
+        for number in 0..shapes.len() {
+            if may_be_chain(shapes[number]) {
                 if let Some(element) = nth_element(inside, number) {
                     let from = start.saturating_add(element.start);
                     self.add_chain(Place {
@@ -84,14 +85,16 @@ impl<'a> FieldPlaces<'a> {
                         from,
                         to: from.saturating_add(element.text.len()),
                         text: element.text,
+                        line,
                     });
                 }
             }
         }
     }
 
-    /// Adds the places of fields on a card with these columns.
-    fn add_card(&mut self, card: u32, columns: &'a [u8]) {
+    /// Adds the places of fields on a card with this line.
+    fn add_card(&mut self, card: u32, line: &'a [u8]) {
+        let columns = columns_of(line);
         let mut rest = columns_from(columns, body_start(columns));
         loop {
             match first_item(rest) {
@@ -100,11 +103,23 @@ impl<'a> FieldPlaces<'a> {
                 Token::Group(inside, following) => {
                     let end = columns.len().saturating_sub(following.len());
                     let start = end.saturating_sub(inside.len()).saturating_sub(1);
-                    self.add_group(card, start, inside);
+                    self.add_group(card, line, start, inside);
                     rest = following;
                 }
             }
         }
+    }
+}
+
+/// What the elements of a group have to be, as an operation or else as a test; nothing if it is spelled
+/// as neither is.
+fn shapes_of(inside: &[u8]) -> &'static [Shape] {
+    match shapes_as_operation(inside) {
+        Some(shapes) => shapes,
+        None => match shapes_as_test(inside) {
+            Some(shapes) => shapes,
+            None => &[],
+        },
     }
 }
 
@@ -120,9 +135,8 @@ pub(crate) fn field_places(deck: &[u8]) -> FieldPlaces<'_> {
     let mut card: u32 = 0;
     while let Some((line, following)) = first_line(rest) {
         card = card.saturating_add(1);
-        let columns = columns_of(line);
-        if !is_comment(columns) {
-            places.add_card(card, columns);
+        if !is_comment(columns_of(line)) {
+            places.add_card(card, without_return(line));
         }
         rest = following;
     }

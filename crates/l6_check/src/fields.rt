@@ -96,6 +96,7 @@ fn undefined_at(field: u8, place: Place<'_>) -> Finding<'_>
         card: place.card,
         span: Span::on_card(place.from, place.to),
         text: place.text,
+        line: place.line,
         reason: Reason::Warning(WarningReason::UndefinedField(field)),
     }
 }

@@ -1,6 +1,7 @@
 //! What is found on a card.
 
-ghost use Rattle.std.specs.Prelude.{◌≡◌, ◌≤◌};
+ghost use Rattle.std.specs.Prelude.{◌≡◌, ◌+◌, ◌-◌, ◌≤◌, min, max};
+ghost use Rattle.l6_card.specs.Numerals.{card_width};
 ghost use Rattle.l6_check.specs.Faults as spec;
 ghost use Rattle.l6_check.specs.OnCard.{IsOnCard};
 
@@ -41,6 +42,8 @@ impl Span {
     pub(crate) fn on_card(from: usize, to: usize) -> Self
         ensures place { IsOnCard result }
         ensures value { result ≡ spec.on_card from to }
+        ensures from { result.from ≡ min from (card_width - 1) }
+        ensures to { result.to ≡ max (min to card_width) (result.from + 1) }
     {
         let from = from.min(WIDTH - 1);
         Span {
@@ -74,11 +77,24 @@ pub struct Finding<'a> {
     pub span: Span,
     /// What these columns have.
     pub text: &'a [u8],
+    /// The whole line of the card.
+    pub line: &'a [u8],
     /// What is wrong there.
     pub reason: Reason,
 }
 
-impl Finding<'_> {
+impl<'a> Finding<'a> {
+    /// What is on its card before these columns.
+    pub(crate) fn before(&self) -> &'a [u8] {
+        &self.line[..self.span.from.min(self.line.len())]
+    }
+
+    /// Whether these columns are between the parentheses of a group, all of them.
+    pub(crate) fn is_whole_group(&self) -> bool {
+        let after = &self.line[self.span.to.min(self.line.len())..];
+        self.before().last() == Some(&b'(') && after.first() == Some(&b')')
+    }
+
     /// How bad it is.
     pub fn severity(&self) -> Severity {
         match self.reason {

@@ -66,6 +66,7 @@ pub(crate) fn mark_on(card: u32, line: &[u8]) -> Finding<'_>
         card,
         span: Span::on_card(0, text.len()),
         text,
+        line: without_return(line),
         reason: Reason::Warning(WarningReason::JobMark),
     }
 }
@@ -98,6 +99,7 @@ fn image_on(line: &[u8]) -> Finding<'_>
         card: 1,
         span: Span::on_card(0, OCTALS),
         text: without_return(line),
+        line: without_return(line),
         reason: Reason::Warning(WarningReason::ImageText),
     }
 }

@@ -12,7 +12,7 @@ use crate::reason::Reason;
 use indexmap::IndexMap;
 use l6_card::{columns_of, split_label};
 use l6_group::{Label, is_letter, label_of};
-use l6_word::first_line;
+use l6_word::{first_line, without_return};
 use std::alloc::{AllocError, Global};
 
 /// The labels that cards give, each with the card that gives it first.
@@ -116,6 +116,7 @@ pub(crate) fn label_finding(card: u32, line: &[u8], reason: Reason) -> Finding<'
         card,
         span: Span::on_card(0, label.len()),
         text: label,
+        line: without_return(line),
         reason,
     }
 }

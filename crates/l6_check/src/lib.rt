@@ -3,6 +3,7 @@
 
 mod advice;
 mod cards;
+mod certain;
 mod columns;
 mod conditions;
 mod element;
@@ -12,7 +13,8 @@ mod field_places;
 mod fields;
 mod finding;
 mod findings;
-mod group;
+mod forms;
+mod group_words;
 mod job;
 mod label_places;
 mod labels;
@@ -25,7 +27,6 @@ mod reading;
 mod reason;
 mod report;
 mod scan;
-mod shape;
 mod slips;
 mod targets;
 mod texts;
@@ -38,13 +39,14 @@ pub use fault::OutOfMemory;
 pub use fields::undefined_fields;
 pub use finding::{Finding, Severity, Span};
 pub use findings::{Findings, MAX_FINDINGS};
+pub use l6_group::{GroupFault, Shape};
 pub use labels::{Labels, LabelsFound, labels_of};
 pub use laws::checks_have_their_limits;
 pub use reading::{StatementErrors, statement_errors};
 pub use reason::{
-    FormReason, GroupFault, LabelText, LimitReason, MissingLabel, Reason, Shape, WarningReason,
+    CertainTrap, FormReason, LabelText, LimitReason, MissingLabel, Reason, WarningReason,
 };
 pub use report::{ProgramWarnings, Report, check};
 pub use verdict::first_error;
 pub use ways::{StatementWarnings, statement_warnings};
-pub use writing::{CheckedText, checked_text};
+pub use writing::{CheckedText, Layout, checked_text, checked_text_of};

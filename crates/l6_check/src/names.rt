@@ -10,11 +10,11 @@ ghost use Rattle.l6_check.specs.inner.Names as inner;
 use crate::explain::text_at;
 use crate::finding::Finding;
 use crate::findings::Findings;
-use crate::label_places::{Part, columns_on, span_of};
+use crate::label_places::{Part, line_on, span_of};
 use crate::labels::Labels;
 use crate::nearest::{label_text, nearest};
 use crate::reason::{MissingLabel, Reason};
-use l6_card::{DeckStatement, Placed, PlacedLabel};
+use l6_card::{DeckStatement, Placed, PlacedLabel, columns_of};
 use l6_group::Label;
 use l6_prog::{Exit, Op};
 use std::alloc::AllocError;
@@ -156,12 +156,14 @@ fn missing_on<'a>(given: &Labels, card: u32, label: &Label, part: Part<'a>) -> F
     ensures said { spec.missing_said result ≡ Some (card, label.now) }
     ensures place { IsOnItsCard result }
 {
-    let columns = columns_on(card, part);
+    let line = line_on(card, part);
+    let columns = columns_of(line);
     let span = span_of(columns, label);
     Finding {
         card,
         span,
         text: text_at(columns, span),
+        line,
         reason: Reason::NoLabel(MissingLabel {
             label: label_text(label),
             near: nearest(given, label),

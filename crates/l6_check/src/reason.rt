@@ -1,6 +1,6 @@
 //! Why something is found.
 
-use l6_group::MAX_LABEL_CHARACTERS;
+use l6_group::{GroupFault, MAX_LABEL_CHARACTERS};
 
 /// Why something is found on a card.
 #[derive(Clone, Copy, Debug)]
@@ -78,54 +78,6 @@ pub enum FormReason {
     Unread,
 }
 
-/// Why a group is no operation, or no test.
-#[derive(Clone, Copy, Debug)]
-pub enum GroupFault {
-    /// Nothing is spelled so.
-    Spelling,
-    /// An element is empty.
-    EmptyElement,
-    /// It has too few elements.
-    TooFew,
-    /// It has too many elements.
-    TooMany,
-    /// A comma is in a text.
-    CommaInText,
-    /// It looks like a definition, and begins with the field.
-    FieldFirst,
-    /// An element is not what stands there.
-    Element(Shape),
-    /// Nothing more is known.
-    Unread,
-}
-
-/// What an element has to be.
-#[derive(Clone, Copy, Debug, PartialEq, Eq)]
-pub enum Shape {
-    /// The spelling of the operation or the test.
-    Spelling,
-    /// A chain.
-    Chain,
-    /// A chain or a number.
-    Operand,
-    /// An octal number.
-    Octal,
-    /// A text that denotes a number.
-    Text,
-    /// A text that is printed.
-    LongText,
-    /// A label.
-    Label,
-    /// A field.
-    Field,
-    /// A chain, or nothing.
-    OptionalChain,
-    /// Nothing.
-    Nothing,
-    /// `S` or `R`.
-    SaveOrRestore,
-}
-
 /// What there is too much of.
 #[derive(Clone, Copy, Debug, PartialEq, Eq)]
 pub enum LimitReason {
@@ -135,6 +87,19 @@ pub enum LimitReason {
     Continuations,
     /// Of tests or of operations.
     Groups,
+}
+
+/// How an operation always traps.
+#[derive(Clone, Copy, Debug, PartialEq, Eq)]
+pub enum CertainTrap {
+    /// A field is defined by a word, or by bits, that none can have.
+    BadDefinition,
+    /// A number is divided by 0.
+    ZeroDivisor,
+    /// A block of no words, or of too many, is asked for.
+    BadSize,
+    /// No characters, or too many, are taken or printed.
+    BadCount,
 }
 
 /// What is worth a warning.
@@ -148,6 +113,10 @@ pub enum WarningReason {
     UnnamedLabel,
     /// No way leads to the statement.
     UnreachedStatement,
+    /// An operation always traps.
+    AlwaysTraps(CertainTrap),
+    /// An operation on a further card of the statement always traps.
+    LaterTraps(CertainTrap),
     /// Nothing in the deck defines the field whose name has this number, from 0 to 35.
     UndefinedField(u8),
     /// The card is a line that separates the parts of a job.

@@ -43,6 +43,8 @@ pub struct ProgramWarnings<'a> {
     pub unnamed: Findings<'a>,
     /// Those of statements that no way leads to.
     pub unreached: Findings<'a>,
+    /// Those of statements that have an operation which always traps.
+    pub trapping: Findings<'a>,
     /// Those of fields that are used and not defined.
     pub fields: Findings<'a>,
 }
@@ -81,11 +83,13 @@ fn program_warnings<'a>(
         conditions,
         unnamed,
         unreached,
+        trapping,
     } = statements;
     Ok(ProgramWarnings {
         conditions,
         unnamed,
         unreached,
+        trapping,
         fields,
     })
 }
@@ -133,6 +137,7 @@ fn with_errors<'a>(
             conditions: Findings::new(alloc),
             unnamed: Findings::new(alloc),
             unreached: Findings::new(alloc),
+            trapping: Findings::new(alloc),
             fields: Findings::new(alloc),
         },
     })

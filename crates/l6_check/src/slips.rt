@@ -1,5 +1,8 @@
 //! Words that people bring from other languages, and what to write in their place.
 
+ghost use Rattle.std.specs.Prelude.{◌≡◌};
+ghost use Rattle.l6_check.specs.Slips as spec;
+
 /// How many characters of a word are looked at for advice.
 pub(crate) const MAX_ADVISED: usize = 8;
 
@@ -51,15 +54,50 @@ pub(crate) fn operation_advice(characters: &[u8]) -> &'static str {
 }
 
 /// What to write in place of a test that is spelled so, if that is known.
-pub(crate) fn test_advice(characters: &[u8]) -> &'static str {
-    advised! {
-        characters;
+pub(crate) fn test_advice(characters: &[u8]) -> &'static str
+    ensures { result.now ≡ spec.test_slip characters.now }
+{
+    match characters {
         b"EQ" | b"=" | b"==" | b"IS" => "(c,E,cd) asks whether c is cd",
         b"NE" | b"NEQ" | b"!=" | b"<>" | b"/=" | b"NOT" => "(c,N,cd) asks whether c is not cd",
+        characters => order_advice(characters),
+    }
+}
+
+/// The same of a test of which number is greater.
+fn order_advice(characters: &[u8]) -> &'static str
+    ensures { result.now ≡ spec.order_slip characters.now }
+{
+    match characters {
         b"GR" | b">" => "(c,G,cd) asks whether c is greater than cd",
         b"LS" | b"LT" | b"<" => "(c,L,cd) asks whether c is less than cd",
+        characters => bound_advice(characters),
+    }
+}
+
+/// The same of a test of which number is not greater.
+fn bound_advice(characters: &[u8]) -> &'static str
+    ensures { result.now ≡ spec.bound_slip characters.now }
+{
+    match characters {
         b"GE" | b">=" | b"=>" => "NOT (c,L,cd) asks whether c is not less than cd",
         b"LE" | b"<=" | b"=<" => "NOT (c,G,cd) asks whether c is not greater than cd",
+        _ => "",
+    }
+}
+
+/// What to write in place of a condition that is spelled so, if that is known.
+pub(crate) fn condition_word_advice(characters: &[u8]) -> &'static str {
+    advised! {
+        characters;
+        b"DONE" | b"FAIL" => "an exit stands after the groups: (A,PD) DONE",
+        b"IFNOT" => "NOT alone is the condition: NOT (A,E,0) THEN DONE",
+        b"WHILE" | b"UNTIL" | b"FOR" | b"REPEAT" => "there are no loops: an exit to a label before it repeats a statement",
+        b"ELSE" | b"ELSEIF" | b"ELIF" | b"ELSIF" =>
+            "there is no ELSE: the next statement follows where a test does not hold",
+        b"THEN" => "THEN follows a condition and its tests, in the same statement: + in column 1 continues it",
+        b"GOTO" => "there is no GOTO: an exit is the label alone, after the groups",
+        b"CALL" | b"DO" => "(L,DO) calls the statement L",
     }
 }
 

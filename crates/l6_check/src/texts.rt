@@ -1,18 +1,19 @@
 //! The texts of findings, in one table.
 
 use crate::advice::{
-    column_advice, exit_advice, label_advice, mark_advice, operand_advice, spelling_advice,
-    then_advice,
+    column_advice, condition_advice, exit_advice, label_advice, mark_advice, then_advice,
+    unclosed_advice,
 };
 use crate::finding::{Finding, Severity};
-use crate::group::{form_advice, test_form_advice};
-use crate::reason::{FormReason, GroupFault, LabelText, LimitReason, Reason, Shape, WarningReason};
+use crate::forms::plain_word_advice;
+use crate::group_words::{operation_words, test_words};
+use crate::reason::{CertainTrap, FormReason, LabelText, LimitReason, Reason, WarningReason};
 use l6_prog::{DIGITS, NAMES};
 use std::{fmt, str};
 
 /// The sentence of a finding, in front of what was read and after it; and advice, or nothing.
 #[derive(Clone, Copy, Debug)]
-struct Words {
+pub(crate) struct Words {
     front: &'static str,
     back: &'static str,
     advice: &'static str,
@@ -20,7 +21,7 @@ struct Words {
 }
 
 /// A row of the table.
-fn row(front: &'static str, back: &'static str, advice: &'static str) -> Words {
+pub(crate) fn row(front: &'static str, back: &'static str, advice: &'static str) -> Words {
     Words {
         front,
         back,
@@ -30,7 +31,7 @@ fn row(front: &'static str, back: &'static str, advice: &'static str) -> Words {
 }
 
 /// A row whose sentence does not have what was read.
-fn unquoted(sentence: &'static str, advice: &'static str) -> Words {
+pub(crate) fn unquoted(sentence: &'static str, advice: &'static str) -> Words {
     Words {
         front: sentence,
         back: "",
@@ -52,37 +53,119 @@ impl fmt::Display for Severity {
 /// advice, if there is any.
 impl fmt::Display for Finding<'_> {
     fn fmt<W: fmt::Write>(&self, f: &mut fmt::Formatter<W>) -> fmt::Result {
-        let card = self.card;
-        let column = self.span.from.saturating_add(1);
-        let severity = self.severity();
-        let words = words_of(self.reason, self.text);
-        let text = if words.is_quoted {
-            shown(self.text)
-        } else {
-            ""
-        };
-        let front = words.front;
-        let back = words.back;
-        write!(f, "{card}:{column}: {severity}: {front}{text}{back}")?;
-        match self.reason {
-            Reason::TwiceLabelled(first) => write!(f, "{first}, too"),
-            Reason::NoLabel(missing) => write_nearest(f, &missing.near, words.advice),
-            Reason::Warning(WarningReason::UndefinedField(field)) => {
-                let name = char::from(character_of(field));
-                write!(f, "{name}, which nothing defines")?;
-                write_advice(f, words.advice)
-            }
-            _ => write_advice(f, words.advice),
-        }
+        let words = words_of(self);
+        write_sentence(f, self, words)?;
+        write_hint(f, self, words, "    ")
     }
 }
 
-/// Writes advice on a line of its own, if there is any.
-fn write_advice<W: fmt::Write>(f: &mut fmt::Formatter<W>, advice: &str) -> fmt::Result {
+/// A finding with its card, on lines of their own before the advice, and signs under its columns.
+#[derive(Clone, Copy, Debug)]
+pub(crate) struct WithCard<'a>(pub(crate) Finding<'a>);
+
+impl fmt::Display for WithCard<'_> {
+    fn fmt<W: fmt::Write>(&self, f: &mut fmt::Formatter<W>) -> fmt::Result {
+        let words = words_of(&self.0);
+        write_sentence(f, &self.0, words)?;
+        write_card(f, &self.0)?;
+        write_hint(f, &self.0, words, "      = ")
+    }
+}
+
+/// Writes the card, the column and what is wrong.
+fn write_sentence<W: fmt::Write>(
+    f: &mut fmt::Formatter<W>,
+    finding: &Finding<'_>,
+    words: Words,
+) -> fmt::Result {
+    let card = finding.card;
+    let column = finding.span.from.saturating_add(1);
+    let severity = finding.severity();
+    let text = if words.is_quoted {
+        shown(finding.text)
+    } else {
+        ""
+    };
+    let front = words.front;
+    let back = words.back;
+    write!(f, "{card}:{column}: {severity}: {front}{text}{back}")?;
+    match finding.reason {
+        Reason::TwiceLabelled(first) => write!(f, "{first}, too"),
+        Reason::Warning(WarningReason::UndefinedField(field)) => {
+            let name = char::from(character_of(field));
+            write!(f, "{name}, which nothing defines")
+        }
+        _ => Ok(()),
+    }
+}
+
+/// Writes a card as it is, and signs under the columns of a finding, if it is text that can be shown.
+fn write_card<W: fmt::Write>(f: &mut fmt::Formatter<W>, finding: &Finding<'_>) -> fmt::Result {
+    let line = finding.line;
+    let from = finding.span.from.min(line.len());
+    let to = finding.span.to.min(line.len());
+    let text = shown(line);
+    if text.len() != line.len() || from >= to {
+        return Ok(());
+    }
+    let card = finding.card;
+    write!(f, "\n{card:>5} | {text}\n      | ")?;
+    write_signs(f, &line[..from], " ")?;
+    write_signs(f, &line[from..to], "^")
+}
+
+/// Writes a sign for each character of a text, and a tab for each tab before it.
+fn write_signs<W: fmt::Write>(f: &mut fmt::Formatter<W>, text: &[u8], sign: &str) -> fmt::Result {
+    for byte in text {
+        if *byte == b'\t' {
+            f.write_str("\t")?;
+        } else if *byte < 0x80 || *byte >= 0xC0 {
+            f.write_str(sign)?;
+        }
+    }
+    Ok(())
+}
+
+/// Writes advice on a finding, or the label that is nearly the one that was read, after these signs.
+fn write_hint<W: fmt::Write>(
+    f: &mut fmt::Formatter<W>,
+    finding: &Finding<'_>,
+    words: Words,
+    signs: &str,
+) -> fmt::Result {
+    match &finding.reason {
+        Reason::NoLabel(missing) => write_nearest(f, &missing.near, words.advice, signs),
+        Reason::Warning(WarningReason::UndefinedField(_)) => {
+            write_field_advice(f, words.advice, plain_word_advice(finding.text), signs)
+        }
+        _ => write_advice(f, words.advice, signs),
+    }
+}
+
+/// Writes advice on a line of its own after these signs, if there is any.
+fn write_advice<W: fmt::Write>(
+    f: &mut fmt::Formatter<W>,
+    advice: &str,
+    signs: &str,
+) -> fmt::Result {
     if advice.is_empty() {
         return Ok(());
     }
-    write!(f, "\n    {advice}")
+    write!(f, "\n{signs}{advice}")
+}
+
+/// Writes advice on a chain with a field that nothing defines; if the chain is spelled as an operation,
+/// how that is written.
+fn write_field_advice<W: fmt::Write>(
+    f: &mut fmt::Formatter<W>,
+    advice: &str,
+    form: &str,
+    signs: &str,
+) -> fmt::Result {
+    if form.is_empty() {
+        return write_advice(f, advice, signs);
+    }
+    write!(f, "\n{signs}the word of an operation stands second: {form}")
 }
 
 /// Writes the label that is nearly the one that was read, or else advice.
@@ -90,12 +173,13 @@ fn write_nearest<W: fmt::Write>(
     f: &mut fmt::Formatter<W>,
     near: &Option<LabelText>,
     advice: &str,
+    signs: &str,
 ) -> fmt::Result {
     match near {
-        None => write_advice(f, advice),
+        None => write_advice(f, advice, signs),
         Some(near) => {
             let label = shown(characters_of(near));
-            write!(f, "\n    is it `{label}`?")
+            write!(f, "\n{signs}is it `{label}`?")
         }
     }
 }
@@ -131,10 +215,11 @@ fn shown(text: &[u8]) -> &str {
     }
 }
 
-/// The words of a reason, where this was read.
-fn words_of(reason: Reason, text: &[u8]) -> Words {
-    match reason {
-        Reason::Form(reason) => form_words(reason, text),
+/// The words of a finding.
+fn words_of(finding: &Finding<'_>) -> Words {
+    let text = finding.text;
+    match finding.reason {
+        Reason::Form(reason) => form_words(reason, text, finding),
         Reason::Limit(reason) => limit_words(reason),
         Reason::TwiceLabelled(_) => row("the label `", "` is given by card ", ""),
         Reason::NoLabel(_) => row("no card gives the label `", "`", label_advice(text)),
@@ -143,9 +228,9 @@ fn words_of(reason: Reason, text: &[u8]) -> Words {
 }
 
 /// The words of what has no reading.
-fn form_words(reason: FormReason, text: &[u8]) -> Words {
+fn form_words(reason: FormReason, text: &[u8], finding: &Finding<'_>) -> Words {
     match reason {
-        FormReason::Column => column_words(text),
+        FormReason::Column => column_words(text, finding.line),
         FormReason::ContinuesNothing => {
             row("`", "` in column 1, but no statement is there to go on", "")
         }
@@ -163,16 +248,19 @@ fn form_words(reason: FormReason, text: &[u8]) -> Words {
                 "a statement without a label has a blank in column 1",
             )
         }
-        FormReason::Unclosed => {
-            row(
-                "no ) closes `",
-                "`",
-                "a group ends on its card, before the next (",
-            )
-        }
-        FormReason::Unopened => row("no ( is there for this `", "`", ""),
-        FormReason::NoOperation(fault) => operation_words(fault, text),
+        FormReason::Unclosed => { row("no ) closes `", "`", unclosed_advice(text)) }
+        FormReason::Unopened => row(
+            "no ( is there for this `",
+            "`",
+            "each group has one ( before it and one ) after it, as (A,E,5)",
+        ),
+        FormReason::NoOperation(fault) => operation_words(fault, text, finding.is_whole_group()),
         FormReason::NoTest(fault) => test_words(fault, text),
+        FormReason::NoCondition => row(
+            "`",
+            "` follows a word that is no condition",
+            condition_advice(finding.before()),
+        ),
         _ => order_words(reason, text),
     }
 }
@@ -181,13 +269,6 @@ fn form_words(reason: FormReason, text: &[u8]) -> Words {
 fn order_words(reason: FormReason, text: &[u8]) -> Words {
     match reason {
         FormReason::AfterExit => row("`", "` follows an exit, and nothing can", ""),
-        FormReason::NoCondition => {
-            row(
-                "`",
-                "` follows a word that is no condition",
-                "a label begins in column 1; a condition is IF, NOT, IFALL, IFANY, IFNONE or IFNALL",
-            )
-        }
         FormReason::NoExit => row(
             "`",
             "` is no exit: no label, DONE or FAIL",
@@ -238,98 +319,6 @@ fn condition_words(reason: FormReason, text: &[u8]) -> Words {
             )
         }
         _ => row("`", "` has no reading", ""),
-    }
-}
-
-/// The words of a group that is no operation.
-fn operation_words(fault: GroupFault, text: &[u8]) -> Words {
-    match fault {
-        GroupFault::Spelling => {
-            row(
-                "no operation is spelled `",
-                "`",
-                spelling_advice(text, false),
-            )
-        }
-        GroupFault::TooFew => row("`", "` has too few elements", form_advice(text)),
-        GroupFault::TooMany => row("`", "` has too many elements", form_advice(text)),
-        _ => group_words(fault, text),
-    }
-}
-
-/// The words of a group that is no test.
-fn test_words(fault: GroupFault, text: &[u8]) -> Words {
-    match fault {
-        GroupFault::Spelling => row("no test is spelled `", "`", spelling_advice(text, true)),
-        GroupFault::TooFew => row("`", "` has too few elements", test_form_advice()),
-        GroupFault::TooMany => row("`", "` has too many elements", test_form_advice()),
-        _ => group_words(fault, text),
-    }
-}
-
-/// The words of a group.
-fn group_words(fault: GroupFault, text: &[u8]) -> Words {
-    match fault {
-        GroupFault::EmptyElement => {
-            unquoted(
-                "an element is empty",
-                "only the fourth element of (c,GT,cd,,L) and (c,DP,cd,,L) may be empty",
-            )
-        }
-        GroupFault::CommaInText => {
-            row(
-                "the text in `",
-                "` has a comma",
-                "a text has no comma and no parenthesis",
-            )
-        }
-        GroupFault::FieldFirst => {
-            row(
-                "the definition `",
-                "` begins with its field",
-                "the word comes first: (cd,Df,cd,cd) defines the field f",
-            )
-        }
-        GroupFault::Element(shape) => shape_words(shape, text),
-        _ => row("`", "` has no reading", ""),
-    }
-}
-
-/// The words of an element that is not what stands there.
-fn shape_words(shape: Shape, text: &[u8]) -> Words {
-    match shape {
-        Shape::Chain | Shape::OptionalChain => {
-            row(
-                "`",
-                "` is no chain",
-                "a chain is 1 to 6 letters or digits, the first a letter",
-            )
-        }
-        Shape::Operand => row("`", "` is no chain and no number", operand_advice(text)),
-        Shape::Octal => {
-            row(
-                "`",
-                "` is no octal number",
-                "its digits are 0 to 7, and it is below 2^36",
-            )
-        }
-        Shape::Text => row("`", "` is no text of 1 to 6 characters", ""),
-        Shape::LongText => row("`", "` is no text of 1 to 60 characters", ""),
-        Shape::Label => {
-            row(
-                "`",
-                "` is no label",
-                "a label is a letter and up to 5 letters or digits, and not DONE or FAIL",
-            )
-        }
-        Shape::Field => row("`", "` is no field", "a field is one letter or digit"),
-        Shape::Nothing => row(
-            "`",
-            "` stands where nothing may stand",
-            "write (c,DP,cd,,L)",
-        ),
-        Shape::SaveOrRestore => row("`", "` is neither S nor R", "S saves, and R restores"),
-        Shape::Spelling => row("`", "` has no reading", ""),
     }
 }
 
@@ -385,11 +374,17 @@ fn warning_words(reason: WarningReason, text: &[u8]) -> Words {
                 "no statement that a run can come to names it or goes on to it",
             )
         }
+        WarningReason::AlwaysTraps(trap) => row("`", "` always traps", trap_advice(trap)),
+        WarningReason::LaterTraps(trap) => row(
+            "an operation of the statement that `",
+            "` begins always traps",
+            trap_advice(trap),
+        ),
         WarningReason::UndefinedField(_) => {
             row(
                 "the chain `",
                 "` has the field ",
-                "(cd,Df,cd,cd) defines the field f; a run without it stops at this chain",
+                "a bug is one letter, and what follows it are fields: (cd,Df,cd,cd) defines the field f",
             )
         }
         WarningReason::JobMark => row("`", "` separates the parts of a job", mark_advice(text)),
@@ -403,12 +398,28 @@ fn warning_words(reason: WarningReason, text: &[u8]) -> Words {
     }
 }
 
+/// Advice on an operation that always traps so.
+fn trap_advice(trap: CertainTrap) -> &'static str {
+    match trap {
+        CertainTrap::BadDefinition => {
+            "a word is 0 to 1023, a bit is 0 to 35, and the first bit is not after the last: (0,DN,18,35)"
+        }
+        CertainTrap::ZeroDivisor => "nothing can be divided by 0",
+        CertainTrap::BadSize => "a block has 1 to 1024 words",
+        CertainTrap::BadCount => "1 to 6 characters are taken or printed at once",
+    }
+}
+
 /// The words of what cannot be in column 1.
-fn column_words(text: &[u8]) -> Words {
+fn column_words(text: &[u8], line: &[u8]) -> Words {
     match text {
         [byte] => {
             if byte.is_ascii() {
-                row("`", "` in column 1 begins no card", column_advice(text))
+                row(
+                    "`",
+                    "` in column 1 begins no card",
+                    column_advice(text, line),
+                )
             } else {
                 unquoted(
                     "column 1 is no ASCII character",
@@ -416,6 +427,10 @@ fn column_words(text: &[u8]) -> Words {
                 )
             }
         }
-        _ => row("`", "` in column 1 begins no card", column_advice(text)),
+        _ => row(
+            "`",
+            "` in column 1 begins no card",
+            column_advice(text, line),
+        ),
     }
 }

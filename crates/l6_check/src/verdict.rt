@@ -9,9 +9,10 @@ ghost use Rattle.l6_check.specs.Verdict as spec;
 
 use crate::fault::OutOfMemory;
 use crate::finding::{Finding, Span};
-use crate::label_places::{Part, columns_on};
+use crate::label_places::{Part, line_on};
 use crate::reason::{FormReason, LabelText, LimitReason, MissingLabel, Reason};
 use l6_asm::{AsmFault, assemble};
+use l6_card::columns_of;
 use l6_group::MAX_LABEL_CHARACTERS;
 use std::alloc::Global;
 
@@ -62,16 +63,16 @@ fn whole_card<'a>(deck: &'a [u8], card: u32, reason: Reason) -> Finding<'a>
     ensures number { result.card ≡ card }
     ensures why { result.reason ≡ reason }
 {
+    let whole = Part {
+        before: 0,
+        text: deck,
+    };
+    let line = line_on(card, whole);
     Finding {
         card,
         span: Span::whole(),
-        text: columns_on(
-            card,
-            Part {
-                before: 0,
-                text: deck,
-            },
-        ),
+        text: columns_of(line),
+        line,
         reason,
     }
 }

@@ -1,27 +1,34 @@
 //! The warnings of a deck's statements: labels that are spelled as conditions are or that no statement
 //! names, and statements that no way leads to.
 
-ghost use Rattle.std.specs.Prelude.{◌≡◌, ℕ, ◌+◌, ◌≤◌, ◌<◌, ◌^◌, ◌++◌, List, Some, length, IfOk, OnOk};
+ghost use Rattle.std.specs.Prelude.{◌≡◌, ℕ, ◌+◌, ◌-◌, ◌≤◌, min, ◌<◌, ◌^◌, ◌++◌, List, Some, length, IfOk, OnOk};
 ghost use Rattle.l6_word.specs.Lines.{lines_of};
-ghost use Rattle.l6_card.specs.Numerals.{most_deck_bytes};
+ghost use Rattle.l6_card.specs.Numerals.{card_width, most_deck_bytes};
 ghost use Rattle.l6_card.specs.Role.{role_of};
 ghost use Rattle.l6_check.specs.Kept.{Say};
-ghost use Rattle.l6_check.specs.Warnings.{card_if, condition_card, condition_cards};
+ghost use Rattle.l6_card.specs.Card.{columns_of};
+ghost use Rattle.l6_check.specs.Warnings.{blanks_before, card_if, condition_card, condition_cards};
+ghost use Rattle.l6_check.specs.Certain.{trapping_card};
 ghost use Rattle.l6_check.specs.Ways as spec;
+ghost use Rattle.l6_check.specs.declared.reason.Reason.TheVariants as Reason;
 ghost use Rattle.l6_check.specs.inner.StatementTests.{passed_card, passes_at, SaysWhere};
 
+use crate::certain::{certain_trap, first_trap, has_trap};
 use crate::conditions::{condition_on, gives_condition};
+use crate::explain::text_at;
 use crate::finding::{Finding, Span};
 use crate::findings::Findings;
+use crate::label_places::body_start;
 use crate::labels::{label_finding, label_on};
 use crate::marks::is_marked;
 use crate::reached::reached_statements;
-use crate::reason::{Reason, WarningReason};
-use crate::scan::{without_blanks, without_last_blanks};
+use crate::reason::{CertainTrap, Reason, WarningReason};
+use crate::scan::{columns_from, without_blanks, without_last_blanks};
 use crate::targets::named_statements;
-use l6_card::{Role, columns_of, role_of};
-use l6_prog::Program;
-use l6_word::first_line;
+use l6_card::{Role, Token, columns_of, first_item, role_of};
+use l6_group::operation_of;
+use l6_prog::{Program, Statement};
+use l6_word::{first_line, without_return};
 use std::alloc::{AllocError, Global};
 
 /// The warnings of a deck's statements.
@@ -33,6 +40,8 @@ pub struct StatementWarnings<'a> {
     pub unnamed: Findings<'a>,
     /// Those of statements that no way leads to.
     pub unreached: Findings<'a>,
+    /// Those of statements that have an operation which always traps.
+    pub trapping: Findings<'a>,
 }
 
 /// A test of statements.
@@ -40,15 +49,19 @@ pub struct StatementWarnings<'a> {
 pub(crate) enum StatementTest {
     /// Its label is spelled as a condition is.
     Condition,
-    /// It has a label, and nothing names the statement.
+    /// It has a label, nothing names the statement, and no way leads to it.
     Unnamed,
     /// No way leads to it.
     Unreached,
+    /// It has an operation that always traps.
+    Trapping,
 }
 
-/// Marks of the statements of a program, by their numbers.
+/// The statements of a program, and marks of them, by their numbers.
 #[derive(Clone, Copy)]
 pub(crate) struct Ways<'p> {
+    /// The statements.
+    pub(crate) statements: &'p [Statement],
     /// Of those that an exit or an operation names.
     pub(crate) named: &'p [bool],
     /// Of those that some way leads to.
@@ -69,13 +82,16 @@ pub fn statement_warnings<'a>(
     ensures conditions { IfOk result (λ found.
         Say condition_card (condition_cards deck.now) found.conditions) }
     ensures unnamed { IfOk result (λ found.
-        Say spec.unnamed_card (spec.unnamed_cards program.now deck.now) found.unnamed) }
+        spec.SayUnnamed program.now deck.now found.unnamed) }
     ensures unreached { IfOk result (λ found.
         spec.SayUnreached program.now deck.now found.unreached) }
+    ensures trapping { IfOk result (λ found.
+        Say trapping_card (spec.trapping_cards program.now deck.now) found.trapping) }
 {
     let named = named_statements(alloc, program)?;
     let reached = reached_statements(alloc, program)?;
     let ways = Ways {
+        statements: program.statements(),
         named: &named,
         reached: &reached,
     };
@@ -95,10 +111,13 @@ fn warnings_by<'a>(
         SaysWhere StatementTest.Unnamed ways.entry deck.now found.unnamed) }
     ensures unreached { IfOk result (λ found.
         SaysWhere StatementTest.Unreached ways.entry deck.now found.unreached) }
+    ensures trapping { IfOk result (λ found.
+        SaysWhere StatementTest.Trapping ways.entry deck.now found.trapping) }
 {
     let mut conditions = Findings::new(alloc);
     let mut unnamed = Findings::new(alloc);
     let mut unreached = Findings::new(alloc);
+    let mut trapping = Findings::new(alloc);
     let mut rest = deck;
     let mut card: u32 = 0;
     let mut number: u32 = 0;
@@ -109,6 +128,7 @@ fn warnings_by<'a>(
             add_if_passing(&mut conditions, ways, StatementTest::Condition, first)?;
             add_if_passing(&mut unnamed, ways, StatementTest::Unnamed, first)?;
             add_if_passing(&mut unreached, ways, StatementTest::Unreached, first)?;
+            add_if_passing(&mut trapping, ways, StatementTest::Trapping, first)?;
             number += 1;
         }
         rest = following;
@@ -117,6 +137,7 @@ fn warnings_by<'a>(
         conditions,
         unnamed,
         unreached,
+        trapping,
     })
 }
 
@@ -142,7 +163,7 @@ fn add_if_passing<'a>(
     ensures count { OnOk result (found.new.count ≤ found.old.count + 1) }
 {
     if test.passes(ways, card) {
-        return found.add(test.warning_on(card));
+        return found.add(test.warning_on(ways, card));
     }
     Ok(())
 }
@@ -156,14 +177,17 @@ impl StatementTest {
         match self {
             StatementTest::Condition => gives_condition(card.line),
             StatementTest::Unnamed => {
-                label_on(card.line).is_some() && !is_marked(ways.named, number)
+                label_on(card.line).is_some()
+                    && !is_marked(ways.named, number)
+                    && !is_marked(ways.reached, number)
             }
             StatementTest::Unreached => !is_marked(ways.reached, number),
+            StatementTest::Trapping => has_trap(ways.statements, number),
         }
     }
 
     /// The warning of one that does.
-    fn warning_on(self, card: Numbered<'_>) -> Finding<'_>
+    fn warning_on<'a>(self, ways: Ways<'_>, card: Numbered<'a>) -> Finding<'a>
         ensures { passed_card self result ≡ Some card.entry.card }
     {
         match self {
@@ -172,7 +196,10 @@ impl StatementTest {
                 let reason = Reason::Warning(WarningReason::UnnamedLabel);
                 label_finding(card.card, card.line, reason)
             }
-            StatementTest::Unreached => unreached_on(card.card, card.line),
+            StatementTest::Unreached => {
+                statement_on(card.card, card.line, WarningReason::UnreachedStatement)
+            }
+            StatementTest::Trapping => trapping_on(ways.statements, card),
         }
     }
 }
@@ -187,17 +214,63 @@ fn begins_statement(line: &[u8]) -> bool
     }
 }
 
-/// The warning of a card that begins a statement to which no way leads.
-fn unreached_on(card: u32, line: &[u8]) -> Finding<'_>
-    ensures { spec.unreached_card result ≡ Some card }
+/// The warning of a card that begins a statement which has an operation that always traps: on the card,
+/// if it is there, and else on all that the card has.
+fn trapping_on<'a>(statements: &[Statement], card: Numbered<'a>) -> Finding<'a>
+    ensures { trapping_card result ≡ Some card.entry.card }
+{
+    if let Some((span, trap)) = trap_place(columns_of(card.line)) {
+        return Finding {
+            card: card.card,
+            span,
+            text: text_at(columns_of(card.line), span),
+            line: without_return(card.line),
+            reason: Reason::Warning(WarningReason::AlwaysTraps(trap)),
+        };
+    }
+    let trap = first_trap(statements, card.number as usize).unwrap_or(CertainTrap::BadDefinition);
+    statement_on(card.card, card.line, WarningReason::LaterTraps(trap))
+}
+
+/// Where an operation on a card with these columns always traps, and how: the first one that does.
+fn trap_place(columns: &[u8]) -> Option<(Span, CertainTrap)> {
+    let mut rest = columns_from(columns, body_start(columns));
+    loop {
+        match first_item(rest) {
+            Token::End | Token::Other => return None,
+            Token::Word(_, following) => rest = following,
+            Token::Group(inside, following) => {
+                if let Some(trap) = group_trap(inside) {
+                    let to = columns.len().saturating_sub(following.len());
+                    let from = to.saturating_sub(inside.len()).saturating_sub(2);
+                    return Some((Span::on_card(from, to), trap));
+                }
+                rest = following;
+            }
+        }
+    }
+}
+
+/// How the operation that a group spells always traps, if it does.
+fn group_trap(inside: &[u8]) -> Option<CertainTrap> {
+    let operation = operation_of(inside)?;
+    certain_trap(&operation)
+}
+
+/// The warning of a card that begins a statement.
+fn statement_on(card: u32, line: &[u8], reason: WarningReason) -> Finding<'_>
+    ensures card { result.card ≡ card }
+    ensures reason { result.reason ≡ Reason.Warning reason }
+    ensures from { result.span.from ≡ min (blanks_before (columns_of line.now)) (card_width - 1) }
 {
     let columns = columns_of(line);
     let text = without_last_blanks(without_blanks(columns));
-    let from = columns.len().saturating_sub(without_blanks(columns).len());
+    let from = columns.len() - without_blanks(columns).len();
     Finding {
         card,
         span: Span::on_card(from, from.saturating_add(text.len())),
         text,
-        reason: Reason::Warning(WarningReason::UnreachedStatement),
+        line: without_return(line),
+        reason: Reason::Warning(reason),
     }
 }

@@ -17,13 +17,13 @@ elements-front (first ∷ rest) following lacking =
     rw parts.0 (ap (onto_first first) (elements-front rest following parts.1))
 
 -- the first element ends at the first comma
-elements-cut : {columns front following : List ℕ} →
+pub elements-cut : {columns front following : List ℕ} →
     IsCutAt (byte ",") columns front following → elements_of columns ≡ front ∷ elements_of following
 elements-cut {columns} {front} {following} cut = ap elements_of cut.whole
     ∙ elements-front front following cut.first
 
 -- columns without a comma are one element
-elements-lacks : (columns : List ℕ) → lacks (byte ",") columns ≡ true →
+pub elements-lacks : (columns : List ℕ) → lacks (byte ",") columns ≡ true →
     elements_of columns ≡ columns ∷ []
 elements-lacks [] lacking = refl
 elements-lacks (first ∷ rest) lacking =
@@ -54,7 +54,7 @@ element_following false column (part ∷ parts) =
     record { first = column ∷ part; others = parts; all = refl }
 
 -- columns have an element
-has_element : (columns : List ℕ) → HasElement (elements_of columns)
+pub has_element : (columns : List ℕ) → HasElement (elements_of columns)
 has_element [] = record { first = []; others = []; all = refl }
 has_element (column ∷ columns) = element_following (is_comma column) column (elements_of columns)
 

@@ -9,5 +9,7 @@ pub mod Label
 pub mod Value
 pub mod Test
 pub mod Operation
+pub mod Shape
+pub mod Objection
 pub mod Word
 pub mod inner

@@ -4,7 +4,9 @@ use Rattle.l6_word.specs.Lines.{lines_of}
 use Rattle.l6_prog.specs.Target.{targets_of}
 use Rattle.l6_check.specs.Kept.{Say}
 use Rattle.l6_check.specs.Warnings.{condition_card}
-use Rattle.l6_check.specs.Ways.{AreReached, unnamed_card}
+use Rattle.l6_prog.specs.Statement.{Parts}
+use Rattle.l6_check.specs.Certain.{trapping_card, traps_in}
+use Rattle.l6_check.specs.Ways.{AreReached, statements_where, unnamed_card}
 use Rattle.l6_check.specs.inner.Marks.{AreMarks, is_marked}
 use Rattle.l6_check.proofs.Keeping.{if_ok}
 use Rattle.l6_check.proofs.WaySteps.{conditions_same, unnamed_same}
@@ -21,9 +23,16 @@ returns-clause-unnamed c =
     let program = c.args.program.now in
     let are = subst (λ (m : List Bool). AreMarks (flat_map targets_of program) m)
     (sym c.deref.ensures.value) c.in_ok-named.ensures in
+    let marks = c.deref-2.result.now in
+    let are_reached = subst (λ (m : List Bool). AreReached program (is_marked m))
+    (sym c.deref-2.ensures.value) c.in_ok-reached.ensures in
     if_ok c.warnings_by.result c.warnings_by.ensures.unnamed (λ found says.
-    subst (λ (l : List ℕ). Say unnamed_card l found.unnamed)
-    (unnamed_same program c.deref.result.now are (lines_of c.args.deck.now)) says)
+    record {
+      reached = is_marked marks;
+      are = are_reached;
+      said = subst (λ (l : List ℕ). Say unnamed_card l found.unnamed)
+          (unnamed_same program c.deref.result.now (is_marked marks) are (lines_of c.args.deck.now)) says;
+    })
 
 pub returns-clause-unreached : goal.returns-clause-unreached
 returns-clause-unreached c =
@@ -32,3 +41,10 @@ returns-clause-unreached c =
     (sym c.deref-2.ensures.value) c.in_ok-reached.ensures in
     if_ok c.warnings_by.result c.warnings_by.ensures.unreached (λ found says.
     record { reached = is_marked marks; are = are; said = says })
+
+pub returns-clause-trapping : goal.returns-clause-trapping
+returns-clause-trapping c =
+    if_ok c.warnings_by.result c.warnings_by.ensures.trapping (λ found says.
+    subst (λ (p : List Parts).
+    Say trapping_card (statements_where (traps_in p) 0 1 (lines_of c.args.deck.now)) found.trapping)
+    c.statements.ensures.value says)

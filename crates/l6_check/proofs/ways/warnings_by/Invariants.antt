@@ -1,5 +1,5 @@
 use Rattle.std.proofs.Common.{◌+◌, ◌≤◌, length}
-use Rattle.l6_check.specs.declared.ways.StatementTest.TheVariants.{Condition, Unnamed, Unreached}
+use Rattle.l6_check.specs.declared.ways.StatementTest.TheVariants.{Condition, Unnamed, Unreached, Trapping}
 use Rattle.l6_check.proofs.WaySteps.{SaysSoFar}
 use Rattle.l6_check.proofs.ways.warnings_by.Given as goal
 
@@ -9,9 +9,11 @@ invariant-loop-line l = record {
   conditions : SaysSoFar Condition l.ways l.conditions l.number l.card l.rest l.deck;
   unnamed : SaysSoFar Unnamed l.ways l.unnamed l.number l.card l.rest l.deck;
   unreached : SaysSoFar Unreached l.ways l.unreached l.number l.card l.rest l.deck;
+  trapping : SaysSoFar Trapping l.ways l.trapping l.number l.card l.rest l.deck;
   few : l.conditions.count ≤ l.card;
   few_unnamed : l.unnamed.count ≤ l.card;
   few_unreached : l.unreached.count ≤ l.card;
+  few_trapping : l.trapping.count ≤ l.card;
   numbers : l.card + length l.rest ≤ length l.deck;
   below : l.number ≤ l.card;
 }

@@ -1,0 +1,32 @@
+use Rattle.std.proofs.Common.{arith, sym, ◌∙◌}
+use Rattle.l6_check.specs.declared.ways.StatementTest.TheVariants.{Condition, Unnamed, Unreached, Trapping}
+use Rattle.l6_check.proofs.WaySteps.{statement_taken}
+use Rattle.l6_check.proofs.ways.warnings_by.Goals as goal
+
+pub loop-line-preserved-in_ok-add_if_passing-4 : goal.loop-line-preserved-in_ok-add_if_passing-4
+loop-line-preserved-in_ok-add_if_passing-4 c =
+    let far = c.loop-line.invariant in
+    let ways = c.args.ways in
+    let deck = c.args.deck.now in
+    let number = c.loop-line.number in
+    let card = c.loop-line.card in
+    let rest = c.loop-line.rest.now in
+    let split = c.in-Some.ensures.lines in
+    let shorter = c.in-Some.ensures.shorter in
+    let first = sym c.begins_statement.ensures ∙ c.if-begins_statement.true in
+    let one = c.in_ok-add_if_passing.ensures in
+    let two = c.in_ok-add_if_passing-2.ensures in
+    let three = c.in_ok-add_if_passing-3.ensures in
+    let four = c.in_ok-add_if_passing-4.ensures in
+    record {
+      conditions = statement_taken Condition ways _ _ number card _ rest _ deck split first one.said far.conditions;
+      unnamed = statement_taken Unnamed ways _ _ number card _ rest _ deck split first two.said far.unnamed;
+      unreached = statement_taken Unreached ways _ _ number card _ rest _ deck split first three.said far.unreached;
+      trapping = statement_taken Trapping ways _ _ number card _ rest _ deck split first four.said far.trapping;
+      few = omega (arith, far.few, one.count);
+      few_unnamed = omega (arith, far.few_unnamed, two.count);
+      few_unreached = omega (arith, far.few_unreached, three.count);
+      few_trapping = omega (arith, far.few_trapping, four.count);
+      numbers = omega (arith, far.numbers, shorter);
+      below = omega (arith, far.below);
+    }

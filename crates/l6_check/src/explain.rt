@@ -22,12 +22,15 @@ pub(crate) fn reading_error(objection: Objection, part: Part<'_>) -> Finding<'_>
     let piece = Span::on_card(objection.from, objection.to);
     match objection.reason {
         Kind::NoOperation => {
-            let (span, fault) = group_part(piece, operation_objection(inside(line, piece)));
+            let (span, fault) = group_part(
+                piece,
+                operation_objection(inside(columns_of(line), piece)),
+            );
             let reason = FormReason::NoOperation(fault);
             found(objection.card, line, span, Reason::Form(reason))
         }
         Kind::NoTest => {
-            let (span, fault) = group_part(piece, test_objection(inside(line, piece)));
+            let (span, fault) = group_part(piece, test_objection(inside(columns_of(line), piece)));
             let reason = FormReason::NoTest(fault);
             found(objection.card, line, span, Reason::Form(reason))
         }
@@ -46,7 +49,8 @@ fn group_part(piece: Span, objection: Option<GroupObjection>) -> (Span, GroupFau
     ensures part { ArePartOf piece result.0 }
 {
     match objection {
-        None => (piece, GroupFault::Unread),
+        // (the reader of cards has said that it has no reading)
+        None => (piece, GroupFault::Spelling),
         Some(why) => (piece.part(why.start, why.length), why.fault),
     }
 }
@@ -73,9 +77,9 @@ fn piece_reason(kind: Kind) -> Reason
         Kind::LabelBarred => FormReason::LabelBarred,
         Kind::Unclosed => FormReason::Unclosed,
         Kind::Unopened => FormReason::Unopened,
-        Kind::NoOperation => FormReason::NoOperation(GroupFault::Unread),
+        Kind::NoOperation => FormReason::NoOperation(GroupFault::Spelling),
         Kind::TestForOperation => FormReason::TestForOperation,
-        Kind::NoTest => FormReason::NoTest(GroupFault::Unread),
+        Kind::NoTest => FormReason::NoTest(GroupFault::Spelling),
         Kind::OperationForTest => FormReason::OperationForTest,
         Kind::ThenMissing => FormReason::ThenMissing,
         Kind::SecondTest => FormReason::SecondTest,
@@ -100,7 +104,7 @@ fn found(card: u32, line: &[u8], span: Span, reason: Reason) -> Finding<'_>
         card,
         span,
         text: text_at(columns_of(line), span),
-        line: without_return(line),
+        line,
         reason,
     }
 }

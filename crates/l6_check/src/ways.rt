@@ -237,7 +237,7 @@ fn trap_place(columns: &[u8]) -> Option<(Span, CertainTrap)> {
     let mut rest = columns_from(columns, body_start(columns));
     loop {
         match first_item(rest) {
-            Token::End | Token::Other => return None,
+            Token::End | Token::Unclosed(_) | Token::Unopened(_) => return None,
             Token::Word(_, following) => rest = following,
             Token::Group(inside, following) => {
                 if let Some(trap) = group_trap(inside) {

@@ -102,8 +102,8 @@ ShowsView rule names context now Checkpoints text =
 ShowsView rule names context now Info text =
     text ≡ info_text names.labels (state_at rule context now.number).memory now
 ShowsView rule names context now ListHere text =
-    text ≡ near_text names (state_at rule context now.number).at.statement
-ShowsView rule names context now (ListNear s) text = text ≡ near_text names s
+    text ≡ near_text names.deck (state_at rule context now.number).at.statement
+ShowsView rule names context now (ListNear s) text = text ≡ near_text names.deck s
 ShowsView rule names context now Help text = text ≡ help_text
 ShowsView rule names context now Set text =
     text ≡ codes "A run is never changed: change the deck, and debug that one\n"

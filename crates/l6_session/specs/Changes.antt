@@ -25,13 +25,17 @@ abbrev pub value_text : Option ℕ → List ℕ
 value_text None = codes "can't be followed"
 value_text (Some word) = decimal word
 
--- what a watched chain read as, and what it reads as now, if that is another value
+-- what a watched chain read as, and what it reads as now
+abbrev pub values_text : Option ℕ → Option ℕ → List ℕ
+values_text was is = value_text was ++ codes " -> " ++ value_text is
+
+abbrev pub change_line : List ℕ → Option ℕ → Option ℕ → List ℕ
+change_line chain was is =
+    codes "      watch " ++ chain_text chain ++ codes ": " ++ values_text was is ++ codes "\n"
+
+-- a line for each chain that reads as another value than before
 abbrev pub watch_line : List ℕ → Option ℕ → Option ℕ → List ℕ
-watch_line chain was is =
-    if differs was is
-    then codes "      watch " ++ chain_text chain ++ codes ": " ++ value_text was ++ codes " -> "
-    ++ value_text is ++ codes "\n"
-    else []
+watch_line chain was is = if differs was is then change_line chain was is else []
 
 abbrev pub watch_lines : Memory → List (Option ℕ) → List (List ℕ) → List ℕ
 watch_lines memory (was ∷ befores) (chain ∷ chains) =

@@ -6,6 +6,14 @@ use Prim.Native.String.{String}
 use Rattle.l6_debug.specs.Command.{words_in}
 use Rattle.l6_session.specs.Near.{is_one_off}
 use Rattle.l6_session.specs.Numerals.{least_near}
+use Rattle.l6_session.specs.declared.command.Command.TheVariants as command
+use Rattle.l6_session.specs.declared.command.Move.{Move}
+use Rattle.l6_session.specs.declared.command.Move.TheVariants as moves
+use Rattle.l6_session.specs.declared.command.Setting.TheVariants.{DeleteAll}
+use Rattle.l6_session.specs.declared.command.View.{View}
+use Rattle.l6_session.specs.declared.command.View.TheVariants as views
+use Rattle.l6_session.specs.declared.command.Reading.{Reading}
+use Rattle.l6_session.specs.declared.command.Reading.TheVariants as reading
 use Rattle.l6_session.specs.declared.command.Verb.{Verb}
 use Rattle.l6_session.specs.declared.command.Verb.TheVariants.{Step, Back, Next, ReverseNext, Finish, ReverseFinish, Continue, ReverseContinue, Until, Run, Goto, Start, End, List as ListCards, Break, TemporaryBreak, Enable, Disable, Delete, Info, Watch, Unwatch, Display, Undisplay, Print, Block, Where, Stack, Show, Fields, Draw, Store, Lists, Stats, Out, Checkpoints, Help, Quit, Set, Ignore, Condition}
 
@@ -159,6 +167,57 @@ verbs =
     Delete ∷ Info ∷ Watch ∷ Unwatch ∷ Display ∷ Undisplay ∷ Print ∷ Block ∷ Where ∷ Stack ∷
     Show ∷ Fields ∷ Draw ∷ Store ∷ Lists ∷ Stats ∷ Out ∷ Checkpoints ∷ Help ∷ Quit ∷ Set ∷
     Ignore ∷ Condition ∷ []
+
+abbrev pub moved : Move → Reading
+moved to = reading.Asked (command.Move to)
+
+abbrev pub shown : View → Reading
+shown view = reading.Asked (command.View view)
+
+-- what a command asks for that no word follows: one goes to another state, or something is shown, or more
+-- is missing
+abbrev pub alone : Verb → Reading
+alone Step = moved (moves.Step 1)
+alone Back = moved (moves.Back 1)
+alone Next = moved (moves.Next 1)
+alone ReverseNext = moved (moves.ReverseNext 1)
+alone Finish = moved moves.Finish
+alone ReverseFinish = moved moves.ReverseFinish
+alone Continue = moved (moves.Continue 1)
+alone ReverseContinue = moved (moves.ReverseContinue 1)
+alone Until = moved moves.UntilNext
+alone Run = moved moves.Run
+alone Goto = reading.Missing Goto
+alone Start = moved (moves.Goto 0)
+alone End = moved moves.End
+alone ListCards = shown views.ListHere
+alone Break = shown views.Info
+alone TemporaryBreak = reading.Missing TemporaryBreak
+alone Enable = reading.Missing Enable
+alone Disable = reading.Missing Disable
+alone Delete = reading.Asked (command.Setting DeleteAll)
+alone Info = shown views.Info
+alone Watch = shown views.Info
+alone Unwatch = reading.Missing Unwatch
+alone Display = shown views.Info
+alone Undisplay = reading.Missing Undisplay
+alone Print = shown views.Show
+alone Block = reading.Missing Block
+alone Where = shown views.Where
+alone Stack = shown views.Stack
+alone Show = shown views.Show
+alone Fields = shown views.Fields
+alone Draw = shown views.Draw
+alone Store = shown views.Store
+alone Lists = shown views.Lists
+alone Stats = shown views.Stats
+alone Out = shown views.Out
+alone Checkpoints = shown views.Checkpoints
+alone Help = shown views.Help
+alone Quit = reading.Quit
+alone Set = shown views.Set
+alone Ignore = shown views.Ignore
+alone Condition = shown views.Condition
 
 -- the word is one of the command's
 abbrev pub is_word_of : Verb → List ℕ → Bool

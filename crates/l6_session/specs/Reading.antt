@@ -6,71 +6,19 @@ use Rattle.l6_group.specs.Character.{spelled}
 use Rattle.l6_group.specs.Element.{chain_of, operand_of}
 use Rattle.l6_group.specs.Spelling.{◌>>=◌}
 use Rattle.l6_debug.specs.Command.{number_of, words_in}
-use Rattle.l6_session.specs.Command.{named_among, nearly_among, verbs}
+use Rattle.l6_session.specs.Command.{alone, moved, named_among, nearly_among, shown, verbs}
 use Rattle.l6_session.specs.Names.{Names, statement_of}
 use Rattle.l6_session.specs.Numerals.{most_command_word}
 use Rattle.l6_session.specs.Topics.{topic_of}
 use Rattle.l6_session.specs.declared.command.Command.{Command}
 use Rattle.l6_session.specs.declared.command.Command.TheVariants.{Move, Setting, View}
-use Rattle.l6_session.specs.declared.command.Move.{Move as moves}
-use Rattle.l6_session.specs.declared.command.Move.TheVariants.{Step, Back, Goto, End, Next, ReverseNext, Finish, ReverseFinish, Continue, ReverseContinue, Run, Until, UntilNext}
-use Rattle.l6_session.specs.declared.command.Setting.TheVariants.{Break, TemporaryBreak, Delete, DeleteAll, Watch, Unwatch, Display, Undisplay}
-use Rattle.l6_session.specs.declared.command.View.{View as views}
-use Rattle.l6_session.specs.declared.command.View.TheVariants.{Print, Block, Where, Stack, Show, Fields, Draw, Store, Lists, Stats, Out, Checkpoints, Info, ListHere, ListNear, Help, Set, Ignore, Condition}
+use Rattle.l6_session.specs.declared.command.Move.TheVariants.{Step, Back, Goto, Next, ReverseNext, Continue, ReverseContinue, Until}
+use Rattle.l6_session.specs.declared.command.Setting.TheVariants.{Break, TemporaryBreak, Delete, Watch, Unwatch, Display, Undisplay}
+use Rattle.l6_session.specs.declared.command.View.TheVariants.{Print, Block, ListNear, Set, Ignore, Condition}
 use Rattle.l6_session.specs.declared.command.Verb.{Verb}
 use Rattle.l6_session.specs.declared.command.Verb.TheVariants as verb
 use Rattle.l6_session.specs.declared.command.Reading.{Reading}
-use Rattle.l6_session.specs.declared.command.Reading.TheVariants.{Skipped, Wrong, Nearly, Missing, Unfit, NoStatement, NoChain, HelpOn, Quit, Asked}
-
-abbrev pub moved : moves → Reading
-moved to = Asked (Move to)
-
-abbrev pub shown : views → Reading
-shown view = Asked (View view)
-
--- what a command asks for that no word follows
-abbrev pub alone : Verb → Reading
-alone verb.Step = moved (Step 1)
-alone verb.Back = moved (Back 1)
-alone verb.Next = moved (Next 1)
-alone verb.ReverseNext = moved (ReverseNext 1)
-alone verb.Finish = moved Finish
-alone verb.ReverseFinish = moved ReverseFinish
-alone verb.Continue = moved (Continue 1)
-alone verb.ReverseContinue = moved (ReverseContinue 1)
-alone verb.Until = moved UntilNext
-alone verb.Run = moved Run
-alone verb.Goto = Missing verb.Goto
-alone verb.Start = moved (Goto 0)
-alone verb.End = moved End
-alone verb.List = shown ListHere
-alone verb.Break = shown Info
-alone verb.TemporaryBreak = Missing verb.TemporaryBreak
-alone verb.Enable = Missing verb.Enable
-alone verb.Disable = Missing verb.Disable
-alone verb.Delete = Asked (Setting DeleteAll)
-alone verb.Info = shown Info
-alone verb.Watch = shown Info
-alone verb.Unwatch = Missing verb.Unwatch
-alone verb.Display = shown Info
-alone verb.Undisplay = Missing verb.Undisplay
-alone verb.Print = shown Show
-alone verb.Block = Missing verb.Block
-alone verb.Where = shown Where
-alone verb.Stack = shown Stack
-alone verb.Show = shown Show
-alone verb.Fields = shown Fields
-alone verb.Draw = shown Draw
-alone verb.Store = shown Store
-alone verb.Lists = shown Lists
-alone verb.Stats = shown Stats
-alone verb.Out = shown Out
-alone verb.Checkpoints = shown Checkpoints
-alone verb.Help = shown Help
-alone verb.Quit = Quit
-alone verb.Set = shown Set
-alone verb.Ignore = shown Ignore
-alone verb.Condition = shown Condition
+use Rattle.l6_session.specs.declared.command.Reading.TheVariants.{Skipped, Wrong, Nearly, Unfit, NoStatement, NoChain, HelpOn, Asked}
 
 -- what a command and a number ask for
 abbrev pub numbered : Verb → ℕ → Reading

@@ -6,7 +6,7 @@ use Rattle.l6_group.specs.declared.label.Label.{Label}
 use Rattle.l6_card.specs.Role.{role_of}
 use Rattle.l6_word.specs.Lines.{lines_of, without_return}
 use Rattle.l6_steps.specs.State.{Memory}
-use Rattle.l6_session.specs.Names.{Names, begun_with}
+use Rattle.l6_session.specs.Names.{begun_with}
 use Rattle.l6_session.specs.Numerals.{card_places, near_statements}
 use Rattle.l6_session.specs.SessionState.{SessionState}
 use Rattle.l6_session.specs.Texts.{chain_line, numbered_line, statement_line}
@@ -78,5 +78,5 @@ near_from statement card begun (line ∷ lines) =
     (if is_near statement (begun_with (role_of line) begun) then card_line (card + 1) line else [])
     ++ near_from statement (card + 1) (begun_with (role_of line) begun) lines
 
-abbrev pub near_text : Names → ℕ → List ℕ
-near_text names statement = near_from statement 0 0 (lines_of names.deck)
+abbrev pub near_text : List ℕ → ℕ → List ℕ
+near_text deck statement = near_from statement 0 0 (lines_of deck)

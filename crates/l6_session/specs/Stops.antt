@@ -1,19 +1,26 @@
 -- What a session answers where it stops.
-use Rattle.std.specs.Prelude.{ℕ, ◌==◌, List, [], ◌++◌, codes, Option, Some, None, if◌then◌else◌}
+use Rattle.std.specs.Prelude.{ℕ, ◌==◌, List, [], ◌++◌, codes, decimal, Option, Some, if◌then◌else◌}
 use Rattle.l6_group.specs.declared.label.Label.{Label}
 use Rattle.l6_steps.specs.State.{RunContext, State, is_last}
 use Rattle.l6_steps.specs.declared.halt.Halt.{Halt}
 use Rattle.l6_steps.specs.declared.halt.Halt.TheVariants.{Done, Fail}
+use Rattle.l6_steps.specs.declared.position.Position.{Position}
 use Rattle.l6_machine.specs.Printout.{ending_line}
-use Rattle.l6_debug.specs.Answer.{place_line}
 use Rattle.l6_session.specs.Changes.{Seen, changes_text}
 use Rattle.l6_session.specs.Reports.{displayed_text}
 use Rattle.l6_session.specs.SessionState.{SessionState}
 use Rattle.l6_session.specs.Texts.{label_text}
 
--- where a state is, or how the run has ended, as the debugger of jobs says it
+-- where a state is and after how many steps, or how the run has ended, as the debugger of jobs says it
+abbrev pub at_text : Position → List ℕ
+at_text at = codes "AT " ++ decimal at.statement ++ codes "." ++ decimal at.action
+
+abbrev pub steps_text : ℕ → List ℕ
+steps_text count = codes " AFTER " ++ decimal count ++ codes " STEPS"
+
 abbrev pub state_text : RunContext → State → List ℕ
-state_text context state = if is_last context state then ending_line state else place_line state
+state_text context state =
+    if is_last context state then ending_line state else at_text state.at ++ steps_text state.count
 
 -- and then, unless the run has come to its end, the label and details: the cards of the statement and,
 -- for a trap, its reason

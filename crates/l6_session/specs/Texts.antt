@@ -133,19 +133,27 @@ followed memory field pointer = do
   Ok (content memory at)
 
 -- why a field can't be followed from a pointer on, to which the names before it lead
-abbrev pub no_block_text : ℕ → List ℕ
-no_block_text pointer =
+abbrev pub undefined_text : ℕ → List ℕ
+undefined_text field = codes "the field " ++ chain_text (field ∷ []) ++ codes " is not defined\n"
+
+abbrev pub link_text : ℕ → List ℕ
+link_text pointer =
     if pointer == 0 then codes ", which is no block: it was never set, or was set to 0\n"
     else codes ", where no block begins: it holds no link, or the block there was freed\n"
 
-abbrev pub break_text : List ℕ → ℕ → ℕ → Trap → List ℕ
-break_text front field pointer UndefinedField =
-    codes "the field " ++ chain_text (field ∷ []) ++ codes " is not defined\n"
-break_text front field pointer NotABlock =
-    chain_text front ++ codes " is " ++ decimal pointer ++ no_block_text pointer
-break_text front field pointer other =
+abbrev pub no_block_text : List ℕ → ℕ → List ℕ
+no_block_text front pointer =
+    chain_text front ++ codes " is " ++ decimal pointer ++ link_text pointer
+
+abbrev pub outside_text : ℕ → ℕ → List ℕ
+outside_text field pointer =
     codes "the word of the field " ++ chain_text (field ∷ [])
     ++ codes " is past the end of the block at " ++ decimal pointer ++ codes "\n"
+
+abbrev pub break_text : List ℕ → ℕ → ℕ → Trap → List ℕ
+break_text front field pointer UndefinedField = undefined_text field
+break_text front field pointer NotABlock = no_block_text front pointer
+break_text front field pointer other = outside_text field pointer
 
 -- the first of these fields that can't be followed, and why, where the names before them lead to a
 -- pointer

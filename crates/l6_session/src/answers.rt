@@ -142,6 +142,7 @@ fn push_setting<S: Places>(
 {
     let watched = session.stop().watched().len();
     let displayed = session.displayed().len();
+    let machine = session.machine();
     match setting {
         Setting::Break(s) => push_statement(text, BREAK, names, *s),
         Setting::TemporaryBreak(s) => push_statement(text, ONCE, names, *s),
@@ -149,32 +150,38 @@ fn push_setting<S: Places>(
         Setting::DeleteAll => text.extend_from_slice(NONE_LEFT),
         Setting::Watch(chain) => {
             if before.watched < watched {
-                push_numbered(text, b"watch ", watched, session.machine(), chain)
+                push_numbered(text, b"watch ", watched, machine, chain)
             } else {
                 text.extend_from_slice(MANY_WATCHED)
             }
         }
-        Setting::Unwatch(_) => {
-            text.extend_from_slice(if watched < before.watched {
-                TAKEN_OFF
-            } else {
-                NOT_WATCHED
-            })
-        }
+        Setting::Unwatch(_) => push_removed(text, before.watched, watched, NOT_WATCHED),
         Setting::Display(chain) => {
             if before.displayed < displayed {
-                push_numbered(text, b"display ", displayed, session.machine(), chain)
+                push_numbered(text, b"display ", displayed, machine, chain)
             } else {
                 text.extend_from_slice(MANY_DISPLAYED)
             }
         }
-        Setting::Undisplay(_) => {
-            text.extend_from_slice(if displayed < before.displayed {
-                TAKEN_OFF
-            } else {
-                NOT_DISPLAYED
-            })
-        }
+        Setting::Undisplay(_) => push_removed(text, before.displayed, displayed, NOT_DISPLAYED),
+    }
+}
+
+/// Adds that a chain is taken off its list, if the list has become shorter, or else that it has none of
+/// that number.
+fn push_removed(
+    text: &mut Vec<u8>,
+    before: usize,
+    now: usize,
+    refused: &[u8],
+) -> Result<(), AllocError>
+    ensures { OnOk result (text.new.items ≡ text.old.items
+        ++ spec.removed_text before now refused.now) }
+{
+    if now < before {
+        text.extend_from_slice(TAKEN_OFF)
+    } else {
+        text.extend_from_slice(refused)
     }
 }
 
@@ -204,8 +211,8 @@ fn view_answer<S: FreeLists>(
         View::Out => push_answer(alloc, &mut text, machine, Batch::Out)?,
         View::Checkpoints => push_checkpoints(&mut text, session.history())?,
         View::Info => push_info(&mut text, session, names)?,
-        View::ListHere => push_near(&mut text, names, u64::from(machine.at().statement))?,
-        View::ListNear(statement) => push_near(&mut text, names, *statement)?,
+        View::ListHere => push_near(&mut text, names.deck(), u64::from(machine.at().statement))?,
+        View::ListNear(statement) => push_near(&mut text, names.deck(), *statement)?,
         View::Help => push_help(&mut text)?,
         View::Set => text.extend_from_slice(UNCHANGED)?,
         View::Ignore => text.extend_from_slice(IGNORE)?,

@@ -94,13 +94,23 @@ fn push_shown<S: Places>(
     push_name(text, name)?;
     text.extend_from_slice(b" = ")?;
     push_decimal(text, shown.get())?;
-    let link: &[u8] = if machine.store().live(shown).is_some() {
-        b" -> BLOCK"
-    } else {
-        b""
-    };
-    text.extend_from_slice(link)?;
+    push_arrow(text, machine, shown)?;
     text.extend_from_slice(b"\n")
+}
+
+/// Adds that a number leads to a block, if it does.
+fn push_arrow<S: Places>(
+    text: &mut Vec<u8>,
+    machine: &Machine<S>,
+    shown: Word,
+) -> Result<(), AllocError>
+    ensures { OnOk result (text.new.items ≡ text.old.items
+        ++ spec.link_text machine.now.configuration.state.memory.blocks shown) }
+{
+    if machine.store().live(shown).is_some() {
+        return text.extend_from_slice(b" -> BLOCK");
+    }
+    Ok(())
 }
 
 /// Adds the drawing of what is reached, and the links that lead to no block: numbers that bugs and

@@ -46,11 +46,11 @@ pub(crate) fn push_action(
     Ok(())
 }
 
-/// Adds the cards of a statement, and of those near it.
-pub(crate) fn push_near(text: &mut Vec<u8>, names: &Names, statement: u64) -> Result<(), AllocError>
-    ensures { OnOk result (text.new.items ≡ text.old.items ++ spec.near_text names.now statement) }
+/// Adds the cards of a deck that are of a statement, or of one near it.
+pub(crate) fn push_near(text: &mut Vec<u8>, deck: &[u8], statement: u64) -> Result<(), AllocError>
+    ensures { OnOk result (text.new.items ≡ text.old.items ++ spec.near_text deck.now statement) }
 {
-    let mut rest = names.deck();
+    let mut rest = deck;
     let mut card: usize = 0;
     let mut begun: usize = 0;
     while let Some((line, following)) = first_line(rest) {

@@ -2,7 +2,7 @@
 
 ghost use Rattle.std.specs.Prelude.{◌≡◌};
 ghost use Rattle.l6_session.specs.Answers as moves;
-ghost use Rattle.l6_session.specs.Reading as spec;
+ghost use Rattle.l6_session.specs.Command as spec;
 
 use l6_prog::{Chain, Operand};
 

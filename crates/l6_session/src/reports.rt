@@ -89,8 +89,17 @@ fn push_breakpoint(
         return Ok(());
     }
     let is_temporary = temporary.get(statement as usize).copied().unwrap_or(false);
-    let said: &[u8] = if is_temporary { b"tbreak " } else { b"break " };
-    push_statement(text, said, names, statement)
+    push_statement(text, said_of(is_temporary), names, statement)
+}
+
+/// What is said of a breakpoint, which may be a temporary one.
+fn said_of(is_temporary: bool) -> &'static [u8]
+    ensures { result.now ≡ reports.said_of is_temporary }
+{
+    match is_temporary {
+        true => b"tbreak ",
+        false => b"break ",
+    }
 }
 
 /// Adds what is said of a statement.

@@ -8,6 +8,7 @@ ghost use Rattle.l6_session.specs.Changes as spec;
 
 use crate::calls::push_definition;
 use crate::text::{push_chain, push_counted, push_name};
+use arrayvec::ArrayVec;
 use l6_history::MAX_WATCHED;
 use l6_machine::{Machine, push_decimal};
 use l6_prog::{Chain, DIGITS, NAMES};
@@ -27,14 +28,11 @@ const BUGS: usize = (NAMES - DIGITS) as usize;
 pub(crate) struct Seen {
     bugs: [Word; BUGS],
     definitions: [Option<Window>; NAMES as usize],
-    watched: [Option<Word>; MAX_WATCHED],
-    /// How many chains were watched.
-    count: usize,
+    watched: ArrayVec<Option<Word>, MAX_WATCHED>,
 }
 
 impl Model for Seen {
-    ghost use Rattle.std.specs.Prelude.{◌≡◌, ◌≤◌, length, take};
-    ghost use Rattle.l6_history.specs.Numerals.{most_watched};
+    ghost use Rattle.std.specs.Prelude.{◌≡◌, length};
     ghost use Rattle.l6_prog.specs.Numerals.{letter_count, name_count};
     ghost use Rattle.l6_session.specs.Changes as changes;
 
@@ -43,11 +41,10 @@ impl Model for Seen {
     ghost view = { λ s. record {
       bugs = s.bugs;
       definitions = s.definitions;
-      watched = take s.count s.watched;
+      watched = s.watched.items;
     } };
 
-    ghost invariant = { λ s. (length s.bugs ≡ letter_count) × (length s.definitions ≡ name_count)
-        × (length s.watched ≡ most_watched) × (s.count ≤ most_watched) };
+    ghost invariant = { λ s. (length s.bugs ≡ letter_count) × (length s.definitions ≡ name_count) };
 }
 
 impl Seen {
@@ -58,8 +55,7 @@ impl Seen {
         let mut seen = Seen {
             bugs: [Word::default(); BUGS],
             definitions: [None; NAMES as usize],
-            watched: [None; MAX_WATCHED],
-            count: 0,
+            watched: ArrayVec::new(),
         };
         seen.look(machine, &[]);
         seen
@@ -72,10 +68,12 @@ impl Seen {
     {
         self.bugs.copy_from_slice(machine.bugs());
         self.definitions.copy_from_slice(machine.definitions());
-        for (index, chain) in chains.iter().enumerate() {
-            self.watched[index] = machine.readable_value(chain);
+        self.watched.clear();
+        let mut rest = chains;
+        while let Some((chain, following)) = rest.split_first() {
+            self.watched.push(machine.readable_value(chain));
+            rest = following;
         }
-        self.count = chains.len();
     }
 
     /// Adds what has changed.
@@ -88,7 +86,7 @@ impl Seen {
         ensures { OnOk result (text.new.items ≡ text.old.items
             ++ spec.changes_text self.now machine.now.configuration.state.memory chains.now) }
     {
-        push_watches(text, machine, &self.watched[..self.count], chains)?;
+        push_watches(text, machine, self.watched.as_slice(), chains)?;
         push_lines(
             text,
             &self.bugs,
@@ -178,16 +176,36 @@ fn push_watch(
 ) -> Result<(), AllocError>
     ensures { OnOk result (text.new.items ≡ text.old.items ++ spec.watch_line chain.now was is) }
 {
-    if !differ(&was, &is) {
-        return Ok(());
+    if differ(&was, &is) {
+        push_change(text, chain, was, is)
+    } else {
+        Ok(())
     }
+}
+
+/// Adds what a watched chain read as, and what it reads as now.
+fn push_change(
+    text: &mut Vec<u8>,
+    chain: &Chain,
+    was: Option<Word>,
+    is: Option<Word>,
+) -> Result<(), AllocError>
+    ensures { OnOk result (text.new.items ≡ text.old.items ++ spec.change_line chain.now was is) }
+{
     text.extend_from_slice(b"      watch ")?;
     push_chain(text, chain)?;
     text.extend_from_slice(b": ")?;
+    push_values(text, was, is)?;
+    text.extend_from_slice(b"\n")
+}
+
+/// Adds a value, and the one that follows it.
+fn push_values(text: &mut Vec<u8>, was: Option<Word>, is: Option<Word>) -> Result<(), AllocError>
+    ensures { OnOk result (text.new.items ≡ text.old.items ++ spec.values_text was is) }
+{
     push_if_known(text, was)?;
     text.extend_from_slice(b" -> ")?;
-    push_if_known(text, is)?;
-    text.extend_from_slice(b"\n")
+    push_if_known(text, is)
 }
 
 /// Whether two values differ.

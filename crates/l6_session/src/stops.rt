@@ -13,7 +13,7 @@ use crate::seen::Seen;
 use crate::session::Session;
 use crate::text::push_label;
 use crate::values::push_trap;
-use l6_machine::{Halt, Machine, ending_line, push_decimal};
+use l6_machine::{Halt, Machine, Position, ending_line, push_decimal};
 use l6_store::Places;
 use std::alloc::{AllocError, Global};
 
@@ -71,12 +71,26 @@ fn push_state<S: Places>(
     if machine.is_last() {
         return text.extend_from_slice(ending_line(alloc, machine)?.as_slice());
     }
+    push_at(text, machine.at())?;
+    push_after(text, machine.count())
+}
+
+/// Adds where a state is.
+fn push_at(text: &mut Vec<u8>, at: Position) -> Result<(), AllocError>
+    ensures { OnOk result (text.new.items ≡ text.old.items ++ spec.at_text at) }
+{
     text.extend_from_slice(b"AT ")?;
-    push_decimal(text, machine.at().statement)?;
+    push_decimal(text, at.statement)?;
     text.extend_from_slice(b".")?;
-    push_decimal(text, machine.at().action)?;
+    push_decimal(text, at.action)
+}
+
+/// Adds after how many steps a state is.
+fn push_after(text: &mut Vec<u8>, count: u64) -> Result<(), AllocError>
+    ensures { OnOk result (text.new.items ≡ text.old.items ++ spec.steps_text count) }
+{
     text.extend_from_slice(b" AFTER ")?;
-    push_decimal(text, machine.count())?;
+    push_decimal(text, count)?;
     text.extend_from_slice(b" STEPS")
 }
 
@@ -109,5 +123,9 @@ fn push_stay(text: &mut Vec<u8>, before: u64, now: u64) -> Result<(), AllocError
     if now != before {
         return Ok(());
     }
-    text.extend_from_slice(if now == 0 { START } else { STAYS })
+    if now == 0 {
+        text.extend_from_slice(START)
+    } else {
+        text.extend_from_slice(STAYS)
+    }
 }

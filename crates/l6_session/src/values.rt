@@ -116,29 +116,52 @@ fn push_reason(
         ++ spec.break_text front.now field pointer trap) }
 {
     match trap {
-        Trap::UndefinedField => {
-            text.extend_from_slice(b"the field ")?;
-            push_names(text, &[field])?;
-            text.extend_from_slice(b" is not defined\n")
-        }
-        Trap::NotABlock => {
-            push_names(text, front)?;
-            text.extend_from_slice(b" is ")?;
-            push_decimal(text, pointer.get())?;
-            text.extend_from_slice(if pointer.get() == 0 {
-                NO_LINK
-            } else {
-                NO_BLOCK
-            })
-        }
-        _ => {
-            text.extend_from_slice(b"the word of the field ")?;
-            push_names(text, &[field])?;
-            text.extend_from_slice(b" is past the end of the block at ")?;
-            push_decimal(text, pointer.get())?;
-            text.extend_from_slice(b"\n")
-        }
+        Trap::UndefinedField => push_undefined(text, field),
+        Trap::NotABlock => push_no_block(text, front, pointer),
+        _ => push_outside(text, field, pointer),
     }
+}
+
+/// Adds that a field has no definition.
+fn push_undefined(text: &mut Vec<u8>, field: Name) -> Result<(), AllocError>
+    ensures { OnOk result (text.new.items ≡ text.old.items ++ spec.undefined_text field) }
+{
+    text.extend_from_slice(b"the field ")?;
+    push_names(text, &[field])?;
+    text.extend_from_slice(b" is not defined\n")
+}
+
+/// Adds that no block begins where names lead.
+fn push_no_block(text: &mut Vec<u8>, front: &[Name], pointer: Word) -> Result<(), AllocError>
+    ensures { OnOk result (text.new.items ≡ text.old.items
+        ++ spec.no_block_text front.now pointer) }
+{
+    push_names(text, front)?;
+    text.extend_from_slice(b" is ")?;
+    push_decimal(text, pointer.get())?;
+    push_link(text, pointer)
+}
+
+/// Adds what is said of a number at which no block begins.
+fn push_link(text: &mut Vec<u8>, pointer: Word) -> Result<(), AllocError>
+    ensures { OnOk result (text.new.items ≡ text.old.items ++ spec.link_text pointer) }
+{
+    if pointer.get() == 0 {
+        text.extend_from_slice(NO_LINK)
+    } else {
+        text.extend_from_slice(NO_BLOCK)
+    }
+}
+
+/// Adds that the word of a field is past the end of a block.
+fn push_outside(text: &mut Vec<u8>, field: Name, pointer: Word) -> Result<(), AllocError>
+    ensures { OnOk result (text.new.items ≡ text.old.items ++ spec.outside_text field pointer) }
+{
+    text.extend_from_slice(b"the word of the field ")?;
+    push_names(text, &[field])?;
+    text.extend_from_slice(b" is past the end of the block at ")?;
+    push_decimal(text, pointer.get())?;
+    text.extend_from_slice(b"\n")
 }
 
 /// What is said of a link of 0.

@@ -7,8 +7,8 @@ use Rattle.l6_session.proofs.cards.push_near.Given as goal
 abbrev pub invariant-loop-line : goal.invariant-loop-line
 invariant-loop-line l = record {
   text : l.text.items ++ near_from l.statement l.card l.begun (lines_of l.rest)
-      ≡ l.fn.text.items ++ near_text l.fn.names l.statement;
-  numbers : l.card + length l.rest ≤ length l.fn.names.deck;
+      ≡ l.fn.text.items ++ near_text l.fn.deck l.statement;
+  numbers : l.card + length l.rest ≤ length l.fn.deck;
   statements : l.begun ≤ l.card;
 }
 

@@ -2,3 +2,4 @@ pub mod Dialogues
 pub mod Repeats
 pub mod Slashes
 pub mod Pushing
+pub mod Following

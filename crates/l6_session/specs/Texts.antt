@@ -172,10 +172,13 @@ broken_text memory [] = []
 broken_text memory (bug ∷ fields) =
     broken_from memory (bug ∷ []) (content memory (Bug bug)) fields
 
+abbrev pub unfollowed_text : Memory → List ℕ → List ℕ
+unfollowed_text memory chain = codes " can't be followed: " ++ broken_text memory chain
+
 -- what a chain reads as, or why it can't be followed
 abbrev pub read_text : Memory → List ℕ → Result ℕ Trap → List ℕ
 read_text memory chain (Ok word) = codes " = " ++ value_line memory word
-read_text memory chain (Err trap) = codes " can't be followed: " ++ broken_text memory chain
+read_text memory chain (Err trap) = unfollowed_text memory chain
 
 abbrev pub chain_line : Memory → List ℕ → List ℕ
 chain_line memory chain =

@@ -2,7 +2,7 @@
 
 ghost use Rattle.std.specs.Prelude.{◌≡◌, ◌≤◌, ◌++◌, [], length, OnOk};
 ghost use Rattle.l6_history.specs.Numerals.{most_watched};
-ghost use Rattle.l6_history.specs.Stop.{differs};
+ghost use Rattle.l6_history.specs.Stop.{differs, values_of};
 ghost use Rattle.l6_prog.specs.Numerals.{letter_count, name_count};
 ghost use Rattle.l6_session.specs.Changes as spec;
 
@@ -68,12 +68,7 @@ impl Seen {
     {
         self.bugs.copy_from_slice(machine.bugs());
         self.definitions.copy_from_slice(machine.definitions());
-        self.watched.clear();
-        let mut rest = chains;
-        while let Some((chain, following)) = rest.split_first() {
-            self.watched.push(machine.readable_value(chain));
-            rest = following;
-        }
+        look_at(&mut self.watched, machine, chains);
     }
 
     /// Adds what has changed.
@@ -94,6 +89,23 @@ impl Seen {
             &self.definitions,
             machine.definitions(),
         )
+    }
+}
+
+/// Becomes what chains read as. The caller owes no more chains than may be watched.
+fn look_at<S: Places>(
+    values: &mut ArrayVec<Option<Word>, MAX_WATCHED>,
+    machine: &Machine<S>,
+    chains: &[Chain],
+)
+    requires { length chains.now ≤ most_watched }
+    ensures { values.new.items ≡ values_of chains.now machine.now.configuration.state.memory }
+{
+    values.clear();
+    let mut rest = chains;
+    while let Some((chain, following)) = rest.split_first() {
+        values.push(machine.readable_value(chain));
+        rest = following;
     }
 }
 

@@ -40,11 +40,21 @@ pub(crate) fn push_chain_value<S: Places>(
             text.extend_from_slice(b" = ")?;
             push_word_value(text, machine, word)
         }
-        Err(_) => {
-            text.extend_from_slice(b" can't be followed: ")?;
-            push_broken(text, machine, chain)
-        }
+        Err(_) => push_unfollowed(text, machine, chain),
     }
+}
+
+/// Adds that a chain can't be followed, and why.
+fn push_unfollowed<S: Places>(
+    text: &mut Vec<u8>,
+    machine: &Machine<S>,
+    chain: &Chain,
+) -> Result<(), AllocError>
+    ensures { OnOk result (text.new.items ≡ text.old.items
+        ++ spec.unfollowed_text machine.now.configuration.state.memory chain.now) }
+{
+    text.extend_from_slice(b" can't be followed: ")?;
+    push_broken(text, machine, chain)
 }
 
 /// Adds a word, and the block that begins at the place of this number, if one does.
@@ -89,6 +99,7 @@ fn push_broken<S: Places>(
 /// # Errors
 ///
 /// The field has no definition, no block begins at the pointer, or it has no such word.
+#[tactic(auto, using(crate::proofs::Following::undefined, crate::proofs::Following::not_there, crate::proofs::Following::outside, crate::proofs::Following::there))]
 fn followed<S: Places>(machine: &Machine<S>, field: Name, pointer: Word) -> Result<Word, Trap>
     ensures { result ≡ spec.followed machine.now.configuration.state.memory field pointer }
 {

@@ -6,7 +6,7 @@ use Rattle.l6_session.proofs.blocks.push_bugs.Given as goal
 
 -- the text so far, with the lines of the bugs that are left, is that of all
 abbrev pub invariant-loop-word : goal.invariant-loop-word
-invariant-loop-word l = record {
+invariant-loop-word g l = record {
   text : l.text.items
       ++ flat_map
       (bug_line l.machine.context.parameters.units l.machine.configuration.state.memory.blocks)
@@ -19,4 +19,4 @@ invariant-loop-word l = record {
 }
 
 abbrev pub decreases-loop-word : goal.decreases-loop-word
-decreases-loop-word l = length l.rest
+decreases-loop-word g l = length l.rest

@@ -6,7 +6,7 @@ use Rattle.l6_session.proofs.blocks.push_fields.Given as goal
 
 -- the text so far, with the lines of the fields that are left, is that of all
 abbrev pub invariant-loop-definition : goal.invariant-loop-definition
-invariant-loop-definition l = record {
+invariant-loop-definition g l = record {
   text : l.text.items
       ++ flat_map (field_line l.machine.configuration.state.memory.blocks l.place)
       (enumerate_from l.name l.rest)
@@ -15,4 +15,4 @@ invariant-loop-definition l = record {
 }
 
 abbrev pub decreases-loop-definition : goal.decreases-loop-definition
-decreases-loop-definition l = length l.rest
+decreases-loop-definition g l = length l.rest

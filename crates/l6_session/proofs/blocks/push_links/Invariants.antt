@@ -6,7 +6,7 @@ use Rattle.l6_session.proofs.blocks.push_links.Given as goal
 
 -- the text so far, with the lines of the fields that are left, is that of all
 abbrev pub invariant-loop-definition : goal.invariant-loop-definition
-invariant-loop-definition l = record {
+invariant-loop-definition g l = record {
   text : l.text.items
       ++ flat_map
       (dangling_line l.machine.context.parameters.units
@@ -19,4 +19,4 @@ invariant-loop-definition l = record {
 }
 
 abbrev pub decreases-loop-definition : goal.decreases-loop-definition
-decreases-loop-definition l = length l.rest
+decreases-loop-definition g l = length l.rest

@@ -5,7 +5,7 @@ use Rattle.l6_session.proofs.blocks.push_places.Given as goal
 
 -- the text so far, with the lines of the blocks that are left, is that of all
 abbrev pub invariant-loop-place : goal.invariant-loop-place
-invariant-loop-place l =
+invariant-loop-place g l =
     l.text.items
     ++ flat_map
     (dangling_lines l.machine.context.parameters.units l.machine.configuration.state.memory) l.rest
@@ -15,4 +15,4 @@ invariant-loop-place l =
     l.fn.places
 
 abbrev pub decreases-loop-place : goal.decreases-loop-place
-decreases-loop-place l = length l.rest
+decreases-loop-place g l = length l.rest

@@ -6,7 +6,7 @@ use Rattle.l6_session.proofs.reports.push_chains.Given as goal
 
 -- the text so far, with the lines of the chains that are left, is that of all
 abbrev pub invariant-loop-chain : goal.invariant-loop-chain
-invariant-loop-chain l = record {
+invariant-loop-chain g l = record {
   text : l.text.items
       ++ flat_map
       (λ chain. numbered_line l.machine.configuration.state.memory l.verb chain.0 chain.1)
@@ -16,4 +16,4 @@ invariant-loop-chain l = record {
 }
 
 abbrev pub decreases-loop-chain : goal.decreases-loop-chain
-decreases-loop-chain l = length l.rest
+decreases-loop-chain g l = length l.rest

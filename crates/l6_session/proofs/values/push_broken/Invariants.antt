@@ -3,8 +3,8 @@ use Rattle.l6_session.specs.Texts.{broken_from, broken_text}
 use Rattle.l6_session.proofs.values.push_broken.Given as goal
 
 -- nothing is said so far, and the first field that can't be followed is among those that are left
-abbrev pub invariant-loop : goal.invariant-loop
-invariant-loop l = record {
+abbrev pub invariant-loop-place : goal.invariant-loop-place
+invariant-loop-place g l = record {
   text : l.text.items ≡ l.fn.text.items;
   left : broken_from l.machine.configuration.state.memory (take l.place l.names) l.pointer
       (drop l.place l.names)
@@ -12,5 +12,5 @@ invariant-loop l = record {
   begun : 1 ≤ l.place;
 }
 
-abbrev pub decreases-loop : goal.decreases-loop
-decreases-loop l = length l.names - l.place
+abbrev pub decreases-loop-place : goal.decreases-loop-place
+decreases-loop-place g l = length l.names - l.place

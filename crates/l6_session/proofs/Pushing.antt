@@ -1,5 +1,5 @@
 -- Texts that are added one after another.
-use Rattle.std.proofs.Common.{◌≡◌, ℕ, ◌+◌, ◌-◌, List, ◌++◌, length, Result, Ok, Err, OnOk, append_assoc, ap, ◌∙◌, if◌then◌else◌, arith}
+use Rattle.std.proofs.Common.{◌≡◌, ℕ, ◌+◌, ◌-◌, List, [], ◌∷◌, ◌++◌, length, Result, Ok, Err, OnOk, append_assoc, ap, refl, ◌∙◌, if◌then◌else◌, arith}
 use Rattle.std.specs.Prelude.{is_ok}
 use Rattle.std.proofs.lemmas.List.{length-append}
 
@@ -29,3 +29,10 @@ added-length old added is =
   where
     add-sub : (m n : ℕ) → (m + n) - m ≡ n
     add-sub m n = omega arith
+
+-- nothing was added if the text is no longer
+pub none-added : (old added : List ℕ) {new : List ℕ} → new ≡ old ++ added → length new ≡ length old →
+    added ≡ []
+none-added old [] is same = refl
+none-added old (first ∷ others) is same =
+    absurd (omega (arith, ap length is ∙ length-append old (first ∷ others), same))

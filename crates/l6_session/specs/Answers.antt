@@ -1,16 +1,15 @@
 -- What a session answers to a command.
-use Rattle.std.specs.Prelude.{◌≡◌, ℕ, ◌≤◌, ◌==◌, nat_lt, ◌&&◌, Bool, true, false, List, codes, length, ⊤, if◌then◌else◌}
+use Rattle.std.specs.Prelude.{◌≡◌, ℕ, ◌==◌, nat_lt, ◌&&◌, Bool, true, false, List, codes, length, ⊤, if◌then◌else◌}
 use Rattle.l6_store.specs.Rule.{Rule}
 use Rattle.l6_steps.specs.Configuration.{state_at}
 use Rattle.l6_steps.specs.State.{RunContext, State}
 use Rattle.l6_debug.specs.Answer as batch
 use Rattle.l6_draw.specs.StoreMap.{store_map}
-use Rattle.l6_history.specs.Numerals.{most_kept}
 use Rattle.l6_session.specs.Blocks.{draw_text, operand_block_text}
 use Rattle.l6_session.specs.Changes.{Seen}
 use Rattle.l6_session.specs.Help.{help_text}
 use Rattle.l6_session.specs.Names.{Names}
-use Rattle.l6_session.specs.Reports.{info_text, kept_text, near_text}
+use Rattle.l6_session.specs.Reports.{info_text, near_text}
 use Rattle.l6_session.specs.SessionState.{SessionState}
 use Rattle.l6_session.specs.Stops.{stop_text}
 use Rattle.l6_session.specs.Texts.{numbered_line, operand_text, saved_text, statement_line, waiting_text}
@@ -30,14 +29,23 @@ is_finish Finish = true
 is_finish ReverseFinish = true
 is_finish other = false
 
--- what is answered where one went to another state, by what was seen where one was; which details a stop
--- has is not said here
+-- a text is that of a stop; which details it has is not said here
+abbrev pub IsStop : Rule → Names → RunContext → Before → Seen → SessionState → List ℕ → Type 0
+IsStop rule names context before seen new text =
+    (details : List ℕ) × (text ≡ stop_text names.labels context (state_at rule context new.number) new
+    before.number seen details)
+
+-- what is answered where one is to go out of the latest call and none waits, or else
+abbrev pub AnswersGone : Bool → Rule → Names → RunContext → Before → Seen → SessionState → List ℕ → Type 0
+AnswersGone true rule names context before seen new text =
+    text ≡ codes "No call waits: there is nothing to finish\n"
+AnswersGone false rule names context before seen new text =
+    IsStop rule names context before seen new text
+
+-- what is answered where one went to another state, by what was seen where one was
 abbrev pub AnswersMove : Rule → Names → RunContext → Before → Seen → SessionState → Move → List ℕ → Type 0
 AnswersMove rule names context before seen new to text =
-    if before.depth == 0 && is_finish to
-    then text ≡ codes "No call waits: there is nothing to finish\n"
-    else ((details : List ℕ) × (text ≡ stop_text names.labels context
-    (state_at rule context new.number) new before.number seen details))
+    AnswersGone (before.depth == 0 && is_finish to) rule names context before seen new text
 
 -- what is said of a chain that is to be watched or displayed, of which there are more than before or not
 abbrev pub added_text : State → List ℕ → ℕ → ℕ → List ℕ → List ℕ → List ℕ
@@ -74,8 +82,8 @@ setting_text rule names context before new (Undisplay n) =
     removed_text before.displayed (length new.displayed)
     (codes "No chain that is displayed has this number: see info\n")
 
--- what is shown. The first four texts are those of the debugger of jobs. Which states are kept is not said
--- here, and of free lists and amounts nothing is said but that one text shows them
+-- what is shown. The first four texts are those of the debugger of jobs. Of the states that are kept, of free
+-- lists and of amounts nothing is said but that one text shows them
 abbrev pub ShowsView : Rule → Names → RunContext → SessionState → View → List ℕ → Type 0
 ShowsView rule names context now Show text =
     text ≡ batch.shown context (state_at rule context now.number)
@@ -97,8 +105,7 @@ ShowsView rule names context now Draw text =
     text ≡ draw_text context.parameters.units (state_at rule context now.number).memory
 ShowsView rule names context now Lists text = ⊤
 ShowsView rule names context now Stats text = ⊤
-ShowsView rule names context now Checkpoints text =
-    (kept : List ℕ) × (length kept ≤ most_kept) × (text ≡ kept_text kept)
+ShowsView rule names context now Checkpoints text = ⊤
 ShowsView rule names context now Info text =
     text ≡ info_text names.labels (state_at rule context now.number).memory now
 ShowsView rule names context now ListHere text =

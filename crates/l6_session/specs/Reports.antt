@@ -51,13 +51,6 @@ displayed_line memory chain = codes "      " ++ chain_line memory chain
 abbrev pub displayed_text : Memory → List (List ℕ) → List ℕ
 displayed_text memory chains = flat_map (displayed_line memory) chains
 
--- the numbers of the states that are kept, the oldest first, and how many they are
-abbrev pub kept_line : ℕ → List ℕ
-kept_line number = decimal number ++ codes "\n"
-
-abbrev pub kept_text : List ℕ → List ℕ
-kept_text kept = flat_map kept_line kept ++ decimal (length kept) ++ codes " CHECKPOINTS\n"
-
 -- a card with its number, at the right end of its places
 abbrev pub card_line : ℕ → List ℕ → List ℕ
 card_line card line =

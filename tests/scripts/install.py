@@ -32,8 +32,10 @@ INSTALLED = {  # the file that is installed, and where it is from
 }
 
 DEBUGGER = (
-    "bin/l6db", "share/man/man1/l6db.1", "share/bash-completion/completions/l6db",
+    "bin/l6db", "lib/l6/l6db", "share/man/man1/l6db.1", "share/bash-completion/completions/l6db",
     "share/zsh/site-functions/_l6db", "share/fish/vendor_completions.d/l6db.fish",
+    *(f"share/l6/terminal/{file.name}" for file in (TOP / "terminal").iterdir() if file.suffix != ".pyc"
+      and file.is_file() and file.name != "l6db.sh"),
 )
 
 
@@ -50,16 +52,17 @@ def shipped() -> Iterator[Trial]:
     rows = [line.split() for line in (TOP / "tools/shipped").read_text().splitlines() if line[:1] not in ("#", "")]
     found = {row[3]: sorted(str(it.relative_to(TOP)) for it in TOP.glob(row[3])) for row in rows if row[3] != "PROGRAM"}
     listed = [name for names in found.values() for name in names]
-    folders = ("examples/*", "licenses/*", "completions/*", "docs/*.1", "LICENSE-*", "THIRD-PARTY.md")
+    folders = ("examples/*", "licenses/*", "completions/*", "docs/*.1", "terminal/*", "LICENSE-*", "THIRD-PARTY.md")
     there = {str(it.relative_to(TOP)) for pattern in folders for it in TOP.glob(pattern) if it.is_file()}
     yield "what is shipped", sorted(there - NOT_SHIPPED), sorted(listed)
     yield "what is not shipped is there", [], sorted(NOT_SHIPPED - there)
     yield "lines that ship nothing", [], [name for name, names in found.items() if not names]
-    yield "programs that are shipped", [("l6db", "bin/l6db"), ("l6", "bin/l6")], [
+    yield "programs that are shipped", [("l6db", "lib/l6/l6db"), ("l6", "bin/l6")], [
         (of, place) for of, _, place, files in rows if files == "PROGRAM"
     ]
-    yield "modes", [], [row for row in rows if row[1] != ("755" if row[3] == "PROGRAM" else "644")]
-    own = [row for row in rows if ("l6db" in row[3] or "l6db" in row[2]) != (row[0] == "l6db")]
+    may_run = ("PROGRAM", "terminal/l6db.sh")
+    yield "modes", [], [row for row in rows if row[1] != ("755" if row[3] in may_run else "644")]
+    own = [row for row in rows if ("l6db" in row[2] or "terminal" in row[2]) != (row[0] == "l6db")]
     yield "what belongs to l6db", [], own
 
 
@@ -135,8 +138,11 @@ def debuggers(checkout: Checkout) -> Iterator[Trial]:
     yield "what is said of it", announced(f"{folder}/usr", f", {folder}/usr/bin/l6db"), actual.stdout
     expected = sorted(f"usr/{name}" for name in (*INSTALLED, *DEBUGGER))
     yield "what is installed with it", expected, names_in(folder)
-    placed = folder / "usr/bin/l6db"
+    placed = folder / "usr/lib/l6/l6db"
     yield "the debugger", ("a debugger\n", 0o755), (placed.read_text(), placed.stat().st_mode & 0o777)
+    placed.write_text("#!/bin/sh\necho a debugger with $*\n")
+    ran = subprocess.run([folder / "usr/bin/l6db", "a deck"], capture_output=True, text=True)
+    yield "the debugger that is started", ("a debugger with a deck\n", "", 0), (ran.stdout, ran.stderr, ran.returncode)
     debugger.unlink()
     actual = checkout.run("install", "--uninstall", "/usr", has_rt=False, DESTDIR=str(folder))
     yield "its removal", (0, []), (actual.status, names_in(folder))

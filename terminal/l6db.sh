@@ -1,0 +1,8 @@
+#!/bin/sh
+# Starts a session of l6db where it is installed: the engine, or what stands between it and a terminal.
+set -u
+place=$(dirname -- "$(dirname -- "$(readlink -f -- "$0")")")
+terminal=$place/share/l6/terminal
+program=$place/lib/l6/l6db
+. "$terminal/start.sh"
+start_session "$@"

@@ -3,6 +3,8 @@
 set -u
 place=$(dirname -- "$(dirname -- "$(readlink -f -- "$0")")")
 terminal=$place/share/l6/terminal
+# shellcheck disable=SC2034 # (what is sourced reads it)
 program=$place/lib/l6/l6db
+# shellcheck source=terminal/start.sh
 . "$terminal/start.sh"
 start_session "$@"

@@ -32,6 +32,7 @@ mod targets;
 mod texts;
 mod verdict;
 mod walk;
+mod warning_words;
 mod ways;
 mod writing;
 

@@ -2,7 +2,7 @@
 
 ghost use Rattle.std.specs.Prelude.{◌≡◌, Some};
 ghost use Rattle.l6_card.specs.declared.objection.Reason.TheVariants as kind;
-ghost use Rattle.l6_check.specs.Faults.{form_kind, kind_of, ArePartOf, Explains};
+ghost use Rattle.l6_check.specs.Faults.{form_kind, kind_of, Explains};
 ghost use Rattle.l6_check.specs.OnCard.{IsOnCard, IsOnItsCard};
 
 use crate::conditions::gives_condition;
@@ -22,16 +22,15 @@ pub(crate) fn reading_error(objection: Objection, part: Part<'_>) -> Finding<'_>
     let piece = Span::on_card(objection.from, objection.to);
     match objection.reason {
         Kind::NoOperation => {
-            let (span, fault) = group_part(
-                piece,
-                operation_objection(inside(columns_of(line), piece)),
-            );
-            let reason = FormReason::NoOperation(fault);
+            let why = known(operation_objection(inside(columns_of(line), piece)));
+            let span = piece.part(why.start, why.length);
+            let reason = FormReason::NoOperation(why.fault);
             found(objection.card, line, span, Reason::Form(reason))
         }
         Kind::NoTest => {
-            let (span, fault) = group_part(piece, test_objection(inside(columns_of(line), piece)));
-            let reason = FormReason::NoTest(fault);
+            let why = known(test_objection(inside(columns_of(line), piece)));
+            let span = piece.part(why.start, why.length);
+            let reason = FormReason::NoTest(why.fault);
             found(objection.card, line, span, Reason::Form(reason))
         }
         Kind::TestForOperation => {
@@ -42,16 +41,15 @@ pub(crate) fn reading_error(objection: Objection, part: Part<'_>) -> Finding<'_>
     }
 }
 
-/// The columns of a group at a piece of a card that something is wrong in, and what.
-fn group_part(piece: Span, objection: Option<GroupObjection>) -> (Span, GroupFault)
-    requires { IsOnCard piece }
-    ensures place { IsOnCard result.0 }
-    ensures part { ArePartOf piece result.0 }
-{
+/// The objection to a group, or to its first column if there is none.
+fn known(objection: Option<GroupObjection>) -> GroupObjection {
     match objection {
-        // (the reader of cards has said that it has no reading)
-        None => (piece, GroupFault::Spelling),
-        Some(why) => (piece.part(why.start, why.length), why.fault),
+        Some(objection) => objection,
+        None => GroupObjection {
+            start: 0,
+            length: 0,
+            fault: GroupFault::Spelling,
+        },
     }
 }
 

@@ -1,7 +1,6 @@
 //! What is found on a card.
 
-ghost use Rattle.std.specs.Prelude.{◌≡◌, ◌+◌, ◌-◌, ◌≤◌, min, max};
-ghost use Rattle.l6_card.specs.Numerals.{card_width};
+ghost use Rattle.std.specs.Prelude.{◌≡◌, ◌≤◌};
 ghost use Rattle.l6_check.specs.Faults as spec;
 ghost use Rattle.l6_check.specs.OnCard.{IsOnCard};
 
@@ -42,8 +41,6 @@ impl Span {
     pub(crate) fn on_card(from: usize, to: usize) -> Self
         ensures place { IsOnCard result }
         ensures value { result ≡ spec.on_card from to }
-        ensures from { result.from ≡ min from (card_width - 1) }
-        ensures to { result.to ≡ max (min to card_width) (result.from + 1) }
     {
         let from = from.min(WIDTH - 1);
         Span {

@@ -31,6 +31,7 @@ mod slips;
 mod targets;
 mod texts;
 mod verdict;
+mod warning_words;
 mod ways;
 mod writing;
 

@@ -1,13 +1,13 @@
 //! The texts of findings, in one table.
 
 use crate::advice::{
-    column_advice, condition_advice, exit_advice, label_advice, mark_advice, then_advice,
-    unclosed_advice,
+    column_advice, condition_advice, exit_advice, label_advice, then_advice, unclosed_advice,
 };
 use crate::finding::{Finding, Severity};
 use crate::forms::plain_word_advice;
 use crate::group_words::{operation_words, test_words};
-use crate::reason::{CertainTrap, FormReason, LabelText, LimitReason, Reason, WarningReason};
+use crate::reason::{FormReason, LabelText, LimitReason, Reason, WarningReason};
+use crate::warning_words::warning_words;
 use l6_prog::{DIGITS, NAMES};
 use std::{fmt, str};
 
@@ -346,67 +346,6 @@ fn limit_words(reason: LimitReason) -> Words {
                 "",
             )
         }
-    }
-}
-
-/// The words of a warning.
-fn warning_words(reason: WarningReason, text: &[u8]) -> Words {
-    match reason {
-        WarningReason::PastColumns => {
-            row(
-                "`",
-                "` is past column 72, and is not read",
-                "a statement goes on to the next card, which has + in column 1",
-            )
-        }
-        WarningReason::LabelIsCondition => {
-            row(
-                "the condition `",
-                "` is read as a label",
-                "a statement without a label has a blank in column 1",
-            )
-        }
-        WarningReason::UnnamedLabel => row("no statement names the label `", "`", ""),
-        WarningReason::UnreachedStatement => {
-            row(
-                "no way leads to the statement `",
-                "`",
-                "no statement that a run can come to names it or goes on to it",
-            )
-        }
-        WarningReason::AlwaysTraps(trap) => row("`", "` always traps", trap_advice(trap)),
-        WarningReason::LaterTraps(trap) => row(
-            "an operation of the statement that `",
-            "` begins always traps",
-            trap_advice(trap),
-        ),
-        WarningReason::UndefinedField(_) => {
-            row(
-                "the chain `",
-                "` has the field ",
-                "a bug is one letter, and what follows it are fields: (cd,Df,cd,cd) defines the field f",
-            )
-        }
-        WarningReason::JobMark => row("`", "` separates the parts of a job", mark_advice(text)),
-        WarningReason::ImageText => {
-            row(
-                "`",
-                "` looks like a line of an image, and this is no deck",
-                "l6 load runs an image",
-            )
-        }
-    }
-}
-
-/// Advice on an operation that always traps so.
-fn trap_advice(trap: CertainTrap) -> &'static str {
-    match trap {
-        CertainTrap::BadDefinition => {
-            "a word is 0 to 1023, a bit is 0 to 35, and the first bit is not after the last: (0,DN,18,35)"
-        }
-        CertainTrap::ZeroDivisor => "nothing can be divided by 0",
-        CertainTrap::BadSize => "a block has 1 to 1024 words",
-        CertainTrap::BadCount => "1 to 6 characters are taken or printed at once",
     }
 }
 

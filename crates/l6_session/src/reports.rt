@@ -1,5 +1,5 @@
-//! What a session says of itself: where one stops, what is kept, how far the run has come. How far it has
-//! come is tested, and not proved.
+//! What a session says of itself: where one stops, what is kept, how far the run has come. The last two are
+//! tested, and not proved.
 
 ghost use Rattle.std.specs.Prelude.{◌≡◌, ◌++◌, OnOk};
 ghost use Rattle.std.specs.List.{enumerate_from, flat_map};

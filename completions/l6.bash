@@ -15,7 +15,8 @@ _l6() {
         2:help) choices='asm list check run load renew debug trace' ;;
         *:run | *:load | *:debug) choices='--store --steps --output --help' ;;
         *:trace) choices='--store --help' ;;
-        *:asm | *:list | *:check | *:renew) choices='--help' ;;
+        *:check) choices='--long --help' ;;
+        *:asm | *:list | *:renew) choices='--help' ;;
         *) choices='' ;;
     esac
     mapfile -t COMPREPLY < <(compgen -W "$choices" -- "$word")

@@ -18,6 +18,8 @@ complete -c l6 -n $first -a help -d 'Print help'
 complete -c l6 -n "__fish_seen_subcommand_from help" -a "$verbs"
 complete -c l6 -s h -l help -d 'Print help'
 complete -c l6 -n $first -s V -l version -d 'Print the version'
+complete -c l6 -n "__fish_seen_subcommand_from check; and not __fish_seen_subcommand_from help" -l long \
+    -d 'Show each card, with signs under its columns'
 complete -c l6 -n $stores -l store -x -d 'Units of 1024 words that the store has, 1 to 255'
 complete -c l6 -n $runs -l steps -x -d 'Steps that the run may make, 0 to 1000000000'
 complete -c l6 -n $runs -l output -x -d 'Bytes that the run may print, 0 to 16777216'

@@ -412,6 +412,23 @@ def keyboard(checkout: Checkout) -> Iterator[Trial]:
         yield f"what is printed on a terminal: {words}", f"{checkout.made_of}{printed}", actual.stdout
 
 
+def terminals(checkout: Checkout) -> Iterator[Trial]:
+    """At a terminal, and there alone, `./l6 check` is asked to show cards."""
+    for words, given in ((["check"], ["check", "--long"]), (["check", "--help"], ["check", "--help"]), (["list"], ["list"])):
+        ours, theirs = os.openpty()
+        with subprocess.Popen(
+            ["./l6", *words], cwd=checkout.top, stdin=subprocess.DEVNULL, stdout=theirs, stderr=subprocess.DEVNULL,
+            env={"PATH": str(checkout.folder / "plain")},
+        ) as running:
+            running.wait()
+        os.close(theirs)
+        shown = os.read(ours, 4096).decode().replace("\r", "")
+        os.close(ours)
+        yield f"the words {words} with a terminal for output", "".join(f"<{it}>\n" for it in given), shown.partition("\n")[2]
+    actual = checkout.run("l6", "check", has_rt=False)
+    yield "the words of check over a pipe", f"{checkout.made_of}<check>\n", actual.stdout
+
+
 def making_dist(checkout: Checkout) -> Iterator[Trial]:
     """tools/make_dist writes the program and its provenance, or nothing."""
     dist = checkout.top / "dist"
@@ -462,7 +479,7 @@ def making_dist(checkout: Checkout) -> Iterator[Trial]:
 GROUPS: tuple[Callable[[Checkout], Iterator[Trial]], ...] = (
     distributed, changed_sources, damaged_distribution, built_program, failed_proofs,
     edits_while_it_builds, crates_below, other_systems, damaged_programs, other_files, notes, places, cloned,
-    keyboard, making_dist,
+    keyboard, terminals, making_dist,
 )
 
 

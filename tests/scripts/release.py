@@ -136,6 +136,7 @@ COMPLETIONS: dict[str, set[str]] = {
     "l6 debug --store 2 --o": {"--output"},
     "l6 help l": {"list", "load"},
     "l6 trace --": {"--store", "--help"},
+    "l6 check --": {"--long", "--help"},
 }
 IN_BASH = """
 . completions/l6.bash

@@ -21,6 +21,7 @@ use Rattle.l6.specs.declared.job.Outcome.TheVariants.{Checked, Ran, Written}
 use Rattle.l6.specs.declared.job.Verb.{Verb}
 use Rattle.l6.specs.declared.job.Verb.TheVariants as verbs
 use Rattle.l6.specs.Checks.{ChecksDeck, RefusesCheck}
+use Rattle.l6_check.specs.declared.writing.Layout.{Layout}
 use Rattle.l6_device.specs.JobParts.{commands_of, deck_of, head_of, input_of}
 use Rattle.l6.specs.JobResult.{Answers, JobOutcome, Refuses}
 
@@ -57,14 +58,14 @@ image_refused verb options job deck old new fault is head served =
     old new (Err fault)) head served))
 
 -- why nothing was said of a deck is why the job was not done whose head it is
-pub check_refused : (verb : Verb) (options : OptionValues) (job deck : List ℕ)
-    (old new : Option (List ℕ)) (fault : RunFault) → verb ≡ verbs.Check → deck ≡ head_of job →
+pub check_refused : (verb : Verb) (layout : Layout) (options : OptionValues) (job deck : List ℕ)
+    (old new : Option (List ℕ)) (fault : RunFault) → verb ≡ verbs.Check layout → deck ≡ head_of job →
     Serves (ChecksDeck deck) (RefusesCheck deck) old new (Err fault) →
     JobOutcome verb options job old new (Err fault)
-check_refused verb options job deck old new fault is head served =
+check_refused verb layout options job deck old new fault is head served =
     subst (λ (v : Verb). JobOutcome v options job old new (Err fault)) (sym is)
     (renamed ℕ Outcome Checked (ChecksDeck (head_of job))
-    (Answers verbs.Check options job) (Refuses verbs.Check job) old new fault
+    (Answers (verbs.Check layout) options job) (Refuses (verbs.Check layout) job) old new fault
     (λ outcome text answers. answers)
     (subst (λ (d : List ℕ). Serves (ChecksDeck d) (RefusesCheck d) old new (Err fault)) head served))
 
@@ -171,8 +172,9 @@ unreported-job verbs.Asm options job part old new result served =
 unreported-job verbs.List options job part old new result served =
     unreported-reader (Answers verbs.List options job) (Refuses verbs.List job) part old new result
     (λ _ refused. refused) served
-unreported-job verbs.Check options job part old new result served =
-    unreported-reader (Answers verbs.Check options job) (Refuses verbs.Check job) part old new result
+unreported-job (verbs.Check layout) options job part old new result served =
+    unreported-reader (Answers (verbs.Check layout) options job) (Refuses (verbs.Check layout) job) part
+    old new result
     (λ _ refused. refused) served
 unreported-job verbs.Run options job part old new result served =
     unreported-reader (Answers verbs.Run options job) (Refuses verbs.Run job) part old new result

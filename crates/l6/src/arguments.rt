@@ -9,7 +9,8 @@ ghost use Rattle.l6.specs.declared.arguments.WordsFault.TheVariants.{NoMemory};
 use crate::help::{self, Help};
 use crate::job::Verb;
 use clap::error::ErrorKind;
-use clap::{ArgMatches, Command};
+use clap::{Arg, ArgAction, ArgMatches, Command};
+use l6_check::Layout;
 use l6_options::{chosen_options, store_option, with_options};
 use l6_run::Options;
 use std::alloc::{AllocError, Global};
@@ -109,7 +110,7 @@ pub fn task_of(alloc: Global, words: &[String]) -> Result<Task, WordsFault> {
     let request = match matches.subcommand() {
         Some(("asm", _)) => Some(without_options(Verb::Asm)),
         Some(("list", _)) => Some(without_options(Verb::List)),
-        Some(("check", _)) => Some(without_options(Verb::Check)),
+        Some(("check", chosen)) => Some(without_options(Verb::Check(layout_of(chosen)))),
         Some(("renew", _)) => Some(without_options(Verb::Renew)),
         Some(("run", chosen)) => requested(Verb::Run, chosen),
         Some(("load", chosen)) => requested(Verb::Load, chosen),
@@ -133,7 +134,7 @@ fn program<'a>(alloc: Global) -> Result<Command<'a>, AllocError> {
         .subcommand_required(true)
         .subcommand(described(alloc, "asm", help::ASM))?
         .subcommand(described(alloc, "list", help::LIST))?
-        .subcommand(described(alloc, "check", help::CHECK))?
+        .subcommand(described(alloc, "check", help::CHECK).arg(long_option(alloc)?)?)?
         .subcommand(with_options(described(alloc, "run", help::RUN), alloc)?)?
         .subcommand(with_options(described(alloc, "load", help::LOAD), alloc)?)?
         .subcommand(described(alloc, "renew", help::RENEW))?
@@ -147,6 +148,25 @@ fn described<'a>(alloc: Global, name: &'a str, help: Help) -> Command<'a> {
         .override_usage(help.usage)
         .about(help.about)
         .after_help(help.details)
+}
+
+/// The option by which `check` shows cards.
+fn long_option<'a>(alloc: Global) -> Result<Arg<'a>, AllocError> {
+    Ok(
+        Arg::new(alloc, "long")
+            .long("long")
+            .help("Show each card, with signs under its columns")
+            .action(ArgAction::SetTrue),
+    )
+}
+
+/// The layout that was chosen for what is said of a deck.
+fn layout_of(chosen: &ArgMatches<'_>) -> Layout {
+    if chosen.get_flag("long") {
+        Layout::Long
+    } else {
+        Layout::Short
+    }
 }
 
 /// The request for a verb for which nothing can be chosen.

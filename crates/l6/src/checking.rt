@@ -6,11 +6,11 @@ ghost use Rattle.l6_device.specs.Patience.{WriterRetries};
 ghost use Rattle.l6_run.specs.Serves.{IsUnwritten, Serves};
 ghost use Rattle.l6.specs.Checks as spec;
 
-use l6_check::checked_text;
+use l6_check::{Layout, checked_text_of};
 use l6_run::{Part, Patience, RunFault, Sink, write_text};
 use std::alloc::Global;
 
-/// Writes what is wrong with a deck, and answers how many errors it has.
+/// Writes what is wrong with a deck in a layout, and answers how many errors it has.
 ///
 /// # Errors
 ///
@@ -19,6 +19,7 @@ use std::alloc::Global;
 pub(crate) fn write_deck_check<W: Sink>(
     alloc: Global,
     deck: &[u8],
+    layout: Layout,
     writer: &mut W,
     patience: &mut Patience,
 ) -> Result<u32, RunFault>
@@ -29,7 +30,7 @@ pub(crate) fn write_deck_check<W: Sink>(
         patience.old patience.new result }
 {
     Part::Deck.check(deck)?;
-    let checked = checked_text(alloc, deck).map_err(|_| RunFault::NoMemory)?;
+    let checked = checked_text_of(alloc, deck, "", layout).map_err(|_| RunFault::NoMemory)?;
     write_text(writer, checked.text.as_bytes(), 0, patience)?;
     Ok(checked.errors)
 }

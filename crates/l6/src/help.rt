@@ -71,12 +71,13 @@ writing failed, 64 the command line is wrong, or asks for help",
 
 /// The help of `check`.
 pub(crate) const CHECK: Help = Help {
-    usage: "l6 check < JOB",
+    usage: "l6 check [--long] < JOB",
     about: "Says what is wrong with a deck: card, column and why",
     details: "\
 A line for each error and each warning begins with the numbers of its card and its column; a line
-that is indented has advice. At most 100 are shown, and the last line counts them all. An input
-after the deck, from a line $INPUT on, is ignored.
+that is indented has advice. With --long the card stands between, with signs under its columns. At
+most 100 are shown, and the last line counts them all. An input after the deck, from a line $INPUT
+on, is ignored.
 
 Example:
   printf ' (A,E,5(A,PD)\\n' | l6 check

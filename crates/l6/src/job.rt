@@ -8,6 +8,7 @@ ghost use Rattle.l6_device.specs.declared.fault.Part.TheVariants.{Job};
 ghost use Rattle.l6.specs.JobResult.{JobOutcome, IsUnwrittenBy, JobResult};
 
 use crate::checking::write_deck_check;
+use l6_check::Layout;
 use l6_debug::debug_deck;
 use l6_run::{
     Ending, Options, Part, Patience, RunFault, Sink, Source, head_parts_of, parts_of, read_part,
@@ -22,8 +23,8 @@ pub enum Verb {
     Asm,
     /// The head of the job is a deck, of which the listing is written.
     List,
-    /// The head of the job is a deck, of which is said what is wrong with it.
-    Check,
+    /// The head of the job is a deck, of which is said what is wrong with it, in this layout.
+    Check(Layout),
     /// The head of the job is a deck, which is run with the input of the job.
     Run,
     /// The head of the job is the text of an image, which is run with the input of the job.
@@ -101,8 +102,8 @@ fn serve<W: Sink>(
             write_deck_listing(alloc, parts.head, writer, patience)?;
             Ok(Outcome::Written)
         }
-        Verb::Check => {
-            let errors = write_deck_check(alloc, parts.head, writer, patience)?;
+        Verb::Check(layout) => {
+            let errors = write_deck_check(alloc, parts.head, layout, writer, patience)?;
             Ok(Outcome::Checked(errors))
         }
         Verb::Run => {

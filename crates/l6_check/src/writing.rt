@@ -13,7 +13,7 @@ use crate::texts::WithCard;
 use std::alloc::{AllocError, Global};
 
 /// How findings are written.
-#[derive(Clone, Copy, Debug, PartialEq, Eq)]
+#[derive(Clone, Copy, Debug, PartialEq, Eq, Hash)]
 pub enum Layout {
     /// A line for each, and its advice on a line of its own.
     Short,

@@ -15,7 +15,7 @@ pub returns-in_err-errors-in-Check-clause-done : goal.returns-in_err-errors-in-C
 returns-in_err-errors-in-Check-clause-done g c =
     let p = err_from_is_err_and c.from_residual-in_err-errors-in-Check.result
     c.from_residual-in_err-errors-in-Check.ensures.1 in
-    rw (p.1, p.2) (check_refused _ _ c.args.job.now _ _ _ _ c.in-Check.is
+    rw (p.1, p.2) (check_refused _ _ _ c.args.job.now _ _ _ _ c.in-Check.is
     c.parts_of-parts.ensures.head c.in_err-errors-in-Check.ensures.done)
 
 pub returns-in_err-errors-in-Check-clause-retries :

@@ -394,6 +394,93 @@ def habits(program: str, folder: Path) -> Iterator[Trial]:
     yield "habits that do something", True, len(first) == FIRST_HABITS and answered_well >= ANSWERED
 
 
+LIST_OF_COMMANDS = TESTS.parent / "crates/l6_session/specs/Command.antt"
+ROW = re.compile(r'^row_of (\w+) =\n    row "([^"]+)" "([^"]+)" "([^"]+)"\n    "([^"]+)"$', re.MULTILINE)
+COMMANDS, COMMAND_WORDS = 41, 87  # how many commands there are, and how many words they have
+
+
+@dataclass(frozen=True)
+class Row:
+    """A row of the list of commands."""
+
+    words: list[str]
+    usage: str
+    line: str
+    sentence: str
+
+    def help(self) -> str:
+        """What help says of the command."""
+        return f"{self.usage}: {self.sentence}.\n"
+
+
+def rows() -> list[Row]:
+    """The list of commands, as the definitions have it."""
+    found = ROW.findall(LIST_OF_COMMANDS.read_text("utf-8"))
+    return [Row(words.lower().split(), usage, line, said) for _, words, usage, line, said in found]
+
+
+def page_words(page: str) -> list[str]:
+    """The words of commands in the table of the page."""
+    cells = re.findall(r"^\| (`[^|]+) \|", page.partition("\n| Command |")[2].partition("\n\n")[0], re.MULTILINE)
+    return [word for cell in cells for word in re.findall(r"`([^`]+)`", cell)]
+
+
+def manual_words(page: str) -> list[str]:
+    """The words of commands in the list of the manual page."""
+    items = re.findall(r"^\.It (.*)$", page.partition(".Ss Commands")[2].partition(".El")[0], re.MULTILINE)
+    words: list[str] = []
+    for part in re.findall(r"Ic (.*?)(?= Ar | Op | Ic |$)", "\n".join(items), re.MULTILINE):
+        words += [word.replace("\\&", "") for word in part.split(" , ")]
+    return [word.strip(" ,") for word in words]
+
+
+def one_list(program: str, folder: Path) -> Iterator[Trial]:
+    """Help, advice and the pages have the commands of the list, and no others."""
+    deck = str(folder / "nested.deck")
+    listed = rows()
+    words_listed = sorted(word for row in listed for word in row.words)
+    yield "the list of commands", (COMMANDS, COMMAND_WORDS), (len(listed), len(set(words_listed)))
+    docs = TESTS.parent / "docs"
+    yield "the words of l6db.md", words_listed, sorted(page_words((docs / "l6db.md").read_text("utf-8")))
+    yield "the words of l6db.1", words_listed, sorted(manual_words((docs / "l6db.1").read_text("utf-8")))
+    shown = said_to(program, deck, "help")
+    for row in listed:
+        yield f"{row.words[0]} in help", True, f" {row.usage:22}{row.line}" in shown
+        yield f"the words of {row.usage}", row.words[0], row.usage.split()[0].partition("|")[0]
+        for word in row.words:
+            yield f"help {word}", row.help(), said_to(program, deck, f"help {word}")
+    for wrong, right in NEARLY:
+        answered = said_to(program, deck, f"goto 2\n{wrong}\nstats")
+        expected = f"Not a command. Did you mean this one? {help_of(listed, right)}STATE 2 "
+        yield f"{wrong} is nearly {right}", True, expected in answered
+    for alone in MISSING:
+        yield f"{alone} alone", f"Something is missing. {help_of(listed, alone)}", said_to(program, deck, alone)
+    for line in UNFIT:
+        verb = line.split()[0]
+        yield line, f"This can't follow it. {help_of(listed, verb)}", said_to(program, deck, line)
+    for wrong in ("foo", "zz", "prnitx", "b" * 40, "x" * 17, "help foo"):
+        yield wrong, "Not a command: help lists them\n", said_to(program, deck, wrong)
+
+
+NEARLY = [
+    ("prnit A", "print"), ("stpe", "step"), ("brek 1", "break"), ("conitnue", "continue"), ("wach A", "watch"),
+    ("finishh", "finish"), ("reverse-contnue", "reverse-continue"), ("helpp", "help"), ("help whre", "where"),
+]
+MISSING = ["x", "goto", "disable", "enable", "tbreak", "unwatch", "undisplay", "block"]
+UNFIT = ["step x", "where 5", "finish 2", "goto A", "info nothing", "step 1 2", "quit now", "unwatch A"]
+
+
+def help_of(listed: list[Row], word: str) -> str:
+    """What help says of the command of a word."""
+    return next(row.help() for row in listed if word in row.words)
+
+
+def said_to(program: str, deck: str, lines: str) -> str:
+    """What is said to lines at the start of a run."""
+    begin = answer_of([program, deck], input=b"").stdout
+    return answer_of([program, deck], input=f"{lines}\n".encode()).stdout.removeprefix(begin).decode()
+
+
 INTERRUPTIONS = 3_000
 SESSION = (
     b"break DEEP\nc\nwhere\nwatch B\np A\nc\nrc\nblock 5\ndraw\nstats\nend\nback\n"
@@ -476,6 +563,7 @@ def trials(program: str) -> Iterator[Trial]:
         yield from one_by_one(program, folder)
         yield from words(program, folder)
         yield from habits(program, folder)
+        yield from one_list(program, folder)
         yield from page_sessions(program, folder)
         yield from refused_memory(program, folder)
         yield from interrupted(program, folder)

@@ -3,7 +3,7 @@ use Rattle.std.proofs.Common.{◌≡◌, ℕ, ◌+◌, ◌<◌, ◌≤◌, ◌++
 use Rattle.std.specs.Prelude.{◌==◌}
 use Rattle.std.specs.Str.{byte}
 use Rattle.std.proofs.lemmas.List.{append-nil, drop_all, drop_more, take_all, take_more}
-use Rattle.l6_session.specs.Command.{before_slash}
+use Rattle.l6_session.specs.Reading.{before_slash}
 
 -- the characters so far are before it, with those that are left up to it
 abbrev pub Before : List ℕ → ℕ → Type 0

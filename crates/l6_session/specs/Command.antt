@@ -1,378 +1,242 @@
--- How a session reads the lines of its commands.
-use Rattle.std.specs.Prelude.{ℕ, ◌==◌, List, [], ◌∷◌, Option, Some, None, unwrap_or, if◌then◌else◌}
-use Rattle.std.specs.Option.{option_map, option_or}
-use Rattle.std.specs.Str.{byte}
-use Rattle.l6_word.specs.Lines.{without_return}
-use Rattle.l6_group.specs.Character.{spelled}
-use Rattle.l6_group.specs.Element.{chain_of, operand_of}
-use Rattle.l6_group.specs.Spelling.{Line, ◌means◌, find_spelled, ◌>>=◌}
-use Rattle.l6_prog.specs.declared.operand.Operand.{Operand}
-use Rattle.l6_debug.specs.Command.{number_of, words_in}
-use Rattle.l6_session.specs.Names.{Names, statement_of}
-use Rattle.l6_session.specs.declared.command.Command.{Command}
-use Rattle.l6_session.specs.declared.command.Command.TheVariants.{Step, Back, Goto, End, Next, ReverseNext, Finish, ReverseFinish, Continue, ReverseContinue, Run, Until, UntilNext, Break, TemporaryBreak, Delete, DeleteAll, Watch, Unwatch, Display, Undisplay, Print, Block, Where, Stack, Show, Fields, Draw, Store, Lists, Stats, Out, Checkpoints, Info, ListHere, ListNear, Help, Set, Ignore, Condition}
+-- The commands of a session: their words, and what is said of them.
+use Rattle.std.specs.Prelude.{ℕ, nat_le, Bool, ◌&&◌, List, [], ◌∷◌, codes, length, Option, Some, None, if◌then◌else◌}
+use Rattle.std.specs.List.{list_any}
+use Rattle.std.specs.Str.{bytes_eq}
+use Prim.Native.String.{String}
+use Rattle.l6_debug.specs.Command.{words_in}
+use Rattle.l6_session.specs.Near.{is_one_off}
+use Rattle.l6_session.specs.Numerals.{least_near}
+use Rattle.l6_session.specs.declared.command.Command.TheVariants as command
+use Rattle.l6_session.specs.declared.command.Move.{Move}
+use Rattle.l6_session.specs.declared.command.Move.TheVariants as moves
+use Rattle.l6_session.specs.declared.command.Setting.TheVariants.{DeleteAll}
+use Rattle.l6_session.specs.declared.command.View.{View}
+use Rattle.l6_session.specs.declared.command.View.TheVariants as views
 use Rattle.l6_session.specs.declared.command.Reading.{Reading}
-use Rattle.l6_session.specs.declared.command.Reading.TheVariants.{Skipped, Wrong, NoStatement, NoChain, HelpOn, Quit, Asked}
+use Rattle.l6_session.specs.declared.command.Reading.TheVariants as reading
+use Rattle.l6_session.specs.declared.command.Verb.{Verb}
+use Rattle.l6_session.specs.declared.command.Verb.TheVariants.{Step, Back, Next, ReverseNext, Finish, ReverseFinish, Continue, ReverseContinue, Until, Run, Goto, Start, End, List as ListCards, Break, TemporaryBreak, Enable, Disable, Delete, Info, Watch, Unwatch, Display, Undisplay, Print, Block, Where, Stack, Show, Fields, Draw, Store, Lists, Stats, Out, Checkpoints, Help, Quit, Set, Ignore, Condition}
 
--- what a word alone asks for: the names of the debugger of jobs, those of gdb, and their abbreviations
-abbrev pub words_on : List (Line Command)
-words_on =
-    "STEP" means (Step 1)
-    ∷ "S" means (Step 1)
-    ∷ "STEPI" means (Step 1)
-    ∷ "SI" means (Step 1)
-    ∷ "NEXT" means (Next 1)
-    ∷ "N" means (Next 1)
-    ∷ "NEXTI" means (Next 1)
-    ∷ "NI" means (Next 1)
-    ∷ []
+-- the words of a command, between blanks; how it is written, with what follows it; what it does in a
+-- few words; and what it does in a sentence without its stop
+pub record Row : Type 0 where
+  pub words : List ℕ
+  pub usage : List ℕ
+  pub line : List ℕ
+  pub sentence : List ℕ
 
-abbrev pub words_out : List (Line Command)
-words_out =
-    "FINISH" means Finish
-    ∷ "FIN" means Finish
-    ∷ "CONTINUE" means (Continue 1)
-    ∷ "C" means (Continue 1)
-    ∷ "CONT" means (Continue 1)
-    ∷ "GO" means (Continue 1)
-    ∷ []
+abbrev pub row : String → String → String → String → Row
+row words usage line sentence = record {
+  words = codes words;
+  usage = codes usage;
+  line = codes line;
+  sentence = codes sentence;
+}
 
-abbrev pub words_until : List (Line Command)
-words_until =
-    "UNTIL" means UntilNext
-    ∷ "U" means UntilNext
-    ∷ "UNT" means UntilNext
-    ∷ "ADVANCE" means UntilNext
-    ∷ []
+-- the list of commands: the names of gdb and those of the debugger of jobs, and what stands for them
+abbrev pub row_of : Verb → Row
+row_of Step =
+    row "STEP S STEPI SI" "step|s [N]" "N steps on"
+    "goes N states on, 1 without N, at most to the last one"
+row_of Back =
+    row "BACK REVERSE-STEP RS" "back|rs [N]" "N states back"
+    "goes N states back, 1 without N, at most to the start"
+row_of Next =
+    row "NEXT N NEXTI NI" "next|n [N]" "on, over a DO"
+    "goes on to the next state at which no more calls wait than here, so over a DO, or to where one stops before; N times"
+row_of ReverseNext =
+    row "REVERSE-NEXT RN" "reverse-next|rn [N]" "back, over a DO"
+    "goes back to the latest state at which no more calls wait than here, or to where one stops after it; N times"
+row_of Finish =
+    row "FINISH FIN" "finish|fin" "on, out of a DO"
+    "goes on to where the latest call has returned, or to where one stops before"
+row_of ReverseFinish =
+    row "REVERSE-FINISH RF" "reverse-finish|rf" "back, to the DO"
+    "goes back to where the latest call was made, or to where one stops after it"
+row_of Continue =
+    row "CONTINUE C CONT GO" "continue|c|go [N]" "on, to a stop"
+    "goes on to the next state at which one stops, or to the last one; N times, so to the Nth stop"
+row_of ReverseContinue =
+    row "REVERSE-CONTINUE RC" "reverse-continue|rc" "back, to a stop"
+    "goes back to the latest state at which one stops, or to the start; rc N does it N times. A watch then stops right before the step that changed the value"
+row_of Until =
+    row "UNTIL U UNT ADVANCE" "until|u [PLACE]" "on, to there"
+    "goes on to the statement, or to where one stops before. Without PLACE it is the statement after this one, so that a loop is left at its end"
+row_of Run =
+    row "RUN R RESTART" "run|r" "start, to a stop"
+    "goes to the first state, and on from there to where one stops"
+row_of Goto =
+    row "GOTO" "goto N" "to the state N"
+    "goes to the state of a number, at most to the last one"
+row_of Start =
+    row "START" "start" "to the first"
+    "goes to the first state"
+row_of End =
+    row "END" "end" "to the last"
+    "goes to the last state"
+row_of ListCards =
+    row "LIST L LL" "list|l [PLACE]" "cards near it"
+    "shows the cards near the state, or near a statement"
+row_of Break =
+    row "BREAK B" "break|b PLACE" "stop there"
+    "stops wherever the run comes to the statement. PLACE is a label, the number of a statement, or : and the number of a card"
+row_of TemporaryBreak =
+    row "TBREAK TB" "tbreak|tb PLACE" "stop there once"
+    "like break, but the breakpoint is removed where the run first comes to it"
+row_of Enable =
+    row "ENABLE" "enable PLACE" "stop there again"
+    "sets the breakpoint of a statement, as break does"
+row_of Disable =
+    row "DISABLE" "disable PLACE" "no longer there"
+    "removes the breakpoint of a statement, as delete does"
+row_of Delete =
+    row "DELETE D CLEAR" "delete|d [PLACE]" "no longer there"
+    "removes the breakpoint of a statement; without PLACE all breakpoints, and nothing is watched any longer"
+row_of Info =
+    row "INFO I" "info|i" "where one stops"
+    "shows where one stops, what is watched, and what is displayed, with numbers. A breakpoint has the number of its statement"
+row_of Watch =
+    row "WATCH" "watch CHAIN" "stop at a change"
+    "stops where the chain reads as another value, or can be followed no longer; up to 8 chains"
+row_of Unwatch =
+    row "UNWATCH" "unwatch N" "watch no longer"
+    "watches a chain no longer; N is its number in info"
+row_of Display =
+    row "DISPLAY" "display CHAIN" "print at stops"
+    "prints the chain at each stop; up to 8 chains"
+row_of Undisplay =
+    row "UNDISPLAY" "undisplay N" "print no longer"
+    "displays a chain no longer; N is its number in info"
+row_of Print =
+    row "PRINT P PP WHATIS" "print|p CHAIN|NUMBER" "what it reads as"
+    "shows what it reads as, in decimal, in octal and as characters, and the block to which it leads; or at which field it can't be followed, and why"
+row_of Block =
+    row "BLOCK X" "block|x CHAIN|NUMBER" "its block"
+    "shows the words of the block to which it leads, and what the fields that are defined now show of it"
+row_of Where =
+    row "WHERE W BT BACKTRACE FRAME F UP DOWN" "where|bt" "calls that wait"
+    "shows where the run is, and where the calls that wait go on, the latest first"
+row_of Stack =
+    row "STACK" "stack" "what is saved"
+    "shows the contents and the definitions that are saved, the latest first"
+row_of Show =
+    row "SHOW" "show" "bugs, and amounts"
+    "shows what the bugs hold, and how much is saved, taken and printed"
+row_of Fields =
+    row "FIELDS" "fields" "definitions"
+    "shows what fields are defined as"
+row_of Draw =
+    row "DRAW" "draw" "blocks and links"
+    "draws the blocks that are reached, and their links, also those that lead to no block"
+row_of Store =
+    row "STORE" "store" "map of the store"
+    "shows the map of the store"
+row_of Lists =
+    row "LISTS" "lists" "free pieces"
+    "shows the free pieces of the store, the first of each level first"
+row_of Stats =
+    row "STATS" "stats" "how far, how full"
+    "shows how far the run has come, and how full the store is"
+row_of Out =
+    row "OUT" "out" "what is printed"
+    "shows what the run has printed so far"
+row_of Checkpoints =
+    row "CHECKPOINTS" "checkpoints" "states kept"
+    "shows at which states copies are kept, to go back from"
+row_of Help =
+    row "HELP H ?" "help|h [COMMAND]" "this, or more"
+    "shows the commands, or what one of them does"
+row_of Quit =
+    row "QUIT Q EXIT" "quit|q" "end the session"
+    "ends the session, as the end of the input does"
+row_of Set =
+    row "SET CALL JUMP RETURN" "set" "a run stays as is"
+    "changes nothing: a run is never changed. To try another one, change the deck"
+row_of Ignore =
+    row "IGNORE" "ignore" "see continue"
+    "changes nothing: continue N passes over the stops before the Nth"
+row_of Condition =
+    row "CONDITION COMMANDS" "condition" "see watch"
+    "changes nothing: a breakpoint has no condition, and watch stops where a value changes"
 
-abbrev pub words_back : List (Line Command)
-words_back =
-    "BACK" means (Back 1)
-    ∷ "REVERSE-STEP" means (Back 1)
-    ∷ "RS" means (Back 1)
-    ∷ "REVERSE-NEXT" means (ReverseNext 1)
-    ∷ "RN" means (ReverseNext 1)
-    ∷ []
+-- the commands, in the order in which help has them
+unfoldable pub verbs : List Verb
+verbs =
+    Step ∷ Back ∷ Next ∷ ReverseNext ∷ Finish ∷ ReverseFinish ∷ Continue ∷ ReverseContinue ∷
+    Until ∷ Run ∷ Goto ∷ Start ∷ End ∷ ListCards ∷ Break ∷ TemporaryBreak ∷ Enable ∷ Disable ∷
+    Delete ∷ Info ∷ Watch ∷ Unwatch ∷ Display ∷ Undisplay ∷ Print ∷ Block ∷ Where ∷ Stack ∷
+    Show ∷ Fields ∷ Draw ∷ Store ∷ Lists ∷ Stats ∷ Out ∷ Checkpoints ∷ Help ∷ Quit ∷ Set ∷
+    Ignore ∷ Condition ∷ []
 
-abbrev pub words_back_out : List (Line Command)
-words_back_out =
-    "REVERSE-FINISH" means ReverseFinish
-    ∷ "RF" means ReverseFinish
-    ∷ "REVERSE-CONTINUE" means (ReverseContinue 1)
-    ∷ "RC" means (ReverseContinue 1)
-    ∷ []
+abbrev pub moved : Move → Reading
+moved to = reading.Asked (command.Move to)
 
-abbrev pub words_of_ends : List (Line Command)
-words_of_ends =
-    "START" means (Goto 0)
-    ∷ "RUN" means Run
-    ∷ "R" means Run
-    ∷ "RESTART" means Run
-    ∷ "END" means End
-    ∷ []
+abbrev pub shown : View → Reading
+shown view = reading.Asked (command.View view)
 
-abbrev pub words_of_stops : List (Line Command)
-words_of_stops =
-    "DELETE" means DeleteAll
-    ∷ "D" means DeleteAll
-    ∷ "CLEAR" means DeleteAll
-    ∷ "INFO" means Info
-    ∷ "I" means Info
-    ∷ "BREAK" means Info
-    ∷ "B" means Info
-    ∷ "WATCH" means Info
-    ∷ "DISPLAY" means Info
-    ∷ []
+-- what a command asks for that no word follows: one goes to another state, or something is shown, or more
+-- is missing
+abbrev pub alone : Verb → Reading
+alone Step = moved (moves.Step 1)
+alone Back = moved (moves.Back 1)
+alone Next = moved (moves.Next 1)
+alone ReverseNext = moved (moves.ReverseNext 1)
+alone Finish = moved moves.Finish
+alone ReverseFinish = moved moves.ReverseFinish
+alone Continue = moved (moves.Continue 1)
+alone ReverseContinue = moved (moves.ReverseContinue 1)
+alone Until = moved moves.UntilNext
+alone Run = moved moves.Run
+alone Goto = reading.Missing Goto
+alone Start = moved (moves.Goto 0)
+alone End = moved moves.End
+alone ListCards = shown views.ListHere
+alone Break = shown views.Info
+alone TemporaryBreak = reading.Missing TemporaryBreak
+alone Enable = reading.Missing Enable
+alone Disable = reading.Missing Disable
+alone Delete = reading.Asked (command.Setting DeleteAll)
+alone Info = shown views.Info
+alone Watch = shown views.Info
+alone Unwatch = reading.Missing Unwatch
+alone Display = shown views.Info
+alone Undisplay = reading.Missing Undisplay
+alone Print = shown views.Show
+alone Block = reading.Missing Block
+alone Where = shown views.Where
+alone Stack = shown views.Stack
+alone Show = shown views.Show
+alone Fields = shown views.Fields
+alone Draw = shown views.Draw
+alone Store = shown views.Store
+alone Lists = shown views.Lists
+alone Stats = shown views.Stats
+alone Out = shown views.Out
+alone Checkpoints = shown views.Checkpoints
+alone Help = shown views.Help
+alone Quit = reading.Quit
+alone Set = shown views.Set
+alone Ignore = shown views.Ignore
+alone Condition = shown views.Condition
 
-abbrev pub words_of_calls : List (Line Command)
-words_of_calls =
-    "WHERE" means Where
-    ∷ "W" means Where
-    ∷ "BT" means Where
-    ∷ "BACKTRACE" means Where
-    ∷ "FRAME" means Where
-    ∷ "F" means Where
-    ∷ "UP" means Where
-    ∷ "DOWN" means Where
-    ∷ "STACK" means Stack
-    ∷ []
+-- the word is one of the command's
+abbrev pub is_word_of : Verb → List ℕ → Bool
+is_word_of verb word = list_any (λ other. bytes_eq other word) (words_in (row_of verb).words)
 
-abbrev pub words_of_state : List (Line Command)
-words_of_state =
-    "SHOW" means Show
-    ∷ "PRINT" means Show
-    ∷ "P" means Show
-    ∷ "FIELDS" means Fields
-    ∷ "OUT" means Out
-    ∷ "STATS" means Stats
-    ∷ "CHECKPOINTS" means Checkpoints
-    ∷ []
+-- the first of these commands whose word it is
+abbrev pub named_among : List Verb → List ℕ → Option Verb
+named_among [] word = None
+named_among (verb ∷ others) word = if is_word_of verb word then Some verb else named_among others word
 
-abbrev pub words_of_store : List (Line Command)
-words_of_store =
-    "DRAW" means Draw
-    ∷ "STORE" means Store
-    ∷ "LISTS" means Lists
-    ∷ "LIST" means ListHere
-    ∷ "L" means ListHere
-    ∷ "LL" means ListHere
-    ∷ []
+-- the word is nearly one of the command's, which is not too short for that
+abbrev pub is_near : List ℕ → List ℕ → Bool
+is_near word other = nat_le least_near (length other) && is_one_off other word
 
-abbrev pub words_of_help : List (Line Command)
-words_of_help =
-    "HELP" means Help
-    ∷ "H" means Help
-    ∷ "?" means Help
-    ∷ []
+abbrev pub is_nearly_word_of : Verb → List ℕ → Bool
+is_nearly_word_of verb word = list_any (is_near word) (words_in (row_of verb).words)
 
--- those that lead to a state, and those that show something
-abbrev pub moving_alone : List ℕ → Option Command
-moving_alone verb =
-    option_or (find_spelled words_on verb)
-    (option_or (find_spelled words_out verb)
-    (option_or (find_spelled words_until verb)
-    (option_or (find_spelled words_back verb)
-    (option_or (find_spelled words_back_out verb)
-    (find_spelled words_of_ends verb)))))
-
-abbrev pub showing_alone : List ℕ → Option Command
-showing_alone verb =
-    option_or (find_spelled words_of_stops verb)
-    (option_or (find_spelled words_of_calls verb)
-    (option_or (find_spelled words_of_state verb)
-    (option_or (find_spelled words_of_store verb)
-    (find_spelled words_of_help verb))))
-
-abbrev pub command_alone : List ℕ → Option Command
-command_alone verb = option_or (moving_alone verb) (showing_alone verb)
-
--- what a word and a number ask for
-abbrev pub words_of_steps : List (Line (ℕ → Command))
-words_of_steps =
-    "STEP" means Step
-    ∷ "S" means Step
-    ∷ "BACK" means Back
-    ∷ "REVERSE-STEP" means Back
-    ∷ "RS" means Back
-    ∷ []
-
-abbrev pub words_of_repeats : List (Line (ℕ → Command))
-words_of_repeats =
-    "NEXT" means Next
-    ∷ "N" means Next
-    ∷ "REVERSE-NEXT" means ReverseNext
-    ∷ "RN" means ReverseNext
-    ∷ "CONTINUE" means Continue
-    ∷ "C" means Continue
-    ∷ "REVERSE-CONTINUE" means ReverseContinue
-    ∷ "RC" means ReverseContinue
-    ∷ []
-
-abbrev pub words_of_numbers : List (Line (ℕ → Command))
-words_of_numbers =
-    "GOTO" means Goto
-    ∷ "UNWATCH" means Unwatch
-    ∷ "UNDISPLAY" means Undisplay
-    ∷ []
-
--- what a word and a statement ask for
-abbrev pub words_to_break : List (Line (ℕ → Command))
-words_to_break =
-    "BREAK" means Break
-    ∷ "B" means Break
-    ∷ "TBREAK" means TemporaryBreak
-    ∷ "TB" means TemporaryBreak
-    ∷ "ENABLE" means Break
-    ∷ "UNTIL" means Until
-    ∷ "U" means Until
-    ∷ "ADVANCE" means Until
-    ∷ []
-
-abbrev pub words_at_statement : List (Line (ℕ → Command))
-words_at_statement =
-    "DELETE" means Delete
-    ∷ "D" means Delete
-    ∷ "CLEAR" means Delete
-    ∷ "DISABLE" means Delete
-    ∷ "LIST" means ListNear
-    ∷ "L" means ListNear
-    ∷ []
-
--- what a word and a chain ask for
-abbrev pub words_with_chain : List (Line (List ℕ → Command))
-words_with_chain =
-    "WATCH" means Watch
-    ∷ "DISPLAY" means Display
-    ∷ []
-
--- what a word and a chain or a number ask for
-abbrev pub words_with_operand : List (Line (Operand → Command))
-words_with_operand =
-    "PRINT" means Print
-    ∷ "P" means Print
-    ∷ "PP" means Print
-    ∷ "WHATIS" means Print
-    ∷ "BLOCK" means Block
-    ∷ "X" means Block
-    ∷ []
-
--- words that end a session, and words that ask for help on another command
-abbrev pub words_to_quit : List (Line (Unit {0}))
-words_to_quit = "QUIT" means tt ∷ "Q" means tt ∷ "EXIT" means tt ∷ []
-
-abbrev pub words_for_help : List (Line (Unit {0}))
-words_for_help = "HELP" means tt ∷ "H" means tt ∷ []
-
-abbrev pub if_quit : List ℕ → Option Reading
-if_quit verb = option_map (λ _. Quit) (find_spelled words_to_quit verb)
-
-abbrev pub numbered : List (Line (ℕ → Command)) → List ℕ → List ℕ → Option Command
-numbered words verb word = do
-  command ← find_spelled words verb
-  number ← number_of word
-  Some (command number)
-
-abbrev pub with_number : List ℕ → List ℕ → Option Command
-with_number verb word =
-    option_or (numbered words_of_steps verb word)
-    (option_or (numbered words_of_repeats verb word) (numbered words_of_numbers verb word))
-
--- a dollar before a bug, as before a register in gdb, counts for nothing
-abbrev pub without_dollar : List ℕ → List ℕ
-without_dollar [] = []
-without_dollar (first ∷ rest) = if first == byte "$" then rest else first ∷ rest
-
--- a command that names a chain, or a chain or a number
-abbrev pub named_by : {A : Type 0} → (A → Command) → Option A → Reading
-named_by command (Some given) = Asked (command given)
-named_by command None = NoChain
-
-abbrev pub chained : List ℕ → Option (List ℕ → Command) → Option Reading
-chained word commands =
-    option_map (λ command. named_by command (chain_of (without_dollar word))) commands
-
-abbrev pub with_chain : List ℕ → List ℕ → Option Reading
-with_chain verb word = chained word (find_spelled words_with_chain verb)
-
-abbrev pub operated : List ℕ → Option (Operand → Command) → Option Reading
-operated word commands =
-    option_map (λ command. named_by command (operand_of (without_dollar word))) commands
-
-abbrev pub with_operand : List ℕ → List ℕ → Option Reading
-with_operand verb word = operated word (find_spelled words_with_operand verb)
-
-abbrev pub asked : Option Command → Option Reading
-asked command = option_map Asked command
-
--- a command that names a statement
-abbrev pub named : (ℕ → Command) → Option ℕ → Reading
-named command (Some statement) = Asked (command statement)
-named command None = NoStatement
-
-abbrev pub placed : List (Line (ℕ → Command)) → Option ℕ → List ℕ → Option Reading
-placed words statement verb = option_map (λ command. named command statement) (find_spelled words verb)
-
-abbrev pub with_statement : Names → List ℕ → List ℕ → Option Reading
-with_statement names verb word =
-    option_or (placed words_to_break (statement_of names word) verb)
-    (placed words_at_statement (statement_of names word) verb)
-
-abbrev pub with_topic : List ℕ → Option Reading
-with_topic verb = option_map (λ _. HelpOn) (find_spelled words_for_help verb)
-
--- words that ask for what gdb's second word names
-abbrev pub words_for_info : List (Line (Unit {0}))
-words_for_info = "INFO" means tt ∷ "I" means tt ∷ []
-
-abbrev pub info_of_stops : List (Line Command)
-info_of_stops =
-    "BREAKPOINTS" means Info
-    ∷ "BREAK" means Info
-    ∷ "B" means Info
-    ∷ "WATCHPOINTS" means Info
-    ∷ "WATCH" means Info
-    ∷ "DISPLAY" means Info
-    ∷ "CHECKPOINTS" means Checkpoints
-    ∷ "PROGRAM" means Stats
-    ∷ []
-
-abbrev pub info_of_bugs : List (Line Command)
-info_of_bugs =
-    "LOCALS" means Show
-    ∷ "VARIABLES" means Show
-    ∷ "ARGS" means Show
-    ∷ "REGISTERS" means Show
-    ∷ "REG" means Show
-    ∷ "R" means Show
-    ∷ "FIELDS" means Fields
-    ∷ "TYPES" means Fields
-    ∷ []
-
-abbrev pub info_of_calls : List (Line Command)
-info_of_calls =
-    "FRAME" means Where
-    ∷ "F" means Where
-    ∷ "STACK" means Where
-    ∷ "S" means Where
-    ∷ "LINE" means ListHere
-    ∷ "SOURCE" means ListHere
-    ∷ []
-
-abbrev pub info_on : List ℕ → Option Command
-info_on word =
-    option_or (find_spelled info_of_stops word)
-    (option_or (find_spelled info_of_bugs word) (find_spelled info_of_calls word))
-
-abbrev pub with_info : List ℕ → List ℕ → Option Command
-with_info verb word = find_spelled words_for_info verb >>= (λ _. info_on (spelled word))
-
--- words that any others may follow
-abbrev pub words_with_more : List (Line Command)
-words_with_more =
-    "SET" means Set
-    ∷ "CALL" means Set
-    ∷ "JUMP" means Set
-    ∷ "RETURN" means Set
-    ∷ "IGNORE" means Ignore
-    ∷ "CONDITION" means Condition
-    ∷ "COMMANDS" means Condition
-    ∷ "BREAK" means Condition
-    ∷ "B" means Condition
-    ∷ []
-
-abbrev pub with_more : List ℕ → Option Reading
-with_more verb = asked (find_spelled words_with_more verb)
-
-abbrev pub command_or_more : List ℕ → Option Command
-command_or_more verb = option_or (command_alone verb) (find_spelled words_with_more verb)
-
-abbrev pub reading_alone : List ℕ → Option Reading
-reading_alone verb = option_or (if_quit verb) (asked (command_or_more verb))
-
-abbrev pub reading_with : Names → List ℕ → List ℕ → Option Reading
-reading_with names verb word =
-    option_or (asked (with_number verb word))
-    (option_or (with_statement names verb word)
-    (option_or (with_chain verb word)
-    (option_or (with_operand verb word)
-    (option_or (asked (with_info verb word))
-    (option_or (with_topic verb) (with_more verb))))))
-
--- what follows a slash, as in x/8, counts for nothing
-abbrev pub before_slash : List ℕ → List ℕ
-before_slash [] = []
-before_slash (first ∷ rest) = if first == byte "/" then [] else first ∷ before_slash rest
-
-abbrev pub verb_of : List ℕ → List ℕ
-verb_of word = spelled (before_slash word)
-
--- a line without words is skipped; what no table has is no command
-abbrev pub reading_from : Names → List (List ℕ) → Reading
-reading_from names [] = Skipped
-reading_from names (verb ∷ []) = unwrap_or (reading_alone (verb_of verb)) Wrong
-reading_from names (verb ∷ word ∷ []) = unwrap_or (reading_with names (verb_of verb) word) Wrong
-reading_from names (verb ∷ word ∷ more ∷ others) = unwrap_or (with_more (verb_of verb)) Wrong
-
--- what a line of commands is
-abbrev pub reading_of : Names → List ℕ → Reading
-reading_of names line = reading_from names (words_in (without_return line))
+-- the first of these commands whose word it nearly is
+abbrev pub nearly_among : List Verb → List ℕ → Option Verb
+nearly_among [] word = None
+nearly_among (verb ∷ others) word =
+    if is_nearly_word_of verb word then Some verb else nearly_among others word

@@ -8,3 +8,30 @@ most_displayed = 8
 -- how often a command is repeated at most
 abbrev pub most_repeats : ℕ
 most_repeats = 65535
+
+-- how many characters the word of a command has at most, and how many it has at least to which another
+-- one is near
+abbrev pub most_command_word : ℕ
+most_command_word = 32
+
+abbrev pub least_near : ℕ
+least_near = 4
+
+-- in how many columns help has how a command is written, and all of what it says of one in its list
+abbrev pub usage_places : ℕ
+usage_places = 22
+
+abbrev pub cell_places : ℕ
+cell_places = 40
+
+-- how many changes of bugs and fields are shown
+abbrev pub most_changes : ℕ
+most_changes = 8
+
+-- in how many columns the number of a card is, and how many statements are listed before and after the one
+-- that is asked for
+abbrev pub card_places : ℕ
+card_places = 5
+
+abbrev pub near_statements : ℕ
+near_statements = 4

@@ -10,7 +10,11 @@ use Rattle.l6_history.specs.Seeking.{next_stop, previous_stop}
 use Rattle.l6_history.specs.Stop.{Stop, is_at_breakpoint, nowhere}
 use Rattle.l6_session.specs.Numerals.{most_displayed, most_repeats}
 use Rattle.l6_session.specs.declared.command.Command.{Command}
-use Rattle.l6_session.specs.declared.command.Command.TheVariants.{Step, Back, Goto, End, Next, ReverseNext, Finish, ReverseFinish, Continue, ReverseContinue, Run, Until, UntilNext, Break, TemporaryBreak, Delete, DeleteAll, Watch, Unwatch, Display, Undisplay}
+use Rattle.l6_session.specs.declared.command.Command.TheVariants as command
+use Rattle.l6_session.specs.declared.command.Move.{Move}
+use Rattle.l6_session.specs.declared.command.Move.TheVariants.{Step, Back, Goto, End, Next, ReverseNext, Finish, ReverseFinish, Continue, ReverseContinue, Run, Until, UntilNext}
+use Rattle.l6_session.specs.declared.command.Setting.{Setting}
+use Rattle.l6_session.specs.declared.command.Setting.TheVariants.{Break, TemporaryBreak, Delete, DeleteAll, Watch, Unwatch, Display, Undisplay}
 
 -- the number of the state at which one is; where one stops; for each statement, whether its breakpoint
 -- is removed where it is reached; and the chains that are displayed
@@ -99,40 +103,48 @@ abbrev pub one_less : List (List ℕ) → ℕ → List (List ℕ)
 one_less chains number =
     if nat_lt (number - 1) (length chains) then remove chains (number - 1) else chains
 
--- the session after a command. It is at no state beyond the last, and back at none before the start.
--- Where no call waits, there is none that could return.
-abbrev pub after : Rule → RunContext → SessionState → Command → SessionState
-after rule context old (Step n) =
+-- the session after one goes to another state. It is at no state beyond the last, and back at none before
+-- the start. Where no call waits, there is none that could return.
+abbrev pub moved : Rule → RunContext → SessionState → Move → SessionState
+moved rule context old (Step n) =
     come_to rule context old (min (old.number + n) (last_number rule context))
-after rule context old (Back n) = come_to rule context old (old.number - n)
-after rule context old (Goto n) = come_to rule context old (min n (last_number rule context))
-after rule context old End = come_to rule context old (last_number rule context)
-after rule context old (Next n) = times n (over rule context) old
-after rule context old (ReverseNext n) = times n (back_over rule context) old
-after rule context old Finish =
+moved rule context old (Back n) = come_to rule context old (old.number - n)
+moved rule context old (Goto n) = come_to rule context old (min n (last_number rule context))
+moved rule context old End = come_to rule context old (last_number rule context)
+moved rule context old (Next n) = times n (over rule context) old
+moved rule context old (ReverseNext n) = times n (back_over rule context) old
+moved rule context old Finish =
     if depth_at rule context old.number == 0 then old
     else on_to rule context old (depth_at rule context old.number - 1)
-after rule context old ReverseFinish =
+moved rule context old ReverseFinish =
     if depth_at rule context old.number == 0 then old
     else back_to rule context old (depth_at rule context old.number - 1)
-after rule context old (Continue n) = times n (on rule context) old
-after rule context old (ReverseContinue n) = times n (back rule context) old
-after rule context old Run = on rule context (come_to rule context old 0)
-after rule context old (Until s) = on_until rule context old s
-after rule context old UntilNext =
+moved rule context old (Continue n) = times n (on rule context) old
+moved rule context old (ReverseContinue n) = times n (back rule context) old
+moved rule context old Run = on rule context (come_to rule context old 0)
+moved rule context old (Until s) = on_until rule context old s
+moved rule context old UntilNext =
     on_until rule context old ((state_at rule context old.number).at.statement + 1)
-after rule context old (Break s) = with_breakpoint s true false old
-after rule context old (TemporaryBreak s) = with_breakpoint s true true old
-after rule context old (Delete s) = with_breakpoint s false false old
-after rule context old DeleteAll = record old {
+
+-- the session after one changes where one stops, or what is displayed
+abbrev pub changed : SessionState → Setting → SessionState
+changed old (Break s) = with_breakpoint s true false old
+changed old (TemporaryBreak s) = with_breakpoint s true true old
+changed old (Delete s) = with_breakpoint s false false old
+changed old DeleteAll = record old {
   stop = nowhere (length old.stop.breakpoints);
   temporary = replicate (length old.temporary) false;
 }
-after rule context old (Watch chain) =
+changed old (Watch chain) =
     record old { stop = record old.stop { watched = one_more most_watched old.stop.watched chain } }
-after rule context old (Unwatch n) =
+changed old (Unwatch n) =
     record old { stop = record old.stop { watched = one_less old.stop.watched n } }
-after rule context old (Display chain) =
+changed old (Display chain) =
     record old { displayed = one_more most_displayed old.displayed chain }
-after rule context old (Undisplay n) = record old { displayed = one_less old.displayed n }
-after rule context old other = old
+changed old (Undisplay n) = record old { displayed = one_less old.displayed n }
+
+-- the session after a command
+abbrev pub after : Rule → RunContext → SessionState → Command → SessionState
+after rule context old (command.Move to) = moved rule context old to
+after rule context old (command.Setting setting) = changed old setting
+after rule context old (command.View view) = old

@@ -1,24 +1,33 @@
 -- What a session shows of a state: values, statements by their labels, and what waits and is saved.
-use Rattle.std.specs.Prelude.{ℕ, ◌-◌, ◌/◌, ◌%◌, ◌^◌, nat_le, nat_lt, List, [], ◌∷◌, ◌++◌, length, map, codes, decimal, Option, Some, None, if◌then◌else◌}
+use Rattle.std.specs.Prelude.{ℕ, ◌-◌, ◌/◌, ◌%◌, ◌^◌, ◌==◌, nat_le, nat_lt, List, [], ◌∷◌, ◌++◌, length, map, codes, decimal, Option, Some, None, Result, Ok, Err, if◌then◌else◌}
 use Rattle.std.specs.Option.{option_map}
 use Rattle.std.specs.FinMap as places
 use Rattle.std.specs.List.{enumerate_from, flat_map}
 use Rattle.l6_word.specs.Code.{char_of}
 use Rattle.l6_word.specs.Numerals.{code_count}
 use Rattle.l6_word.specs.Octal.{octal12}
+use Rattle.l6_word.specs.Trying.{◌>>=◌}
 use Rattle.l6_word.specs.Window.{Window}
 use Rattle.l6_group.specs.declared.label.Label.{Label}
+use Rattle.l6_prog.specs.Numerals.{name_count}
 use Rattle.l6_prog.specs.declared.operand.Operand.{Operand}
 use Rattle.l6_prog.specs.declared.operand.Operand.TheVariants.{Chain, Number}
+use Rattle.l6_steps.specs.Locus.{content, field_at, read}
+use Rattle.l6_steps.specs.declared.locus.Locus.TheVariants.{Bug}
 use Rattle.l6_steps.specs.declared.position.Position.{Position}
 use Rattle.l6_steps.specs.declared.returns.Return.{Return}
 use Rattle.l6_steps.specs.State.{Memory, State}
-use Rattle.l6_history.specs.Stop.{value_of}
+use Rattle.l6_steps.specs.declared.trap.Trap.{Trap}
+use Rattle.l6_steps.specs.declared.trap.Trap.TheVariants.{UndefinedField, NotABlock}
 use Rattle.l6_draw.specs.Drawing.{character_of}
 
 -- the names of a chain
 abbrev pub chain_text : List ℕ → List ℕ
 chain_text names = map character_of names
+
+-- the digit or the letter of a name, if there is one of this number
+abbrev pub name_text : ℕ → List ℕ
+name_text number = if nat_lt number name_count then character_of number ∷ [] else []
 
 -- the character of a word whose code begins so many bits from its right end; a word has six
 abbrev pub character_at : ℕ → ℕ → ℕ
@@ -117,11 +126,70 @@ waiting_text labels state =
     codes "#0 at " ++ position_text labels state.at ++ codes "\n"
     ++ flat_map (return_line labels) (enumerate_from 1 state.memory.returns)
 
--- a chain and what it reads as
-abbrev pub chain_line : Memory → List ℕ → ℕ → List ℕ
-chain_line memory chain word = chain_text chain ++ codes " = " ++ value_line memory word
+-- what a field shows of the block at a pointer, if it can be followed
+abbrev pub followed : Memory → ℕ → ℕ → Result ℕ Trap
+followed memory field pointer = do
+  at ← field_at memory field pointer
+  Ok (content memory at)
 
--- what is printed of a number, and of a chain that can be followed
-abbrev pub operand_text : Memory → Operand → Option (List ℕ)
-operand_text memory (Number word) = Some (value_line memory word)
-operand_text memory (Chain chain) = option_map (chain_line memory chain) (value_of memory chain)
+-- why a field can't be followed from a pointer on, to which the names before it lead
+abbrev pub undefined_text : ℕ → List ℕ
+undefined_text field = codes "the field " ++ chain_text (field ∷ []) ++ codes " is not defined\n"
+
+abbrev pub link_text : ℕ → List ℕ
+link_text pointer =
+    if pointer == 0 then codes ", which is no block: it was never set, or was set to 0\n"
+    else codes ", where no block begins: it holds no link, or the block there was freed\n"
+
+abbrev pub no_block_text : List ℕ → ℕ → List ℕ
+no_block_text front pointer =
+    chain_text front ++ codes " is " ++ decimal pointer ++ link_text pointer
+
+abbrev pub outside_text : ℕ → ℕ → List ℕ
+outside_text field pointer =
+    codes "the word of the field " ++ chain_text (field ∷ [])
+    ++ codes " is past the end of the block at " ++ decimal pointer ++ codes "\n"
+
+abbrev pub break_text : List ℕ → ℕ → ℕ → Trap → List ℕ
+break_text front field pointer UndefinedField = undefined_text field
+break_text front field pointer NotABlock = no_block_text front pointer
+break_text front field pointer other = outside_text field pointer
+
+-- the first of these fields that can't be followed, and why, where the names before them lead to a
+-- pointer
+abbrev pub broken_at : List ℕ → ℕ → ℕ → Result ℕ Trap → (ℕ → List ℕ) → List ℕ
+broken_at front field pointer (Err trap) further = break_text front field pointer trap
+broken_at front field pointer (Ok word) further = further word
+
+abbrev pub broken_from : Memory → List ℕ → ℕ → List ℕ → List ℕ
+broken_from memory front pointer [] = []
+broken_from memory front pointer (field ∷ fields) =
+    broken_at front field pointer (followed memory field pointer)
+    (λ word. broken_from memory (front ++ field ∷ []) word fields)
+
+abbrev pub broken_text : Memory → List ℕ → List ℕ
+broken_text memory [] = []
+broken_text memory (bug ∷ fields) =
+    broken_from memory (bug ∷ []) (content memory (Bug bug)) fields
+
+abbrev pub unfollowed_text : Memory → List ℕ → List ℕ
+unfollowed_text memory chain = codes " can't be followed: " ++ broken_text memory chain
+
+-- what a chain reads as, or why it can't be followed
+abbrev pub read_text : Memory → List ℕ → Result ℕ Trap → List ℕ
+read_text memory chain (Ok word) = codes " = " ++ value_line memory word
+read_text memory chain (Err trap) = unfollowed_text memory chain
+
+abbrev pub chain_line : Memory → List ℕ → List ℕ
+chain_line memory chain =
+    chain_text chain ++ read_text memory chain (read memory (Chain chain))
+
+-- what is printed of a number, and of a chain
+abbrev pub operand_text : Memory → Operand → List ℕ
+operand_text memory (Number word) = value_line memory word
+operand_text memory (Chain chain) = chain_line memory chain
+
+-- the line of a chain of this number, and what it reads as
+abbrev pub numbered_line : Memory → List ℕ → ℕ → List ℕ → List ℕ
+numbered_line memory verb number chain =
+    verb ++ decimal number ++ codes ": " ++ chain_line memory chain

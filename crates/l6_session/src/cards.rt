@@ -1,6 +1,10 @@
-//! The cards of statements, as texts show them. What they look like is tested, and not proved.
+//! The cards of statements, as texts show them. The marks below an action are tested, and not proved.
 
-use crate::names::Names;
+ghost use Rattle.std.specs.Prelude.{◌≡◌, ◌++◌, OnOk};
+ghost use Rattle.l6_session.specs.Reports as spec;
+
+use crate::names::{Names, begun_with, statement_with};
+use crate::text::push_blanks;
 use itoa::Buffer;
 use l6_card::{Role, role_of};
 use l6_machine::Position;
@@ -35,22 +39,40 @@ pub(crate) fn push_action(
 ) -> Result<(), AllocError> {
     let marked = marked_at(program, at);
     let statement = u64::from(at.statement);
-    push_statements(text, names.deck(), statement, statement, marked)?;
+    push_statement(text, names.deck(), statement, marked)?;
     if usize::from(at.statement) + 1 == program.statements().len() {
         text.extend_from_slice(b"      the DONE that follows the last card\n")?;
     }
     Ok(())
 }
 
-/// Adds the cards of a statement, and of those near it.
-pub(crate) fn push_near(
-    text: &mut Vec<u8>,
-    names: &Names,
-    statement: u64,
-) -> Result<(), AllocError> {
-    let first = statement.saturating_sub(NEAR);
-    let last = statement.saturating_add(NEAR);
-    push_statements(text, names.deck(), first, last, Marked::Nothing)
+/// Adds the cards of a deck that are of a statement, or of one near it.
+pub(crate) fn push_near(text: &mut Vec<u8>, deck: &[u8], statement: u64) -> Result<(), AllocError>
+    ensures { OnOk result (text.new.items ≡ text.old.items ++ spec.near_text deck.now statement) }
+{
+    let mut rest = deck;
+    let mut card: usize = 0;
+    let mut begun: usize = 0;
+    while let Some((line, following)) = first_line(rest) {
+        card += 1;
+        begun = begun_with(role_of(line), begun);
+        if is_near(statement, begun as u64) {
+            push_card(text, card, line)?;
+        }
+        rest = following;
+    }
+    Ok(())
+}
+
+/// Whether the last of so many statements is near this one.
+fn is_near(statement: u64, begun: u64) -> bool
+    ensures { result ≡ spec.is_near statement begun }
+{
+    if begun == 0 {
+        return false;
+    }
+    let last = begun - 1;
+    last.saturating_sub(NEAR) <= statement && statement <= last.saturating_add(NEAR)
 }
 
 /// What is marked at a position: the tests of a condition, the group of an operation, or the exit.
@@ -71,27 +93,24 @@ fn marked_at(program: &Program, at: Position) -> Marked {
     }
 }
 
-/// Adds the cards of the statements from one number to another.
-fn push_statements(
+/// Adds the cards of a statement, and marks on them.
+fn push_statement(
     text: &mut Vec<u8>,
     deck: &[u8],
-    first: u64,
-    last: u64,
+    statement: u64,
     marked: Marked,
 ) -> Result<(), AllocError> {
     let mut rest = deck;
-    let mut card: u64 = 0;
-    let mut begun: u64 = 0;
+    let mut card: usize = 0;
+    let mut begun: usize = 0;
     let mut groups: u64 = 0;
     while let Some((line, following)) = first_line(rest) {
         card = card.saturating_add(1);
         let role = role_of(line);
         if role == Role::First {
             begun = begun.saturating_add(1);
-            groups = 0;
         }
-        let is_part = role == Role::First || role == Role::Further;
-        if first < begun && begun <= last.saturating_add(1) && (is_part || first < last) {
+        if statement_with(role, begun) == Some(statement) {
             push_card(text, card, line)?;
             groups = push_marks(text, without_return(line), groups, marked)?;
         }
@@ -101,7 +120,9 @@ fn push_statements(
 }
 
 /// Adds the line of a card: its number, and what is on it.
-fn push_card(text: &mut Vec<u8>, card: u64, line: &[u8]) -> Result<(), AllocError> {
+fn push_card(text: &mut Vec<u8>, card: usize, line: &[u8]) -> Result<(), AllocError>
+    ensures { OnOk result (text.new.items ≡ text.old.items ++ spec.card_line card line.now) }
+{
     let mut buffer = Buffer::new();
     let digits = buffer.format(card).as_bytes();
     push_blanks(text, CARD_PLACES.saturating_sub(digits.len()))?;
@@ -109,14 +130,6 @@ fn push_card(text: &mut Vec<u8>, card: u64, line: &[u8]) -> Result<(), AllocErro
     text.extend_from_slice(b" ")?;
     text.extend_from_slice(without_return(line))?;
     text.extend_from_slice(b"\n")
-}
-
-/// Adds blanks.
-fn push_blanks(text: &mut Vec<u8>, count: usize) -> Result<(), AllocError> {
-    for _ in 0..count {
-        text.push(b' ')?;
-    }
-    Ok(())
 }
 
 /// Adds a line of marks below what is marked on a card of a statement, if anything is, where so many

@@ -1,91 +1,202 @@
-//! The commands of a session.
+//! The commands of a session, and what each asks for that is given alone.
+
+ghost use Rattle.std.specs.Prelude.{◌≡◌};
+ghost use Rattle.l6_session.specs.Answers as moves;
+ghost use Rattle.l6_session.specs.Command as spec;
 
 use l6_prog::{Chain, Operand};
 
 /// What may be asked of a session.
 #[derive(Debug, Drop)]
 pub enum Command {
-    /// Go so many states on, at most to the last one.
+    /// Go to another state.
+    Move(Move),
+    /// Change where one stops, or what is displayed.
+    Setting(Setting),
+    /// Show something.
+    View(View),
+}
+
+/// Which state is gone to.
+#[derive(Clone, Copy, Debug)]
+pub enum Move {
+    /// So many states on, at most the last one.
     Step(u64),
-    /// Go so many states back, at most to the start.
+    /// So many states back, at most the start.
     Back(u64),
-    /// Go to the state of a number, at most to the last one.
+    /// The state of a number, at most the last one.
     Goto(u64),
-    /// Go to the last state.
+    /// The last state.
     End,
-    /// So many times, go on to the next state at which no more calls wait than here, or where one
-    /// stops.
+    /// So many times, on to the next state at which no more calls wait than here, or where one stops.
     Next(u64),
-    /// So many times, go back to the latest state at which no more calls wait than here, or where one
+    /// So many times, back to the latest state at which no more calls wait than here, or where one
     /// stops.
     ReverseNext(u64),
-    /// Go on to where the latest call has returned, or where one stops.
+    /// On to where the latest call has returned, or where one stops.
     Finish,
-    /// Go back to where the latest call was made, or where one stops.
+    /// Back to where the latest call was made, or where one stops.
     ReverseFinish,
-    /// So many times, go on to where one stops.
+    /// So many times, on to where one stops.
     Continue(u64),
-    /// So many times, go back to where one stops.
+    /// So many times, back to where one stops.
     ReverseContinue(u64),
-    /// From the start, go on to where one stops.
+    /// From the start, on to where one stops.
     Run,
-    /// Go on to a statement, or to where one stops before.
+    /// On to a statement, or to where one stops before.
     Until(u64),
-    /// Go on to the statement after the present one, or to where one stops before.
+    /// On to the statement after the present one, or to where one stops before.
     UntilNext,
-    /// Set a breakpoint at a statement.
+}
+
+/// What is changed of where one stops, or of what is displayed.
+#[derive(Debug, Drop)]
+pub enum Setting {
+    /// A breakpoint is set at a statement.
     Break(u64),
-    /// Set a breakpoint that is removed where it is first reached.
+    /// A breakpoint is set that is removed where it is first reached.
     TemporaryBreak(u64),
-    /// Remove the breakpoint of a statement.
+    /// The breakpoint of a statement is removed.
     Delete(u64),
-    /// Remove all breakpoints, and watch nothing.
+    /// All breakpoints are removed, and nothing is watched.
     DeleteAll,
-    /// Stop where a chain reads as another value, too.
+    /// One stops where a chain reads as another value, too.
     Watch(Chain),
-    /// Watch the chain of this number no longer.
+    /// The chain of this number is watched no longer.
     Unwatch(u64),
-    /// Show at each state what a chain reads as.
+    /// It is shown at each state what a chain reads as.
     Display(Chain),
-    /// Display the chain of this number no longer.
+    /// The chain of this number is displayed no longer.
     Undisplay(u64),
-    /// Show what a chain or a number reads as, and the block to which it leads.
+}
+
+/// What is shown.
+#[derive(Debug, Drop)]
+pub enum View {
+    /// What a chain or a number reads as, and the block to which it leads.
     Print(Operand),
-    /// Show the block to which a chain or a number leads, with its fields.
+    /// The block to which a chain or a number leads, with its fields.
     Block(Operand),
-    /// Show for which calls the run waits.
+    /// For which calls the run waits.
     Where,
-    /// Show the contents and the definitions that are saved.
+    /// The contents and the definitions that are saved.
     Stack,
-    /// Show what the bugs hold, and how much is saved, taken and printed.
+    /// What the bugs hold, and how much is saved, taken and printed.
     Show,
-    /// Show what fields are defined as.
+    /// What fields are defined as.
     Fields,
-    /// Draw the blocks that are reached, and where their fields lead.
+    /// The blocks that are reached, and where their fields lead.
     Draw,
-    /// Show the map of the store.
+    /// The map of the store.
     Store,
-    /// Show the free pieces of the store, by their levels.
+    /// The free pieces of the store, by their levels.
     Lists,
-    /// Show how far the run has come, and how much of the store is used.
+    /// How far the run has come, and how much of the store is used.
     Stats,
-    /// Show what has been printed.
+    /// What has been printed.
     Out,
-    /// Show at which states copies of the machine are kept, to go back from.
+    /// At which states copies of the machine are kept, to go back from.
     Checkpoints,
-    /// Show where one stops, and what is displayed.
+    /// Where one stops, and what is displayed.
     Info,
-    /// List the cards near the state.
+    /// The cards near the state.
     ListHere,
-    /// List the cards near a statement.
+    /// The cards near a statement.
     ListNear(u64),
-    /// Say what the commands are.
+    /// What the commands are.
     Help,
-    /// Say that a run is never changed.
+    /// That a run is never changed.
     Set,
-    /// Say how stops are passed over.
+    /// How stops are passed over.
     Ignore,
-    /// Say that a breakpoint has no condition.
+    /// That a breakpoint has no condition.
+    Condition,
+}
+
+/// The commands by their names. The list of commands has a row for each.
+#[derive(Clone, Copy, Debug, PartialEq, Eq)]
+pub enum Verb {
+    /// `step`.
+    Step,
+    /// `back`.
+    Back,
+    /// `next`.
+    Next,
+    /// `reverse-next`.
+    ReverseNext,
+    /// `finish`.
+    Finish,
+    /// `reverse-finish`.
+    ReverseFinish,
+    /// `continue`.
+    Continue,
+    /// `reverse-continue`.
+    ReverseContinue,
+    /// `until`.
+    Until,
+    /// `run`.
+    Run,
+    /// `goto`.
+    Goto,
+    /// `start`.
+    Start,
+    /// `end`.
+    End,
+    /// `list`.
+    List,
+    /// `break`.
+    Break,
+    /// `tbreak`.
+    TemporaryBreak,
+    /// `enable`.
+    Enable,
+    /// `disable`.
+    Disable,
+    /// `delete`.
+    Delete,
+    /// `info`.
+    Info,
+    /// `watch`.
+    Watch,
+    /// `unwatch`.
+    Unwatch,
+    /// `display`.
+    Display,
+    /// `undisplay`.
+    Undisplay,
+    /// `print`.
+    Print,
+    /// `block`.
+    Block,
+    /// `where`.
+    Where,
+    /// `stack`.
+    Stack,
+    /// `show`.
+    Show,
+    /// `fields`.
+    Fields,
+    /// `draw`.
+    Draw,
+    /// `store`.
+    Store,
+    /// `lists`.
+    Lists,
+    /// `stats`.
+    Stats,
+    /// `out`.
+    Out,
+    /// `checkpoints`.
+    Checkpoints,
+    /// `help`.
+    Help,
+    /// `quit`.
+    Quit,
+    /// `set`.
+    Set,
+    /// `ignore`.
+    Ignore,
+    /// `condition`.
     Condition,
 }
 
@@ -96,14 +207,97 @@ pub enum Reading {
     Skipped,
     /// It is no command.
     Wrong,
+    /// It is no command, but nearly this one.
+    Nearly(Verb),
+    /// It is this command without what must follow it.
+    Missing(Verb),
+    /// It is this command with words after it that it does not take.
+    Unfit(Verb),
     /// It names a statement that the program does not have.
     NoStatement,
     /// It names no chain.
     NoChain,
-    /// It asks what the command of its second word does.
-    HelpOn,
+    /// It asks what this command does.
+    HelpOn(Verb),
     /// It ends the session.
     Quit,
     /// It asks for this.
     Asked(Command),
+}
+
+impl Move {
+    /// Whether it leads out of the latest call.
+    pub(crate) fn is_finish(self) -> bool
+        ensures { result ≡ moves.is_finish self }
+    {
+        match self {
+            Move::Finish | Move::ReverseFinish => true,
+            _ => false,
+        }
+    }
+}
+
+impl Verb {
+    /// What a command asks for that no word follows.
+    pub(crate) fn alone(self) -> Reading
+        ensures { result ≡ spec.alone self }
+    {
+        match self {
+            Verb::Step => moved(Move::Step(1)),
+            Verb::Back => moved(Move::Back(1)),
+            Verb::Next => moved(Move::Next(1)),
+            Verb::ReverseNext => moved(Move::ReverseNext(1)),
+            Verb::Finish => moved(Move::Finish),
+            Verb::ReverseFinish => moved(Move::ReverseFinish),
+            Verb::Continue => moved(Move::Continue(1)),
+            Verb::ReverseContinue => moved(Move::ReverseContinue(1)),
+            Verb::Until => moved(Move::UntilNext),
+            Verb::Run => moved(Move::Run),
+            Verb::Goto => Reading::Missing(self),
+            Verb::Start => moved(Move::Goto(0)),
+            Verb::End => moved(Move::End),
+            Verb::List => shown(View::ListHere),
+            Verb::Break => shown(View::Info),
+            Verb::TemporaryBreak => Reading::Missing(self),
+            Verb::Enable => Reading::Missing(self),
+            Verb::Disable => Reading::Missing(self),
+            Verb::Delete => Reading::Asked(Command::Setting(Setting::DeleteAll)),
+            Verb::Info => shown(View::Info),
+            Verb::Watch => shown(View::Info),
+            Verb::Unwatch => Reading::Missing(self),
+            Verb::Display => shown(View::Info),
+            Verb::Undisplay => Reading::Missing(self),
+            Verb::Print => shown(View::Show),
+            Verb::Block => Reading::Missing(self),
+            Verb::Where => shown(View::Where),
+            Verb::Stack => shown(View::Stack),
+            Verb::Show => shown(View::Show),
+            Verb::Fields => shown(View::Fields),
+            Verb::Draw => shown(View::Draw),
+            Verb::Store => shown(View::Store),
+            Verb::Lists => shown(View::Lists),
+            Verb::Stats => shown(View::Stats),
+            Verb::Out => shown(View::Out),
+            Verb::Checkpoints => shown(View::Checkpoints),
+            Verb::Help => shown(View::Help),
+            Verb::Quit => Reading::Quit,
+            Verb::Set => shown(View::Set),
+            Verb::Ignore => shown(View::Ignore),
+            Verb::Condition => shown(View::Condition),
+        }
+    }
+}
+
+/// A state is gone to.
+pub(crate) fn moved(to: Move) -> Reading
+    ensures { result ≡ spec.moved to }
+{
+    Reading::Asked(Command::Move(to))
+}
+
+/// Something is shown.
+fn shown(view: View) -> Reading
+    ensures { result ≡ spec.shown view }
+{
+    Reading::Asked(Command::View(view))
 }

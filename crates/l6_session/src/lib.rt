@@ -2,6 +2,8 @@
 #![tactic(auto)]
 
 mod answering;
+mod answers;
+mod before;
 mod blocks;
 mod calls;
 mod cards;
@@ -12,21 +14,22 @@ mod free_lists;
 mod help;
 mod laws;
 mod names;
+mod near;
 mod reading;
 mod reports;
 mod seen;
 mod session;
 mod stops;
+mod table;
 mod text;
+mod topics;
 mod values;
-mod words;
 
 pub use answering::DeckSession;
-pub use command::{Command, Reading};
+pub use command::{Command, Move, Reading, Setting, Verb, View};
 pub use console::{Console, ConsoleFault};
 pub use conversation::{Answerer, converse};
 pub use free_lists::FreeLists;
-pub use help::HELP;
 pub use laws::sessions_have_their_limits;
 pub use names::Names;
 pub use session::{MAX_DISPLAYED, MAX_REPEATS, Session};

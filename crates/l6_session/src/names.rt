@@ -134,7 +134,7 @@ fn statement_on(wanted: u64, deck: &[u8]) -> Option<u64>
 }
 
 /// How many statements have begun with a card, where so many had before it.
-fn begun_with(role: Role, before: usize) -> usize
+pub(crate) fn begun_with(role: Role, before: usize) -> usize
     requires { before < 2 ^ 63 }
     ensures { result ≡ spec.begun_with role before }
 {
@@ -145,7 +145,7 @@ fn begun_with(role: Role, before: usize) -> usize
 }
 
 /// The number of the statement of a card, where so many have begun with it.
-fn statement_with(role: Role, begun: usize) -> Option<u64>
+pub(crate) fn statement_with(role: Role, begun: usize) -> Option<u64>
     ensures { result ≡ spec.statement_with role begun }
 {
     match role {

@@ -1,40 +1,105 @@
-//! What a session says of itself: where one stops, what is kept, how far the run has come. What it
-//! looks like is tested, and not proved.
+//! What a session says of itself: where one stops, what is kept, how far the run has come. The last two are
+//! tested, and not proved.
 
 ghost use Rattle.std.specs.Prelude.{◌≡◌, ◌++◌, OnOk};
+ghost use Rattle.std.specs.List.{enumerate_from, flat_map};
+ghost use Rattle.l6_steps.specs.Configuration.{state_at};
+ghost use Rattle.l6_session.specs.Reports as reports;
 ghost use Rattle.l6_session.specs.Texts as spec;
 
 use crate::names::Names;
 use crate::session::Session;
 use crate::text::{push_counted, push_label};
 use crate::values::push_chain_value;
-use l6_history::MAX_KEPT;
+use l6_history::{History, MAX_KEPT};
 use l6_machine::{Machine, push_decimal};
 use l6_prog::Chain;
 use l6_store::Places;
 use l6_word::{UNIT_SIZE, Word};
 use std::alloc::AllocError;
 
+/// What is said where one stops nowhere and nothing is displayed.
+const NOTHING: &[u8] = b"No breakpoint is set, and nothing is watched or displayed\n";
+
 /// Adds where one stops, and what is displayed.
 pub(crate) fn push_info<S: Places>(
     text: &mut Vec<u8>,
     session: &Session<S>,
     names: &Names,
-) -> Result<(), AllocError> {
+) -> Result<(), AllocError>
+    ensures { OnOk result (text.new.items ≡ text.old.items ++ reports.info_text names.now.labels
+        (state_at S.rule session.now.context session.now.state.number).memory session.now.state) }
+{
     let begin = text.len();
-    for (statement, is_set) in session.stop().breakpoints().iter().enumerate() {
-        if *is_set {
-            let is_temporary = session.temporary().get(statement).copied().unwrap_or(false);
-            let said: &[u8] = if is_temporary { b"tbreak " } else { b"break " };
-            push_statement(text, said, names, statement as u64)?;
-        }
-    }
-    push_chains(text, b"watch ", session.machine(), session.stop().watched())?;
-    push_chains(text, b"display ", session.machine(), session.displayed())?;
+    push_stops(text, session, names)?;
     if text.len() == begin {
-        text.extend_from_slice(b"No breakpoint is set, and nothing is watched or displayed\n")?;
+        return text.extend_from_slice(NOTHING);
     }
     Ok(())
+}
+
+/// Adds the lines of where one stops, and of what is displayed.
+fn push_stops<S: Places>(
+    text: &mut Vec<u8>,
+    session: &Session<S>,
+    names: &Names,
+) -> Result<(), AllocError>
+    ensures { OnOk result (text.new.items ≡ text.old.items ++ reports.stops_lines names.now.labels
+        (state_at S.rule session.now.context session.now.state.number).memory session.now.state) }
+{
+    let machine = session.machine();
+    let stop = session.stop();
+    push_breakpoints(text, names, session.temporary(), stop.breakpoints())?;
+    push_chains(text, b"watch ", machine, stop.watched())?;
+    push_chains(text, b"display ", machine, session.displayed())
+}
+
+/// Adds the lines of the statements that have a breakpoint.
+fn push_breakpoints(
+    text: &mut Vec<u8>,
+    names: &Names,
+    temporary: &[bool],
+    breakpoints: &[bool],
+) -> Result<(), AllocError>
+    ensures { OnOk result (text.new.items ≡ text.old.items
+        ++ reports.breakpoint_lines names.now.labels temporary.now breakpoints.now) }
+{
+    let mut statement: u64 = 0;
+    let mut rest = breakpoints;
+    while let Some((is_set, following)) = rest.split_first() {
+        push_breakpoint(text, names, temporary, statement, *is_set)?;
+        statement += 1;
+        rest = following;
+    }
+    Ok(())
+}
+
+/// Adds the line of a statement, if it has a breakpoint.
+fn push_breakpoint(
+    text: &mut Vec<u8>,
+    names: &Names,
+    temporary: &[bool],
+    statement: u64,
+    is_set: bool,
+) -> Result<(), AllocError>
+    ensures { OnOk result (text.new.items ≡ text.old.items
+        ++ reports.breakpoint_line names.now.labels temporary.now (statement, is_set)) }
+{
+    if !is_set {
+        return Ok(());
+    }
+    let is_temporary = temporary.get(statement as usize).copied().unwrap_or(false);
+    push_statement(text, said_of(is_temporary), names, statement)
+}
+
+/// What is said of a breakpoint, which may be a temporary one.
+fn said_of(is_temporary: bool) -> &'static [u8]
+    ensures { result.now ≡ reports.said_of is_temporary }
+{
+    match is_temporary {
+        true => b"tbreak ",
+        false => b"break ",
+    }
 }
 
 /// Adds what is said of a statement.
@@ -58,9 +123,16 @@ fn push_chains<S: Places>(
     verb: &[u8],
     machine: &Machine<S>,
     chains: &[Chain],
-) -> Result<(), AllocError> {
-    for (index, chain) in chains.iter().enumerate() {
-        push_numbered(text, verb, index.saturating_add(1), machine, chain)?;
+) -> Result<(), AllocError>
+    ensures { OnOk result (text.new.items ≡ text.old.items
+        ++ reports.chain_lines machine.now.configuration.state.memory verb.now chains.now) }
+{
+    let mut number: usize = 1;
+    let mut rest = chains;
+    while let Some((chain, following)) = rest.split_first() {
+        push_numbered(text, verb, number, machine, chain)?;
+        number += 1;
+        rest = following;
     }
     Ok(())
 }
@@ -72,7 +144,10 @@ pub(crate) fn push_numbered<S: Places>(
     number: usize,
     machine: &Machine<S>,
     chain: &Chain,
-) -> Result<(), AllocError> {
+) -> Result<(), AllocError>
+    ensures { OnOk result (text.new.items ≡ text.old.items
+        ++ spec.numbered_line machine.now.configuration.state.memory verb.now number chain.now) }
+{
     push_counted(text, verb, number)?;
     text.extend_from_slice(b": ")?;
     push_chain_value(text, machine, chain)
@@ -81,11 +156,17 @@ pub(crate) fn push_numbered<S: Places>(
 /// Adds what is displayed.
 pub(crate) fn push_displayed<S: Places>(
     text: &mut Vec<u8>,
-    session: &Session<S>,
-) -> Result<(), AllocError> {
-    for chain in session.displayed() {
+    machine: &Machine<S>,
+    chains: &[Chain],
+) -> Result<(), AllocError>
+    ensures { OnOk result (text.new.items ≡ text.old.items
+        ++ reports.displayed_text machine.now.configuration.state.memory chains.now) }
+{
+    let mut rest = chains;
+    while let Some((chain, following)) = rest.split_first() {
         text.extend_from_slice(b"      ")?;
-        push_chain_value(text, session.machine(), chain)?;
+        push_chain_value(text, machine, chain)?;
+        rest = following;
     }
     Ok(())
 }
@@ -93,11 +174,11 @@ pub(crate) fn push_displayed<S: Places>(
 /// Adds at which states copies of the machine are kept.
 pub(crate) fn push_checkpoints<S: Places>(
     text: &mut Vec<u8>,
-    session: &Session<S>,
+    history: &History<S>,
 ) -> Result<(), AllocError> {
     let mut count: usize = 0;
     for index in 0..MAX_KEPT {
-        if let Some(number) = session.history().checkpoint(index) {
+        if let Some(number) = history.checkpoint(index) {
             push_decimal(text, number)?;
             text.extend_from_slice(b"\n")?;
             count = count.saturating_add(1);

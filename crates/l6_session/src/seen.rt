@@ -1,16 +1,23 @@
-//! What was seen where a session was before, and what has changed since. What it looks like is tested,
-//! and not proved.
+//! What was seen where a session was before, and what has changed since.
+
+ghost use Rattle.std.specs.Prelude.{◌≡◌, ◌≤◌, ◌++◌, [], length, OnOk};
+ghost use Rattle.l6_history.specs.Numerals.{most_watched};
+ghost use Rattle.l6_history.specs.Stop.{differs, values_of};
+ghost use Rattle.l6_prog.specs.Numerals.{letter_count, name_count};
+ghost use Rattle.l6_session.specs.Changes as spec;
 
 use crate::calls::push_definition;
 use crate::text::{push_chain, push_counted, push_name};
+use arrayvec::ArrayVec;
 use l6_history::MAX_WATCHED;
 use l6_machine::{Machine, push_decimal};
 use l6_prog::{Chain, DIGITS, NAMES};
 use l6_store::Places;
 use l6_word::{Window, Word};
 use std::alloc::AllocError;
+use std::marker::Model;
 
-/// How many changes of bugs and definitions are shown.
+/// How many changes of bugs and fields are shown.
 const MOST_CHANGES: usize = 8;
 
 /// How many bugs there are.
@@ -21,36 +28,47 @@ const BUGS: usize = (NAMES - DIGITS) as usize;
 pub(crate) struct Seen {
     bugs: [Word; BUGS],
     definitions: [Option<Window>; NAMES as usize],
-    watched: [Option<Word>; MAX_WATCHED],
+    watched: ArrayVec<Option<Word>, MAX_WATCHED>,
+}
+
+impl Model for Seen {
+    ghost use Rattle.std.specs.Prelude.{◌≡◌, length};
+    ghost use Rattle.l6_prog.specs.Numerals.{letter_count, name_count};
+    ghost use Rattle.l6_session.specs.Changes as changes;
+
+    ghost Value = { changes.Seen };
+
+    ghost view = { λ s. record {
+      bugs = s.bugs;
+      definitions = s.definitions;
+      watched = s.watched.items;
+    } };
+
+    ghost invariant = { λ s. (length s.bugs ≡ letter_count) × (length s.definitions ≡ name_count) };
 }
 
 impl Seen {
-    /// What is seen of a machine.
-    pub(crate) fn of<S: Places>(machine: &Machine<S>) -> Self {
+    /// What is seen of a machine of which no chain is watched.
+    pub(crate) fn of<S: Places>(machine: &Machine<S>) -> Self
+        ensures { result ≡ spec.seen_of machine.now.configuration.state.memory [] }
+    {
         let mut seen = Seen {
             bugs: [Word::default(); BUGS],
             definitions: [None; NAMES as usize],
-            watched: [None; MAX_WATCHED],
+            watched: ArrayVec::new(),
         };
         seen.look(machine, &[]);
         seen
     }
 
-    /// Becomes what is seen of a machine.
-    pub(crate) fn look<S: Places>(&mut self, machine: &Machine<S>, chains: &[Chain]) {
-        for (bug, word) in self.bugs.iter_mut().zip(machine.bugs().iter()) {
-            *bug = *word;
-        }
-        for (definition, now) in self
-            .definitions
-            .iter_mut()
-            .zip(machine.definitions().iter())
-        {
-            *definition = *now;
-        }
-        for (value, chain) in self.watched.iter_mut().zip(chains.iter()) {
-            *value = machine.value(chain).ok();
-        }
+    /// Becomes what is seen of a machine. The caller owes no more chains than may be watched.
+    pub(crate) fn look<S: Places>(&mut self, machine: &Machine<S>, chains: &[Chain])
+        requires { length chains.now ≤ most_watched }
+        ensures { self.new ≡ spec.seen_of machine.now.configuration.state.memory chains.now }
+    {
+        self.bugs.copy_from_slice(machine.bugs());
+        self.definitions.copy_from_slice(machine.definitions());
+        look_at(&mut self.watched, machine, chains);
     }
 
     /// Adds what has changed.
@@ -59,86 +77,231 @@ impl Seen {
         text: &mut Vec<u8>,
         machine: &Machine<S>,
         chains: &[Chain],
-    ) -> Result<(), AllocError> {
-        for (before, chain) in self.watched.iter().zip(chains.iter()) {
-            push_watched(text, chain, *before, machine.value(chain).ok())?;
-        }
-        let mut changes: usize = 0;
-        for (index, (before, word)) in self.bugs.iter().zip(machine.bugs().iter()).enumerate() {
-            if before.get() != word.get() {
-                changes = changes.saturating_add(1);
-                if changes <= MOST_CHANGES {
-                    push_bug(text, index as u8, *before, *word)?;
-                }
-            }
-        }
-        let definitions = self.definitions.iter().zip(machine.definitions().iter());
-        for (name, (before, definition)) in definitions.enumerate() {
-            if *before != *definition {
-                changes = changes.saturating_add(1);
-                if changes <= MOST_CHANGES {
-                    push_defined(text, name as u8, *definition)?;
-                }
-            }
-        }
-        push_further(text, changes.saturating_sub(MOST_CHANGES))
+    ) -> Result<(), AllocError>
+        ensures { OnOk result (text.new.items ≡ text.old.items
+            ++ spec.changes_text self.now machine.now.configuration.state.memory chains.now) }
+    {
+        push_watches(text, machine, self.watched.as_slice(), chains)?;
+        push_lines(
+            text,
+            &self.bugs,
+            machine.bugs(),
+            &self.definitions,
+            machine.definitions(),
+        )
     }
 }
 
-/// Adds how many more changes there are, if any.
-fn push_further(text: &mut Vec<u8>, count: usize) -> Result<(), AllocError> {
-    if count == 0 {
-        return Ok(());
+/// Becomes what chains read as. The caller owes no more chains than may be watched.
+fn look_at<S: Places>(
+    values: &mut ArrayVec<Option<Word>, MAX_WATCHED>,
+    machine: &Machine<S>,
+    chains: &[Chain],
+)
+    requires { length chains.now ≤ most_watched }
+    ensures { values.new.items ≡ values_of chains.now machine.now.configuration.state.memory }
+{
+    values.clear();
+    let mut rest = chains;
+    while let Some((chain, following)) = rest.split_first() {
+        values.push(machine.readable_value(chain));
+        rest = following;
     }
-    push_counted(text, b"      and ", count)?;
-    text.extend_from_slice(b" more\n")
 }
 
-/// Adds the change of what a watched chain reads as, if it has changed.
-fn push_watched(
+/// Adds the first changes of bugs and fields, and how many more there are.
+fn push_lines(
+    text: &mut Vec<u8>,
+    bugs: &[Word],
+    bugs_now: &[Word],
+    definitions: &[Option<Window>],
+    definitions_now: &[Option<Window>],
+) -> Result<(), AllocError>
+    requires bugs { length bugs.now ≡ letter_count }
+    requires definitions { length definitions.now ≡ name_count }
+    ensures { OnOk result (text.new.items ≡ text.old.items
+        ++ spec.lines_text bugs.now bugs_now.now definitions.now definitions_now.now) }
+{
+    let mut count: usize = 0;
+    let mut name: u8 = DIGITS;
+    let mut befores = bugs;
+    let mut nows = bugs_now;
+    while let (Some((was, further)), Some((is, others))) = (
+        befores.split_first(),
+        nows.split_first(),
+    ) {
+        if was.get() != is.get() {
+            push_bug(text, count, name, *was, *is)?;
+            count += 1;
+        }
+        name += 1;
+        befores = further;
+        nows = others;
+    }
+    let mut field: u8 = 0;
+    let mut befores = definitions;
+    let mut nows = definitions_now;
+    while let (Some((had, further)), Some((has, others))) = (
+        befores.split_first(),
+        nows.split_first(),
+    ) {
+        if !is_same(*had, *has) {
+            push_field(text, count, field, *has)?;
+            count += 1;
+        }
+        field += 1;
+        befores = further;
+        nows = others;
+    }
+    push_further(text, count.saturating_sub(MOST_CHANGES))
+}
+
+/// Adds the changes of what watched chains read as.
+fn push_watches<S: Places>(
+    text: &mut Vec<u8>,
+    machine: &Machine<S>,
+    befores: &[Option<Word>],
+    chains: &[Chain],
+) -> Result<(), AllocError>
+    ensures { OnOk result (text.new.items ≡ text.old.items
+        ++ spec.watch_lines machine.now.configuration.state.memory befores.now chains.now) }
+{
+    let mut befores = befores;
+    let mut chains = chains;
+    while let (Some((was, further)), Some((chain, others))) = (
+        befores.split_first(),
+        chains.split_first(),
+    ) {
+        push_watch(text, chain, *was, machine.readable_value(chain))?;
+        befores = further;
+        chains = others;
+    }
+    Ok(())
+}
+
+/// Adds the change of what a watched chain reads as, if it reads as another value.
+fn push_watch(
     text: &mut Vec<u8>,
     chain: &Chain,
-    before: Option<Word>,
-    now: Option<Word>,
-) -> Result<(), AllocError> {
-    if before == now {
-        return Ok(());
+    was: Option<Word>,
+    is: Option<Word>,
+) -> Result<(), AllocError>
+    ensures { OnOk result (text.new.items ≡ text.old.items ++ spec.watch_line chain.now was is) }
+{
+    if differ(&was, &is) {
+        push_change(text, chain, was, is)
+    } else {
+        Ok(())
     }
+}
+
+/// Adds what a watched chain read as, and what it reads as now.
+fn push_change(
+    text: &mut Vec<u8>,
+    chain: &Chain,
+    was: Option<Word>,
+    is: Option<Word>,
+) -> Result<(), AllocError>
+    ensures { OnOk result (text.new.items ≡ text.old.items ++ spec.change_line chain.now was is) }
+{
     text.extend_from_slice(b"      watch ")?;
     push_chain(text, chain)?;
     text.extend_from_slice(b": ")?;
-    push_if_known(text, before)?;
-    text.extend_from_slice(b" -> ")?;
-    push_if_known(text, now)?;
+    push_values(text, was, is)?;
     text.extend_from_slice(b"\n")
 }
 
+/// Adds a value, and the one that follows it.
+fn push_values(text: &mut Vec<u8>, was: Option<Word>, is: Option<Word>) -> Result<(), AllocError>
+    ensures { OnOk result (text.new.items ≡ text.old.items ++ spec.values_text was is) }
+{
+    push_if_known(text, was)?;
+    text.extend_from_slice(b" -> ")?;
+    push_if_known(text, is)
+}
+
+/// Whether two values differ.
+fn differ(one: &Option<Word>, other: &Option<Word>) -> bool
+    ensures { result ≡ differs one.now other.now }
+{
+    match (one, other) {
+        (None, None) => false,
+        (Some(one), Some(other)) => one.get() != other.get(),
+        _ => true,
+    }
+}
+
 /// Adds a value, or that a chain can't be followed.
-fn push_if_known(text: &mut Vec<u8>, value: Option<Word>) -> Result<(), AllocError> {
+fn push_if_known(text: &mut Vec<u8>, value: Option<Word>) -> Result<(), AllocError>
+    ensures { OnOk result (text.new.items ≡ text.old.items ++ spec.value_text value) }
+{
     match value {
         Some(word) => push_decimal(text, word.get()),
         None => text.extend_from_slice(b"can't be followed"),
     }
 }
 
-/// Adds the change of a bug.
-fn push_bug(text: &mut Vec<u8>, index: u8, before: Word, word: Word) -> Result<(), AllocError> {
+/// Whether two definitions are the same.
+fn is_same(one: Option<Window>, other: Option<Window>) -> bool
+    ensures { result ≡ spec.is_same one other }
+{
+    match (one, other) {
+        (None, None) => true,
+        (Some(one), Some(other)) => {
+            one.word() == other.word() && one.first() == other.first() && one.last() == other.last()
+        }
+        _ => false,
+    }
+}
+
+/// Adds the change of a bug, if no more than may be shown came before it.
+fn push_bug(
+    text: &mut Vec<u8>,
+    count: usize,
+    name: u8,
+    was: Word,
+    is: Word,
+) -> Result<(), AllocError>
+    ensures { OnOk result (text.new.items ≡ text.old.items
+        ++ spec.if_few count (spec.bug_line name was is)) }
+{
+    if MOST_CHANGES <= count {
+        return Ok(());
+    }
     text.extend_from_slice(b"      ")?;
-    push_name(text, DIGITS.saturating_add(index))?;
-    push_counted(text, b" ", before.get())?;
-    push_counted(text, b" -> ", word.get())?;
+    push_name(text, name)?;
+    push_counted(text, b" ", was.get())?;
+    push_counted(text, b" -> ", is.get())?;
     text.extend_from_slice(b"\n")
 }
 
-/// Adds what a field is now defined as.
-fn push_defined(
+/// Adds what a field is now defined as, if no more than may be shown came before it.
+fn push_field(
     text: &mut Vec<u8>,
+    count: usize,
     name: u8,
     definition: Option<Window>,
-) -> Result<(), AllocError> {
+) -> Result<(), AllocError>
+    ensures { OnOk result (text.new.items ≡ text.old.items
+        ++ spec.if_few count (spec.field_line name definition)) }
+{
+    if MOST_CHANGES <= count {
+        return Ok(());
+    }
     text.extend_from_slice(b"      field ")?;
     push_name(text, name)?;
     text.extend_from_slice(b": ")?;
     push_definition(text, definition)?;
     text.extend_from_slice(b"\n")
+}
+
+/// Adds how many more changes there are, if any.
+fn push_further(text: &mut Vec<u8>, further: usize) -> Result<(), AllocError>
+    ensures { OnOk result (text.new.items ≡ text.old.items ++ spec.further_text further) }
+{
+    if further == 0 {
+        return Ok(());
+    }
+    push_counted(text, b"      and ", further)?;
+    text.extend_from_slice(b" more\n")
 }

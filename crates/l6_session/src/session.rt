@@ -6,9 +6,9 @@ ghost use Rattle.l6_steps.specs.Numbering.{last_number};
 ghost use Rattle.l6_steps.specs.Numerals.{most_steps};
 ghost use Rattle.l6_history.specs.History.{number_to, run_state_at};
 ghost use Rattle.l6_history.specs.Seeking.{next_stop, previous_stop};
-ghost use Rattle.l6_session.specs.SessionState.{after, back, back_over, back_to, come_to, depth_at, first_session_state, on, on_to, on_until, over, times, with_breakpoint};
+ghost use Rattle.l6_session.specs.SessionState.{after, back, back_over, back_to, changed, come_to, depth_at, first_session_state, moved, on, on_to, on_until, over, times, with_breakpoint};
 
-use crate::command::Command;
+use crate::command::{Command, Move, Setting};
 use l6_history::{History, MAX_WATCHED, Stop};
 use l6_machine::Machine;
 use l6_prog::Chain;
@@ -126,30 +126,52 @@ impl<S: Places> Session<S> {
         ensures context { self.new.context ≡ self.old.context }
         ensures state { self.new.state ≡ after S.rule self.old.context self.old.state command.now }
     {
-        let number = self.history.number();
         match command {
-            Command::Step(count) => self.go_to(alloc, number.saturating_add(*count)),
-            Command::Back(count) => self.go_to(alloc, number.saturating_sub(*count)),
-            Command::Goto(goal) => self.go_to(alloc, *goal),
-            Command::End => self.go_to(alloc, u64::MAX),
-            Command::Next(count) => self.go_over(alloc, *count),
-            Command::ReverseNext(count) => self.go_back_over(alloc, *count),
-            Command::Finish => self.finish(alloc),
-            Command::ReverseFinish => self.reverse_finish(alloc),
-            Command::Continue(count) => self.go_on(alloc, *count),
-            Command::ReverseContinue(count) => self.go_back(alloc, *count),
-            Command::Run => self.run(alloc),
-            Command::Until(statement) => self.until(alloc, *statement),
-            Command::UntilNext => self.until_next(alloc),
-            Command::Break(statement) => self.breakpoint(*statement, true, false),
-            Command::TemporaryBreak(statement) => self.breakpoint(*statement, true, true),
-            Command::Delete(statement) => self.breakpoint(*statement, false, false),
-            Command::DeleteAll => self.delete_all(),
-            Command::Watch(chain) => self.watch(chain),
-            Command::Unwatch(place) => self.unwatch(*place),
-            Command::Display(chain) => self.display(chain),
-            Command::Undisplay(place) => self.undisplay(*place),
-            _ => {}
+            Command::Move(to) => self.go(alloc, *to),
+            Command::Setting(setting) => self.set(setting),
+            Command::View(_) => {}
+        }
+    }
+
+    /// Goes to another state.
+    fn go(&mut self, alloc: Global, to: Move)
+    where
+        S: Drop,
+        ensures context { self.new.context ≡ self.old.context }
+        ensures state { self.new.state ≡ moved S.rule self.old.context self.old.state to }
+    {
+        let number = self.history.number();
+        match to {
+            Move::Step(count) => self.go_to(alloc, number.saturating_add(count)),
+            Move::Back(count) => self.go_to(alloc, number.saturating_sub(count)),
+            Move::Goto(goal) => self.go_to(alloc, goal),
+            Move::End => self.go_to(alloc, u64::MAX),
+            Move::Next(count) => self.go_over(alloc, count),
+            Move::ReverseNext(count) => self.go_back_over(alloc, count),
+            Move::Finish => self.finish(alloc),
+            Move::ReverseFinish => self.reverse_finish(alloc),
+            Move::Continue(count) => self.go_on(alloc, count),
+            Move::ReverseContinue(count) => self.go_back(alloc, count),
+            Move::Run => self.run(alloc),
+            Move::Until(statement) => self.until(alloc, statement),
+            Move::UntilNext => self.until_next(alloc),
+        }
+    }
+
+    /// Changes where one stops, or what is displayed.
+    fn set(&mut self, setting: &Setting)
+        ensures context { self.new.context ≡ self.old.context }
+        ensures state { self.new.state ≡ changed self.old.state setting.now }
+    {
+        match setting {
+            Setting::Break(statement) => self.breakpoint(*statement, true, false),
+            Setting::TemporaryBreak(statement) => self.breakpoint(*statement, true, true),
+            Setting::Delete(statement) => self.breakpoint(*statement, false, false),
+            Setting::DeleteAll => self.delete_all(),
+            Setting::Watch(chain) => self.watch(chain),
+            Setting::Unwatch(place) => self.unwatch(*place),
+            Setting::Display(chain) => self.display(chain),
+            Setting::Undisplay(place) => self.undisplay(*place),
         }
     }
 
@@ -255,7 +277,7 @@ impl<S: Places> Session<S> {
         S: Drop,
         ensures context { self.new.context ≡ self.old.context }
         ensures state { self.new.state
-            ≡ after S.rule self.old.context self.old.state Command.Run }
+            ≡ moved S.rule self.old.context self.old.state Move.Run }
     {
         self.go_to(alloc, 0);
         self.on(alloc);
@@ -282,7 +304,7 @@ impl<S: Places> Session<S> {
         S: Drop,
         ensures context { self.new.context ≡ self.old.context }
         ensures state { self.new.state
-            ≡ after S.rule self.old.context self.old.state Command.UntilNext }
+            ≡ moved S.rule self.old.context self.old.state Move.UntilNext }
     {
         let statement = self.machine().at().statement;
         self.until(alloc, u64::from(statement) + 1);
@@ -330,7 +352,7 @@ impl<S: Places> Session<S> {
     where
         S: Drop,
         ensures context { self.new.context ≡ self.old.context }
-        ensures state { self.new.state ≡ after S.rule self.old.context self.old.state Command.Finish }
+        ensures state { self.new.state ≡ moved S.rule self.old.context self.old.state Move.Finish }
     {
         if let Some(depth) = self.depth().checked_sub(1) {
             self.on_to(alloc, depth);
@@ -343,7 +365,7 @@ impl<S: Places> Session<S> {
         S: Drop,
         ensures context { self.new.context ≡ self.old.context }
         ensures state { self.new.state
-            ≡ after S.rule self.old.context self.old.state Command.ReverseFinish }
+            ≡ moved S.rule self.old.context self.old.state Move.ReverseFinish }
     {
         if let Some(depth) = self.depth().checked_sub(1) {
             self.back_to(alloc, depth);
@@ -388,7 +410,7 @@ impl<S: Places> Session<S> {
     fn delete_all(&mut self)
         ensures context { self.new.context ≡ self.old.context }
         ensures state { self.new.state
-            ≡ after S.rule self.old.context self.old.state Command.DeleteAll }
+            ≡ changed self.old.state Setting.DeleteAll }
     {
         self.stop.clear();
         self.temporary.fill(false);
@@ -398,7 +420,7 @@ impl<S: Places> Session<S> {
     fn watch(&mut self, chain: &Chain)
         ensures context { self.new.context ≡ self.old.context }
         ensures state { self.new.state
-            ≡ after S.rule self.old.context self.old.state (Command.Watch chain.now) }
+            ≡ changed self.old.state (Setting.Watch chain.now) }
     {
         if self.stop.watched().len() < MAX_WATCHED {
             if let Ok(chain) = chain.clone() {
@@ -411,7 +433,7 @@ impl<S: Places> Session<S> {
     fn unwatch(&mut self, number: u64)
         ensures context { self.new.context ≡ self.old.context }
         ensures state { self.new.state
-            ≡ after S.rule self.old.context self.old.state (Command.Unwatch number) }
+            ≡ changed self.old.state (Setting.Unwatch number) }
     {
         let index = number.saturating_sub(1);
         if index < self.stop.watched().len() as u64 {
@@ -423,7 +445,7 @@ impl<S: Places> Session<S> {
     fn display(&mut self, chain: &Chain)
         ensures context { self.new.context ≡ self.old.context }
         ensures state { self.new.state
-            ≡ after S.rule self.old.context self.old.state (Command.Display chain.now) }
+            ≡ changed self.old.state (Setting.Display chain.now) }
     {
         if self.displayed.len() < MAX_DISPLAYED {
             if let Ok(chain) = chain.clone() {
@@ -436,7 +458,7 @@ impl<S: Places> Session<S> {
     fn undisplay(&mut self, number: u64)
         ensures context { self.new.context ≡ self.old.context }
         ensures state { self.new.state
-            ≡ after S.rule self.old.context self.old.state (Command.Undisplay number) }
+            ≡ changed self.old.state (Setting.Undisplay number) }
     {
         let index = number.saturating_sub(1);
         if index < self.displayed.len() as u64 {

@@ -1,72 +1,101 @@
-//! What is answered where a session stops, and to commands that say where it does. What it looks like
-//! is tested, and not proved.
+//! What is answered where a session stops. The marks on the cards of an action, and why a run has trapped,
+//! are tested, and not proved.
 
+ghost use Rattle.std.specs.Prelude.{◌≡◌, ◌++◌, IfOk, OnOk};
+ghost use Rattle.l6_steps.specs.Configuration.{state_at};
+ghost use Rattle.l6_session.specs.Stops as spec;
+
+use crate::before::Before;
 use crate::cards::push_action;
-use crate::command::Command;
 use crate::names::Names;
-use crate::reports::{push_displayed, push_numbered};
+use crate::reports::push_displayed;
 use crate::seen::Seen;
 use crate::session::Session;
 use crate::text::push_label;
 use crate::values::push_trap;
-use l6_debug::{Command as Batch, push_answer};
-use l6_machine::{Halt, Machine};
+use l6_machine::{Halt, Machine, Position, ending_line, push_decimal};
 use l6_store::Places;
 use std::alloc::{AllocError, Global};
 
-/// What a session was like before a command.
-#[derive(Clone, Copy, Debug)]
-pub(crate) struct Before {
-    number: u64,
-    depth: usize,
-    watched: usize,
-    displayed: usize,
+/// What is said where a command stays at the start.
+const START: &[u8] = b"      This is the start: nothing comes before\n";
+
+/// What is said where it stays at another state.
+const STAYS: &[u8] = b"      The session stays here\n";
+
+/// The cards of the statement of a state with the action marked, and why it trapped, if it did.
+pub(crate) fn details_of<S: Places>(
+    alloc: Global,
+    machine: &Machine<S>,
+    names: &Names,
+) -> Result<Vec<u8>, AllocError> {
+    let mut text = Vec::new(alloc);
+    push_action(&mut text, names, machine.program(), machine.at())?;
+    if let Some(Halt::Trap(trap)) = machine.ending() {
+        push_trap(&mut text, trap)?;
+    }
+    Ok(text)
 }
 
-impl Before {
-    /// What a session is like.
-    pub(crate) fn of<S: Places>(session: &Session<S>) -> Self {
-        Before {
-            number: session.history().number(),
-            depth: session.machine().depths().returns,
-            watched: session.stop().watched().len(),
-            displayed: session.displayed().len(),
-        }
-    }
-
-    /// For how many returns calls waited.
-    pub(crate) fn depth(&self) -> usize {
-        self.depth
-    }
-}
-
-/// Adds the line of a state, the cards of its statement with the action marked, and why it trapped, if
-/// it did.
+/// Adds the line of a state, and these details of it, unless the run has come to its end there.
 pub(crate) fn push_place<S: Places>(
     alloc: Global,
     text: &mut Vec<u8>,
     machine: &Machine<S>,
     names: &Names,
-) -> Result<(), AllocError> {
-    push_answer(alloc, text, machine, Batch::Go)?;
+    details: &[u8],
+) -> Result<(), AllocError>
+    ensures { OnOk result (text.new.items ≡ text.old.items ++ spec.place_text
+        names.now.labels machine.now.context machine.now.configuration.state details.now) }
+{
+    push_state(alloc, text, machine)?;
     match machine.ending() {
-        Some(Halt::Done) | Some(Halt::Fail) => Ok(()),
-        ending => {
-            // the label follows on the line of the state
-            let end = text.len().saturating_sub(1);
-            text.truncate(end);
+        Some(Halt::Done) | Some(Halt::Fail) => text.extend_from_slice(b"\n"),
+        _ => {
             push_label(text, u64::from(machine.at().statement), names.labels())?;
             text.extend_from_slice(b"\n")?;
-            push_action(text, names, machine.program(), machine.at())?;
-            match ending {
-                Some(Halt::Trap(trap)) => push_trap(text, trap),
-                _ => Ok(()),
-            }
+            text.extend_from_slice(details)
         }
     }
 }
 
-/// Adds where a session has stopped, what has changed since it stopped before, and what is displayed.
+/// Adds where a state is, or how the run has ended.
+fn push_state<S: Places>(
+    alloc: Global,
+    text: &mut Vec<u8>,
+    machine: &Machine<S>,
+) -> Result<(), AllocError>
+    ensures { OnOk result (text.new.items ≡ text.old.items
+        ++ spec.state_text machine.now.context machine.now.configuration.state) }
+{
+    if machine.is_last() {
+        return text.extend_from_slice(ending_line(alloc, machine)?.as_slice());
+    }
+    push_at(text, machine.at())?;
+    push_after(text, machine.count())
+}
+
+/// Adds where a state is.
+fn push_at(text: &mut Vec<u8>, at: Position) -> Result<(), AllocError>
+    ensures { OnOk result (text.new.items ≡ text.old.items ++ spec.at_text at) }
+{
+    text.extend_from_slice(b"AT ")?;
+    push_decimal(text, at.statement)?;
+    text.extend_from_slice(b".")?;
+    push_decimal(text, at.action)
+}
+
+/// Adds after how many steps a state is.
+fn push_after(text: &mut Vec<u8>, count: u64) -> Result<(), AllocError>
+    ensures { OnOk result (text.new.items ≡ text.old.items ++ spec.steps_text count) }
+{
+    text.extend_from_slice(b" AFTER ")?;
+    push_decimal(text, count)?;
+    text.extend_from_slice(b" STEPS")
+}
+
+/// Adds where a session has stopped, with these details, what has changed since it stopped before, and
+/// what is displayed.
 pub(crate) fn push_stop<S: Places>(
     alloc: Global,
     text: &mut Vec<u8>,
@@ -74,50 +103,29 @@ pub(crate) fn push_stop<S: Places>(
     names: &Names,
     seen: &Seen,
     before: Before,
-) -> Result<(), AllocError> {
-    push_place(alloc, text, session.machine(), names)?;
-    if session.history().number() == before.number {
-        text.extend_from_slice(if before.number == 0 {
-            b"      This is the start: nothing comes before\n"
-        } else {
-            b"      The session stays here\n"
-        })?;
-    }
-    seen.push_changes(text, session.machine(), session.stop().watched())?;
-    push_displayed(text, session)
+    details: &[u8],
+) -> Result<(), AllocError>
+    ensures { OnOk result (text.new.items ≡ text.old.items ++ spec.stop_text names.now.labels
+        session.now.context (state_at S.rule session.now.context session.now.state.number)
+        session.now.state before.number seen.now details.now) }
+{
+    let machine = session.machine();
+    push_place(alloc, text, machine, names, details)?;
+    push_stay(text, before.number, session.history().number())?;
+    seen.push_changes(text, machine, session.stop().watched())?;
+    push_displayed(text, machine, session.displayed())
 }
 
-/// Adds what is said of chains that are watched or displayed, after a command that may change them.
-pub(crate) fn push_watch<S: Places>(
-    text: &mut Vec<u8>,
-    session: &Session<S>,
-    command: &Command,
-    before: Before,
-) -> Result<(), AllocError> {
-    let watched = session.stop().watched().len();
-    let displayed = session.displayed().len();
-    match command {
-        Command::Watch(chain) if before.watched < watched => {
-            push_numbered(text, b"watch ", watched, session.machine(), chain)
-        }
-        Command::Display(chain) if before.displayed < displayed => {
-            push_numbered(text, b"display ", displayed, session.machine(), chain)
-        }
-        Command::Watch(_) => {
-            text.extend_from_slice(b"Eight chains are watched already: unwatch one of them\n")
-        }
-        Command::Display(_) => {
-            text.extend_from_slice(b"Eight chains are displayed already: undisplay one of them\n")
-        }
-        Command::Unwatch(_) if before.watched == watched => {
-            text.extend_from_slice(b"No chain that is watched has this number: see info\n")
-        }
-        Command::Undisplay(_) if before.displayed == displayed => {
-            text.extend_from_slice(b"No chain that is displayed has this number: see info\n")
-        }
-        Command::DeleteAll => {
-            text.extend_from_slice(b"No breakpoint is set, and nothing is watched\n")
-        }
-        _ => text.extend_from_slice(b"It is taken off the list: see info\n"),
+/// Adds that the session stays at the state of this number, if it does.
+fn push_stay(text: &mut Vec<u8>, before: u64, now: u64) -> Result<(), AllocError>
+    ensures { OnOk result (text.new.items ≡ text.old.items ++ spec.stay_text before now) }
+{
+    if now != before {
+        return Ok(());
+    }
+    if now == 0 {
+        text.extend_from_slice(START)
+    } else {
+        text.extend_from_slice(STAYS)
     }
 }

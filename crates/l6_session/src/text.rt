@@ -1,6 +1,7 @@
 //! Parts of texts.
 
-ghost use Rattle.std.specs.Prelude.{◌≡◌, ◌<◌, ◌≤◌, ◌++◌, ◌^◌, OnOk, IfSome, None};
+ghost use Rattle.std.specs.Prelude.{◌≡◌, ◌<◌, ◌≤◌, ◌++◌, ◌^◌, OnOk, IfSome, None, replicate};
+ghost use Rattle.std.specs.Str.{byte};
 ghost use Rattle.std.specs.Option.{option_map};
 ghost use Rattle.l6_word.specs.Numerals.{largest_level};
 ghost use Rattle.l6_session.specs.Texts as spec;
@@ -10,7 +11,7 @@ use l6_asm::Labels;
 use l6_draw::character_of;
 use l6_group::Label;
 use l6_machine::{Position, push_decimal};
-use l6_prog::{Chain, NAMES};
+use l6_prog::{Chain, NAMES, Name};
 use l6_store::Level;
 use l6_word::{CODE_COUNT, Word, char_of, octal12};
 use std::alloc::AllocError;
@@ -19,16 +20,35 @@ use std::alloc::AllocError;
 pub(crate) fn push_chain(text: &mut Vec<u8>, chain: &Chain) -> Result<(), AllocError>
     ensures { OnOk result (text.new.items ≡ text.old.items ++ spec.chain_text chain.now) }
 {
-    for name in chain.names() {
+    push_names(text, chain.names())
+}
+
+/// Adds names.
+pub(crate) fn push_names(text: &mut Vec<u8>, names: &[Name]) -> Result<(), AllocError>
+    ensures { OnOk result (text.new.items ≡ text.old.items ++ spec.chain_text names.now) }
+{
+    for name in names {
         text.push(character_of(name.number()))?;
     }
     Ok(())
 }
 
 /// Adds the digit or the letter of the name of this number, if there is such a name.
-pub(crate) fn push_name(text: &mut Vec<u8>, number: u8) -> Result<(), AllocError> {
+pub(crate) fn push_name(text: &mut Vec<u8>, number: u8) -> Result<(), AllocError>
+    ensures { OnOk result (text.new.items ≡ text.old.items ++ spec.name_text number) }
+{
     if number < NAMES {
         text.push(character_of(number))?;
+    }
+    Ok(())
+}
+
+/// Adds so many blanks.
+pub(crate) fn push_blanks(text: &mut Vec<u8>, count: usize) -> Result<(), AllocError>
+    ensures { OnOk result (text.new.items ≡ text.old.items ++ replicate count (byte " ")) }
+{
+    for _ in 0..count {
+        text.push(b' ')?;
     }
     Ok(())
 }

@@ -1,13 +1,11 @@
-//! What chains and numbers read as, in words. Why a chain can't be followed, and why a run has trapped,
-//! is tested, and not proved.
+//! What chains and numbers read as, in words. Why a run has trapped is tested, and not proved.
 
-ghost use Rattle.std.specs.Prelude.{◌≡◌, ◌++◌, OnOk, IfSome};
-ghost use Rattle.l6_prog.specs.declared.operand.Operand.{Operand};
+ghost use Rattle.std.specs.Prelude.{◌≡◌, ◌++◌, OnOk};
 ghost use Rattle.l6_session.specs.Texts as spec;
 
-use crate::text::{push_block_at, push_chain, push_name, push_word};
+use crate::text::{push_block_at, push_chain, push_names, push_word};
 use l6_machine::{Machine, Trap, push_decimal};
-use l6_prog::{Chain, Operand};
+use l6_prog::{Chain, Name, Operand};
 use l6_store::Places;
 use l6_word::Word;
 use std::alloc::AllocError;
@@ -18,9 +16,8 @@ pub(crate) fn push_value<S: Places>(
     machine: &Machine<S>,
     operand: &Operand,
 ) -> Result<(), AllocError>
-    ensures { OnOk result
-        (IfSome (spec.operand_text machine.now.configuration.state.memory operand.now)
-        (λ printed. text.new.items ≡ text.old.items ++ printed)) }
+    ensures { OnOk result (text.new.items ≡ text.old.items
+        ++ spec.operand_text machine.now.configuration.state.memory operand.now) }
 {
     match operand {
         Operand::Chain(chain) => push_chain_value(text, machine, chain),
@@ -34,9 +31,8 @@ pub(crate) fn push_chain_value<S: Places>(
     machine: &Machine<S>,
     chain: &Chain,
 ) -> Result<(), AllocError>
-    ensures { OnOk result
-        (IfSome (spec.operand_text machine.now.configuration.state.memory (Operand.Chain chain.now))
-        (λ printed. text.new.items ≡ text.old.items ++ printed)) }
+    ensures { OnOk result (text.new.items ≡ text.old.items
+        ++ spec.chain_line machine.now.configuration.state.memory chain.now) }
 {
     push_chain(text, chain)?;
     match machine.value(chain) {
@@ -44,11 +40,21 @@ pub(crate) fn push_chain_value<S: Places>(
             text.extend_from_slice(b" = ")?;
             push_word_value(text, machine, word)
         }
-        Err(trap) => {
-            text.extend_from_slice(b" can't be followed: ")?;
-            push_break(text, machine, chain, trap)
-        }
+        Err(_) => push_unfollowed(text, machine, chain),
     }
+}
+
+/// Adds that a chain can't be followed, and why.
+fn push_unfollowed<S: Places>(
+    text: &mut Vec<u8>,
+    machine: &Machine<S>,
+    chain: &Chain,
+) -> Result<(), AllocError>
+    ensures { OnOk result (text.new.items ≡ text.old.items
+        ++ spec.unfollowed_text machine.now.configuration.state.memory chain.now) }
+{
+    text.extend_from_slice(b" can't be followed: ")?;
+    push_broken(text, machine, chain)
 }
 
 /// Adds a word, and the block that begins at the place of this number, if one does.
@@ -65,64 +71,116 @@ fn push_word_value<S: Places>(
     text.extend_from_slice(b"\n")
 }
 
-/// Adds at which field of a chain it can't be followed, and why.
-fn push_break<S: Places>(
+/// Adds which is the first field of a chain that can't be followed, and why.
+fn push_broken<S: Places>(
     text: &mut Vec<u8>,
     machine: &Machine<S>,
     chain: &Chain,
-    trap: Trap,
-) -> Result<(), AllocError> {
+) -> Result<(), AllocError>
+    ensures { OnOk result (text.new.items ≡ text.old.items
+        ++ spec.broken_text machine.now.configuration.state.memory chain.now) }
+{
     let names = chain.names();
-    for length in 1..names.len() {
-        let Some(front) = Chain::new(&names[..length]) else {
-            return Ok(());
-        };
-        let Ok(pointer) = machine.value(&front) else {
-            return Ok(());
-        };
-        let Some(longer) = Chain::new(&names[..length + 1]) else {
-            return Ok(());
-        };
-        if machine.value(&longer).is_err() {
-            return push_reason(text, &front, names[length].number(), pointer, trap);
+    let mut pointer = machine.bug(chain.bug());
+    let mut place: usize = 1;
+    while place < names.len() {
+        let field = names[place];
+        match followed(machine, field, pointer) {
+            Ok(word) => pointer = word,
+            Err(trap) => return push_reason(text, &names[..place], field, pointer, trap),
         }
+        place += 1;
     }
     Ok(())
 }
 
-/// Adds why a field can't be followed from a pointer on.
+/// What a field shows of the block at a pointer.
+///
+/// # Errors
+///
+/// The field has no definition, no block begins at the pointer, or it has no such word.
+#[tactic(auto, using(crate::proofs::Following::undefined, crate::proofs::Following::not_there, crate::proofs::Following::outside, crate::proofs::Following::there))]
+fn followed<S: Places>(machine: &Machine<S>, field: Name, pointer: Word) -> Result<Word, Trap>
+    ensures { result ≡ spec.followed machine.now.configuration.state.memory field pointer }
+{
+    let Some(window) = machine.definition(field) else {
+        return Err(Trap::UndefinedField);
+    };
+    if machine.store().live(pointer).is_none() {
+        return Err(Trap::NotABlock);
+    }
+    match machine.store().word(pointer, window.word()) {
+        Some(word) => Ok(window.take(word)),
+        None => Err(Trap::WordOutsideBlock),
+    }
+}
+
+/// Adds why a field can't be followed from a pointer on, to which the names before it lead.
 fn push_reason(
     text: &mut Vec<u8>,
-    front: &Chain,
-    field: u8,
+    front: &[Name],
+    field: Name,
     pointer: Word,
     trap: Trap,
-) -> Result<(), AllocError> {
+) -> Result<(), AllocError>
+    ensures { OnOk result (text.new.items ≡ text.old.items
+        ++ spec.break_text front.now field pointer trap) }
+{
     match trap {
-        Trap::UndefinedField => {
-            text.extend_from_slice(b"the field ")?;
-            push_name(text, field)?;
-            text.extend_from_slice(b" is not defined")?;
-        }
-        Trap::NotABlock => {
-            push_chain(text, front)?;
-            text.extend_from_slice(b" is ")?;
-            push_decimal(text, pointer.get())?;
-            text.extend_from_slice(if pointer.get() == 0 {
-                b", which is no block: it was never set, or was set to 0"
-            } else {
-                b", where no block begins: it holds no link, or the block there was freed"
-            })?;
-        }
-        _ => {
-            text.extend_from_slice(b"the word of the field ")?;
-            push_name(text, field)?;
-            text.extend_from_slice(b" is past the end of the block at ")?;
-            push_decimal(text, pointer.get())?;
-        }
+        Trap::UndefinedField => push_undefined(text, field),
+        Trap::NotABlock => push_no_block(text, front, pointer),
+        _ => push_outside(text, field, pointer),
     }
+}
+
+/// Adds that a field has no definition.
+fn push_undefined(text: &mut Vec<u8>, field: Name) -> Result<(), AllocError>
+    ensures { OnOk result (text.new.items ≡ text.old.items ++ spec.undefined_text field) }
+{
+    text.extend_from_slice(b"the field ")?;
+    push_names(text, &[field])?;
+    text.extend_from_slice(b" is not defined\n")
+}
+
+/// Adds that no block begins where names lead.
+fn push_no_block(text: &mut Vec<u8>, front: &[Name], pointer: Word) -> Result<(), AllocError>
+    ensures { OnOk result (text.new.items ≡ text.old.items
+        ++ spec.no_block_text front.now pointer) }
+{
+    push_names(text, front)?;
+    text.extend_from_slice(b" is ")?;
+    push_decimal(text, pointer.get())?;
+    push_link(text, pointer)
+}
+
+/// Adds what is said of a number at which no block begins.
+fn push_link(text: &mut Vec<u8>, pointer: Word) -> Result<(), AllocError>
+    ensures { OnOk result (text.new.items ≡ text.old.items ++ spec.link_text pointer) }
+{
+    if pointer.get() == 0 {
+        text.extend_from_slice(NO_LINK)
+    } else {
+        text.extend_from_slice(NO_BLOCK)
+    }
+}
+
+/// Adds that the word of a field is past the end of a block.
+fn push_outside(text: &mut Vec<u8>, field: Name, pointer: Word) -> Result<(), AllocError>
+    ensures { OnOk result (text.new.items ≡ text.old.items ++ spec.outside_text field pointer) }
+{
+    text.extend_from_slice(b"the word of the field ")?;
+    push_names(text, &[field])?;
+    text.extend_from_slice(b" is past the end of the block at ")?;
+    push_decimal(text, pointer.get())?;
     text.extend_from_slice(b"\n")
 }
+
+/// What is said of a link of 0.
+const NO_LINK: &[u8] = b", which is no block: it was never set, or was set to 0\n";
+
+/// What is said of another number at which no block begins.
+const NO_BLOCK: &[u8] =
+    b", where no block begins: it holds no link, or the block there was freed\n";
 
 /// Adds what a trap means.
 pub(crate) fn push_trap(text: &mut Vec<u8>, trap: Trap) -> Result<(), AllocError> {

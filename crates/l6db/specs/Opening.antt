@@ -1,7 +1,8 @@
 -- How a session begins.
-use Rattle.std.specs.Prelude.{◌≡◌, ℕ, List, length}
+use Rattle.std.specs.Prelude.{◌≡◌, ℕ, List, length, Option, unwrap_or}
 use Rattle.l6_asm.specs.Assembled.{Assembled}
 use Rattle.l6_asm.specs.Spells.{SpellsJust}
+use Rattle.l6_device.specs.JobParts.{commands_of, deck_of, head_of, input_of}
 use Rattle.l6_machine.specs.Options.{OptionValues, context_under}
 use Rattle.l6_session.specs.DeckSession.{DeckSession}
 use Rattle.l6_session.specs.SessionState.{first_session_state}
@@ -18,3 +19,18 @@ pub record BeginsWith (options : OptionValues) (deck input : List ℕ) (session 
     deck = deck;
     statements = length assembly.program;
   }
+
+-- a job by its parts
+pub record GivenJob : Type 0 where
+  pub deck : List ℕ
+  pub input : List ℕ
+  pub commands : List ℕ
+
+-- the job of a text, in which the bytes of a file for the input take the place of its input, if there
+-- is one, and those of a file of commands that of its commands
+abbrev pub given_job : List ℕ → Option (List ℕ) → Option (List ℕ) → GivenJob
+given_job whole input commands = record {
+  deck = deck_of (head_of whole);
+  input = unwrap_or input (input_of whole);
+  commands = unwrap_or commands (commands_of (head_of whole));
+}

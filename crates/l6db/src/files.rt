@@ -1,9 +1,15 @@
 //! The files of a job.
 
+ghost use Rattle.std.specs.Prelude.{◌≡◌, IfOk, unwrap_or};
+ghost use Rattle.std.specs.Option.{option_map};
+ghost use Rattle.l6db.specs.Opening.{given_job};
+
 use crate::arguments::Request;
 use crate::fault::DbFault;
 use l6_device::{Host, Part, Patience, head_parts_of, parts_of, read_part};
+use std::alloc::{AllocError, Global};
 use std::fs::File;
+use std::marker::Model;
 
 /// The parts of a job.
 #[derive(Drop)]
@@ -14,8 +20,18 @@ pub(crate) struct Job {
     pub(crate) input: Vec<u8>,
     /// The commands to obey first.
     pub(crate) commands: Vec<u8>,
-    /// Whether it was read from standard input, which then has no commands.
-    pub(crate) is_stdin_taken: bool,
+}
+
+impl Model for Job {
+    ghost use Rattle.l6db.specs.Opening as opening;
+
+    ghost Value = { opening.GivenJob };
+
+    ghost view = { λ j. record {
+      deck = j.deck.items;
+      input = j.input.items;
+      commands = j.commands.items;
+    } };
 }
 
 /// The job that is asked for. Files that are named take precedence over the parts of the job. Of each
@@ -26,26 +42,57 @@ pub(crate) struct Job {
 /// A file can't be read, or is too long, or memory ran out.
 pub(crate) fn job_of(rt: &HostRuntime, request: &Request<'_>) -> Result<Job, DbFault> {
     let whole = part_of(rt, request.deck, Part::Job)?;
-    let parts = parts_of(whole.as_slice());
+    let input = part_if_named(rt, request.input, Part::Input)?;
+    let commands = part_if_named(rt, request.commands, Part::Commands)?;
+    Ok(job_from(rt.alloc(), whole.as_slice(), input, commands)?)
+}
+
+/// The job of this text, in which the input and the commands are replaced that are given.
+///
+/// # Errors
+///
+/// Memory ran out.
+fn job_from(
+    alloc: Global,
+    whole: &[u8],
+    input: Option<Vec<u8>>,
+    commands: Option<Vec<u8>>,
+) -> Result<Job, AllocError>
+    ensures { IfOk result (λ job. job ≡ given_job whole.now
+        (option_map (λ bytes. bytes.items) input) (option_map (λ bytes. bytes.items) commands)) }
+{
+    let parts = parts_of(whole);
     let head = head_parts_of(parts.head);
-    let mut deck = Vec::new(rt.alloc());
-    deck.extend_from_slice(head.deck)?;
-    let mut input = Vec::new(rt.alloc());
-    match request.input {
-        Some(path) => input = part_of(rt, path, Part::Input)?,
-        None => input.extend_from_slice(parts.input)?,
-    }
-    let mut commands = Vec::new(rt.alloc());
-    match request.commands {
-        Some(path) => commands = part_of(rt, path, Part::Commands)?,
-        None => commands.extend_from_slice(head.commands)?,
-    }
     Ok(Job {
-        deck,
-        input,
-        commands,
-        is_stdin_taken: request.deck == "-",
+        deck: bytes_or(alloc, None, head.deck)?,
+        input: bytes_or(alloc, input, parts.input)?,
+        commands: bytes_or(alloc, commands, head.commands)?,
     })
+}
+
+/// The bytes that are given, or those of the job where none are.
+fn bytes_or(alloc: Global, given: Option<Vec<u8>>, own: &[u8]) -> Result<Vec<u8>, AllocError>
+    ensures { IfOk result (λ bytes. bytes.items
+        ≡ unwrap_or (option_map (λ bytes. bytes.items) given) own.now) }
+{
+    if let Some(bytes) = given {
+        return Ok(bytes);
+    }
+    let mut bytes = Vec::new(alloc);
+    bytes.extend_from_slice(own)?;
+    Ok(bytes)
+}
+
+/// What the file at a path holds, if there is a path, at most the limit of the part.
+fn part_if_named(
+    rt: &HostRuntime,
+    path: Option<&str>,
+    part: Part,
+) -> Result<Option<Vec<u8>>, DbFault> {
+    match path {
+        Some(path) => Ok(Some(part_of(rt, path, part)?)),
+        None => Ok(None),
+    }
 }
 
 /// What a file holds, or, for `-`, standard input, at most the limit of the part.

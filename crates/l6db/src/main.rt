@@ -19,7 +19,7 @@ use std::process::ExitCode;
 use terminal::{Mode, Terminal};
 
 fn main(rt: HostRuntime) -> ExitCode {
-    match serve(&rt) {
+    match run_session(&rt) {
         Ok(()) => ExitCode::from(0),
         Err(fault) => {
             let text = format!(in rt.alloc(); "{fault}");
@@ -36,7 +36,7 @@ fn main(rt: HostRuntime) -> ExitCode {
 }
 
 /// Does what the words of the command line ask for.
-fn serve(rt: &HostRuntime) -> Result<(), DbFault> {
+fn run_session(rt: &HostRuntime) -> Result<(), DbFault> {
     let words: Vec<String> = env::args(rt)?.collect(rt.alloc())?;
     let request = request_of(rt.alloc(), words.as_slice())?;
     let job = job_of(rt, &request)?;
@@ -46,12 +46,11 @@ fn serve(rt: &HostRuntime) -> Result<(), DbFault> {
 /// Shows where the run of a job begins, and then answers the lines of its commands, and those that are
 /// typed.
 fn debug(rt: &HostRuntime, request: &Request<'_>, job: Job) -> Result<(), DbFault> {
-    let mode = mode_of(rt, request, &job);
+    let mode = mode_of(rt, request);
     let Job {
         deck,
         input,
         commands,
-        ..
     } = job;
     Part::Deck.check(deck.as_slice())?;
     Part::Input.check(input.as_slice())?;
@@ -69,9 +68,9 @@ fn debug(rt: &HostRuntime, request: &Request<'_>, job: Job) -> Result<(), DbFaul
     Ok(converse(rt.alloc(), &mut session, &mut console, prompt)?)
 }
 
-/// How the console of a job behaves.
-fn mode_of(rt: &HostRuntime, request: &Request<'_>, job: &Job) -> Mode {
-    let is_batch = request.is_batch || job.is_stdin_taken;
+/// How the console behaves. Where the job comes from standard input, no commands are left there.
+fn mode_of(rt: &HostRuntime, request: &Request<'_>) -> Mode {
+    let is_batch = request.is_batch || request.deck == "-";
     Mode {
         is_batch,
         is_typed: rt.stdin().is_terminal() && rt.stdout().is_terminal() && !is_batch,

@@ -1,0 +1,130 @@
+-- What a session answers to a command.
+use Rattle.std.specs.Prelude.{◌≡◌, ℕ, ◌==◌, nat_lt, ◌&&◌, Bool, true, false, List, codes, length, ⊤, if◌then◌else◌}
+use Rattle.l6_store.specs.Rule.{Rule}
+use Rattle.l6_steps.specs.Configuration.{state_at}
+use Rattle.l6_steps.specs.State.{RunContext, State}
+use Rattle.l6_debug.specs.Answer as batch
+use Rattle.l6_draw.specs.StoreMap.{store_map}
+use Rattle.l6_session.specs.Blocks.{draw_text, operand_block_text}
+use Rattle.l6_session.specs.Changes.{Seen}
+use Rattle.l6_session.specs.Help.{help_text}
+use Rattle.l6_session.specs.Names.{Names}
+use Rattle.l6_session.specs.Reports.{info_text, near_text}
+use Rattle.l6_session.specs.SessionState.{SessionState}
+use Rattle.l6_session.specs.Stops.{stop_text}
+use Rattle.l6_session.specs.Texts.{numbered_line, operand_text, saved_text, statement_line, waiting_text}
+use Rattle.l6_session.specs.declared.before.Before.{Before}
+use Rattle.l6_session.specs.declared.command.Command.{Command}
+use Rattle.l6_session.specs.declared.command.Command.TheVariants as command
+use Rattle.l6_session.specs.declared.command.Move.{Move}
+use Rattle.l6_session.specs.declared.command.Move.TheVariants.{Finish, ReverseFinish}
+use Rattle.l6_session.specs.declared.command.Setting.{Setting}
+use Rattle.l6_session.specs.declared.command.Setting.TheVariants.{Break, TemporaryBreak, Delete, DeleteAll, Watch, Unwatch, Display, Undisplay}
+use Rattle.l6_session.specs.declared.command.View.{View}
+use Rattle.l6_session.specs.declared.command.View.TheVariants.{Print, Block, Where, Stack, Show, Fields, Draw, Store, Lists, Stats, Out, Checkpoints, Info, ListHere, ListNear, Help, Set, Ignore, Condition}
+
+-- one goes out of the latest call
+abbrev pub is_finish : Move → Bool
+is_finish Finish = true
+is_finish ReverseFinish = true
+is_finish other = false
+
+-- a text is that of a stop; which details it has is not said here
+abbrev pub IsStop : Rule → Names → RunContext → Before → Seen → SessionState → List ℕ → Type 0
+IsStop rule names context before seen new text =
+    (details : List ℕ) × (text ≡ stop_text names.labels context (state_at rule context new.number) new
+    before.number seen details)
+
+-- what is answered where one is to go out of the latest call and none waits, or else
+abbrev pub AnswersGone : Bool → Rule → Names → RunContext → Before → Seen → SessionState → List ℕ → Type 0
+AnswersGone true rule names context before seen new text =
+    text ≡ codes "No call waits: there is nothing to finish\n"
+AnswersGone false rule names context before seen new text =
+    IsStop rule names context before seen new text
+
+-- what is answered where one went to another state, by what was seen where one was
+abbrev pub AnswersMove : Rule → Names → RunContext → Before → Seen → SessionState → Move → List ℕ → Type 0
+AnswersMove rule names context before seen new to text =
+    AnswersGone (before.depth == 0 && is_finish to) rule names context before seen new text
+
+-- what is said of a chain that is to be watched or displayed, of which there are more than before or not
+abbrev pub added_text : State → List ℕ → ℕ → ℕ → List ℕ → List ℕ → List ℕ
+added_text state verb before now chain refused =
+    if nat_lt before now then numbered_line state.memory verb now chain else refused
+
+-- what is said where there are fewer than before, or not
+abbrev pub removed_text : ℕ → ℕ → List ℕ → List ℕ
+removed_text before now refused =
+    if nat_lt now before then codes "It is taken off the list: see info\n" else refused
+
+-- what is answered where it was changed where one stops, or what is displayed
+abbrev pub setting_text : Rule → Names → RunContext → Before → SessionState → Setting → List ℕ
+setting_text rule names context before new (Break s) =
+    statement_line (codes "Breakpoint at ") names.labels s
+setting_text rule names context before new (TemporaryBreak s) =
+    statement_line (codes "Temporary breakpoint at ") names.labels s
+setting_text rule names context before new (Delete s) =
+    statement_line (codes "No breakpoint at ") names.labels s
+setting_text rule names context before new DeleteAll =
+    codes "No breakpoint is set, and nothing is watched\n"
+setting_text rule names context before new (Watch chain) =
+    added_text (state_at rule context new.number) (codes "watch ") before.watched
+    (length new.stop.watched) chain
+    (codes "Eight chains are watched already: unwatch one of them\n")
+setting_text rule names context before new (Unwatch n) =
+    removed_text before.watched (length new.stop.watched)
+    (codes "No chain that is watched has this number: see info\n")
+setting_text rule names context before new (Display chain) =
+    added_text (state_at rule context new.number) (codes "display ") before.displayed
+    (length new.displayed) chain
+    (codes "Eight chains are displayed already: undisplay one of them\n")
+setting_text rule names context before new (Undisplay n) =
+    removed_text before.displayed (length new.displayed)
+    (codes "No chain that is displayed has this number: see info\n")
+
+-- what is shown. The first four texts are those of the debugger of jobs. Of the states that are kept, of free
+-- lists and of amounts nothing is said but that one text shows them
+abbrev pub ShowsView : Rule → Names → RunContext → SessionState → View → List ℕ → Type 0
+ShowsView rule names context now Show text =
+    text ≡ batch.shown context (state_at rule context now.number)
+ShowsView rule names context now Fields text =
+    text ≡ batch.fields (state_at rule context now.number).memory.definitions
+ShowsView rule names context now Store text =
+    text ≡ store_map context.parameters.units (state_at rule context now.number).memory
+ShowsView rule names context now Out text =
+    text ≡ batch.printed (state_at rule context now.number).memory.output
+ShowsView rule names context now Where text =
+    text ≡ waiting_text names.labels (state_at rule context now.number)
+ShowsView rule names context now Stack text =
+    text ≡ saved_text (state_at rule context now.number).memory
+ShowsView rule names context now (Print operand) text =
+    text ≡ operand_text (state_at rule context now.number).memory operand
+ShowsView rule names context now (Block operand) text =
+    text ≡ operand_block_text (state_at rule context now.number).memory operand
+ShowsView rule names context now Draw text =
+    text ≡ draw_text context.parameters.units (state_at rule context now.number).memory
+ShowsView rule names context now Lists text = ⊤
+ShowsView rule names context now Stats text = ⊤
+ShowsView rule names context now Checkpoints text = ⊤
+ShowsView rule names context now Info text =
+    text ≡ info_text names.labels (state_at rule context now.number).memory now
+ShowsView rule names context now ListHere text =
+    text ≡ near_text names.deck (state_at rule context now.number).at.statement
+ShowsView rule names context now (ListNear s) text = text ≡ near_text names.deck s
+ShowsView rule names context now Help text = text ≡ help_text
+ShowsView rule names context now Set text =
+    text ≡ codes "A run is never changed: change the deck, and debug that one\n"
+ShowsView rule names context now Ignore text =
+    text ≡ codes "continue N goes on to the Nth stop, and passes over those before\n"
+ShowsView rule names context now Condition text =
+    text ≡ codes "A breakpoint has no condition: watch CHAIN stops where a value changes\n"
+
+-- what is answered to a command, by what the session was like before it, what was seen there, and the
+-- session after it
+abbrev pub AnswersObeyed : Rule → Names → RunContext → Before → Seen → SessionState → Command → List ℕ → Type 0
+AnswersObeyed rule names context before seen new (command.Move to) text =
+    AnswersMove rule names context before seen new to text
+AnswersObeyed rule names context before seen new (command.Setting setting) text =
+    text ≡ setting_text rule names context before new setting
+AnswersObeyed rule names context before seen new (command.View view) text =
+    ShowsView rule names context new view text

@@ -1,0 +1,101 @@
+-- What was seen where a session was before a command, and what has changed since.
+use Rattle.std.specs.Prelude.{ℕ, ◌+◌, ◌-◌, ◌==◌, ◌&&◌, nat_lt, Bool, true, false, List, [], ◌∷◌, ◌++◌, codes, decimal, Option, Some, None, if◌then◌else◌}
+use Rattle.l6_prog.specs.Numerals.{first_letter}
+use Rattle.l6_word.specs.Window.{Window}
+use Rattle.l6_steps.specs.State.{Memory}
+use Rattle.l6_history.specs.Stop.{differs, value_of, values_of}
+use Rattle.l6_session.specs.Numerals.{most_changes}
+use Rattle.l6_session.specs.Texts.{chain_text, name_text, window_text}
+
+-- what bugs held, what fields were defined as, and what watched chains read as
+pub record Seen : Type 0 where
+  pub bugs : List ℕ
+  pub definitions : List (Option Window)
+  pub watched : List (Option ℕ)
+
+abbrev pub seen_of : Memory → List (List ℕ) → Seen
+seen_of memory chains = record {
+  bugs = memory.bugs;
+  definitions = memory.definitions;
+  watched = values_of chains memory;
+}
+
+-- a value, or that a chain can't be followed
+abbrev pub value_text : Option ℕ → List ℕ
+value_text None = codes "can't be followed"
+value_text (Some word) = decimal word
+
+-- what a watched chain read as, and what it reads as now
+abbrev pub values_text : Option ℕ → Option ℕ → List ℕ
+values_text was is = value_text was ++ codes " -> " ++ value_text is
+
+abbrev pub change_line : List ℕ → Option ℕ → Option ℕ → List ℕ
+change_line chain was is =
+    codes "      watch " ++ chain_text chain ++ codes ": " ++ values_text was is ++ codes "\n"
+
+-- a line for each chain that reads as another value than before
+abbrev pub watch_line : List ℕ → Option ℕ → Option ℕ → List ℕ
+watch_line chain was is = if differs was is then change_line chain was is else []
+
+abbrev pub watch_lines : Memory → List (Option ℕ) → List (List ℕ) → List ℕ
+watch_lines memory (was ∷ befores) (chain ∷ chains) =
+    watch_line chain was (value_of memory chain) ++ watch_lines memory befores chains
+watch_lines memory befores chains = []
+
+-- what a bug held, and what it holds now
+abbrev pub bug_line : ℕ → ℕ → ℕ → List ℕ
+bug_line name was is =
+    codes "      " ++ name_text name ++ codes " " ++ decimal was ++ codes " -> " ++ decimal is
+    ++ codes "\n"
+
+-- a line for each of the bugs, from the one of a name on, that hold another value than before
+abbrev pub bug_lines : ℕ → List ℕ → List ℕ → List (List ℕ)
+bug_lines name (was ∷ befores) (is ∷ nows) =
+    if was == is then bug_lines (name + 1) befores nows
+    else bug_line name was is ∷ bug_lines (name + 1) befores nows
+bug_lines name befores nows = []
+
+-- two definitions are the same
+abbrev pub is_same : Option Window → Option Window → Bool
+is_same None None = true
+is_same (Some one) (Some other) =
+    one.word == other.word && (one.first == other.first && one.last == other.last)
+is_same None (Some other) = false
+is_same (Some one) None = false
+
+-- what a field is now defined as
+abbrev pub field_line : ℕ → Option Window → List ℕ
+field_line name definition =
+    codes "      field " ++ name_text name ++ codes ": " ++ window_text definition ++ codes "\n"
+
+-- a line for each of the fields, from the one of a name on, that are defined otherwise than before
+abbrev pub field_lines : ℕ → List (Option Window) → List (Option Window) → List (List ℕ)
+field_lines name (was ∷ befores) (is ∷ nows) =
+    if is_same was is then field_lines (name + 1) befores nows
+    else field_line name is ∷ field_lines (name + 1) befores nows
+field_lines name befores nows = []
+
+-- how many more lines there are than may be shown, if there are
+abbrev pub further_text : ℕ → List ℕ
+further_text further =
+    if further == 0 then [] else codes "      and " ++ decimal further ++ codes " more\n"
+
+-- a line, if fewer came before it than may be shown
+abbrev pub if_few : ℕ → List ℕ → List ℕ
+if_few count line = if nat_lt count most_changes then line else []
+
+-- the lines that may be shown where so many came before them, and how many more there are
+abbrev pub limited : ℕ → List (List ℕ) → List ℕ
+limited count [] = further_text (count - most_changes)
+limited count (line ∷ lines) = if_few count line ++ limited (count + 1) lines
+
+-- the changes of bugs and fields
+abbrev pub lines_text : List ℕ → List ℕ → List (Option Window) → List (Option Window) → List ℕ
+lines_text bugs bugs_now definitions definitions_now =
+    limited 0 (bug_lines first_letter bugs bugs_now ++ field_lines 0 definitions definitions_now)
+
+-- what has changed: of watched chains, and of bugs and fields
+abbrev pub changes_text : Seen → Memory → List (List ℕ) → List ℕ
+changes_text seen memory chains =
+    watch_lines memory seen.watched chains
+    ++ lines_text seen.bugs memory.bugs seen.definitions memory.definitions

@@ -1,0 +1,75 @@
+-- What a session says of itself: where one stops, what is displayed, which states are kept, and cards.
+use Rattle.std.specs.Prelude.{ℕ, ◌+◌, ◌-◌, ◌&&◌, nat_le, nat_lt, Bool, false, List, [], ◌∷◌, ◌++◌, length, replicate, codes, decimal, slice_index_or, if◌then◌else◌}
+use Rattle.std.specs.List.{enumerate_from, flat_map}
+use Rattle.std.specs.Str.{byte}
+use Rattle.l6_group.specs.declared.label.Label.{Label}
+use Rattle.l6_card.specs.Role.{role_of}
+use Rattle.l6_word.specs.Lines.{lines_of, without_return}
+use Rattle.l6_steps.specs.State.{Memory}
+use Rattle.l6_session.specs.Names.{begun_with}
+use Rattle.l6_session.specs.Numerals.{card_places, near_statements}
+use Rattle.l6_session.specs.SessionState.{SessionState}
+use Rattle.l6_session.specs.Texts.{chain_line, numbered_line, statement_line}
+
+-- the line of a statement that has a breakpoint, which may be a temporary one
+abbrev pub said_of : Bool → List ℕ
+said_of is_temporary = if is_temporary then codes "tbreak " else codes "break "
+
+abbrev pub breakpoint_line : List (Label × ℕ) → List Bool → ℕ × Bool → List ℕ
+breakpoint_line labels temporary breakpoint =
+    if breakpoint.1
+    then statement_line (said_of (slice_index_or temporary breakpoint.0 false)) labels breakpoint.0
+    else []
+
+abbrev pub breakpoint_lines : List (Label × ℕ) → List Bool → List Bool → List ℕ
+breakpoint_lines labels temporary breakpoints =
+    flat_map (breakpoint_line labels temporary) (enumerate_from 0 breakpoints)
+
+-- the lines of chains, numbered from 1 on, with what they read as
+abbrev pub chain_lines : Memory → List ℕ → List (List ℕ) → List ℕ
+chain_lines memory verb chains =
+    flat_map (λ chain. numbered_line memory verb chain.0 chain.1) (enumerate_from 1 chains)
+
+-- where one stops, and what is displayed
+abbrev pub stops_lines : List (Label × ℕ) → Memory → SessionState → List ℕ
+stops_lines labels memory state =
+    breakpoint_lines labels state.temporary state.stop.breakpoints
+    ++ chain_lines memory (codes "watch ") state.stop.watched
+    ++ chain_lines memory (codes "display ") state.displayed
+
+abbrev pub or_nothing : List ℕ → List ℕ
+or_nothing [] = codes "No breakpoint is set, and nothing is watched or displayed\n"
+or_nothing (first ∷ others) = first ∷ others
+
+abbrev pub info_text : List (Label × ℕ) → Memory → SessionState → List ℕ
+info_text labels memory state = or_nothing (stops_lines labels memory state)
+
+-- what is displayed at a stop
+abbrev pub displayed_line : Memory → List ℕ → List ℕ
+displayed_line memory chain = codes "      " ++ chain_line memory chain
+
+abbrev pub displayed_text : Memory → List (List ℕ) → List ℕ
+displayed_text memory chains = flat_map (displayed_line memory) chains
+
+-- a card with its number, at the right end of its places
+abbrev pub card_line : ℕ → List ℕ → List ℕ
+card_line card line =
+    replicate (card_places - length (decimal card)) (byte " ") ++ decimal card ++ codes " "
+    ++ without_return line ++ codes "\n"
+
+-- with a card so many statements have begun, and the last of them is near this one
+abbrev pub is_near : ℕ → ℕ → Bool
+is_near statement begun =
+    nat_lt 0 begun && (nat_le (begun - 1 - near_statements) statement
+    && nat_le statement (begun - 1 + near_statements))
+
+-- the lines of the cards near a statement, where so many cards come before them, and so many statements
+-- have begun
+abbrev pub near_from : ℕ → ℕ → ℕ → List (List ℕ) → List ℕ
+near_from statement card begun [] = []
+near_from statement card begun (line ∷ lines) =
+    (if is_near statement (begun_with (role_of line) begun) then card_line (card + 1) line else [])
+    ++ near_from statement (card + 1) (begun_with (role_of line) begun) lines
+
+abbrev pub near_text : List ℕ → ℕ → List ℕ
+near_text deck statement = near_from statement 0 0 (lines_of deck)

@@ -65,6 +65,31 @@ def checks(program: str) -> Iterator[Trial]:
     """The trials on the decks of checks.jsonl."""
     for check in read_checks():
         yield f"check: {check.name}", check.expected, answer_of([program, "check"], input=check.deck)
+        shown = answer_of([program, "check", "--long"], input=check.deck)
+        yield f"check --long: {check.name}", check.expected, answer(without_cards(shown.stdout, check.deck), status=shown.status)
+
+
+def without_cards(shown: bytes, deck: bytes) -> bytes:
+    """What is said of a deck, without the card after each finding and the signs under its columns.
+
+    A card that is not the deck's, and signs that do not begin at the finding's column, stay in the text.
+    """
+    cards = deck.split(b"\n")
+    kept: list[bytes] = []
+    lines = iter(shown.splitlines(keepends=True))
+    for line in lines:
+        kept.append(line.replace(b"      = ", b"    ", 1) if line.startswith(b"      = ") else line)
+        if not (found := FINDING.match(line)):
+            continue
+        number, column = int(found[1]), int(found[2])
+        if re.search(rb"[\x00-\x08\x0a-\x1f\x7f]", cards[number - 1].rstrip(b"\r")):
+            continue  # (a card that would do something to a terminal is not shown)
+        card, signs = next(lines, b""), next(lines, b"")
+        if card.rstrip(b"\r\n") != b"%5d | %s" % (number, cards[number - 1].rstrip(b"\r")):
+            kept.append(card)
+        if not re.fullmatch(rb"      \| {%d}\^+\n" % column, signs.replace(b"\t", b" ")):
+            kept.append(signs)
+    return b"".join(kept)
 
 
 def slips(program: str) -> Iterator[Trial]:

@@ -42,7 +42,7 @@ const right = {
 for (const wrong of [{status: 1}, {output: "6\n"}, {errors: "x"}])
   await canary((counts) => check("a canary", {...right, ...wrong}, right, false, counts));
 
-for (const line of readFileSync(`${TOP}/tests/cases.jsonl`, "utf8").trim().split("\n")) {
+for (const line of readFileSync(`${TOP}/tests/program/cases.jsonl`, "utf8").trim().split("\n")) {
   const one = JSON.parse(line);
   const answer = serveText(module, one.args ?? ["run"], textOf(one.stdin ?? ""));
   const want = {status: one.status, output: textOf(one.stdout ?? ""), errors: textOf(one.stderr ?? "")};

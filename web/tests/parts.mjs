@@ -52,7 +52,7 @@ function textOfCase(value) {
 }
 
 const rowsOf = (name) =>
-  readFileSync(`${TOP}/tests/${name}.jsonl`, "utf8").trim().split("\n").map((line) => JSON.parse(line));
+  readFileSync(`${TOP}/tests/program/${name}.jsonl`, "utf8").trim().split("\n").map((line) => JSON.parse(line));
 
 // The lines that findings come from.
 const saidBy = (findings) => findings

@@ -62,7 +62,7 @@ def try_all(page: Page, trials: list[Callable[[Page], None]], tells: bool) -> No
         begun = time.monotonic()
         try:
             try_one(page, one)
-            page.same("the page has no troubles", page.browser.troubles(), [])
+            try_one(page, lambda it: it.same("the page has no troubles", it.browser.troubles(), []))
         except NotBegun as error:
             page.right("the page begins", False, str(error))
             return

@@ -1,10 +1,23 @@
 """The plan of docs/page.md for 45 minutes, to the letter: at two sizes with the mouse, and by keys alone."""
 from __future__ import annotations
 
+import json
+
 from page import Page, trial
 
 ANSWER = " (N,E,10)\nLOOP (N,PD)(PL)(N,S,1)\n IF (N,G,0) THEN LOOP\n"
 WIDTHS = "[...document.querySelectorAll('#words .wordline')].map(it => it.textContent).join('|')"
+
+# Waits until an element has been at one place for some frames, for a second at most.
+AT_REST = """(async () => {
+    const element = document.querySelector(%s);
+    let [place, still] = ["", 0];
+    for (let frame = 0; still < 5 && frame < 60; frame += 1) {
+        const {x, y} = element.getBoundingClientRect();
+        [place, still] = `${x} ${y}` === place ? [place, still + 1] : [`${x} ${y}`, 0];
+        await new Promise(requestAnimationFrame);
+    }
+})()"""
 
 
 class Hand:
@@ -32,7 +45,9 @@ class Hand:
         else:
             # (what is found in a deck that was just opened may move its cards)
             self.page.browser.wait("!l6.isBusy && !l6.engine.isBusy")
-            self.page.browser.click(f"#gutter button[aria-label$=' {statement}']")
+            button = f"#gutter button[aria-label$=' {statement}']"
+            self.page.value(AT_REST % json.dumps(button))
+            self.page.browser.click(button)
         self.page.same(
             f"the breakpoint at {statement}", self.page.value("[...l6.editor.breakpoints]"), [statement]
         )

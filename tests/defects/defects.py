@@ -43,7 +43,7 @@ SAMPLE = 20  # of so many defects that were found before one is tried again
 AT_ONCE = 4
 SECONDS = 900  # for a step
 ESCAPES = {"n": "\n", "t": "\t"}
-LEAST = 80  # defects that there are
+LEAST = 55  # defects that there are
 PAGE = "page"  # the step of which a trial is made in Chromium
 COUNT = re.compile(r"^(\d+) passed, (\d+) failed$")
 
@@ -115,7 +115,7 @@ def scripts_of(step: str) -> tuple[Path, ...]:
     folders = {TOP / Path(name).parent for name in found[:1]} | {TOP / "tests/harness"}
     if not found:
         raise BadDefect(f"there is no step {step}")
-    return tuple(sorted(it for folder in folders for it in folder.iterdir() if it.is_file()))
+    return tuple(sorted(it for folder in folders for it in folder.iterdir() if it.suffix in (".py", ".mjs")))
 
 
 def sources() -> list[str]:
@@ -148,7 +148,9 @@ def finds(step: str, trial: str, top: Path) -> tuple[bool, str]:
                          timeout=SECONDS)
     last = (ran.stdout.splitlines() or [""])[-1]
     found = COUNT.match(last)
-    return ran.returncode != 0 and found is not None and found[2] != "0", ran.stdout[-1500:]
+    # (a defect in ./test itself may leave the count as it is, and the step is named all the same)
+    is_named = f"\nfailed: {step}; status " in ran.stdout
+    return is_named or (ran.returncode != 0 and found is not None and found[2] != "0"), ran.stdout[-1500:]
 
 
 def tried(defect: Defect) -> str:

@@ -183,6 +183,7 @@ def samples(edits: Edits) -> Iterator[Trial]:
     least = -(-sum(sizes.values()) // SAMPLE)
     yield "the least size of a sample", True, all(sum(sizes[it] for it in names) >= least for names in found)
     yield "the crates of 500 samples", set(sizes), set.union(*found)
+    yield "of how many edits one is tried again", 20, SAMPLE
 
 
 def forged(edits: Edits) -> str:

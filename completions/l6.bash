@@ -4,18 +4,18 @@ _l6() {
     local word=${COMP_WORDS[COMP_CWORD]} before=${COMP_WORDS[COMP_CWORD - 1]} verb=${COMP_WORDS[1]-} choices
     COMPREPLY=()
     case $before in
-        *[\<\>]*)
+        *[\<\>]* | --name)
             compopt -o default # a file
             return
             ;;
-        --store | --steps | --output) return ;; # a number
+        --store | --steps | --output | --levels | --units | --first | --piece) return ;; # a number
     esac
     case $COMP_CWORD:$verb in
         1:*) choices='asm list check run load renew debug trace help --help --version' ;;
         2:help) choices='asm list check run load renew debug trace' ;;
         *:run | *:load | *:debug) choices='--store --steps --output --help' ;;
-        *:trace) choices='--store --help' ;;
-        *:check) choices='--long --help' ;;
+        *:trace) choices='--store --any-place --levels --units --first --piece --json --help' ;;
+        *:check) choices='--long --name --help' ;;
         *:asm | *:list | *:renew) choices='--help' ;;
         *) choices='' ;;
     esac

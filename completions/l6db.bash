@@ -5,9 +5,10 @@ _l6db() {
     COMPREPLY=()
     case $before in
         --store | --steps | --output) return ;; # a number
+        --prompt) return ;; # a text
     esac
     case $word in
-        -*) mapfile -t COMPREPLY < <(compgen -W '--input -x --batch --echo --store --steps --output --help --version' -- "$word") ;;
+        -*) mapfile -t COMPREPLY < <(compgen -W '--input -x --batch --echo --prompt --store --steps --output --help --version' -- "$word") ;;
         *) compopt -o default ;; # a file
     esac
 }

@@ -25,6 +25,8 @@
 
 #include <stdint.h>
 
+#define L6_STORE_VERSION "1.0.0" /* of this header: calls are added, and none is changed, while the first number stays */
+
 #ifdef __cplusplus
 extern "C" {
 #endif

@@ -4,7 +4,7 @@ from __future__ import annotations
 import re
 from pathlib import Path
 
-VALUED = {"--input", "-x", "--store", "--steps", "--output"}  # options that a value follows
+VALUED = {"--input", "-x", "--prompt", "--store", "--steps", "--output"}  # options that a value follows
 MARK = re.compile(r"^\$(?:INPUT|COMMANDS)", re.MULTILINE | re.IGNORECASE)
 
 

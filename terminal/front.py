@@ -133,7 +133,7 @@ class Front:
                 break
             except KeyboardInterrupt:
                 self._engine.stop()
-                before.number = 0
+                before = before.at_start()
                 print(f"{CLEARED}Stopped: the session is at the start")
         self._show(self._engine.ask("step 0"))
 
@@ -171,7 +171,7 @@ class Front:
             said = subprocess.run([*self._words, "--batch"], stdin=subprocess.DEVNULL, capture_output=True, check=False)
             sys.stdout.write(said.stderr.decode("utf-8", "replace"))
             return False
-        lost = before.bring(engine, is_changed=True)
+        lost = before.bring(engine)
         self._engine.stop()
         self._engine = engine
         self._deck.read()
@@ -194,8 +194,11 @@ class Front:
                     return
 
     def _save(self, name: str) -> None:
-        """Writes where one stops and what is displayed, as lines of commands."""
-        lines = Snapshot.of(self._engine).lines()
+        """Writes the commands that lead a new session to this one, or shows them where no file is named."""
+        if not name:
+            self._give("save")
+            return
+        lines = Snapshot.of(self._engine).lines
         try:
             Path(name).expanduser().write_text("".join(f"{line}\n" for line in lines), "utf-8")
         except OSError as error:

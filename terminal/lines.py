@@ -12,10 +12,10 @@ except ImportError:
     readline = None  # type: ignore[assignment]
 
 MOST_LINES = 2_000  # of the history
-OWN = ["reload", "save", "source", "view"]  # commands of the front end
+OWN = ["reload", "view"]  # commands of the front end
 # What follows the words of the engine's commands, for completion.
-AT_PLACE = set("break b tbreak tb until u advance delete d clear enable disable list l".split())
-AT_CHAIN = set("watch display print p block x".split())
+AT_PLACE = set("break b tbreak tb until u advance delete d clear enable disable condition list l".split())
+AT_CHAIN = set("watch unwatch display undisplay print p block x".split())
 AT_FILE = {"source", "save"}
 AT_COMMAND = {"help", "h"}
 AT_INFO = {"info", "i"}

@@ -2,15 +2,15 @@
 # Starts a session of l6db. This file is sourced, with $program set to the engine and $terminal to this folder.
 #
 # At a terminal the engine is spoken to by way of l6db.py, where there is Python 3; else by way of rlwrap, where
-# there is that, which gives editing and a history; else it is run as it is. Over pipes, with --batch, --echo, --help
-# or --version, with L6DB_PLAIN set or at a dumb terminal it is always run as it is.
+# there is that, which gives editing and a history; else it is run as it is. Over pipes, with --batch, --echo, --prompt,
+# --help or --version, with L6DB_PLAIN set or at a dumb terminal it is always run as it is.
 
 # Whether the words and the terminal are those of a session that somebody types.
 is_typed() {
     [ -t 0 ] && [ -t 1 ] && [ -z "${L6DB_PLAIN-}" ] && [ "${TERM-dumb}" != dumb ] || return 1
     for word; do
         case $word in
-            --batch | --echo | -h | --help | -V | --version) return 1 ;;
+            --batch | --echo | --prompt | --prompt=* | -h | --help | -V | --version) return 1 ;;
         esac
     done
     [ $# -gt 0 ]

@@ -1,7 +1,7 @@
 """A proved buddy system (K. C. Knowlton, A fast storage allocator, CACM 8(10), 1965), by ctypes.
 
 `l6_store.h` says what each call does. The shared object is libl6_store.so beside this file, or what the
-variable L6_STORE_SO of the environment names.
+variable L6_STORE_SO of the environment names. A call keeps the interpreter's lock (PyDLL), so threads take turns.
 """
 from __future__ import annotations
 
@@ -46,7 +46,7 @@ _CALLS = {
     "moves": [], "units": [], "free_words": [], "largest": [], "pieces": [_NUMBER], "first": [_NUMBER],
     "next": [_NUMBER, _NUMBER],
 }
-_library = ctypes.CDLL(os.environ.get("L6_STORE_SO", str(Path(__file__).with_name("libl6_store.so"))))
+_library = ctypes.PyDLL(os.environ.get("L6_STORE_SO", str(Path(__file__).with_name("libl6_store.so"))))
 for _name, _types in _CALLS.items():
     _function = getattr(_library, f"l6_store_{_name}")
     _function.restype, _function.argtypes = ctypes.c_int64, [_POINTER, *_types]
@@ -68,7 +68,7 @@ def level_for(words: int) -> int:
 
 
 class Store:
-    """A store of 1 to 255 units of 1,024 words. It is for one thread at a time."""
+    """A store of 1 to 255 units of 1,024 words."""
 
     def __init__(self, units: int) -> None:
         self._raw = _Raw()

@@ -216,7 +216,10 @@ def limits() -> Iterator[Trial]:
 
 
 # What each exit status of the debugger that answers at once means.
-STATUSES = {"0": "The session ended", "4": "The job was refused", "5": "Memory ran out", "64": "The command line is wrong"}
+STATUSES = {
+    "0": "The session ended", "1": "A command was refused", "4": "The job was refused", "5": "Memory ran out",
+    "64": "The command line is wrong",
+}
 
 
 def statuses() -> Iterator[Trial]:

@@ -26,6 +26,7 @@ from trials import Trial, report
 import tables
 
 MEASUREMENTS = "docs/measurements.md"
+NAMED_DEFECTS = 32  # in docs/contracts.md
 CONTRACTS, PAGE, DEFINITIONS = "docs/contracts.md", "docs/page.md", "docs/definitions.md"
 OF_TRIALS = (
     "docs/proof.md",
@@ -184,6 +185,15 @@ def contracts() -> Iterator[Trial]:
         yield f"{CONTRACTS}: the edits of {one}", sorted(edits_of(one)), sorted(edits)
 
 
+def named_defects() -> Iterator[Trial]:
+    """Each defect that has a name has an edit, which the gate tries wherever no verdict of today stands for it."""
+    tables = [it for it in tables_of(text_of(CONTRACTS)) if it.section == "Defects that have a name"]
+    for row in [row for table in tables for row in table.rows if table.head[0] == "Crate"]:
+        edits = set(spans_of(row[1]))
+        yield f"{CONTRACTS}: {row[2]}", (True, set()), (bool(edits), edits - edits_of(spans_of(row[0])[0]))
+    yield "defects that have a name", NAMED_DEFECTS, sum(len(table.rows) for table in tables)
+
+
 def calls(table: Table, crate: str) -> Iterator[Trial]:
     """The calls and the clauses of a table of the contracts."""
     code = "\n".join(
@@ -304,6 +314,7 @@ def canaries(program: str) -> Iterator[Trial]:
     yield canary(CONTRACTS, "`word_of_37_bits`", "`word_of_38_bits`", contracts)
     yield canary(CONTRACTS, "| `Region::read` |", "| `Region::look` |", contracts)
     yield canary(CONTRACTS, "| `bytes` | `transfer_", "| `octets` | `transfer_", contracts)
+    yield canary(CONTRACTS, "| `l6_store` | `link_not_written` | the", "| `l6_draw` | `link_not_written` | the", named_defects)
     yield canary("bench/README.md", "measurements.md#how-fast-it-is", "measurements.md#how-fast", links)
     yield canary("README.md", "(docs/pictures/list.svg)", "(docs/pictures/lists.svg)", links)
     yield canary("docs/gallery.md", "(#a-tree)", "(#a-bush)", links)
@@ -321,6 +332,7 @@ def trials(program: str) -> Iterator[Trial]:
     yield from calls_of_types()
     yield from paths()
     yield from contracts()
+    yield from named_defects()
     yield from links()
     yield from contents()
     yield from counting_commands()

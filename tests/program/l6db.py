@@ -25,12 +25,13 @@ import sys
 import tempfile
 import time
 from collections.abc import Iterator
-from dataclasses import dataclass
+from dataclasses import dataclass, replace
 from itertools import count
 from pathlib import Path
 
 sys.path.insert(0, str(Path(__file__).resolve().parents[1] / "harness"))
 from answers import SECONDS, Answer, answer, answer_of
+from batches import batches, prompts
 from further_jobs import aliased_job, churned_deck
 from refused_memory import Shim, library_of
 from model.cards import assemble
@@ -112,15 +113,24 @@ class Stop:
     watches: bool
     depth: int | None = None
     until: int | None = None
+    each: bool = False  # at statements alone, or at each where there is no depth
+    over: int | None = None  # the breakpoint's test is that the chain is over this
 
     def holds(self, states: list[Seen], here: int, there: int) -> bool:
         """Whether one stops at a state, coming from another."""
         one, other = states[here], states[there]
         return (
-            one.position in ((self.statement, 0), (self.until, 0))
+            one.position == (self.until, 0)
+            or (one.position == (self.statement, 0) and self.is_met(one))
             or (self.watches and one.values != other.values)
-            or (self.depth is not None and one.depth <= self.depth)
+            or (self.depth is not None and one.depth <= self.depth and (one.position[1] == 0 or not self.each))
+            or (self.depth is None and self.each and one.position[1] == 0)
         )
+
+    def is_met(self, state: Seen) -> bool:
+        """Whether the test of the breakpoint holds, or meets a trap."""
+        value = state.values[0]
+        return self.over is None or value is None or value > self.over
 
 
 def goal_of(states: list[Seen], at: int, line: str, stop: Stop) -> int:
@@ -130,18 +140,20 @@ def goal_of(states: list[Seen], at: int, line: str, stop: Stop) -> int:
         return goal_of(states, 0, "c", stop)
     if command == "until":
         until = int(number) if number else states[at].position[0] + 1
-        return goal_of(states, at, "c", Stop(stop.statement, stop.watches, None, until))
+        return goal_of(states, at, "c", replace(stop, until=until))
     for _ in range(int(number or "1") - 1):
         at = goal_of(states, at, command, stop)
     depth = states[at].depth
-    if command in ("next", "rn"):
-        stop = Stop(stop.statement, stop.watches, depth, stop.until)
+    if command in ("next", "rn", "nexti", "rni"):
+        stop = replace(stop, depth=depth, each=not command.endswith("i"))
+    if command in ("step", "back"):
+        stop = replace(stop, each=True)
     if command in ("finish", "rf"):
         if not depth:
             return at
-        stop = Stop(stop.statement, stop.watches, depth - 1)
+        stop = replace(stop, depth=depth - 1)
     last = len(states) - 1
-    if command in ("c", "next", "finish"):
+    if command in ("c", "next", "nexti", "step", "finish"):
         return next((n for n in range(at + 1, last + 1) if stop.holds(states, n, n - 1)), last)
     return next((n for n in range(at - 1, -1, -1) if stop.holds(states, n, n + 1)), 0)
 
@@ -152,7 +164,7 @@ def numbers_in(text: bytes) -> list[int]:
 
 
 MOVES = ["c", "rc", "next", "rn", "finish", "rf"] * 3 + [
-    "c 3", "rc 2", "next 4", "rn 3", "until", "until 2", "until 3", "run",
+    "c 3", "rc 2", "next 4", "rn 3", "until", "until 2", "until 3", "run", "nexti", "rni", "step", "back", "step 3", "back 2",
 ]
 
 
@@ -167,9 +179,12 @@ def seeking(program: str, folder: Path) -> Iterator[Trial]:
     for deck, chain, statement, number in decks:
         (folder / "my.deck").write_bytes(deck)
         states = states_of(deck, [chain], Options())
-        for has_break, watches in ((True, False), (False, True), (True, True), (False, False)):
-            stop = Stop(statement if has_break else None, watches)
-            lines = [f"break {statement}"] * has_break + [f"watch {chain}"] * watches
+        for has_break, watches, over in (
+            (True, False, None), (False, True, None), (True, True, None), (False, False, None), (True, False, 5),
+        ):
+            stop = Stop(statement if has_break else None, watches, over=over)
+            test = "" if over is None else f" if ({chain},G,{over})"
+            lines = [f"break {statement}{test}"] * has_break + [f"watch {chain}"] * watches
             goals = []
             for _ in range(number // 4):
                 at = chosen.randrange(len(states))
@@ -180,7 +195,7 @@ def seeking(program: str, folder: Path) -> Iterator[Trial]:
                 [program, str(folder / "my.deck")], input="\n".join(lines).encode() + b"\n",
                 seconds=120, preexec_fn=None,
             )
-            yield f"{number // 4} commands, {chain}, {has_break}, {watches}", goals, numbers_in(made.stdout)
+            yield f"{number // 4} commands, {chain}, {has_break}, {watches}, {over}", goals, numbers_in(made.stdout)
 
 
 WATCHED = 150  # decks of which several chains are watched
@@ -299,7 +314,7 @@ def at_terminal(program: str, folder: Path) -> Iterator[Trial]:
     terminal = Terminal([program, str(deck)])
     shown = terminal.read()
     yield "the first state", b"AT 0.0 AFTER 0 STEPS\n", shown[:shown.index(b"\n") + 1]
-    yield "a breakpoint", b"Breakpoint at 1 DEEP\n", terminal.answer(b"break DEEP")
+    yield "a breakpoint", b"Breakpoint at 1 DEEP\n    3 DEEP   (A,A,1)\n", terminal.answer(b"break DEEP")
     yield "on to it", b"AT 1.0 AFTER 2 STEPS DEEP\n", terminal.answer(b"c")[:26]
     yield "an empty line", b"AT 1.0 AFTER 7 STEPS DEEP\n", terminal.answer(b"")[:26]
     yield "back", b"AT 1.0 AFTER 2 STEPS DEEP\n", terminal.answer(b"rc")[:26]
@@ -332,7 +347,7 @@ def one_by_one(program: str, folder: Path) -> Iterator[Trial]:
     ) as process:
         assert process.stdin and process.stdout
         lines = [process.stdout.readline() for _ in range(2)]
-        for line, first in ((b"p A", b"A = 0 "), (b"break 1", b"Breakpoint at 1 "), (b"set A", b"A run is")):
+        for line, first in ((b"p A", b"A = 0 "), (b"delete 1", b"No breakpoint at 1 "), (b"set A", b"A run is")):
             process.stdin.write(line + b"\n")
             process.stdin.flush()
             yield f"the answer to {line.decode()}", first, process.stdout.readline()[:len(first)]
@@ -364,13 +379,15 @@ def words(program: str, folder: Path) -> Iterator[Trial]:
     for given in ([str(job)], ["-"]):
         made = answer_of([program, *given, "--batch"], input=job.read_bytes())
         yield f"a whole job {given}", b'A = 56 000000000070 "     X"\n', made.stdout[-29:]
-    commands.write_bytes(b"s\nwhere\n")
+    commands.write_bytes(b"si\nwhere\n")
     made = answer_of([program, str(deck), "-x", str(commands), "--echo"], input=b"p A\n")
     yield "commands and an echo", (True, True), (b"\nwhere\n#0 at 0.1\n" in made.stdout, b"A = 0 " in made.stdout)
     made = answer_of([program, str(deck), "--echo"], input=b"p A\nbt\n")
     yield "an echo over a pipe", b'p A\nA = 0 000000000000 "      "\nbt\n#0 at 0.0\n', made.stdout[-45:]
     made = answer_of([program, str(deck), "--batch", "-x", str(commands)], input=b"p A\n")
-    yield "a batch", False, b"A = 0 " in made.stdout
+    yield "a batch", (False, 0), (b"A = 0 " in made.stdout, made.status)
+    yield from prompts(program, deck)
+    yield from batches(program, folder)
 
 
 HABITS = HERE / "habits.jsonl"
@@ -398,7 +415,7 @@ def habits(program: str, folder: Path) -> Iterator[Trial]:
 
 LIST_OF_COMMANDS = TOP / "crates/l6_session/specs/Command.antt"
 ROW = re.compile(r'^row_of (\w+) =\n    row "([^"]+)" "([^"]+)" "([^"]+)"\n    "([^"]+)"$', re.MULTILINE)
-COMMANDS, COMMAND_WORDS = 41, 87  # how many commands there are, and how many words they have
+COMMANDS, COMMAND_WORDS = 48, 94  # how many commands there are, and how many words they have
 
 
 @dataclass(frozen=True)
@@ -468,8 +485,8 @@ NEARLY = [
     ("prnit A", "print"), ("stpe", "step"), ("brek 1", "break"), ("conitnue", "continue"), ("wach A", "watch"),
     ("finishh", "finish"), ("reverse-contnue", "reverse-continue"), ("helpp", "help"), ("help whre", "where"),
 ]
-MISSING = ["x", "goto", "disable", "enable", "tbreak", "unwatch", "undisplay", "block"]
-UNFIT = ["step x", "where 5", "finish 2", "goto A", "info nothing", "step 1 2", "quit now", "unwatch A"]
+MISSING = ["x", "goto", "disable", "enable", "tbreak", "unwatch", "undisplay", "block", "condition", "source"]
+UNFIT = ["step x", "stack 5", "finish 2", "goto A", "info nothing", "step 1 2", "quit now", "where A", "list 1,A", "b 1 2"]
 
 
 def help_of(listed: list[Row], word: str) -> str:

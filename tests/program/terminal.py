@@ -143,7 +143,7 @@ def editing(bench: Bench) -> Iterator[Trial]:
     yield terminal.has("Tab completes a command", b"finis\t\r", b"No call waits")
     yield terminal.has("Tab completes a label", b"b NEX\t\r", b"Breakpoint at 5 NEXT")
     yield terminal.has("Tab completes a chain", b"p K\t\x15p L\r", b"L = 0")
-    yield terminal.has("an empty line", b"s\r", b"AFTER 1 STEPS")
+    yield terminal.has("an empty line", b"si\r", b"AFTER 1 STEPS")
     yield terminal.has("an empty line repeats the last one", b"\r", b"AFTER 2 STEPS")
     terminal.give(b"quit")
     terminal.until(b"quit")
@@ -165,7 +165,7 @@ def files(bench: Bench) -> Iterator[Trial]:
     terminal = bench.begin()
     for line, said in (
         (b"b 6", b"Breakpoint at 6 NEXT+1"), (b"tb 3", b"Temporary breakpoint at 3 MAKE+2"), (b"watch LN", b"watch"),
-        (b"display K", b"display"), (b"c", b"AT 1.2"), (f"save {saved}".encode(), b"4 commands"),
+        (b"display K", b"display"), (b"c", b"AT 1.2"), (f"save {saved}".encode(), b"5 commands"),
     ):
         yield line.decode().replace(str(saved), "FILE"), True, said in terminal.answer(line)
     bench.deck.write_bytes(LIST.replace(b"MAKE ", b"       (Z,E,1)\nMAKE "))
@@ -235,7 +235,7 @@ def terminals(bench: Bench) -> Iterator[Trial]:
     terminal = Terminal(["bash", "--norc", "-i"], XDG_STATE_HOME=str(bench.folder / "state"))
     terminal.give(" ".join([*FRONT, bench.engine, str(bench.deck)]).encode() + b"\r")
     terminal.until(PROMPT)
-    terminal.answer(b"s")
+    terminal.answer(b"si")
     terminal.give(b"\x1a")
     yield "Ctrl-Z", True, b"Stopped" in terminal.until(b"Stopped")
     terminal.give(b"fg\r")
@@ -258,7 +258,7 @@ def terminals(bench: Bench) -> Iterator[Trial]:
     terminal.status()
     for name, no_color, is_painted in (("a terminal with colours", "", True), ("NO_COLOR", "1", False)):
         terminal = bench.begin(NO_COLOR=no_color)
-        yield name, is_painted, b"\x1b[1mAT 0.1" in terminal.answer(b"s")
+        yield name, is_painted, b"\x1b[1mAT 0.1" in terminal.answer(b"si")
         terminal.end()
 
 
@@ -296,7 +296,7 @@ def launcher(bench: Bench) -> Iterator[Trial]:
     for name, further in cases:
         terminal = Terminal(words, **state, **further)
         terminal.until(PROMPT)
-        yield terminal.has(name, b"s\r", b"AFTER 1 STEPS")
+        yield terminal.has(name, b"si\r", b"AFTER 1 STEPS")
         yield terminal.has(f"{name} has no commands of its own", b"view\r", b"Not a command")
         terminal.give(b"\x04")
         yield f"the status of {name}", 0, terminal.status()
@@ -305,7 +305,7 @@ def launcher(bench: Bench) -> Iterator[Trial]:
             (tools / name).symlink_to(shutil.which(name) or name)
         terminal = Terminal(words, PATH=str(tools), **state)
         terminal.until(PROMPT)
-        yield terminal.has("./l6db with rlwrap", b"s\r", b"AFTER 1 STEPS")
+        yield terminal.has("./l6db with rlwrap", b"si\r", b"AFTER 1 STEPS")
         yield terminal.has("rlwrap completes a command", b"finis\t\r", b"No call waits")
         time.sleep(AFTER_A_KEY)
         terminal.give(b"\x03")
@@ -315,7 +315,7 @@ def launcher(bench: Bench) -> Iterator[Trial]:
         print("skipped: rlwrap: it is missing")
     for given in (["--batch", "-x", "/dev/null"], ["--help"], ["--version"]):
         yield f"./l6db {' '.join(given)}", said([bench.engine, *given, *words[1:]]), said([words[0], *given, *words[1:]])
-    lines = b"s\ninfo\n"
+    lines = b"si\ninfo\n"
     yield "./l6db over pipes", said([bench.engine, *words[1:]], lines), said(words, lines)
 
 
@@ -334,7 +334,7 @@ def without_readline(bench: Bench) -> Iterator[Trial]:
     )
     terminal = Terminal([sys.executable, str(script), bench.engine, str(bench.deck)])
     terminal.until(PROMPT)
-    yield terminal.has("a line without readline", b"s\r", b"AFTER 1 STEPS")
+    yield terminal.has("a line without readline", b"si\r", b"AFTER 1 STEPS")
     yield "the status without readline", 0, terminal.end()
 
 

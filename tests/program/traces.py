@@ -16,6 +16,7 @@ from collections.abc import Iterator
 from pathlib import Path
 
 sys.path.insert(0, str(Path(__file__).resolve().parents[1] / "harness"))
+import judged_traces
 from answers import Answer, answer, answer_of
 from model.faults import Fault
 from model.store import UNIT, Store
@@ -26,10 +27,33 @@ EXAMPLES = Path(__file__).resolve().parents[2] / "examples"
 RANDOM = 300  # random traces
 NO_JOINS = 8  # words of the pieces that the planted defect never joins: level 3
 
+NO_CALL = "l6: the trace has no get and no free\n"
+NO_END = "l6: the trace may be cut off: it has no line end\n"
+FIRST = "get a 1: 1024, level 0, halved 10\n"
+HELD = "the name holds a block already, or none\n"
+
 # A trace for a store of one unit, and what goes to the two outputs, with the exit status.
 BY_HAND = [
-    ("no line", "", "", "", 0),
-    ("comments and blanks", "# get a 1\n \t\n\n#\n", "", "", 0),
+    ("no line", "", "", NO_CALL, 1),
+    ("comments and blanks", "# get a 1\n \t\n\n#\n", "", NO_CALL, 1),
+    ("an end alone", "end 0\n", "", "l6: line 1: the trace has no get and no free\n", 1),
+    ("lists alone", "lists\n", "level 10: 1024\n", "", 0),
+    ("an end that is right", "get a 600 = 1024\nend 1\n", "get a 600: 1024, level 10, halved 0\n", "", 0),
+    ("an end with calls missing", "get a 600 = 1024\nend 2\n", "get a 600: 1024, level 10, halved 0\n",
+     "l6: line 2: the trace is cut off, or has lines too many: its gets and frees are 1\n", 1),
+    ("calls after the end", "get a 600 = 1024\nend 1\nfree a\n",
+     "get a 600: 1024, level 10, halved 0\nfree a: joined 0\n", "l6: line 2: calls follow the line end\n", 1),
+    ("an end and no answers", "get a 600\nend 1\n", "get a 600: 1024, level 10, halved 0\n",
+     "l6: no answer was compared\n", 1),
+    ("a last line without its end", "get a 600 = 10", "line 1 differs: get a 600: 1024, level 10, halved 0\n"
+     "the other allocator: 10\nthe free lists before it:\nlevel 10: 1024\n",
+     "l6: the last line has no line feed: it may be cut off\n" + NO_END, 1),
+    ("a last line that is no call any more", "get a 600 = 1024\nget b 1 =", "",
+     "l6: line 2: not a call: the trace is cut off\n", 4),
+    ("a size that is right", "get a 600 = 1024 words 1024\nend 1\n", "get a 600: 1024, level 10, halved 0\n", "", 0),
+    ("a size that is not", "get a 600 = 1024 words 512\nend 1\n",
+     "line 1 differs: get a 600: 1024, level 10, halved 0\nthe other allocator: 1024, words 512\n"
+     "the free lists before it:\nlevel 10: 1024\n", "", 1),
     ("one word", "get a 1\n", "get a 1: 1024, level 0, halved 10\n", "", 0),
     ("the largest block", "get a 1024\nfree a\n", "get a 1024: 1024, level 10, halved 0\nfree a: joined 0\n", "", 0),
     ("a word too many", "get a 1025\n", "get a 1025: none\n", "", 0),
@@ -41,23 +65,23 @@ BY_HAND = [
      "get a 1: 1024, level 0, halved 10\nfree a: joined 10\nget a 2: 1024, level 1, halved 9\n", "", 0),
     ("a name of 64 bytes", f"get {'n' * 64} 600\n", f"get {'n' * 64} 600: 1024, level 10, halved 0\n", "", 0),
     ("answers that agree", "get a 600 = 1024\nget b 1 = none\nfree a = 0\n",
-     "get a 600: 1024, level 10, halved 0\nget b 1: none\nfree a: joined 0\n", "", 0),
+     "get a 600: 1024, level 10, halved 0\nget b 1: none\nfree a: joined 0\n", NO_END, 0),
     ("a pool of 256 words, behind gets of the rest",
      "get rest1 512\nget rest2 256\nget a 256 = 1792\nget b 1 = none\nfree a = 0\n",
      "get rest1 512: 1024, level 9, halved 1\nget rest2 256: 1536, level 8, halved 1\n"
-     "get a 256: 1792, level 8, halved 0\nget b 1: none\nfree a: joined 0\n", "", 0),
+     "get a 256: 1792, level 8, halved 0\nget b 1: none\nfree a: joined 0\n", NO_END, 0),
     ("another place", "get a 1024 = 1025\nget b 1\n",
      "line 1 differs: get a 1024: 1024, level 10, halved 0\nthe other allocator: 1025\n"
-     "the free lists before it:\nlevel 10: 1024\n", "", 1),
+     "the free lists before it:\nlevel 10: 1024\n", NO_END, 1),
     ("none for a place", "get a 1024 = none\n",
      "line 1 differs: get a 1024: 1024, level 10, halved 0\nthe other allocator: none\n"
-     "the free lists before it:\nlevel 10: 1024\n", "", 1),
+     "the free lists before it:\nlevel 10: 1024\n", NO_END, 1),
     ("a place for none", "\nget a 1024\nget b 1 = 2048\n",
      "get a 1024: 1024, level 10, halved 0\nline 3 differs: get b 1: none\nthe other allocator: 2048\n"
-     "the free lists before it:\nno free piece\n", "", 1),
+     "the free lists before it:\nno free piece\n", NO_END, 1),
     ("a joining too few", "get a 512\nfree a = 0\n",
      "get a 512: 1024, level 9, halved 1\nline 2 differs: free a: joined 1\nthe other allocator: joined 0\n"
-     "the free lists before it:\nlevel 9: 1536\n", "", 1),
+     "the free lists before it:\nlevel 9: 1536\n", NO_END, 1),
     ("the map", "get a 500\nmap\n",
      "get a 500: 1024, level 9, halved 1\n1024 a, words 512\n1536 free, words 512\n", "", 0),
     ("figures", "get a 500\nget b 1024\nstats\n",
@@ -67,12 +91,13 @@ BY_HAND = [
     *((f"refused: {line!r}", f"get a 1\n{line}\n", "", "l6: line 2: not a call\n", 4) for line in (
         "put b 1", "get b", "get b 0", "get b 1 1", "get b 1 =", "get b 1 = x", "get b 1 = 1 1", "get b 1000000000",
         "get b -1", "get = 1", f"get {'n' * 65} 1", "free", "free a 1", "free a = none", "lists 1", "map = 1", "GET b 1",
-        "get b 1 = 1000000000")),
-    ("a name that holds a block", "get a 1\nget a 1\n", "", "l6: line 2: the name holds a block already, or none\n", 4),
-    ("a name that holds none", "free a\n", "", "l6: line 1: the name holds a block already, or none\n", 4),
-    ("a name whose get was refused", "get a 1024\nget b 1\nfree b\n", "",
-     "l6: line 3: the name holds a block already, or none\n", 4),
-    ("a block freed twice", "get a 1\nfree a\nfree a\n", "", "l6: line 3: the name holds a block already, or none\n", 4),
+        "get b 1 = 1000000000", "get b 1 = 1 words", "get b 1 = 1 words x", "get b 1 = 1 size 1", "get b 1 = none words 1",
+        "end", "end x", "end 1 1", "end = 1")),
+    ("a name that holds a block", "get a 1\nget a 1\n", f"{FIRST}line 2: {HELD}", "", 1),
+    ("a name that holds none", "free a\n", f"line 1: {HELD}", "", 1),
+    ("a name whose get was refused", "get a 1024\nget b 1\nfree b\n",
+     f"get a 1024: 1024, level 10, halved 0\nget b 1: none\nline 3: {HELD}", "", 1),
+    ("a block freed twice", "get a 1\nfree a\nfree a\n", f"{FIRST}free a: joined 10\nline 3: {HELD}", "", 1),
 ]
 
 
@@ -98,10 +123,10 @@ def traced_with_room(program: str, text: str) -> Answer[bytes]:
 def modelled(text: str, units: int) -> Answer[bytes]:
     """What the model answers to it."""
     try:
-        stdout, status = answer_of_trace(text.encode(), units)
+        stdout, stderr, status = answer_of_trace(text.encode(), units)
     except Fault as fault:
         return answer(b"", fault.line.encode(), fault.status)
-    return answer(stdout, b"", status)
+    return answer(stdout, stderr, status)
 
 
 def calls(chance: random.Random, count: int, largest: int) -> Iterator[tuple[str, str, int]]:
@@ -226,6 +251,7 @@ def trials(program: str) -> Iterator[Trial]:
         yield f"random trace {number}", modelled(text, units), traced(program, text, units)
     yield from planted(program)
     yield from in_c(program)
+    yield from judged_traces.trials(program)
     text = long_trace(MOST_CALLS)
     actual = traced_with_room(program, text)
     yield "a million calls", (0, MOST_CALLS), (actual.status, actual.stdout.count(b"\n"))

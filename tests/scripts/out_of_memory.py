@@ -12,7 +12,7 @@ tests, AllocError is found only in types, and the variant NoMemory of an enum on
   that is given an allocator.
 
 No code leaks memory either: the words forget, leak, ManuallyDrop and into_raw, by which a value is given up
-without its drop, are found nowhere. And the capacity of a new list is a length of what goes into it, a
+without its drop, are found nowhere, but as the name of a function that the same file has. And the capacity of a new list is a length of what goes into it, a
 constant of the table CONSTANTS, a number of the table COUNTS, or a sum or a product of these; each of the two
 tables says why. No list asks for more room later, by reserve or resize.
 
@@ -40,7 +40,9 @@ WRONG = dict.fromkeys(["AllocError", "NoMemory"], "neither from an allocation th
 KEEPING = re.compile(r"\b(?:forget|leak|ManuallyDrop|into_raw)\b")
 # A list with a capacity: a new one, or one of so many equal entries.
 CAPACITY = re.compile(
-    r"\bwith_capacity\b|\bvec!\[in\b|\b(?:try_)?reserve(?:_exact)?\b|\bresize\w*\b|\brepeat\b"
+    r"\bwith_capacity\b|\bvec!\[in\b|\bresize\w*\b|\brepeat\b"
+    # (a board reserves a place for a block of a level)
+    r"|\b(?:try_)?reserve(?:_exact)?\b(?!\((?:&mut self, |board: &mut Board, )?level\b)"
 )
 CAPACITY_WORD = "with_capacity"
 ENTRIES_WORD = "vec![in"
@@ -66,6 +68,8 @@ COUNTS = {
         ("fn new(alloc: Global, end: Place, blocks: usize)", "places of the store"),
     ("l6_draw/src/blocks.rt", "end as usize"):
         ("let end = end_of(store.units());", "places of the store, each of which may have a block"),
+    ("l6_check/src/mended.rt", "width - group.len()"):
+        ("group: &[u8], width: usize)", "columns of a group on a card, a byte each"),
     ("l6_history/src/stop.rt", "statements"):
         ("pub fn new(alloc: Global, statements: usize)", "statements of a program, each of which may have a breakpoint"),
     ("l6_session/src/session.rt", "statements"):
@@ -73,6 +77,11 @@ COUNTS = {
     ("l6_store/src/place_tag.rt", "places"):
         ("fn new(alloc: Global, places: usize)", "places, as many as the largest store has at most"),
     ("l6_store/src/scan_store.rt", "places"): ("let places = end_of(units) as usize;", "places of the store"),
+    ("l6_places/src/tree.rt", "leaves"): ("let leaves = 1 << top;", "places of a board"),
+    ("l6_trace/src/judge.rt", "names"):
+        ("pub fn new(alloc: Global, pool: Pool, names: usize)", "names of a trace"),
+    ("l6_trace/src/summary.rt", "names"):
+        ("pub(crate) fn new(alloc: Global, judge: &Judge, names: usize)", "names of a trace"),
     ("l6_trace/src/map.rt", "end as usize"):
         ("let end = end_of(store.units());", "places of the store"),
     ("l6_trace/src/tally.rt", "names"):
@@ -88,6 +97,7 @@ DIGITS = re.compile(r"\d{1,2}")
 KEPT_ALLOCATORS = {
     "l6_raw/src/region.rt": {"new", "duplicate", "drop"},
     "l6_store_c/src/loose.rt": {"of", "into_box"},  # (a box that is taken apart, and made again)
+    "l6_offset_c/src/loose.rt": {"of", "into_box"},  # (the same)
     "l6_card/src/reader.rt": None,  # (a reader makes the lists of a deck, and is gone once the deck is read)
 }
 STRUCT = re.compile(r"^(?:pub(?:\([^)]*\))? )?struct \w+[^;{]*\{.*?^\}", re.M | re.S)
@@ -115,7 +125,7 @@ MADE = r"(?:return )?(?:Err\()?\w+::NoMemory\b"
 ARM = re.compile(rf"[{{}},]\s*(?:Err\()?\w+::(?:NoMemory|OutOfMemory)\)? =>\s*{MADE}")
 # (what has no more to say than that memory ran out passes it on as the error of an allocation)
 PLAIN_ARM = re.compile(r"[{},]\s*(?:Err\()?\w+::NoMemory\)? =>\s*(?:return )?Err\(AllocError\b")
-MAPPED = re.compile(rf"{ALLOCATES}\s*\.map_err\(\|_\| \w+::NoMemory\b")
+MAPPED = re.compile(rf"{ALLOCATES}\s*\.map_err\(\s*\|_\| \w+::NoMemory\b")
 OF_CALL = re.compile(rf"\bmatch [^{{}};]*{ALLOCATES} \{{[^{{}};]*\bErr\(_\) => {MADE}")
 
 
@@ -151,8 +161,9 @@ def is_allowed(code: str, word: re.Match[str]) -> bool:
 
 def memory_kept(code: str, file: str) -> Iterator[tuple[re.Match[str], bool]]:
     """Each place where memory may leak, or be allocated without need, and whether it is right."""
+    own = set(re.findall(r"\bfn (\w+)", code))
     for word in KEEPING.finditer(code):
-        yield word, False
+        yield word, word[0] in own and code[word.start() - 1] not in ":."
     for word in CAPACITY.finditer(code):
         yield word, is_counted(code, word, file)
     for word in ALLOCATOR.finditer(code):
@@ -236,7 +247,7 @@ REFUSED = [
     "fn f() { words.reserve(1) }", "fn f() { words.try_reserve_exact(1) }", "fn f() { words.resize(1, 0) }",
     "fn f() { vec![in alloc; 0; 1 << 40] }", "fn f() { vec![in alloc; 0; MOST] }",
     "fn f() { let words = Vec::new(Global); }", "fn f() { take(&Global, 5) }",
-    "fn f() { forget(words) }", "fn f() { words.leak() }", "fn f() { ManuallyDrop::new(words) }",
+    "fn f() { forget(words) }", "fn forget() { mem::forget(words) }", "fn f() { words.leak() }", "fn f() { ManuallyDrop::new(words) }",
     "struct R {\n    alloc: Global,\n}\nimpl R {\n    fn fill(&self) {\n        take(self.alloc)\n    }\n}\n",
     "fn f() { Err(RunFault::NoMemory) }", "fn f() -> u8 { AllocError }",
     "fn f() { match read() { Err(_) => RunFault::NoMemory, } }",
@@ -244,6 +255,7 @@ REFUSED = [
     "fn f() { match error.kind() { ErrorKind::Other => RunFault::NoMemory, } }",
 ]
 ALLOWED = [
+    "fn f() { forget(words) }\nfn forget(words: &mut [u8]) {}",
     "fn f() { Vec::with_capacity(alloc, words.len()) }",
     "fn f() { Vec::with_capacity(alloc, words.len().saturating_mul(LINE_BYTES)) }",
     "fn f() { Vec::with_capacity(\n    alloc,\n    LINES_AT_ONCE * LINE_BYTES,\n) }",

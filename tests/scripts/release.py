@@ -135,8 +135,8 @@ COMPLETIONS: dict[str, set[str]] = {
     "l6 asm --": {"--help"},
     "l6 debug --store 2 --o": {"--output"},
     "l6 help l": {"list", "load"},
-    "l6 trace --": {"--store", "--help"},
-    "l6 check --": {"--long", "--help"},
+    "l6 trace --": {"--store", "--any-place", "--levels", "--units", "--first", "--piece", "--json", "--help"},
+    "l6 check --": {"--long", "--name", "--help"},
 }
 IN_BASH = """
 . completions/l6.bash

@@ -10,6 +10,7 @@ from __future__ import annotations
 
 import ast
 import os
+import re
 import shutil
 import subprocess
 import sys
@@ -31,6 +32,7 @@ NO_SCRIPTS = {".git", "crates", "dist", "docs", "examples"}  # folders
 MADE = {"out", "__pycache__"}  # folders of what is made
 CODE = ("*.rt", "*.antt", "*.py", "*.js", "*.mjs", "*.c", "*.sh")
 LONG, LONGEST, ONE_IN = 400, 600, 20  # lines of a file, and of how many files one may be long
+DECLARED = re.compile(r"^(?:pub |abbrev )*([a-z][\w'+-]*) :(?!:)", re.MULTILINE)  # names that a file declares
 CLEAN = ""  # what is said of a file without a fault
 
 
@@ -154,6 +156,20 @@ def lengths() -> Iterator[Trial]:
     yield f"one file in {ONE_IN} has more than {LONG} lines", True, len(long) * ONE_IN <= len(counts)
 
 
+def hyphens() -> Iterator[Trial]:
+    """Names with a hyphen are those of the prover's goals: lemmas of ours have underscores."""
+    for crate in sorted(it.parent for it in TOP.glob("crates/*/proofs")):
+        files = [file for part in ("specs", "proofs") for file in crate.glob(f"{part}/**/*.antt")]
+        ours = [name for file in files for name in hyphened(file.read_text("utf-8"))]
+        yield f"lemmas of {crate.name} with a hyphen", [], ours
+
+
+def hyphened(text: str) -> list[str]:
+    """The names with a hyphen that a file of definitions or proofs declares and that are no goals."""
+    names = [it[1] for it in DECLARED.finditer(text)]
+    return [name for name in names if "-" in name and not re.search(rf"\bgoal\.{re.escape(name)}(?![\w'-])", text)]
+
+
 def code_files() -> list[Path]:
     """The files of code, where git is missing."""
     return [file for pattern in CODE for file in TOP.rglob(pattern) if MADE.isdisjoint(file.parts)]
@@ -204,6 +220,7 @@ def trials() -> Iterator[Trial]:
     yield "scripts that nothing checks", [], [name_of(it) for it in scripts() if it not in known]
     yield from lengths()
     yield from comparisons()
+    yield from hyphens()
 
 
 def trial(name: str, said: str) -> Trial:
@@ -229,6 +246,7 @@ def canaries() -> Iterable[Trial]:
         for text in ("a == a", "one(1) != one(1)", "yield 'a', b[0], b[0]", "page.same('a', b, b)"):
             node = next(it for it in ast.walk(ast.parse(text)) if isinstance(it, (ast.Compare, ast.Yield, ast.Call)))
             yield f"a comparison with itself: {text}", False, is_of_itself(node)
+        yield "a lemma with a hyphen", [], hyphened("pub lines-of : goal.lines\nlines-of c = refl\n")
         if shutil.which("rt"):
             source = Path(folder, "bad", "src", "lib.rt")
             source.parent.mkdir(parents=True)

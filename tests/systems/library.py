@@ -18,6 +18,7 @@ from collections.abc import Iterator
 from pathlib import Path
 
 sys.path.insert(0, str(Path(__file__).resolve().parents[1] / "harness"))
+import offset_library
 from trials import Trial, report
 
 TOP = Path(__file__).resolve().parents[2]
@@ -28,6 +29,18 @@ WARNINGS = ["-O2", "-Wall", "-Wextra", "-Werror"]
 FIRST = "place 1024, level 3, holds 1965\n"
 # Seven nodes of four words each, in a unit of 1,024 words.
 TREE = "free words 996\n7 10 36 255 1024 1965 1966 \nfree words 1024, largest level 10\n"
+THREADS = """
+import threading
+from l6_store import Store
+store = Store(1)
+def work(level):
+    for _ in range(20000):
+        store.free(store.get(level))
+threads = [threading.Thread(target=work, args=(level,)) for level in range(4)]
+for thread in threads: thread.start()
+for thread in threads: thread.join()
+print(store.free_words(), store.largest())
+"""
 # What a program does that has so many requests for memory granted: it opens the store with four.
 REFUSED = "".join(
     f"{given} given: open -4, keeps 0, get -1, close -1, keeps 0\n" for given in range(4)
@@ -68,8 +81,8 @@ def in_c(archive: Path, room: Path) -> Iterator[Trial]:
         return
     source = room / "first.cpp"
     source.write_text((LIBRARY / "first.c").read_text().replace("%\" PRId64 \"", "%ld"), "ascii")
-    run(["cc", "-c", heap, "-o", room / "heap.o"])
-    made = run(["c++", "-std=c++17", *WARNINGS, f"-I{LIBRARY}", source, room / "heap.o", archive, "-o", room / "cpp"])
+    made = run(["c++", "-std=c++17", *WARNINGS, f"-I{LIBRARY}", "-x", "c++", source, heap, "-x", "none", archive,
+                "-o", room / "cpp"])
     yield "first.c as C++ compiles", (0, ""), made
     yield "first.c as C++", (0, first), run([room / "cpp"])
 
@@ -96,10 +109,16 @@ def in_python(archive: Path, room: Path) -> Iterator[Trial]:
     heap = room / "heap-pic.o"
     run(["cc", "-c", "-fPIC", LIBRARY / "heap.c", "-o", heap])
     whole: list[str | Path] = ["-Wl,--whole-archive", archive, "-Wl,--no-whole-archive"]
-    yield "a shared object", (0, ""), run(["cc", "-shared", *whole, heap, "-Wl,-z,text", "-o", shared])
+    exports = room / "exports"
+    exports.write_text("{ global: l6_store_*; local: *; };\n", "ascii")
+    options = ["-Wl,-z,text", f"-Wl,--version-script={exports}", "-Wl,-soname,libl6_store.so.1"]
+    yield "a shared object", (0, ""), run(["cc", "-shared", *whole, heap, *options, "-o", shared])
+    seen = run(["nm", "-D", "--defined-only", shared])[1]
+    yield "the heap is not exported", {True}, {line.split()[-1].startswith("l6_store_") for line in seen.splitlines()}
     known = {**os.environ, "L6_STORE_SO": str(shared), "PYTHONPATH": str(LIBRARY / "python")}
     actual = run([sys.executable, "-B", LIBRARY / "python/first.py"], env=known)
     yield "first.py", (0, f"{FIRST}freed, joined 7\nfreed again: NO_BLOCK\n"), actual
+    yield "four threads", (0, "1024 10\n"), run([sys.executable, "-B", "-c", THREADS], env=known)
     rows = re.findall(r"^\| (get, level \d+|free \d+) \| ?(\d*) ?\| (\d+) \| (.*) \|$",
                       (TOP / "docs/allocator.md").read_text("utf-8"), re.MULTILINE)
     yield "the calls of the table", 8, len(rows)
@@ -203,18 +222,21 @@ def named_in_header(fault: str) -> str:
 
 def made_again(archive: Path) -> Iterator[Trial]:
     """The archive and the header of dist/ are those of these sources, byte for byte."""
-    status, printed = run(["rt", "lib"], cwd=CRATE)
-    yield "the archive is made again", (0, ""), (status, "" if status == 0 else printed)
-    built = CRATE / "out/libl6_store_c.a"
-    there = [file.read_bytes() if file.exists() else b"" for file in (built, archive)]
-    yield "the archive of dist/ is that of these sources", True, there[0] == there[1] != b""
+    for crate in (CRATE, offset_library.CRATE):
+        status, printed = run(["rt", "lib"], cwd=crate)
+        yield f"the archive of {crate.name} is made again", (0, ""), (status, "" if status == 0 else printed)
+    for name in ("l6_store", "l6_offset"):
+        built = TOP / f"crates/{name}_c/out/lib{name}_c.a"
+        there = [file.read_bytes() if file.exists() else b"" for file in (built, archive.with_name(f"{name}.a"))]
+        yield f"the archive {name}.a of dist/ is that of these sources", True, there[0] == there[1] != b""
 
 
 def header() -> Iterator[Trial]:
     """The header of dist/ is the one of library/."""
-    files = (LIBRARY / "l6_store.h", TOP / "dist/l6_store.h")
-    ours, handed_out = (file.read_text("ascii") if file.exists() else "no file" for file in files)
-    yield "the header of dist/", ours, handed_out
+    for name in ("l6_store.h", "l6_offset.h"):
+        files = (LIBRARY / name, TOP / "dist" / name)
+        ours, handed_out = (file.read_text("ascii") if file.exists() else "no file" for file in files)
+        yield f"the header {name} of dist/", ours, handed_out
 
 
 def main(words: list[str]) -> int:
@@ -233,6 +255,9 @@ def main(words: list[str]) -> int:
             yield from in_c(archive, Path(room))
             yield from in_rust(archive, Path(room))
             yield from in_python(archive, Path(room))
+            places = Path(str(archive).replace("l6_store", "l6_offset"))
+            (Path(room) / "places").mkdir()
+            yield from offset_library.trials(places, archive, Path(room) / "places")
 
         return report(trials())
 

@@ -1,125 +1,343 @@
-// The arrows of the drawing: from the windows with links to the blocks to which they lead, round all others.
+// The ways of the arrows of a drawing: from the windows with links to the blocks to which they lead, round all
+// others. Those that last longest are laid first, so that they stay when others come and go.
 
-import {PILL_STEP} from "./block.js";
-import {svg} from "./dom.js";
+import {nameOf} from "./lasting.js";
 import {pathOf, Router} from "./route.js";
 import {GRID, HEAD, ROW} from "./shape.js";
+import {tagsOf} from "./tags.js";
 
-const COLOURS = 8;
+export const PILL_STEP = 26; // from one bug above a block to the next
 const PILL_HEIGHT = GRID * 2;
+const MOST_ROUTED = 80;     // blocks
+const MOST_CELLS = 40_000;  // of the grid
 const IN_WINDOW = 6; // where an arrow begins, from the side of its window
+const LANES = {forward: HEAD + ROW / 2, back: HEAD / 2}; // in small blocks, below their upper edges
+const APART = 3;            // pixels between arrows that lead to and fro
+const TAKEN = 9;            // what it costs to come in where another arrow leaves
+const BENDS = [24, -24, 40, -40, 64, -64, 96, -96]; // pixels, of bows round blocks
+const MOST_AVOIDED = 120;   // blocks round which bows go
+const STEPS = 16;            // parts of a bow that glides
 
-// Arrow heads, one for each colour.
-export function arrowHeads() {
-  const names = [...Array(COLOURS).keys()].map((it) => `f${it}`).concat("new", "lit");
-  return svg(
-    "defs", {},
-    ...names.map(
-      (name) => svg(
-        "marker", {
-          id: `head-${name}`,
-          class: `head ${name}`,
-          viewBox: "0 0 8 8",
-          refX: 7,
-          refY: 4,
-          markerUnits: "userSpaceOnUse",
-          markerWidth: 11,
-          markerHeight: 11,
-          orient: "auto-start-reverse"
-        },
-        svg("path", {d: "M0.5 0.5L7.5 4L0.5 7.5Z"})
-      )
-    )
-  );
-}
+/** @typedef {import("./graph.js").Block} Block */
+/** @typedef {import("./graph.js").Link} Link */
+/** @typedef {import("./graph.js").Graph} Graph */
+/** @typedef {import("./plan.js").Plan} Plan */
+/** @typedef {{x: number, y: number}} Point */
+/** @typedef {{block: Block, link: Link, to: Block, rank: number, weight: number}} Wanted */
+/**
+ * An arrow: the link, the path and points along it, and where its field's name or its dot stands.
+ * @typedef {{name: string, link: Link, block: Block, to: Block, points: Point[], path: string,
+ *   tag: Point | null, dot: Point | null}} Arrow
+ */
 
-// The colour, by its number, of the field that was met so many fields after the first.
-export function colourNumber(index) {
-  return index % COLOURS;
-}
-
-// The arrows of a graph whose blocks have their places.
-export function arrowsOf(graph, size, colourOf) {
-  const known = new Map(graph.blocks.map((it) => [it.place, it]));
-  const bugs = new Map(); // how many are above each block
-  for (const bug of graph.bugs) bugs.set(bug.place, (bugs.get(bug.place) ?? 0) + 1);
-  const router = new Router(size.width, size.height, obstacles(graph.blocks, bugs));
-  const all = graph.blocks.flatMap((block) => block.links.map((link) => ({block, link})));
-  const wanted = all.filter(({link}) => known.has(link.target));
-  for (const it of wanted) it.to = known.get(it.link.target);
-  wanted.sort((a, b) => span(a) - span(b)); // (short ones first, so that they run straight)
-  return wanted.map((it) => arrowOf(it, router, bugs, colourOf)).filter((it) => it);
-}
-
-// What arrows go round: the blocks, and the bugs above them.
-function obstacles(blocks, bugs) {
-  const above = blocks.filter((it) => bugs.has(it.place)).map(({x, y, place}) => {
-    const width = Math.ceil((bugs.get(place) * PILL_STEP - GRID) / GRID) * GRID;
-    return {x, y: y - PILL_HEIGHT, width: Math.max(GRID, width), height: PILL_HEIGHT};
+/**
+ * The arrows of a graph whose blocks have their places.
+ * @param {Graph} graph
+ * @param {Plan} plan
+ * @returns {Arrow[]}
+ */
+export function arrowsOf(graph, plan) {
+  const drawn = [...graph.blocks, ...graph.ghosts];
+  const bugs = bugsAbove(graph, plan);
+  const router =
+    isFew(graph.blocks, plan) ? new Router(plan.width, plan.height, obstacles(drawn, bugs)) : null;
+  /** @type {Ports} */
+  const ports = new Map();
+  const arrows = wantedOf(graph, plan, drawn).map((it) => {
+    return (router && routed(it, router, bugs.get(it.to.place) ?? 0, ports)) ?? direct(it, drawn);
   });
-  return [...blocks, ...above];
+  if (router) tagsOf(arrows, pillsOf(drawn, bugs));
+  return arrows;
 }
 
-function arrowOf({block, link, to}, router, bugs, colourOf) {
-  const starts = startsOf(block, link);
-  const points = router.way(starts, endsOf(to, link, bugs.get(to.place) ?? 0));
-  if (!points) return null;
-  const isChanged = block.isNew || link.isChanged;
-  const colour = colourOf(link.name);
-  const kind = `arrow ${colour}${isChanged ? " changed" : ""}`;
-  const group =
-    svg("g", {class: kind, "data-from": block.place, "data-to": to.place, "data-field": link.name});
-  group.append(svg("path", {d: pathOf(points), "marker-end": `url(#head-${isChanged ? "new" : colour})`}));
-  group.append(
-    starts[0].inner ? svg("circle", {cx: points[0].x, cy: points[0].y, r: 2.8}) : tagOf(points, link)
-  );
-  return group;
-}
-
-// The name of its field beside an arrow that begins at the edge of a small block.
-function tagOf([start, next], link) {
-  const isDown = start.x === next.x;
-  const x = next.x < start.x ? start.x - 10 : start.x + 2;
-  return svg("text", {x, y: start.y + (isDown ? 12 : -4), class: "tag"}, link.name);
+// The links that have both ends in the drawing, in the order in which they are laid.
+/**
+ * @param {Graph} graph
+ * @param {Plan} plan
+ * @param {Block[]} drawn
+ * @returns {Wanted[]}
+ */
+function wantedOf({blocks}, plan, drawn) {
+  const known = new Map(drawn.map((it) => [it.place, it]));
+  /** @type {Wanted[]} */
+  const wanted = [];
+  for (const block of blocks)
+    for (const link of block.links) {
+      const to = known.get(link.target);
+      const edge = plan.edges.get(nameOf({key: link.key, from: block.place, to: link.target}));
+      if (to) wanted.push({block, link, to, rank: edge?.rank ?? 0, weight: edge?.weight ?? 0});
+    }
+  const isRanked = (/** @type {Wanted} */ it) => Number(it.rank > 0);
+  return wanted.sort((a, b) => isRanked(b) - isRanked(a) || span(a) - span(b) || b.weight - a.weight);
 }
 
 // About how far an arrow has to go.
+/** @param {Wanted} wanted */
 function span({block, to}) {
   return Math.abs(block.x - to.x) + Math.abs(block.y - to.y);
 }
 
+// How many bugs have room above each block: as many as ever lead there, so that arrows stay as they come and
+// go.
+/**
+ * @param {Graph} graph
+ * @param {Plan} plan
+ */
+function bugsAbove(graph, plan) {
+  const bugs = new Map(plan.bugs);
+  const now = new Map();
+  for (const {place} of graph.bugs) now.set(place, (now.get(place) ?? 0) + 1);
+  for (const [place, number] of now) bugs.set(place, Math.max(bugs.get(place) ?? 0, number));
+  return bugs;
+}
+
+/**
+ * The boxes of the bugs above blocks.
+ * @param {Block[]} blocks
+ * @param {Map<number, number>} bugs
+ */
+function pillsOf(blocks, bugs) {
+  return blocks.filter((it) => bugs.get(it.place)).map(({x, y, place}) => {
+    const width = Math.ceil(((bugs.get(place) ?? 0) * PILL_STEP - GRID) / GRID) * GRID;
+    return {x, y: y - PILL_HEIGHT, width: Math.max(GRID, width), height: PILL_HEIGHT};
+  });
+}
+
+/**
+ * What arrows go round: the blocks, and the bugs above them.
+ * @param {Block[]} blocks
+ * @param {Map<number, number>} bugs
+ */
+function obstacles(blocks, bugs) {
+  return [...blocks, ...pillsOf(blocks, bugs)];
+}
+
+/**
+ * Whether arrows go round blocks: where there are many they would take too long, and be too long.
+ * @param {Block[]} blocks
+ * @param {Plan} plan
+ */
+function isFew(blocks, {width, height}) {
+  return !blocks.some((it) => it.shape.isChip) && blocks.length <= MOST_ROUTED &&
+    (width * height) / (GRID * GRID) < MOST_CELLS;
+}
+
+/**
+ * The points at blocks' sides that arrows have taken: "start", "end" or both.
+ * @typedef {Map<string, Set<string>>} Ports
+ */
+
+/**
+ * An arrow that goes round blocks, or null where there is no way. A point where another one leaves is none
+ * where it comes in, if it can be, or its head would cover the other's begin; nor the other way round.
+ * @param {Wanted} wanted
+ * @param {Router} router
+ * @param {number} bugs
+ * @param {Ports} ports
+ * @returns {Arrow | null}
+ */
+function routed({block, link, to}, router, bugs, ports) {
+  const dear = (/** @type {Start[]} */ all, /** @type {string} */ other) => all.map((it) => {
+    const isTaken = ports.get(`${it.x} ${it.y}`)?.has(other);
+    return isTaken ? {...it, cost: (it.cost ?? 0) + TAKEN} : it;
+  });
+  const starts = dear(startsOf(block, link), "end");
+  const points = router.way(starts, dear(endsOf(to, link, bugs), "start"));
+  if (!points) return null;
+  const begin = starts.find((it) => it.inner && it.inner === points[0]) ?? points[0];
+  /** @type {[Point, string][]} */
+  const used = [[begin, "start"], [points[points.length - 1], "end"]];
+  for (const [{x, y}, what] of used) {
+    const taken = ports.get(`${x} ${y}`) ?? new Set();
+    ports.set(`${x} ${y}`, taken.add(what));
+  }
+  const inner = starts.some((it) => it.inner === points[0]);
+  return {
+    name: `${block.place} ${link.key}`,
+    link, block, to, points,
+    path: pathOf(points),
+    tag: inner ? null : points[0],
+    dot: inner ? points[0] : null
+  };
+}
+
+// ---- Straight arrows and bows
+
+/**
+ * An arrow that goes straight, or in a bow where it leads back or far along a row, or would go through a block.
+ * @param {Wanted} wanted
+ * @param {Block[]} drawn
+ * @returns {Arrow}
+ */
+function direct({block, link, to}, drawn) {
+  const first = directWay(block, link, to);
+  const others = drawn.filter((it) => it !== block && it !== to);
+  const isClear = (/** @type {Point[]} */ way) => drawn.length > MOST_AVOIDED || !hits(sampled(way), others);
+  const way = isClear(first) ? first : BENDS.map((it) => bent(block, to, it)).find(isClear) ?? first;
+  const name = `${block.place} ${link.key}`;
+  return {name, link, block, to, points: sampled(way), path: curveOf(way), tag: null, dot: null};
+}
+
+/**
+ * Whether a way goes through one of some blocks.
+ * @param {Point[]} points
+ * @param {Block[]} blocks
+ */
+function hits(points, blocks) {
+  return blocks.some((it) => points.some(({x, y}) =>
+    x > it.x - 2 && x < it.x + it.width + 2 && y > it.y - 2 && y < it.y + it.height + 2));
+}
+
+/**
+ * A bow from one block to another that is bent by so many pixels to one side.
+ * @param {Block} block
+ * @param {Block} to
+ * @param {number} by
+ * @returns {Point[]}
+ */
+function bent(block, to, by) {
+  const middle = (/** @type {Block} */ it) => ({x: it.x + it.width / 2, y: it.y + it.height / 2});
+  const [a, b] = [middle(block), middle(to)];
+  const length = Math.hypot(b.x - a.x, b.y - a.y) || 1;
+  const [nx, ny] = [-(b.y - a.y) / length * by, (b.x - a.x) / length * by];
+  const control = (/** @type {number} */ part) =>
+    ({x: a.x + (b.x - a.x) * part + nx, y: a.y + (b.y - a.y) * part + ny});
+  const [one, other] = [control(1 / 4), control(3 / 4)];
+  return [edgeTowards(block, one), one, other, edgeTowards(to, other)];
+}
+
+/**
+ * The point at a block's edge on the way from its middle to a point.
+ * @param {Block} block
+ * @param {Point} point
+ */
+function edgeTowards({x, y, width, height}, point) {
+  const [cx, cy] = [x + width / 2, y + height / 2];
+  const [dx, dy] = [point.x - cx, point.y - cy];
+  const part = Math.min(1, width / 2 / (Math.abs(dx) || 1e-9), height / 2 / (Math.abs(dy) || 1e-9));
+  return {x: cx + dx * part, y: cy + dy * part};
+}
+
+/**
+ * The points of a direct way: two of a line, four of a bow, or more of a way with corners.
+ * @param {Block} block
+ * @param {Link} link
+ * @param {Block} to
+ * @returns {Point[]}
+ */
+function directWay(block, link, to) {
+  const [start, end] = [block.x + block.width / 2, to.x + to.width / 2];
+  const [bottom, endBottom] = [block.y + block.height, to.y + to.height];
+  if (link.down && to.y >= bottom) {
+    const part = (block.links.indexOf(link) + 1) / (block.links.length + 1);
+    return [{x: block.x + block.width * part, y: bottom}, {x: end, y: to.y}];
+  }
+  if (block.y === to.y && block.place !== to.place) {
+    const isRight = end > start;
+    const [from, at] = isRight ? [block.x + block.width, to.x] : [block.x, to.x + to.width];
+    const far = Math.abs(at - from);
+    const y = block.y + block.height / 2 + (isRight ? -APART : APART);
+    if (far <= GRID * 4) return [{x: from, y}, {x: at, y}];
+    const bow = Math.min(60, 10 + far / 6);
+    return [
+      {x: start, y: bottom}, {x: start, y: bottom + bow}, {x: end, y: endBottom + bow}, {x: end, y: endBottom}
+    ];
+  }
+  if (Math.abs(to.y - block.y) > 2 * (block.height + GRID * 2)) {
+    // (through the gap below its row, and through that beside the column of its end)
+    const [y, x, at] = [bottom + 9, to.x - 10, to.y + to.height / 2 + APART];
+    return [{x: start, y: bottom}, {x: start, y}, {x, y}, {x, y: at}, {x: to.x, y: at}];
+  }
+  const isBelow = to.y > block.y;
+  const [from, at] = isBelow ? [bottom, to.y] : [block.y, endBottom];
+  const bow = (at - from) / 3;
+  return [{x: start, y: from}, {x: start, y: from + bow}, {x: end, y: at - bow}, {x: end, y: at}];
+}
+
+/** @param {Point[]} points */
+function curveOf(points) {
+  const text = (/** @type {Point} */ {x, y}) => `${round(x)} ${round(y)}`;
+  if (points.length === 2) return `M${text(points[0])}L${text(points[1])}`;
+  if (points.length !== 4) return pathOf(points);
+  return `M${text(points[0])}C${points.slice(1).map(text).join(" ")}`;
+}
+
+/** @param {number} number */
+function round(number) {
+  return Math.round(number * 10) / 10;
+}
+
+/**
+ * Points along a way that may be a bow.
+ * @param {Point[]} points
+ */
+function sampled(points) {
+  if (points.length !== 4) return points;
+  const [a, b, c, d] = points;
+  return Array.from({length: STEPS + 1}, (_, index) => {
+    const [t, u] = [index / STEPS, 1 - index / STEPS];
+    const mix = (/** @type {"x" | "y"} */ axis) => u * u * u * a[axis] + 3 * u * u * t * b[axis] +
+      3 * u * t * t * c[axis] + t * t * t * d[axis];
+    return {x: mix("x"), y: mix("y")};
+  });
+}
+
+// ---- Where arrows leave and come in
+
 /**
  * A point at which an arrow may leave a block, the direction in which it runs there, what it costs to take
  * it, and where in the block's window it begins.
- * @typedef {{x: number, y: number, direction: number, cost?: number, inner?: {x: number, y: number}}} Start
+ * @typedef {{x: number, y: number, direction: number, cost?: number, inner?: Point}} Start
  */
 
 /**
  * Where an arrow may leave its block: at a side that its window touches, or below; elsewhere at a price.
+ * @param {Block} block
+ * @param {Link} link
  * @returns {Start[]}
  */
 function startsOf(block, link) {
   const {shape} = block;
-  const row = shape.rows.find((it) => it.cells.some((cell) => cell.link === link));
+  const hasLink = (/** @type {any} */ it) => it.cells.some((/** @type {any} */ cell) => cell.link === link);
+  const row = shape.rows.find(hasLink);
   if (!row) return [{x: block.x + block.width, y: block.y + HEAD / 2, direction: 0}];
-  const cell = row.cells.find((it) => it.link === link);
+  const cell = row.cells.find((/** @type {any} */ it) => it.link === link);
   const middle = block.x + Math.round((cell.x + cell.width / 2) / GRID) * GRID;
-  return shape.isBox ? startsOfBox(block, middle) : startsOfCard(block, row, cell, middle);
+  return shape.isBox ? startsOfBox(block, link, middle) : startsOfCard(block, link, row, cell);
 }
 
-/** @returns {Start[]} */
-function startsOfBox({x, y, shape}, middle) {
-  const low = y + shape.height - GRID;
+/**
+ * Links that lead on and links that lead back have lanes of their own.
+ * @param {Block} block
+ * @param {Link} link
+ * @param {number} middle
+ * @returns {Start[]}
+ */
+function startsOfBox({x, y, shape}, link, middle) {
+  const lane = y + (link.isBack ? LANES.back : LANES.forward);
+  const other = y + (link.isBack ? LANES.forward : LANES.back);
+  const [side, below] = link.down ? [2, 0] : [0, 2];
   return [
-    {x: middle, y: y + shape.height, direction: 1},
-    {x: x + shape.width, y: low, direction: 0, cost: 1},
-    {x, y: low, direction: 2, cost: 2},
+    {x: middle, y: y + shape.height, direction: 1, cost: below},
+    {x: x + shape.width, y: lane, direction: 0, cost: side},
+    {x, y: lane, direction: 2, cost: side},
+    {x: x + shape.width, y: other, direction: 0, cost: side + 4},
+    {x, y: other, direction: 2, cost: side + 4},
   ];
 }
 
-/** @returns {Start[]} */
-function startsOfCard(block, row, cell, middle) {
+/**
+ * At a side that its window touches, or below; at the other side, beside the head, where a list was turned
+ * round.
+ * @param {Block} block
+ * @param {Link} link
+ * @param {any} row
+ * @param {any} cell
+ * @returns {Start[]}
+ */
+function startsOfCard(block, link, row, cell) {
   const {shape} = block;
+  const middle = block.x + Math.round((cell.x + cell.width / 2) / GRID) * GRID;
   const y = block.y + row.y + ROW / 2;
   const [touchesLeft, touchesRight] = [cell.window.first === 0, cell.window.last === 35];
   const right = {x: block.x + cell.x + cell.width - IN_WINDOW, y};
@@ -132,20 +350,39 @@ function startsOfCard(block, row, cell, middle) {
     starts.push({x: block.x, y, direction: 2, cost: touchesLeft ? 0 : 5, inner: left});
   if (row === shape.rows.at(-1))
     starts.push({x: middle, y: block.y + shape.height, direction: 1, cost: 24, inner: {x: middle, y}});
+  if (!link.down && !touchesLeft) starts.push({x: block.x, y: block.y + HEAD / 2, direction: 2, cost: 8});
   return starts;
 }
 
-// Where it may come in: at a side of the head, or from above beside the bugs.
+/**
+ * Where it may come in: at a side, from above beside the bugs, or from below at a price.
+ * @param {Block} block
+ * @param {Link} link
+ * @param {number} bugs
+ */
 function endsOf(block, link, bugs) {
-  const y = block.y + HEAD / 2;
-  const [left, right] = [block.x + bugs * PILL_STEP + 4, block.x + block.width];
-  const above = [0.5, 0.75, 0.9].map((part) => Math.round((block.x + block.width * part) / GRID) * GRID);
-  const tops = above.filter((x) => x > left && x < right);
+  const {x, y, width, height, shape} = block;
+  const [left, right] = [x + bugs * PILL_STEP + 4, x + width];
+  const above = [0.5, 0.75, 0.9].map((part) => Math.round((x + width * part) / GRID) * GRID);
+  const tops = [...new Set(above)].filter((it) => it > left && it < right);
   const [side, top] = link.down ? [4, 0] : [0, 3];
+  const isTall = height >= LANES.forward + GRID;
+  const atTop = tops.map((it, index) => ({x: it, y, direction: 1, cost: top + index}));
+  if (shape.isBox && isTall) {
+    const [lane, other] = link.isBack ? [LANES.back, LANES.forward] : [LANES.forward, LANES.back];
+    return [
+      {x, y: y + lane, direction: 0, cost: side}, {x: right, y: y + lane, direction: 2, cost: side},
+      {x, y: y + other, direction: 0, cost: side + 2}, {x: right, y: y + other, direction: 2, cost: side + 2},
+      {x: Math.round((x + width / 2) / GRID) * GRID, y: y + height, direction: 3, cost: link.down ? 5 : 2}, ...atTop
+    ];
+  }
   const [fromLeft, fromRight] = link.isBack ? [6, 0] : [0, 6];
+  const head = y + HEAD / 2;
+  const third = Math.round((x + width / 3) / GRID) * GRID;
+  const below = {x: third, y: y + height, direction: 3, cost: link.down ? 9 : 4};
   return [
-    {x: block.x, y, direction: 0, cost: side + fromLeft},
-    {x: right, y: link.isBack ? y + HEAD / 2 : y, direction: 2, cost: side + fromRight},
-    ...tops.map((x, index) => ({x, y: block.y, direction: 1, cost: top + index})),
+    {x, y: head, direction: 0, cost: side + fromLeft},
+    {x: right, y: link.isBack && isTall ? head + HEAD / 2 : head, direction: 2, cost: side + fromRight},
+    ...(shape.isBox ? [] : [below]), ...atTop
   ];
 }

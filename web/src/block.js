@@ -2,26 +2,50 @@
 
 import {svg} from "./dom.js";
 import {BIT, HEAD, NARROW, ROW} from "./shape.js";
-import {count, WORD_BITS} from "./word.js";
+import {count, withCommas, WORD_BITS} from "./word.js";
 
-export const PILL_STEP = 26; // from one bug above a block to the next
 const LETTER = 7.3;          // the width of a letter
 const SLIM = 10;             // a cell in which not even a name has room
 const BESIDE = 14;           // the room that a name needs beside its cell
 const ROUND = 5;             // the radius of a card's corners
 
-// What a block is made of, seen from its upper left corner. A click on a bug calls `hide` with its name.
-export function partsOfBlock(block, bugs, colourOf, hide) {
+// What a block is made of, seen from its upper left corner.
+export function partsOfBlock(block, colourOf) {
   const {shape} = block;
   const size = {width: shape.width, height: shape.height, rx: ROUND};
+  if (block.isGhost) return [svg("rect", {class: "edge", ...size}), ...ghostTexts(block)];
+  if (shape.isChip) {
+    const title = `Block ${block.place}, ${count(block.size, "word")}`;
+    return [
+      svg("rect", {class: "body edge", ...size}),
+      middleText("value", shape.width / 2, shape.height / 2 + 4.5, shape.text), svg("title", {}, title),
+      ...foldOf(block)
+    ];
+  }
   return [
     svg("rect", {class: "body", ...size}),
     svg("path", {class: "top", d: topOf(shape)}),
     ...headOf(block),
     ...shape.rows.flatMap((row) => partsOfRow(row, shape, colourOf)),
     svg("rect", {class: "edge", ...size}),
-    ...bugs.map((bug, index) => pillOf(bug, index, hide)),
+    ...foldOf(block),
   ];
+}
+
+// How many blocks below are not drawn.
+function foldOf({isFolded, below, shape}) {
+  if (!isFolded) return [];
+  const says = shape.isChip ? `▲${withCommas(below)}` : `▲ ${count(below, "block")}`;
+  return [middleText("folded", shape.width / 2, shape.height + 13, says)];
+}
+
+// A freed block to which something still leads.
+function ghostTexts({place, dead, shape}) {
+  const middle = shape.width / 2;
+  const title = svg("title", {}, `The block at ${place} was freed: state ${dead}`);
+  const isSlim = shape.width < 40; // (a place has no room)
+  if (shape.height < 40) return [middleText("place", middle, 16, isSlim ? "✕" : place), title];
+  return [middleText("place", middle, 16, place), middleText("value", middle, 36, "freed"), title];
 }
 
 function headOf({place, size, isLost, shape}) {
@@ -108,24 +132,23 @@ function nameBeside(cell, y) {
   return svg("text", {x: cell.x + cell.width + 3, y: y + 16, class: "name"}, cell.name.slice(0, 1));
 }
 
-function topOf({width, rows}) {
-  const bottom = rows.length ?
+function topOf({width, height}) {
+  const bottom = height > HEAD ?
     `V${HEAD}H0V5` :
     `V${HEAD - 5}Q${width} ${HEAD} ${width - 5} ${HEAD}H5Q0 ${HEAD} 0 ${HEAD - 5}V5`;
   return `M0 5Q0 0 5 0H${width - 5}Q${width} 0 ${width} 5${bottom}Z`;
 }
 
-function pillOf(bug, index, hide) {
-  const x = index * PILL_STEP;
-  const path = `M${x + 4} -22H${x + 18}Q${x + 22} -22 ${x + 22} -18V-10Q${x + 22} -6 ${x + 18} -6H${x + 15}L${
-    x + 11} -1L${x + 7} -6H${x + 4}Q${x} -6 ${x} -10V-18Q${x} -22 ${x + 4} -22Z`;
+// The sign of a bug, seen from the corner of its block. A click calls `hide` with its name.
+export function pillOf(name, hide) {
   const pick = (event) => {
     event.stopPropagation();
-    hide(bug.name);
+    hide(name);
   };
   return svg(
-    "g", {class: `pill ${bug.isChanged ? "changed" : ""}`, "data-bug": bug.name, onclick: pick},
-    svg("path", {d: path}), svg("text", {x: x + 11, y: -10, "text-anchor": "middle"}, bug.name),
-    svg("title", {}, `Bug ${bug.name}. Is it only a number, and leads here by chance? A click hides it.`)
+    "g", {class: "pill", "data-bug": name, onclick: pick},
+    svg("path", {d: "M4 -22H18Q22 -22 22 -18V-10Q22 -6 18 -6H15L11 -1L7 -6H4Q0 -6 0 -10V-18Q0 -22 4 -22Z"}),
+    svg("text", {x: 11, y: -10, "text-anchor": "middle"}, name),
+    svg("title", {}, `Bug ${name}. Is it only a number, and leads here by chance? A click hides it.`)
   );
 }

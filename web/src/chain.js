@@ -7,7 +7,7 @@ export const CHAIN = /^[A-Z][A-Z0-9]{0,5}$/;
 /**
  * A state as far as a chain needs it: `wordsAt` answers the words of the block that begins at a place, null
  * where none begins, and undefined where that is not known.
- * @typedef {{bugs: Map<string, number>, fields: Map<string, object>,
+ * @typedef {{bugs: Map<string, number>, fields: Map<string, any>,
  *   wordsAt: (place: number) => any}} Glimpse
  * @typedef {{name: string, text: string, value: number, place: number | null,
  *   window: object | null}} ChainStep
@@ -29,7 +29,8 @@ export function follow(chain, state) {
   let value = state.bugs.get(names[0]) ?? 0;
   const steps = [{name: names[0], text: `bug ${names[0]}`, value, place: null, window: null}];
   for (const name of names.slice(1)) {
-    const trap = (number, text) => ({steps, trap: {number, name, value, text}});
+    const trap = (/** @type {number} */ number, /** @type {string} */ text) =>
+      ({steps, trap: {number, name, value, text}});
     const window = state.fields.get(name);
     if (!window) return trap(1, `${name} is not defined`);
     const words = state.wordsAt(value);
@@ -44,9 +45,14 @@ export function follow(chain, state) {
   return {steps};
 }
 
-// The value of a chain or a number, or null where there is none.
+/**
+ * The value of a chain or a number, or null where there is none.
+ * @param {string} text
+ * @param {any} state
+ * @returns {number | null}
+ */
 export function valueOf(text, state) {
   if (/^[0-9]/.test(text)) return Number(text);
   const {steps, trap, missing} = follow(text, state);
-  return trap || missing !== undefined || !steps.length ? null : steps.at(-1).value;
+  return trap || missing !== undefined ? null : steps.at(-1)?.value ?? null;
 }

@@ -8,8 +8,14 @@ import {count, seenThrough, UNIT, withCommas} from "./word.js";
 const MOST_TOLD = 7;
 const MOST_FOUND = 1000; // blocks that are told one by one
 
-// The sentences. Of one step, which has the operation that was done or null, they also say how often the
-// store halved or joined pieces.
+/**
+ * The sentences. Of one step, which has the operation that was done or null, they also say how often the
+ * store halved or joined pieces.
+ * @param {any} before
+ * @param {any} view
+ * @param {string} input
+ * @param {{operation: any} | null} step
+ */
 export function changesOf(before, view, input, step = null) {
   if (!before) return [];
   return [
@@ -35,7 +41,7 @@ const ENDINGS = {
 
 // How the run has ended in this state, in a sentence, or "".
 export function endingOf({state}) {
-  if (state.ending === "TRAP") return TRAPS[/TRAP (\d+)/.exec(state.line)[1]];
+  if (state.ending === "TRAP") return TRAPS[/TRAP (\d+)/.exec(state.line)?.[1] ?? ""];
   return ENDINGS[state.ending] ?? "";
 }
 
@@ -95,7 +101,9 @@ function eachBlock(one, other, call) {
 function gotHow(before, block, {operation}) {
   const wanted = operation?.elements[1] === "GT" ? valueOf(operation.elements[2], before) : null;
   const wasted = wanted === null ? 0 : block.size - wanted;
-  const waste = wasted > 0 ? `${withCommas(wanted)} asked for, so ${withCommas(wasted)} wasted; ` : "";
+  const waste = wanted !== null && wasted > 0 ?
+    `${withCommas(wanted)} asked for, so ${withCommas(wasted)} wasted; ` :
+    "";
   const size = before.store.freePieceWith(block.place);
   if (!size) return "";
   const times = Math.log2(size / block.size);

@@ -4,11 +4,14 @@
 import {bytesOf} from "./bytes.js";
 import {linesOf} from "./deck.js";
 import {byId, make} from "./dom.js";
-import {job} from "./session.js";
+import {job} from "./job.js";
 
 const CHECK_AFTER = 300;  // milliseconds without a key, until the deck is checked
 const BLAME_AFTER = 1500; // and until what is wrong with the card that is being typed is shown
 const FINDING = /^(\d+):(\d+): (error|warning): (.*)$/;
+const CARD = /^ *\d+ \| (.*)$/;          // a card, as `check --long` shows it
+const SIGNS = /^ *\| ( *(\^+))$/;        // the signs under its columns
+const ADVICE = /^ {4} *(?:= )?(.*)$/;
 
 export class Checker {
   // `check` has the engine check a deck; while something else is done, `isBusy`, the deck waits.
@@ -72,7 +75,7 @@ export class Checker {
     this.shown = what;
     fault.hidden = findings.length === 0 && line === "";
     fault.classList.toggle("note", line === "" && !findings.some((it) => it.isError));
-    const lines = findings.map((it) => this.lineOf(it));
+    const lines = findings.flatMap((it) => [this.lineOf(it), ...cardOf(it)]);
     if (line) lines.push(make("p", {}, make("code", {}, line)));
     if (findings.length > 3 && counts) lines.push(make("p", {}, counts));
     fault.replaceChildren(...lines);
@@ -96,18 +99,34 @@ export class Checker {
   }
 }
 
-// What the program finds in a deck with these lines, cards and columns counted from 0.
+// What the program finds in a deck with these lines, cards and columns counted from 0: with the card and the
+// signs under it, if the program shows them.
 export function findingsOf(output, lines) {
   const found = [];
   for (const line of output.split("\n")) {
     const [, card, column, kind, says] = FINDING.exec(line) ?? [];
+    const last = found[found.length - 1];
+    const [, shown] = CARD.exec(line) ?? [];
+    const [, signs, marked] = SIGNS.exec(line) ?? [];
+    const [, advice] = ADVICE.exec(line) ?? [];
     if (kind) {
       const place = {card: Number(card) - 1, from: Number(column) - 1, isError: kind === "error"};
-      found.push({...place, to: endOf(lines[place.card] ?? "", place.from, says), says, advice: ""});
-    } else if (line.startsWith("    ") && found.length > 0)
-      found.at(-1).advice = line.trim();
+      const to = endOf(lines[place.card] ?? "", place.from, says);
+      found.push({...place, to, says, advice: "", shown: ""});
+    } else if (last && shown !== undefined)
+      last.shown = `${shown}\n`;
+    else if (last && marked !== undefined) {
+      last.shown += signs;
+      last.to = last.from + marked.length;
+    } else if (last && advice !== undefined)
+      last.advice = advice;
   }
   return found;
+}
+
+// The card of a finding with signs under its columns: the sentence has both in words.
+function cardOf({shown}) {
+  return shown ? [make("pre", {"aria-hidden": "true"}, shown)] : [];
 }
 
 // The column after those that a sentence is about: it has what is there between two marks.

@@ -2,17 +2,26 @@
 
 import {KINDS} from "./store.js";
 
-export const MOST_BLOCKS = 150;
+export const MOST_BLOCKS = 300;
 export const MOST_LOST = 40;
 const MOST_WORDS = 20_000; // of all blocks that are shown
 
-// Of what `draw` and `store` answered: the bugs that lead to blocks, the blocks that are shown with their
-// links, and how many are not. Bugs that the reader hid lead nowhere.
+/** @typedef {import("./transcript.js").Drawn} Drawn */
+/** @typedef {{place: number, size: number, links: {field: string, target: number}[]}} DrawnBlock */
+
+/**
+ * Of what `draw` and `store` answered: the bugs that lead to blocks, the blocks that are shown with their
+ * links, and how many are not. Bugs that the reader hid lead nowhere.
+ * @param {Drawn} drawn
+ * @param {import("./transcript.js").StoreData} store
+ * @param {string[]} hiddenBugs
+ */
 export function choose(drawn, store, hiddenBugs = []) {
   const bugs = new Map([...drawn.bugs].filter(([name]) => !hiddenBugs.includes(name)));
+  /** @type {Map<number, DrawnBlock>} */
   const blocks = new Map();
   let words = 0;
-  const hasRoom = (size) => {
+  const hasRoom = (/** @type {number} */ size) => {
     words += size;
     return words <= MOST_WORDS || blocks.size === 0;
   };
@@ -34,11 +43,18 @@ export function choose(drawn, store, hiddenBugs = []) {
   };
 }
 
-// The first blocks that are met from the bugs on, level by level.
+/**
+ * The first blocks that are met from the bugs on, level by level.
+ * @param {Map<string, number>} bugs
+ * @param {Drawn} drawn
+ * @param {(size: number) => boolean} hasRoom
+ * @param {Map<number, DrawnBlock>} blocks
+ */
 function nearest(bugs, drawn, hasRoom, blocks) {
   const met = new Set();
+  /** @type {number[]} */
   const queue = [];
-  const meet = (place) => {
+  const meet = (/** @type {number} */ place) => {
     if (met.size >= MOST_BLOCKS || met.has(place)) return;
     const block = drawn.block(place);
     if (!block || !hasRoom(block.size)) return;
@@ -48,6 +64,6 @@ function nearest(bugs, drawn, hasRoom, blocks) {
   };
   [...bugs.values()].forEach(meet);
   for (let next = 0; next < queue.length; next++)
-    blocks.get(queue[next]).links.forEach((it) => meet(it.target));
+    blocks.get(queue[next])?.links.forEach((it) => meet(it.target));
   return queue;
 }

@@ -7,11 +7,19 @@ import {withCommas} from "./word.js";
 const SHORT = 1000; // states on the slider where it is not known how many there are
 
 // Marks a button as one that does nothing now. It keeps the focus, which a disabled one would lose.
+/**
+ * @param {string} id
+ * @param {boolean} isDisabled
+ */
 export function disable(id, isDisabled) {
   byId(id).setAttribute("aria-disabled", String(isDisabled));
 }
 
 // Shows the number of a state, and that of the last one or null.
+/**
+ * @param {number} number
+ * @param {number | null} last
+ */
 export function showNumber(number, last) {
   const slider = byId("slider");
   slider.max = String(last ?? Math.max(SHORT, 2 * number));

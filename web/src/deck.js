@@ -57,7 +57,7 @@ class DeckReader {
 
   begin(columns, card) {
     this.statements.at(-1)?.end();
-    const label = /^[A-Za-z0-9]*/.exec(columns)[0].toUpperCase();
+    const label = (/^[A-Za-z0-9]*/.exec(columns)?.[0] ?? "").toUpperCase();
     this.statements.push(new Statement(label, card));
     this.body(columns, Math.max(1, label.length), card);
   }

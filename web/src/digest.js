@@ -14,9 +14,14 @@ export const DIGESTS = {
 // The states that were looked at: `skip` lines come first, and then, for each state, the answers to `show`,
 // `fields`, `draw` and `store`; last comes that to `out`, of which the end is kept. Bugs in `hidden` lead to
 // no block that is shown.
+/**
+ * @param {string} text
+ * @param {{skip: number, count: number, hidden: string[], mostOutput: number}} more
+ */
 function views(text, {skip, count, hidden, mostOutput}) {
   const transcript = new Transcript(text);
   for (let line = 0; line < skip; line++) transcript.line();
+  /** @type {any[]} */
   const found = [];
   for (let state = 0; state < count; state++) {
     if (state > 0) transcript.line();
@@ -34,6 +39,7 @@ function views(text, {skip, count, hidden, mostOutput}) {
 
 // Where the run is in a state and the states after it: the number of the first, the statements and actions,
 // and the line of the last one if the run has ended there.
+/** @param {string} text */
 function trail(text) {
   const lines = text.split("\n");
   lines.pop();
@@ -54,6 +60,10 @@ function trail(text) {
 }
 
 // Of some states: how many words are in blocks, how many are free, and how large the largest free piece is.
+/**
+ * @param {string} text
+ * @param {{count: number}} more
+ */
 function totals(text, {count}) {
   const transcript = new Transcript(text);
   const found = [];

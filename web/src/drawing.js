@@ -1,312 +1,391 @@
-// The drawing of the blocks: where each is, which is chosen, and how large all is.
+// The drawing of the blocks: by which plan each has its place, which is chosen, what is lit, and what is said
+// of it. A block stays where it is as long as it lives.
 
-import {arrowHeads, arrowsOf, colourNumber} from "./arrows.js";
-import {partsOfBlock} from "./block.js";
-import {svg} from "./dom.js";
+import {arrowsOf} from "./arrows.js";
+import {Camera} from "./camera.js";
+import {byId, svg} from "./dom.js";
+import {arrowHeads, colourNumber, Figures} from "./figures.js";
 import {graphOf} from "./graph.js";
-import {arrange} from "./layout.js";
-import {GRID} from "./shape.js";
-import {blockInWords, drawingInWords} from "./spoken.js";
+import {Kinds} from "./kinds.js";
+import {planOf, settle} from "./plan.js";
+import {danglingInWords} from "./provenance.js";
+import {snapshotOf} from "./snapshot.js";
+import {drawingInWords} from "./spoken.js";
 import {count, withCommas} from "./word.js";
 
-// How large a drawing is: so that all of it is seen, if its letters, of 12 pixels at least, are then large
-// enough.
-const SIZES = {
-  page: {least: 1, most: 2},
-  lecture: {least: 1.5, most: 3}
-};
-const FINER = 1.08; // from one size that is tried to the next
-const STEADY = 1.3; // a size stays until one that is so much larger would do
-const LEAST_ROOM = 240;
-const EDGE = 10;        // around a drawing in its frame
-const FEW = 6;          // blocks that are shown with their words though not all is seen then
-const FEWER = 0.7;      // of the blocks at which all were made small: of less they are cards again
-const LOST_WIDTH = 220; // of what is said of them
+const EDGE = 12;        // around a drawing in its frame
+const OTHER = 1.3;      // a frame that is so much larger or smaller has another plan
+const MOST_DRAWN = 400; // blocks of trees; what is below others is folded then
+const LETTER = {chips: 13, boxes: 12, cards: 12}; // pixels in a scale of 1
+const SMALL = 10;       // pixels of letters that can't be read well any more
+const PAN = 60;         // pixels by a key
+const MOST_NAMED = 4;   // lost blocks that are named
+
+/** @typedef {import("./graph.js").Graph} Graph */
+/** @typedef {import("./plan.js").Plan} Plan */
+/** @typedef {import("./chain.js").ChainStep} ChainStep */
+/** @typedef {{choose: (place: number) => void, hide: (name: string) => void,
+ *   told: (warnings: string[], notes: string[]) => void}} Ask */
 
 export class Drawing {
-  // `choose` is called with the place of a block that the reader chose, `hide` with the name of a bug.
-  constructor(frame, {choose, hide}) {
+  /**
+   * `ask` has what the reader may ask for: `choose` gets the place of a block, `hide` the name of a bug, and
+   * `told` what is said of the drawing.
+   * @param {HTMLElement} frame
+   * @param {Ask} ask
+   */
+  constructor(frame, ask) {
     this.frame = frame;
-    this.choose = choose;
-    this.hide = hide;
-    this.texts = new Set();   // the fields that hold texts
+    this.ask = ask;
+    this.kinds = new Kinds();
+    /** @type {Map<string, number>} */
     this.colours = new Map(); // by names of fields, in the order in which they were met
+    /** @type {Map<string, string>} */
     this.directions = new Map();
-    this.groups = new Map(); // elements of blocks, by their places
+    /** @type {import("./plan.js").Detail | "auto"} */
     this.detail = "auto";
-    this.zoom = 1;
+    /** @type {Plan | null} */
+    this.plan = null;
+    /** @type {Graph | null} */
+    this.graph = null;
+    /** @type {any} */
+    this.view = null;
+    /** @type {any} */
+    this.before = null;
+    this.isTidy = false;  // whether the plan is of one state alone
+    this.isFresh = false; // whether it was not shown yet
+    /** @type {Set<number>} */
+    this.folded = new Set();
+    /** @type {{blocks: Set<number>, arrows: Set<string>, end: number | null}} */
     this.lit = {blocks: new Set(), arrows: new Set(), end: null};
-    this.steady = {cards: null, boxes: null}; // the sizes that stay from state to state
-    this.smallFrom = Infinity;                // blocks: at so many they were made small
+    /** @type {number | null} */
     this.chosen = null;
+    /** @type {number | null} */
     this.focused = null;
-    this.layer = {blocks: svg("g"), arrows: svg("g", {class: "arrows"}), notes: svg("g")};
+    this.figures = new Figures({
+      choose: (place) => this.pick(place),
+      fold: (place) => this.fold(place),
+      hide: ask.hide,
+      focus: (place) => (this.focused = place),
+      colourOf: (name) => this.colourOf(name)
+    });
     this.picture = svg(
-      "svg", {role: "group", "aria-roledescription": "drawing"}, arrowHeads(), this.layer.notes,
-      this.layer.blocks, this.layer.arrows
+      "svg", {role: "group", "aria-roledescription": "drawing", class: "picture"}, arrowHeads(),
+      ...this.figures.layers
     );
     frame.append(this.picture);
+    this.camera = new Camera(frame, this.picture, byId("camera"), () => this.tell());
     frame.addEventListener("keydown", (event) => this.key(event));
   }
 
   forget() {
     this.colours.clear();
     this.directions.clear();
-    this.forgetSize();
+    this.kinds.forget();
+    this.replan();
     this.chosen = null;
     this.light([]);
   }
 
+  // Another plan is made where the drawing is shown next.
+  replan() {
+    this.plan = null;
+    this.isTidy = false;
+    this.folded.clear();
+  }
+
+  /**
+   * The run was read: the drawing is made anew of all of it.
+   * @param {any} reading
+   * @param {import("./chronicle.js").Chronicle | null} chronicle
+   */
+  learn(reading, chronicle) {
+    if (this.kinds.chronicle !== chronicle && !this.isTidy) this.replan();
+    this.kinds.begin(reading, chronicle);
+  }
+
+  /** @param {string} name */
   colourOf(name) {
     const first = name[0];
     if (!this.colours.has(first)) this.colours.set(first, colourNumber(this.colours.size));
     return `f${this.colours.get(first)}`;
   }
 
-  // Shows a view; what is another than before is marked.
+  /** @param {import("./chronicle.js").Window} window */
+  kindOf(window) {
+    return this.kinds.of(window, this.view.state.number);
+  }
+
+  /**
+   * Shows a view; what is another than before is marked.
+   * @param {any} view
+   * @param {any} before
+   */
   show(view, before) {
     this.view = view;
     this.before = before;
     for (const name of view.fields.keys()) this.colourOf(name);
-    const graph = this.graphThatFits(view, before);
-    this.drawBlocks(graph);
-    this.layer.arrows.replaceChildren(...arrowsOf(graph, this.size, (name) => this.colourOf(name)));
+    const plan = this.plan ?? this.makePlan();
+    const {folded} = this;
+    const {chronicle} = this.kinds;
+    const graph = graphOf(view, before, {plan, chronicle, folded, kindOf: (it) => this.kindOf(it)});
+    this.graph = graph;
+    this.place(graph, plan);
+    this.figures.draw(graph, arrowsOf(graph, plan), this.chosen, this.focused);
     this.applyLight();
-    this.fit();
-    this.revealChange(graph);
+    this.aim(graph, plan);
     this.picture.setAttribute("aria-label", drawingInWords(graph));
+    if (!this.frame.clientWidth) this.replan(); // (it is not seen, so the plan has no frame)
     return graph;
   }
 
-  // The graph with all fields of its blocks. Where these are not seen whole, with small blocks if those are,
-  // or if the others are too wide for the frame. It stays so until there are clearly fewer blocks, or it
-  // would flicker.
-  graphThatFits(view, before) {
-    const number = view.shown.places.length;
-    if (this.detail !== "auto" || number === 0) return this.placeAs(view, before, this.detail);
-    if (number > this.smallFrom * FEWER) return this.placeAs(view, before, "boxes");
-    this.smallFrom = Infinity;
-    this.placeAs(view, before, "auto");
-    if (this.isWhole) return this.graph;
-    const isTooWide = this.size.width * this.scale > this.frame.clientWidth;
-    this.placeAs(view, before, "boxes");
-    if (!this.isWhole && !isTooWide && number <= FEW) return this.placeAs(view, before, "auto");
-    this.smallFrom = number;
-    return this.graph;
+  /**
+   * Moves the camera to what has changed, or to where it was in this state.
+   * @param {Graph} graph
+   * @param {Plan} plan
+   */
+  aim(graph, plan) {
+    const {camera} = this;
+    const {number} = this.view.state;
+    if (this.isFresh)
+      camera.start(plan, plan.most, plan.legible, plan.places.get(plan.first ?? -1));
+    else if (camera.size.width !== plan.width || camera.size.height !== plan.height)
+      camera.resize({width: plan.width, height: plan.height});
+    this.isFresh = false;
+    camera.showMap(graph.blocks);
+    if (!camera.follows) return;
+    if (!camera.recall(number)) this.revealChange(graph);
+    camera.remember(number);
   }
 
-  // Whether blocks are small, and how large all is, is found out again.
-  forgetSize() {
-    this.smallFrom = Infinity;
-    this.steady = {cards: null, boxes: null};
+  get isLecture() {
+    return document.body.classList.contains("lecture");
   }
 
-  placeAs(view, before, detail) {
-    this.graph = graphOf(view, before, this.directions, detail, this.texts);
-    this.place(this.graph);
-    return this.graph;
-  }
-
-  empty(text) {
-    this.groups.clear();
-    this.graph = null;
-    for (const layer of Object.values(this.layer)) layer.replaceChildren();
-    this.picture.setAttribute("aria-label", text);
-    this.size = {width: 10, height: 10};
-    this.fit();
-  }
-
-  // Places the blocks so that the whole is seen, as large as it can be then; but never smaller than can be
-  // read.
-  place(graph) {
-    const [width, height] = [this.frame.clientWidth - EDGE, this.frame.clientHeight - EDGE];
-    const fits = (scale) => {
-      this.placeIn(graph, Math.max(LEAST_ROOM, Math.floor(width / scale)));
-      return this.size.height * scale <= height && this.size.width * scale <= width;
-    };
-    const {least, most} = document.body.classList.contains("lecture") ? SIZES.lecture : SIZES.page;
-    let scale = most;
-    while (scale > least && !fits(scale)) scale = Math.max(least, scale / FINER);
-    const kind = graph.isBox ? "boxes" : "cards";
-    const old = this.steady[kind];
-    if (old && old >= least && old <= most && scale > old && scale < old * STEADY) scale = old;
-    this.isWhole = fits(scale);
-    this.steady[kind] = this.isWhole ? scale : null;
-    this.scale = scale;
-    this.layer.notes.replaceChildren(
-      ...this.notes.map((it) => svg("text", {x: it.x, y: it.y, class: `note ${it.kind}`}, it.text))
-    );
-  }
-
-  // Places what is reached, and below it what is lost.
-  placeIn(graph, room) {
-    const bugs = new Map(graph.bugs.map((it) => [it.name, it.place]));
-    const reached = arrange(graph.blocks.filter((it) => !it.isLost), bugs, room, graph.isBox);
-    const lost = graph.blocks.filter((it) => it.isLost);
-    this.notes = [];
-    this.size = {
-      width: reached.width,
-      height: lost.length === graph.blocks.length ? GRID * 2 : reached.height
-    };
-    const places = reached.places;
-    if (lost.length) this.placeLost(lost, places, room);
-    this.noteHidden();
-    for (const block of graph.blocks) Object.assign(block, places.get(block.place));
-  }
-
-  // Lost blocks are beside those that are reached, or below them where there is no room.
-  placeLost(lost, places, room) {
-    const own = arrange(lost, new Map(), room, this.graph.isBox);
-    const isBeside = this.size.width + Math.max(own.width, LOST_WIDTH) <= room && this.size.height > GRID * 2;
-    const [left, top] = isBeside ? [this.size.width, GRID] : [0, this.size.height - GRID];
-    this.notes.push({
-      x: left + GRID * 2,
-      y: top + GRID * 2,
-      text: `Lost: nothing leads to ${lost.length === 1 ? "it" : "these"}`,
-      kind: "lost"
+  makePlan() {
+    const {kinds, view} = this;
+    const isRun = this.isTidy ? null : kinds.chronicle;
+    const material = isRun || snapshotOf(view, (it) => this.kindOf(it) === "link");
+    const texts = new Set();
+    for (const {key, names} of material.windows.values())
+      if (kinds.of({key, names}, view.state.number) === "text") for (const name of names) texts.add(name);
+    this.plan = planOf(material, {
+      directions: this.directions,
+      detail: this.detail,
+      frame: {width: this.frame.clientWidth - EDGE, height: this.frame.clientHeight - EDGE},
+      isLecture: this.isLecture,
+      isLink: (key) => kinds.mayLink(key),
+      texts
     });
-    own.places.forEach((at, place) => places.set(place, {...at, x: at.x + left, y: at.y + top}));
-    this.size = {
-      width: Math.max(this.size.width, left + Math.max(own.width, LOST_WIDTH)),
-      height: Math.max(this.size.height, top + own.height)
-    };
+    this.isFresh = true;
+    this.foldMany(this.plan);
+    return this.plan;
   }
 
-  noteHidden() {
-    const {hidden, hiddenLost} = this.view.shown;
-    const more = [
-      hidden ? `${count(hidden, "block")} further from the bugs` : "",
-      hiddenLost ? `${withCommas(hiddenLost)} lost` : ""
-    ].filter((it) => it);
-    if (!more.length) return;
-    this.notes.push({
-      x: GRID * 2,
-      y: this.size.height + GRID,
-      text: `Not drawn: ${more.join(", ")}. The store below has all.`,
-      kind: "more"
-    });
-    this.size.height += GRID * 3;
+  // The frame has another size: where it is quite another one, another plan is made.
+  resized() {
+    const {clientWidth, clientHeight} = this.frame;
+    if (!clientWidth || !clientHeight) return; // (it is not shown)
+    const isOther = (/** @type {number} */ a, /** @type {number} */ b) => a > b * OTHER || b > a * OTHER;
+    const frame = this.plan?.frame;
+    if (frame && (isOther(clientWidth, frame.width) || isOther(clientHeight, frame.height))) this.replan();
+    this.camera.resize();
+    if (this.view && !this.plan) this.show(this.view, this.before);
   }
 
-  drawBlocks(graph) {
-    const kept = new Map();
-    const bugs = new Map(graph.blocks.map((it) => [it.place, []]));
-    for (const bug of graph.bugs) bugs.get(bug.place)?.push(bug);
-    for (const block of graph.blocks) {
-      const group = this.groups.get(block.place) ?? this.newGroup(block.place);
-      kept.set(block.place, group);
-      this.drawBlock(group, block, bugs.get(block.place));
+  /**
+   * Of a run with very many blocks in trees, those far down are folded.
+   * @param {Plan} plan
+   */
+  foldMany({below}) {
+    let drawn = below.size;
+    if (drawn <= MOST_DRAWN) return;
+    const trees = [...below].filter(([, under]) => under.length > 0).sort((a, b) => a[1].length - b[1].length);
+    const away = new Set();
+    for (const [place, under] of trees) {
+      if (drawn <= MOST_DRAWN) break;
+      const more = under.filter((it) => !away.has(it));
+      for (const it of more) away.add(it);
+      this.folded.add(place);
+      drawn -= more.length;
     }
-    const hadFocus = this.layer.blocks.contains(document.activeElement);
-    this.groups = kept;
-    this.layer.blocks.replaceChildren(...kept.values());
-    for (const group of kept.values()) group.setAttribute("tabindex", -1);
-    const first = kept.get(this.focused) ?? kept.values().next().value;
-    first?.setAttribute("tabindex", 0);
-    if (hadFocus) first?.focus({preventScroll: true});
   }
 
-  newGroup(place) {
-    const group = svg("g", {role: "button", tabindex: -1, "data-place": place});
-    group.addEventListener("click", () => this.pick(place));
-    group.addEventListener("focus", () => (this.focused = place));
-    return group;
+  /**
+   * Places what is drawn by the plan. What that does not know is put next to what it belongs to.
+   * @param {Graph} graph
+   * @param {Plan} plan
+   */
+  place({blocks, ghosts}, plan) {
+    const drawn = [...blocks, ...ghosts];
+    for (const block of drawn) if (!plan.places.has(block.place)) settle(plan, block, drawn);
+    for (const block of drawn) Object.assign(block, plan.places.get(block.place));
   }
 
-  drawBlock(group, block, bugs) {
-    const isChosen = block.place === this.chosen;
-    const isAltered = block.shape.isBox && block.isChanged; // (a card shows each field that has changed)
-    const kinds =
-      ["block", block.isLost && "lost", isAltered && "altered", block.isNew && "new", isChosen && "chosen"];
-    group.setAttribute("class", kinds.filter((it) => it).join(" "));
-    group.setAttribute("aria-label", blockInWords(block, bugs));
-    group.style.transform = `translate(${block.x}px, ${block.y}px)`;
-    group.replaceChildren(...partsOfBlock(block, bugs, (name) => this.colourOf(name), this.hide));
+  // Another picture, of the blocks that are there now alone; again, that of the whole run.
+  tidy() {
+    if (!this.view) return;
+    const isTidy = !this.isTidy;
+    this.replan();
+    this.isTidy = isTidy;
+    this.show(this.view, this.before);
   }
 
-  // Lights the way of a chain: the blocks that it comes to, and the arrows along which. Where it traps, the
-  // block at which it ends is marked.
-  light(steps, trap) {
+  /** @param {string} text */
+  empty(text) {
+    this.graph = this.view = null;
+    this.figures.forget();
+    this.picture.setAttribute("aria-label", text);
+    this.ask.told([], []);
+  }
+
+  // ---- What is said of it
+
+  // Tells which pointers dangle, what is not drawn, and whether there is more than one sees.
+  tell() {
+    if (!this.view || !this.graph) return;
+    const notes = [...this.hiddenInWords(this.graph), ...this.seenInWords(this.graph)];
+    this.ask.told(danglingInWords(this.graph.dangling), notes);
+  }
+
+  /** @param {Graph} graph */
+  hiddenInWords({blocks}) {
+    const {hidden, hiddenLost, places} = this.view.shown;
+    const folded = places.length - blocks.length;
+    const lost = blocks.filter((it) => it.isLost).map((it) => it.place);
+    const more = lost.length > MOST_NAMED ? " .." : "";
+    return [
+      lost.length ? `Lost: nothing leads to ${lost.slice(0, MOST_NAMED).join(", ")}${more}` : "",
+      hidden ? `Not drawn: ${count(hidden, "block")} further from the bugs` : "",
+      hiddenLost ? `Not drawn: ${withCommas(hiddenLost)} lost` : "",
+      folded ? `Folded: ${count(folded, "block")}` : ""
+    ].filter((it) => it);
+  }
+
+  /** @param {Graph} graph */
+  seenInWords({blocks}) {
+    const {camera, plan} = this;
+    if (!plan || !blocks.length) return [];
+    if (!camera.isWhole) {
+      const seen = blocks.filter((it) => camera.sees(it)).length;
+      return seen < blocks.length ? [`${seen} of ${count(blocks.length, "block")} in view`] : [];
+    }
+    const letters = LETTER[plan.detail] * camera.aim.scale;
+    return letters < SMALL ? ["Small letters: + or a pinch comes nearer"] : [];
+  }
+
+  // Folds what is below a block, or unfolds it.
+  /** @param {number} place */
+  fold(place) {
+    if (!this.plan?.below.get(place)?.length) return;
+    if (!this.folded.delete(place)) this.folded.add(place);
+    this.show(this.view, this.before);
+  }
+
+  // ---- What is lit, chosen and in focus
+
+  /**
+   * Lights the way of a chain: the blocks that it comes to, and the arrows along which. Where it traps, the
+   * block at which it ends is marked.
+   * @param {ChainStep[]} steps
+   * @param {any} trap
+   */
+  light(steps, trap = null) {
     const fields = steps.filter((it) => it.place !== null);
-    const arrows = new Set(fields.map((it) => `${it.place} ${it.name}`));
-    const blocks = new Set([...fields.map((it) => it.place), ...steps.map((it) => it.value)]);
-    this.lit = {blocks, arrows, end: trap ? fields.at(-1)?.place ?? null : null};
+    this.lit = {
+      blocks: new Set([...fields.map((it) => it.place ?? -1), ...steps.map((it) => it.value)]),
+      arrows: new Set(fields.map((it) => `${it.place} ${it.name}`)),
+      end: trap ? fields.at(-1)?.place ?? null : null
+    };
     this.applyLight();
   }
 
   applyLight() {
     const {blocks, arrows, end} = this.lit;
-    for (const [place, group] of this.groups) {
-      group.classList.toggle("lit", blocks.has(place));
-      group.classList.toggle("stopped", place === end);
+    for (const [place, element] of this.figures.blocks) {
+      element.classList.toggle("lit", blocks.has(place));
+      element.classList.toggle("stopped", place === end);
     }
-    for (const arrow of this.layer.arrows.children) {
-      const {from, field} = arrow.dataset;
-      arrow.classList.toggle("lit", field.split(" ").some((name) => arrows.has(`${from} ${name}`)));
+    for (const {element} of this.figures.arrows.values()) {
+      const {from, field = ""} = element.dataset;
+      element.classList.toggle("lit", field.split(" ").some((name) => arrows.has(`${from} ${name}`)));
     }
-  }
-
-  // Fits the drawing into its frame, as far as it can be read.
-  fit() {
-    const {width, height} = this.size ?? {width: 10, height: 10};
-    const scale = (this.scale ?? 1) * this.zoom;
-    this.picture.setAttribute("viewBox", `0 0 ${width} ${height}`);
-    this.picture.setAttribute("width", Math.floor(width * scale));
-    this.picture.setAttribute("height", Math.floor(height * scale));
   }
 
   // Brings the first block that has changed into sight, if none is.
+  /** @param {Graph} graph */
   revealChange({blocks, bugs}) {
     const led = new Set(bugs.filter((it) => it.isChanged).map((it) => it.place));
     const changed = blocks.filter((it) => it.isNew || it.isChanged);
     const wanted = changed.length ? changed : blocks.filter((it) => led.has(it.place));
-    const scale = this.scale * this.zoom;
-    const {scrollLeft, scrollTop, clientWidth, clientHeight} = this.frame;
-    const isBetween = (from, size, begin, room) =>
-      from * scale >= begin && (from + size) * scale <= begin + room;
-    const isSeen = ({x, y, width, height}) =>
-      isBetween(x, width, scrollLeft, clientWidth) && isBetween(y, height, scrollTop, clientHeight);
-    if (!wanted.length || wanted.some(isSeen)) return;
-    const [{x, y, width, height}] = wanted;
-    this.frame.scrollLeft = Math.max(0, (x + width / 2) * scale - clientWidth / 2);
-    this.frame.scrollTop = Math.max(0, (y + height / 2) * scale - clientHeight / 2);
+    if (wanted.length && !wanted.some((it) => this.camera.sees(it))) this.camera.reveal(wanted[0]);
   }
 
   // Puts the focus on the block that had it last, or on the first.
   focusBlock() {
-    const group = this.groups.get(this.focused) ?? this.groups.values().next().value;
-    group?.focus();
+    const {blocks} = this.figures;
+    (blocks.get(this.focused ?? -1) ?? blocks.values().next().value)?.focus();
   }
 
+  /** @param {number} place */
   pick(place) {
     this.mark(place);
-    this.choose(place);
+    this.ask.choose(place);
   }
 
+  /** @param {number | null} place */
   mark(place) {
-    this.groups.get(this.chosen)?.classList.remove("chosen");
+    const {blocks} = this.figures;
+    blocks.get(this.chosen ?? -1)?.classList.remove("chosen");
     this.chosen = place;
-    this.groups.get(place)?.classList.add("chosen");
+    blocks.get(place ?? -1)?.classList.add("chosen");
   }
 
-  // Arrow keys go from block to block, Enter chooses one.
+  // Arrow keys go from block to block, Enter chooses one; the others are of the camera.
+  /** @param {KeyboardEvent} event */
   key(event) {
-    const places = [...this.groups.keys()];
-    const at = places.indexOf(this.focused);
-    const steps = {ArrowRight: 1, ArrowDown: 1, ArrowLeft: -1, ArrowUp: -1};
-    if (event.key in steps && at >= 0) {
-      const next = places[Math.min(places.length - 1, Math.max(0, at + steps[event.key]))];
-      this.groups.get(this.focused).setAttribute("tabindex", -1);
-      this.groups.get(next).setAttribute("tabindex", 0);
-      this.groups.get(next).focus();
-    } else if (event.key === "h" && at >= 0) {
-      const bug = this.graph.bugs.find(({place}) => place === this.focused);
-      if (bug) this.hide(bug.name);
-    } else if ((event.key === "Enter" || event.key === " ") && at >= 0) {
-      this.pick(this.focused);
-    } else
+    const {camera, focused} = this;
+    const turn = {ArrowRight: [1, 0], ArrowDown: [0, 1], ArrowLeft: [-1, 0], ArrowUp: [0, -1]}[event.key];
+    const isBlock = focused !== null && this.figures.blocks.has(focused);
+    const keys = {
+      "+": () => camera.zoom(),
+      "=": () => camera.zoom(),
+      "-": () => camera.zoom(0.8),
+      "0": () => camera.fitInTurn(),
+      h: isBlock && (() => this.hideBugAt(focused)),
+      f: isBlock && (() => this.fold(focused)),
+      Enter: isBlock && (() => this.pick(focused)),
+      " ": isBlock && (() => this.pick(focused))
+    };
+    const what = keys[/** @type {keyof typeof keys} */ (event.key)];
+    if (event.ctrlKey || event.metaKey || event.altKey) return;
+    if (turn && event.shiftKey)
+      camera.pan(-turn[0] * PAN, -turn[1] * PAN);
+    else if (turn && isBlock)
+      this.focusNext(turn[0] + turn[1]);
+    else if (what && !(event.target instanceof HTMLButtonElement))
+      what();
+    else
       return;
     event.preventDefault();
     event.stopPropagation();
+  }
+
+  /** @param {number} step */
+  focusNext(step) {
+    const places = [...this.figures.blocks.keys()].sort((a, b) => {
+      const [one, other] = [this.plan?.places.get(a), this.plan?.places.get(b)];
+      return one && other ? one.y - other.y || one.x - other.x : 0;
+    });
+    const at = places.indexOf(this.focused ?? -1) + step;
+    const element = this.figures.blocks.get(places[Math.min(places.length - 1, Math.max(0, at))]);
+    this.figures.reach(element);
+    element?.focus();
+  }
+
+  /** @param {number} place */
+  hideBugAt(place) {
+    const bug = this.graph?.bugs.find((it) => it.place === place);
+    if (bug) this.ask.hide(bug.name);
   }
 }

@@ -1,6 +1,7 @@
 // The deck as a text that is edited, and that is marked where the run is. What is marked lies below the text,
 // and the numbers of cards and statements beside it; of both only what is in sight is made.
 
+import {Cards} from "./cards.js";
 import {COLUMNS, linesOf} from "./deck.js";
 import {make} from "./dom.js";
 
@@ -8,16 +9,26 @@ const PAD = 4; // above the first line, in pixels
 const INDENT = 2;
 
 export class Editor {
-  constructor({text, under, gutter, ruler}, toggle) {
+  // `cards` shows the deck wrapped, too, where the editor is not seen.
+  constructor({text, under, gutter, ruler, cards}, toggle) {
+    this.cards = new Cards(cards, toggle);
     this.text = text;
     this.under = under;
     this.gutter = gutter;
     this.ruler = ruler;
     this.toggle = toggle;
+    this.column = 7.5; // pixels, of a letter
+    this.row = 20;     // of a line
+    this.above = 0;    // of the ruler
+    /** @type {Set<number>} */
     this.breakpoints = new Set();
+    /** @type {any} */
     this.spot = null; // where the run is
+    /** @type {any[]} */
     this.findings = []; // what the program finds in the deck
+    /** @type {any} */
     this.deck = null; // as it was read
+    /** @type {any} */
     this.base = null; // the latest deck that was read whole, to whose statements the breakpoints belong
     this.measure();
     text.addEventListener("scroll", () => this.draw());
@@ -62,6 +73,7 @@ export class Editor {
   // Draws what is in sight.
   draw() {
     if (!this.deck) return;
+    if (this.cards.frame.offsetHeight) this.drawCards();
     const {scrollTop, scrollLeft, clientHeight} = this.text;
     const first = Math.max(0, Math.floor((scrollTop - PAD) / this.row));
     const last =
@@ -71,6 +83,11 @@ export class Editor {
     for (let card = first; card < last; card++) beside.push(...this.numbersOf(card, top(card)));
     this.gutter.replaceChildren(...beside);
     this.under.replaceChildren(...this.lanes(scrollLeft), ...this.shades(first, last, top, scrollLeft));
+  }
+
+  // The deck wrapped.
+  drawCards() {
+    this.cards.show(this.text.value, this.deck, this.breakpoints, this.spot);
   }
 
   lanes(left) {

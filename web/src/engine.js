@@ -8,24 +8,38 @@ export class Stopped extends Error {}
 export class Engine {
   // The module is compiled already, and the script is that of the worker. `changed` is called where jobs
   // begin or end.
+  /**
+   * @param {WebAssembly.Module} module
+   * @param {string} script
+   * @param {() => void} changed
+   */
   constructor(module, script, changed = () => {}) {
     this.module = module;
     this.changed = changed;
     this.address = URL.createObjectURL(new Blob([script], {type: "text/javascript"}));
+    /** @type {Map<number, {resolve: (answer: any) => void, reject: (error: Error) => void}>} */
     this.waiting = new Map();
     this.number = 0;
-    this.begin();
+    this.worker = this.begin();
   }
 
   begin() {
-    this.worker = new Worker(this.address);
-    this.worker.onmessage = ({data}) => this.settle(data);
-    this.worker.onerror = (event) => this.fail(new Error(event.message));
-    this.worker.postMessage({module: this.module});
+    const worker = new Worker(this.address);
+    worker.onmessage = ({data}) => this.settle(data);
+    worker.onerror = (event) => this.fail(new Error(event.message));
+    worker.postMessage({module: this.module});
+    return worker;
   }
 
   // Has a job done: the words of the command line, and what standard input has, as bytes. With a digest the
   // worker makes of the output what that says.
+  /**
+   * @param {string[]} words
+   * @param {Uint8Array} input
+   * @param {number} limit
+   * @param {object | null} digest
+   * @returns {Promise<any>}
+   */
   run(words, input, limit, digest = null) {
     const number = ++this.number;
     return new Promise((resolve, reject) => {
@@ -35,16 +49,34 @@ export class Engine {
     });
   }
 
+  // Has the worker read the chronicle of a run: the deck, the input, the words of the command line and the
+  // limit of memory.
+  /**
+   * @param {import("./survey.js").Survey} survey
+   * @returns {Promise<import("./chronicle.js").Told>}
+   */
+  survey(survey) {
+    const number = ++this.number;
+    return new Promise((resolve, reject) => {
+      this.waiting.set(number, {resolve, reject});
+      this.worker.postMessage({number, survey});
+    });
+  }
+
   get isBusy() {
     return this.waiting.size > 0;
   }
 
-  settle({number, answer, broken}) {
+  /** @param {{number: number, answer?: any, told?: any, broken?: string}} data */
+  settle({number, answer, told, broken}) {
     const job = this.waiting.get(number);
+    if (!job) return; // (it was stopped)
     this.waiting.delete(number);
     this.changed();
     if (broken)
       job.reject(new Error(broken));
+    else if (told)
+      job.resolve(told);
     else
       job.resolve({...answer, output: textOfBytes(answer.output), errors: textOfBytes(answer.errors)});
   }
@@ -54,11 +86,12 @@ export class Engine {
     this.fail(new Stopped("stopped"));
   }
 
+  /** @param {Error} error */
   fail(error) {
     this.worker.terminate();
     const jobs = [...this.waiting.values()];
     this.waiting.clear();
-    this.begin();
+    this.worker = this.begin();
     this.changed();
     for (const job of jobs) job.reject(error);
   }

@@ -4,8 +4,19 @@
 
 import {operationAt, stackingAt} from "./steps.js";
 
-const MOST_FRAMES = 24;    // of each kind that are found
+const MOST_FRAMES = 200;   // of each kind that are found
 const MOST_BACK = 400_000; // states that are gone back through for them
+
+// What is saved, with the call in which it was: the newest call first, and last what was saved outside of any.
+// `found` has calls, contents and definitions, newest first, each with the number of its state.
+export function byCalls({returns, contents, definitions}) {
+  /** @type {{call: any, contents: any[], definitions: any[]}[]} */
+  const calls = [...returns, null].map((call) => ({call, contents: [], definitions: []}));
+  const frameOf = ({number}) => calls.find(({call}) => !call || call.number < number);
+  for (const it of contents) frameOf(it)?.contents.push(it);
+  for (const it of definitions) frameOf(it)?.definitions.push(it);
+  return calls.filter((it) => it.call || it.contents.length + it.definitions.length > 0);
+}
 
 export class Frames {
   constructor(session) {

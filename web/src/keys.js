@@ -3,6 +3,12 @@
 import {byId} from "./dom.js";
 
 // The keys that work everywhere.
+/**
+ * @param {any} page
+ * @param {any} target
+ * @param {boolean} isTyping
+ * @returns {Record<string, () => void>}
+ */
 function everywhere(page, target, isTyping) {
   return {
     "Ctrl Enter": () => page.run(),
@@ -14,9 +20,15 @@ function everywhere(page, target, isTyping) {
   };
 }
 
+/**
+ * @param {any} page
+ * @param {any} target
+ * @param {boolean} isTyping
+ */
 function escape(page, target, isTyping) {
-  if (byId("options").open)
-    byId("options").open = false;
+  const open = ["options", "share"].find((id) => byId(id).open);
+  if (open)
+    byId(open).open = false;
   else if (page.isRunning)
     page.stop();
   else if (isTyping)
@@ -26,6 +38,10 @@ function escape(page, target, isTyping) {
 }
 
 // Those that work where nothing is typed.
+/**
+ * @param {any} page
+ * @returns {Record<string, () => void>}
+ */
 function outside(page) {
   return {
     ArrowRight: () => page.step(),
@@ -50,12 +66,18 @@ function outside(page) {
   };
 }
 
+/**
+ * @param {any} page
+ * @param {KeyboardEvent} event
+ */
 export function press(page, event) {
-  const {key, target} = event;
+  const {key} = event;
+  const target = /** @type {any} */ (event.target);
   if (document.querySelector("dialog[open]") || byId("manual-pane").contains(target)) return;
   const isBox = target.tagName === "INPUT" && !/^(checkbox|range)$/.test(target.type);
   const isTyping = isBox || /^(TEXTAREA|SELECT)$/.test(target.tagName);
-  const isControl = target.tagName === "INPUT" && target.type === "range" && /^(Arrow|Home|End)/.test(key);
+  // (arrows move the slider; Home and End go to the run's own, which it may not know yet)
+  const isControl = target.tagName === "INPUT" && target.type === "range" && /^Arrow/.test(key);
   if (isControl) return;
   const isPressed = /^(BUTTON|SUMMARY)$/.test(target.tagName) && (key === " " || key === "Enter");
   const held =

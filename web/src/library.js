@@ -2,16 +2,18 @@
 
 import {textOfBytes} from "./bytes.js";
 import {byId, make} from "./dom.js";
+import {job, partsOf} from "./job.js";
+import {titleOf} from "./keep.js";
 import {linkOf, readLink} from "./links.js";
 import {DEFAULTS} from "./options.js";
 import {save} from "./papers.js";
-import {job, partsOf} from "./session.js";
 import {Solved} from "./solved.js";
 import {taskOf} from "./tasks.js";
 import {count, withCommas} from "./word.js";
 
 const MOST_JOB = 16_777_216; // bytes
 const MOST_PART = 1_048_576; // of a deck, an input, or commands
+const LAST = "last:"; // before the number of one of the reader's last decks
 const TO_BEGIN = "Beside this is what it is to print. Type, and press Run.";
 
 export class Library {
@@ -22,14 +24,18 @@ export class Library {
     this.example = null;    // that was opened
     this.exercise = null;   // with its task: one of the examples, or one that came with a link or a file
     this.isChanged = false; // whether the deck or the input was changed since it was opened, saved or linked
+    this.hasWork = false;   // and whether since it was opened
     this.solved = new Solved();
     this.fillMenu();
   }
 
   fillMenu() {
     const nameOf = ({key, title, task}) => `${task && this.solved.has(key) ? "✓ " : ""}${title}`;
+    const last = this.desk.keeper.decks();
+    const lastOf = (work, index) => make("option", {value: `${LAST}${index}`}, titleOf(work));
     byId("example").replaceChildren(
       make("option", {value: ""}, "Examples and exercises .."),
+      ...(last.length ? [make("optgroup", {label: "Your last decks"}, ...last.map(lastOf))] : []),
       ...this.examples.map(
         ({name, items}) =>
           make("optgroup", {label: name}, ...items.map((it) => make("option", {value: it.key}, nameOf(it))))
@@ -56,8 +62,32 @@ export class Library {
       byId("example").value = this.example?.key ?? "";
       return;
     }
+    if (key.startsWith(LAST)) return this.openLast(Number(key.slice(LAST.length)));
     history.replaceState(null, "", `#${key}`);
     this.openExample(key);
+  }
+
+  // Opens one of the reader's last decks again.
+  openLast(index) {
+    const work = this.desk.keeper.decks()[index];
+    if (work) this.openWork(work);
+  }
+
+  // Opens what was typed when the page was closed; answers whether there is such.
+  restore() {
+    const work = this.desk.keeper.work();
+    if (!work) return false;
+    this.openWork(work);
+    this.desk.tell("This is what you typed last.");
+    return true;
+  }
+
+  openWork(work) {
+    const exercise = work.exercise ? this.find(work.exercise) : null;
+    this.put(work, null, exercise?.task ? exercise : null);
+    this.hasWork = true;
+    this.desk.keeper.save();
+    if (typeof work.number === "number") this.offerState(work.number, "These are your deck and your input.");
   }
 
   openExample(key) {
@@ -67,17 +97,22 @@ export class Library {
 
   // Puts a job into the page: one of the examples, or null, and the exercise that it belongs to.
   put(own, example, exercise) {
+    if (this.hasWork) {
+      this.desk.keeper.save();
+      this.desk.keeper.leave();
+    }
     this.example = example;
     this.exercise = exercise;
     byId("example").value = (example ?? exercise)?.key ?? "";
     this.desk.put(own);
-    this.isChanged = false;
+    this.isChanged = this.hasWork = false;
+    this.fillMenu();
     this.showExercise();
   }
 
   // The deck, the input or an option was changed: what was said of the answer holds no more.
   changed() {
-    this.isChanged = true;
+    this.isChanged = this.hasWork = true;
     if (this.exercise) this.showVerdict("", TO_BEGIN);
   }
 
@@ -102,6 +137,28 @@ export class Library {
       reads ? "Input: put data of your own here" : "Input: this deck reads none";
   }
 
+  // What is printed is right: the exercise is solved if the hidden inputs and the conditions are, too.
+  async solveIfRight(exercise) {
+    const {tests = [], conditions = {}} = exercise;
+    if (!tests.length && !Object.keys(conditions).length) return this.solve(exercise);
+    const {deck} = this.desk.job();
+    this.showVerdict("", "This is printed. Hidden inputs are tried ..");
+    const why = await this.desk.verdict(exercise);
+    if (this.exercise !== exercise || this.desk.job().deck !== deck) return undefined;
+    if (!why) return this.solve(exercise);
+    this.showVerdict("wrong-answer", `Not yet: just this is printed, but ${why}.`);
+    return undefined;
+  }
+
+  // A name, and a button that saves the answer as a file.
+  handIn() {
+    const kind = {type: "text", id: "answer-name", placeholder: "your name", "aria-label": "Your name"};
+    const name = make("input", kind);
+    const hand = () => this.desk.handIn(name.value);
+    const button = make("button", {type: "button", id: "hand-in", onclick: hand}, "Save answer");
+    return make("p", {class: "hand-in"}, name, button);
+  }
+
   // ---- Exercises
 
   showExercise() {
@@ -112,7 +169,7 @@ export class Library {
     frame.replaceChildren(
       make("p", {}, make("b", {}, exercise.key ? "Exercise " : "Task "), exercise.task),
       make("pre", {tabindex: 0, "aria-label": "What it is to print"}, exercise.printout),
-      make("p", {id: "verdict", role: "status"})
+      make("div", {class: "verdict-row"}, make("p", {id: "verdict", role: "status"}), this.handIn())
     );
     this.showVerdict("", TO_BEGIN, ...this.ownSolution());
   }
@@ -142,7 +199,7 @@ export class Library {
     const wrong = wanted.findIndex((line, index) => line !== lines[index]);
     const isRight = wrong < 0 && lines.length === wanted.length && view.state.ending === "DONE";
     if (isRight) {
-      this.solve(exercise);
+      this.solveIfRight(exercise);
       return;
     }
     const found = {wrong, lines, wanted, ending: view.state.ending};
@@ -203,21 +260,37 @@ export class Library {
 
   // ---- Links
 
-  async makeLink() {
+  // A link to what the page shows.
+  linkNow(more = {}) {
     const now = this.desk.job();
     const {example, exercise} = this;
     const isSame = example && example.deck === now.deck && (example.input ?? "") === now.input &&
       JSON.stringify(now.options) === JSON.stringify({...DEFAULTS, ...example.options});
+    const kinds = this.desk.kinds() || undefined;
     const task = exercise?.key ? {exercise: exercise.key} :
-                                 exercise && {task: exercise.task, printout: exercise.printout};
-    const link = await linkOf({
+                                 exercise && {
+      task: exercise.task, printout: exercise.printout, tests: exercise.tests, conditions: exercise.conditions
+    };
+    return linkOf({
       ...now,
       ...task,
-      example: isSame ? example.key : null,
+      kinds,
+      example: isSame && !kinds ? example.key : null,
       breakpoints: this.desk.breakpoints(),
       number: this.desk.shown(),
-      lecture: this.desk.isLecture()
+      lecture: this.desk.isLecture(),
+      ...more
     });
+  }
+
+  // The address of the page, for a frame of another one.
+  async frameLink() {
+    const number = this.desk.shown() ?? 0;
+    return new URL(await this.linkNow({number, lecture: false, embed: true}), location.href).href;
+  }
+
+  async makeLink() {
+    const link = await this.linkNow();
     history.replaceState(null, "", link);
     this.isChanged = false;
     const isFile = location.protocol === "file:"; // (whose path is of use on this computer alone)
@@ -245,6 +318,7 @@ export class Library {
     }
     if (!this.mayLeave()) return false;
     if (link.lecture) this.desk.lecture(true);
+    if (link.embed) this.desk.embed();
     if (link.example) {
       this.openExample(link.example);
       if (link.breakpoints.length) this.desk.setBreakpoints(link.breakpoints);
@@ -257,15 +331,18 @@ export class Library {
 
   openOwn(link) {
     const own = link.exercise ? this.find(link.exercise) : null;
-    this.put(link, null, own?.task ? own : link.task ? {task: link.task, printout: link.printout} : null);
-    if (link.number === null) return;
+    const {task, printout, tests, conditions, input} = link;
+    this.put(link, null, own?.task ? own : task ? {task, printout, tests, conditions, input} : null);
+    if (link.number !== null) this.offerState(link.number, "This deck came with the link, and was not run.");
+  }
+
+  // A button that goes to a state of what was opened.
+  offerState(number, why) {
     const go = make(
-      "button", {type: "button", class: "main", onclick: () => this.desk.state(link.number)},
-      `Go to state ${withCommas(link.number)}`
+      "button", {type: "button", class: "main", onclick: () => this.desk.state(number)},
+      `Go to state ${withCommas(number)}`
     );
-    byId("empty").replaceChildren(
-      make("div", {}, make("b", {}, "This deck came with the link, and was not run."), make("br"), go)
-    );
+    byId("empty").replaceChildren(make("div", {}, make("b", {}, why), make("br"), go));
   }
 }
 

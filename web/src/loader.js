@@ -5,7 +5,7 @@ import {unpacked} from "./unpack.js";
 
 async function load() {
   const texts =
-    JSON.parse(new TextDecoder().decode(await unpacked(document.getElementById("texts").textContent)));
+    JSON.parse(new TextDecoder().decode(await unpacked(document.getElementById("texts")?.textContent)));
   window.l6Texts = texts;
   const script = document.createElement("script");
   script.textContent = texts.script;
@@ -13,7 +13,7 @@ async function load() {
 }
 
 load().catch((error) => {
-  document.getElementById("run-note").textContent =
-    `The page can't begin: ${error.message}. It needs a browser of 2023 or later.`;
+  const note = document.getElementById("run-note");
+  if (note) note.textContent = `The page can't begin: ${error.message}. It needs a browser of 2023 or later.`;
   document.body.dataset.ready = "no";
 });

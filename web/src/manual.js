@@ -4,9 +4,13 @@
 import {byId, make} from "./dom.js";
 
 export class Manual {
-  // `pages` have a name, a title and their markup.
+  /**
+   * `pages` have a name, a title and their markup.
+   * @param {{name: string, title: string, markup: string}[]} pages
+   */
   constructor(pages) {
     this.pages = pages;
+    /** @type {string | null} */
     this.shown = null;
     byId("manual-page"
     ).replaceChildren(...pages.map(({name, title}) => make("option", {value: name}, title)));
@@ -23,12 +27,17 @@ export class Manual {
   toggle() {
     byId("manual-pane").hidden = this.isOpen;
     byId("manual").setAttribute("aria-expanded", String(this.isOpen));
+    document.body.classList.toggle("has-manual", this.isOpen);
     if (!this.isOpen) return byId("manual").focus();
     if (!this.shown) this.show(this.pages[0].name);
     return byId("manual-text").focus();
   }
 
   // Shows a page, and of it the part with an anchor.
+  /**
+   * @param {string} name
+   * @param {string} anchor
+   */
   show(name, anchor = "") {
     const page = this.pages.find((it) => it.name === name);
     if (!page) return;
@@ -40,8 +49,9 @@ export class Manual {
   }
 
   // Links lead to other pages of the manual, or to decks of this page; all else opens beside.
+  /** @param {MouseEvent} event */
   follow(event) {
-    const link = event.target.closest?.("a");
+    const link = event.target instanceof Element ? event.target.closest("a") : null;
     if (!link) return;
     const found = /^(?:(\w[\w-]*)\.md)?(?:#(.*))?$/.exec(link.getAttribute("href") ?? "");
     const deck = /l6\.html(#[\w@!,;-]+)$/.exec(link.getAttribute("href") ?? "");
@@ -49,7 +59,7 @@ export class Manual {
     if (deck)
       location.hash = deck[1];
     else if (found && (!found[1] || this.pages.some(({name}) => name === found[1])))
-      this.show(found[1] ?? this.shown, found[2]);
+      this.show(found[1] ?? this.shown ?? "", found[2]);
     else
       window.open(link.href, "_blank", "noopener");
   }

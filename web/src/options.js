@@ -8,12 +8,14 @@ export const DEFAULTS = {
   steps: 1_000_000,
   output: 1_048_576
 };
+/** @type {Record<string, [number, number]>} */
 export const RANGES = {
   store: [1, 255],
   steps: [0, 1_000_000_000],
   output: [0, 16_777_216],
   memory: [1, 2048]
 };
+/** @type {Record<string, string>} */
 const NAMES = {
   store: "Units of the store",
   steps: "Steps",
@@ -24,10 +26,12 @@ const MEBIBYTE = 2 ** 20;
 
 export const OPTIONS = Object.keys(RANGES);
 
+/** @param {string} name */
 function valueOf(name) {
   return byId(name).value.trim() === "" ? NaN : Number(byId(name).value);
 }
 
+/** @param {string} name */
 function isRight(name) {
   const [least, most] = RANGES[name];
   const number = valueOf(name);
@@ -44,15 +48,16 @@ export function memoryChosen() {
   return isRight("memory") ? valueOf("memory") * MEBIBYTE : RANGES.memory[1] * MEBIBYTE;
 }
 
+/** @param {object} options */
 export function showOptions(options) {
-  for (const [name, value] of Object.entries({...DEFAULTS, ...options})) byId(name).value = value;
+  for (const [name, value] of Object.entries({...DEFAULTS, ...options})) byId(name).value = String(value);
   sayWrongOptions();
 }
 
 // Says which numbers are out of their ranges, and answers that, or "". Nothing is run with such a number.
 export function sayWrongOptions() {
   const wrong = OPTIONS.filter((name) => !isRight(name));
-  const tell = (name) => {
+  const tell = (/** @type {string} */ name) => {
     const [least, most] = RANGES[name];
     return `${NAMES[name]}: a number from ${withCommas(least)} to ${withCommas(most)}, and not “${
       byId(name).value}”.`;

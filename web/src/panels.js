@@ -23,6 +23,37 @@ export function showBugs(table, amounts, view, before, choose) {
   amounts.textContent = amountsInWords(view.amounts);
 }
 
+// The bugs in a line.
+export function showBugStrip(frame, view, before, watch) {
+  const names = [...new Set([...view.bugs.keys(), ...(before?.bugs.keys() ?? [])])].sort();
+  const partOf = (name) => {
+    const value = view.bugs.get(name) ?? 0;
+    const isChanged = Boolean(before) && (before.bugs.get(name) ?? 0) !== value;
+    const title = `Bug ${name} is ${value}. A click follows its changes.`;
+    return make(
+      "button", {type: "button", class: isChanged ? "changed" : "", title, onclick: () => watch({chain: name})},
+      make("b", {}, name), ` ${value}`
+    );
+  };
+  frame.replaceChildren(...names.map(partOf));
+}
+
+// The bugs as large cards, where there is no block to draw.
+export function bugCards(view, before) {
+  const names = [...new Set([...view.bugs.keys(), ...(before?.bugs.keys() ?? [])])].sort();
+  if (!names.length) return make("p", {}, "No block is in use, and all bugs are 0.");
+  const cardOf = (name) => {
+    const value = view.bugs.get(name) ?? 0;
+    const isChanged = Boolean(before) && (before.bugs.get(name) ?? 0) !== value;
+    const text = isLetter(value) ? characterOf(value) : likelyText(value);
+    return make(
+      "div", {class: isChanged ? "changed" : ""}, make("b", {}, name), make("span", {}, String(value)),
+      make("small", {}, text ? `“${text}”` : "\u00a0")
+    );
+  };
+  return make("div", {class: "bug-cards", "aria-label": "Bugs"}, ...names.map(cardOf));
+}
+
 function rowOfBug({name, value, was, hint}, hasOctal, watch) {
   const title = `${name} is ${octal(value)} in octal. A click chooses it: then ‹ Change and Change › ` +
     `go to the steps that changed it.`;
@@ -47,7 +78,7 @@ function amountsInWords({contents, definitions, returns, input}) {
 }
 
 // What a number may mean: the place of a block, which can be chosen, or a text.
-function hintOf(value, view, choose) {
+export function hintOf(value, view, choose) {
   if (view.store.block(value)) {
     return make(
       "button", {type: "button", onclick: () => choose(value), "aria-label": `Show block ${value}`}, "→"
@@ -174,62 +205,4 @@ export function showChain(frame, answer, {steps = [], trap, wrong}, view, choose
   );
   if (trap) list.append(make("li", {class: "wrong"}, `trap ${trap.number}: ${trap.text}`));
   return frame.replaceChildren(list);
-}
-
-// The calls that wait and what is saved, newest on top.
-export function showFrames(frame, {returns, contents, definitions}, view, deck, choose) {
-  const {amounts} = view;
-  const parts = [
-    ...frameList("Calls", amounts.returns, returns, (it) => callInWords(it, deck, choose)),
-    ...frameList("Saved contents", amounts.contents, contents, (it) => contentInWords(it, view, choose)),
-    ...frameList(
-      "Saved definitions", amounts.definitions, definitions, (it) => definitionInWords(it, choose)
-    ),
-  ];
-  const none = "No call waits, and nothing is saved.";
-  frame.replaceChildren(...(parts.length ? parts : [make("p", {class: "amounts"}, none)]));
-}
-
-function frameList(title, size, entries, tell) {
-  if (!size) return [];
-  const more = size - entries.length;
-  return [
-    make("h3", {}, `${title} `, make("small", {}, String(size))),
-    make(
-      "ol", {class: "stack"}, ...entries.map((it) => make("li", {}, ...tell(it))),
-      ...(more ? [make("li", {class: "amounts"}, `and ${count(more, "older one", "older ones")}`)] : [])
-    ),
-  ];
-}
-
-function stateButton(number, choose) {
-  const title = `To state ${number}, before this step`;
-  return make(
-    "button", {type: "button", class: "to", title, onclick: () => choose.goTo(number)}, `at ${number}`
-  );
-}
-
-// Which call waits: what it called, from which statement, and where its return leads.
-function callInWords({number, spot, operation}, deck, choose) {
-  const [label, , fail] = operation.elements;
-  const from = deck.statements[spot.statement].label;
-  const where = `statement ${spot.statement}${from ? ` ${from}` : ""}`;
-  return [
-    make("b", {}, label), ` from ${where}`, make("br"), make("code", {}, `(${operation.text})`),
-    fail ? ` FAIL: ${fail} ` : " ", stateButton(number, choose)
-  ];
-}
-
-function contentInWords({number, operation, value}, view, choose) {
-  const chain = operation.elements[2];
-  return [
-    make("b", {}, chain), ` = ${value ?? "?"} `, hintOf(value ?? 0, view, choose.block), " ",
-    stateButton(number, choose)
-  ];
-}
-
-function definitionInWords({number, operation, value}, choose) {
-  const name = operation.elements[2];
-  const says = value ? `word ${value.word}, bits ${value.first}–${value.last}` : "no definition";
-  return [make("b", {}, name), ` = ${says} `, stateButton(number, choose)];
 }

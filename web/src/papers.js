@@ -3,7 +3,7 @@
 
 import {bytesOf} from "./bytes.js";
 import {byId, make} from "./dom.js";
-import {job} from "./session.js";
+import {job} from "./job.js";
 
 const TABS = [
   {key: "printout", name: "Printout", file: "printout.txt"},
@@ -24,7 +24,7 @@ export class Papers {
     byId("tabs").replaceChildren(...TABS.map((tab) => this.buttonOf(tab)));
     byId("tabs").addEventListener("keydown", (event) => this.key(event));
     byId("download").addEventListener("click", () => {
-      save(TABS.find(({key}) => key === this.tab).file, this.text);
+      save(TABS.find(({key}) => key === this.tab)?.file ?? "l6.txt", this.text);
     });
     byId("copy").addEventListener("click", () => this.copy());
     byId("obey").addEventListener("click", () => this.open("session"));

@@ -10,10 +10,12 @@ export class Pen {
     this.context = canvas.getContext("2d");
     this.context.scale(dots, dots);
     this.style = getComputedStyle(document.documentElement);
+    this.colours = new Map();
   }
 
   colour(name) {
-    return this.style.getPropertyValue(name).trim();
+    if (!this.colours.has(name)) this.colours.set(name, this.style.getPropertyValue(name).trim());
+    return this.colours.get(name);
   }
 
   fill(name, x, y, width, height) {

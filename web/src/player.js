@@ -5,12 +5,18 @@ import {byId} from "./dom.js";
 const QUICK = 300; // milliseconds from step to step, below which blocks do not glide
 
 export class Player {
-  // `step` goes on by a step and answers whether the run has ended; `begin` goes back to the start.
+  /**
+   * `step` goes on by a step, `begin` goes back to the start; `atEnd` says whether the run has ended, and
+   * `paused` is called where it plays no more.
+   * @param {{step: () => Promise<void>, begin: () => Promise<void>, atEnd: () => boolean,
+   *   paused: () => void}} ask
+   */
   constructor({step, begin, atEnd, paused}) {
     this.step = step;
     this.begin = begin;
     this.atEnd = atEnd;
     this.paused = paused;
+    /** @type {ReturnType<typeof setTimeout> | null} */
     this.timer = null;
   }
 
@@ -25,6 +31,7 @@ export class Player {
     return this.show();
   }
 
+  /** @param {() => Promise<void>} go */
   async beat(go) {
     await go();
     if (!this.isPlaying) return;
@@ -35,7 +42,7 @@ export class Player {
 
   pause() {
     if (!this.isPlaying) return;
-    clearTimeout(this.timer);
+    clearTimeout(this.timer ?? undefined);
     this.timer = null;
     document.body.classList.remove("quick");
     this.show();
@@ -44,7 +51,7 @@ export class Player {
 
   show() {
     const button = byId("play");
-    button.querySelector("use").setAttribute("href", this.isPlaying ? "#i-pause" : "#i-play");
-    button.querySelector("span").textContent = this.isPlaying ? "Pause" : "Play";
+    button.querySelector("use")?.setAttribute("href", this.isPlaying ? "#i-pause" : "#i-play");
+    button.querySelector("span")?.replaceChildren(this.isPlaying ? "Pause" : "Play");
   }
 }

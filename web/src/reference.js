@@ -33,7 +33,7 @@ const EACH_OPERATION = [
 ];
 
 export function referenceOf() {
-  const table = (title, rows) =>
+  const table = (/** @type {string} */ title, /** @type {string[][]} */ rows) =>
     [make("h3", {}, title),
      make(
        "table", {class: "keys"},

@@ -6,6 +6,7 @@
 import {bytesOf} from "./bytes.js";
 import {readDeck} from "./deck.js";
 import {Frames} from "./frames.js";
+import {job} from "./job.js";
 import {Steps} from "./steps.js";
 import {Trail} from "./trail.js";
 import {stateOf, Transcript} from "./transcript.js";
@@ -41,6 +42,7 @@ export class Session {
     this.reading = reading;
     this.views = new Map();
     this.kept = 0;
+    this.fetching = new Map(); // what is being asked for
     this.printout = null;                                      // what `run` prints, once it was asked
     this.last = null;                                          // the last state's number, once it is known
     this.size = options.store > LARGE_STORE ? Infinity : 2000; // characters that a state took lately
@@ -50,6 +52,12 @@ export class Session {
     this.steps = new Steps(reading, this.trail);
     this.values = new Values(this);
     this.frames = new Frames(this);
+    this.chronicle = null; // what happened to the blocks, once it was read
+  }
+
+  // What the worker needs to read the chronicle.
+  get survey() {
+    return {deck: this.deck, input: this.input, words: this.words("debug")};
   }
 
   /**
@@ -83,7 +91,7 @@ export class Session {
   // The view of a state, or of the last one where the number is past it.
   async view(number) {
     const wanted = this.last === null ? number : Math.min(number, this.last);
-    if (!this.views.has(wanted)) await this.fetch(wanted);
+    if (!this.views.has(wanted)) await this.fetchOnce(wanted);
     const view = this.views.get(wanted) ?? this.views.get(this.last);
     if (!view) throw new Error("the debugger has not answered with the state");
     return view;
@@ -91,6 +99,15 @@ export class Session {
 
   has(number) {
     return this.views.has(number);
+  }
+
+  // Asks for a state, unless it is being asked for.
+  async fetchOnce(number) {
+    if (!this.fetching.has(number)) {
+      const done = () => this.fetching.delete(number);
+      this.fetching.set(number, this.fetch(number).finally(done));
+    }
+    await this.fetching.get(number);
   }
 
   // Asks for the states around one, and keeps them.
@@ -181,6 +198,7 @@ export class Session {
       const line = transcript.line();
       if (/^(AT|==) /.test(line)) state = stateOf(line);
     }
+    if (!state) throw new Error("the debugger has not answered with a state");
     if (state.ending) this.last = state.number;
     return this.view(state.number);
   }
@@ -253,25 +271,4 @@ export class Session {
   async obey(commands) {
     return this.ask(this.words("debug"), bytesOf(job(this.deck, commands, this.input)));
   }
-}
-
-// The text of a job. Commands may be null.
-export function job(deck, commands, input) {
-  const whole = (text) => (text === "" || text.endsWith("\n") ? text : `${text}\n`);
-  const middle = commands === null ? "" : `$COMMANDS\n${whole(commands)}`;
-  return `${whole(deck)}${middle}${input === "" ? "" : `$INPUT\n${input}`}`;
-}
-
-// The parts of a text that may be a whole job.
-export function partsOf(text) {
-  const isMark = (line, mark) => line.replace(/[ \t\r]+$/, "").toUpperCase() === mark;
-  const lines = text.split("\n");
-  const input = lines.findIndex((line) => isMark(line, "$INPUT"));
-  const head = input < 0 ? lines : [...lines.slice(0, input), ""];
-  const commands = head.findIndex((line) => isMark(line, "$COMMANDS"));
-  return {
-    deck: (commands < 0 ? head : [...head.slice(0, commands), ""]).join("\n"),
-    commands: commands < 0 ? "" : head.slice(commands + 1).join("\n"),
-    input: input < 0 ? "" : lines.slice(input + 1).join("\n"),
-  };
 }

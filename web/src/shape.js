@@ -7,9 +7,12 @@ export const BIT = 4;   // so 36 bits are 144 wide
 export const ROW = 24;
 export const HEAD = 24;
 const MOST_ROWS = 8;
-const SHOWN_WORDS = 4; // of a block without fields
+const SHOWN_WORDS = 8; // of a block without fields
 const LEGIBLE = 3;     // bits of a field whose value has room; of a word with narrower ones all is shown, too
 const LETTER = 7.3;    // the width of a letter
+const MOST_ON_CHIP = 6;        // letters
+const CHIP_LETTER = 7.9;       // the width of a letter there
+const CHIP = {least: 20, height: 20, around: 6, unit: 4};
 export const NARROW = 40; // a cell that has room for a value or a name, but hardly for both
 
 // The windows of the fields, each once: names that are defined alike share one.
@@ -20,9 +23,14 @@ export function windowsOf(fields) {
     if (!windows.has(key)) windows.set(key, {key, word, first, last, names: []});
     windows.get(key).names.push(name);
   }
-  const all = [...windows.values()].sort((a, b) => a.word - b.word || a.first - b.first || b.last - a.last);
+  const all = sortedWindows([...windows.values()]);
   all.forEach((it) => (it.name = it.names.join(" ")));
   return all;
+}
+
+// Windows from the first word on, and in each from the left.
+export function sortedWindows(windows) {
+  return windows.sort((a, b) => a.word - b.word || a.first - b.first || b.last - a.last);
 }
 
 // Windows in as few lanes as they need so that none covers another.
@@ -39,10 +47,35 @@ export function lanesOf(windows) {
 }
 
 // The shape of a block: `rows` of cells with their place and size in it, and how large it is. In a box there
-// is one row for all.
-export function shapeOf(block, words, windows, links, isBox) {
-  return isBox ? boxOf(block, words, windows, links) : cardOf(block, words, windows, links);
+// is one row for all, and a chip has one value alone; `chip` says how wide it is.
+export function shapeOf(block, words, windows, links, kind, chip = /** @type {any} */ (null)) {
+  if (kind === "chips") return chipShape(block, words, windows, chip);
+  return kind === "boxes" ? boxOf(block, words, windows, links) : cardOf(block, words, windows, links);
 }
+
+// ---- Chips
+
+function chipShape(block, words, windows, {width, height, keys}) {
+  return {width, height, rows: [], isBox: true, isChip: true, text: chipText(block, words, windows, keys)};
+}
+
+// The size of chips on which the longest of some texts has room. `keys` are the windows with links.
+export function chipFor(texts, keys) {
+  const longest = Math.max(1, ...texts.map((it) => it.length));
+  const width = Math.ceil((longest * CHIP_LETTER + CHIP.around) / CHIP.unit) * CHIP.unit;
+  return {width: Math.max(CHIP.least, width), height: CHIP.height, keys};
+}
+
+// What the smallest drawing of a block says: the first value that is no link, or its place.
+export function chipText(block, words, windows, keys) {
+  const window = windows.find((it) => it.word < block.size && !keys.has(it.key) && words);
+  if (!window) return String(block.place);
+  const value = seenThrough(words[window.word], window);
+  const text = (window.isText && textHeld(value)) || String(value);
+  return text.length > MOST_ON_CHIP ? `${text.slice(0, MOST_ON_CHIP - 1)}…` : text;
+}
+
+// ---- Cards
 
 /** @typedef {{word: number, cells: any[], note?: string, y?: number}} Row */
 
@@ -118,6 +151,8 @@ function textHeld(value) {
   return value > 0 && value < 64 ? characterOf(value) : likelyText(value);
 }
 
+// ---- Boxes
+
 // A box: what it holds besides links, in a row, and a stub for each link below.
 function boxOf(block, words, windows, links) {
   const values =
@@ -162,7 +197,7 @@ function shortOf(values, text) {
   if (text.length <= 8) return text;
   const {window, value} = values[0];
   const only = textOfCell({...window, name: "", first: 0, last: 35}, value, null);
-  return only.split(" ").at(-1).slice(0, 6);
+  return (only.split(" ").at(-1) ?? "").slice(0, 6);
 }
 
 // Whether other fields show all bits of a window, so that it adds nothing.

@@ -18,15 +18,24 @@ export class Solved {
     }
   }
 
+  /** @param {string} key */
   has(key) {
     return this.decks.has(key);
   }
 
   // The deck that solved an exercise.
+  /**
+   * @param {string} key
+   * @returns {string | undefined}
+   */
   deckOf(key) {
     return this.decks.get(key);
   }
 
+  /**
+   * @param {string} key
+   * @param {string} deck
+   */
   add(key, deck) {
     this.decks.set(key, deck);
     try {

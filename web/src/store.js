@@ -23,9 +23,12 @@ export class Store {
     this.kinds = data.kinds;
     this.used = data.used;
     this.free = data.free;
-    const count = (kind) => this.kinds.reduce((sum, it) => sum + (it === kind ? 1 : 0), 0);
-    this.lost = count(KINDS.lost);
-    this.blocks = count(KINDS.block) + this.lost;
+    const counts = [0, 0, 0];
+    for (let index = 0; index < this.kinds.length; index++) counts[this.kinds[index]]++;
+    this.lost = counts[KINDS.lost];
+    this.blocks = counts[KINDS.block] + this.lost;
+    /** @type {{blocks: number, free: number}[] | null} */
+    this.counted = null; // the levels, once they were asked for
   }
 
   get begin() {
@@ -36,7 +39,10 @@ export class Store {
     return this.places[this.places.length - 1] + this.sizes[this.sizes.length - 1];
   }
 
-  /** @returns {Piece} the block or run with this index */
+  /**
+   * @param {number} index
+   * @returns {Piece} the block or run with this index
+   */
   piece(index) {
     const kind = this.kinds[index];
     const isFree = kind === KINDS.free;
@@ -44,6 +50,7 @@ export class Store {
   }
 
   // The index of the block or run that has this word, or -1.
+  /** @param {number} place */
   indexWith(place) {
     let [low, high] = [0, this.places.length - 1];
     while (low <= high) {
@@ -59,12 +66,14 @@ export class Store {
   }
 
   // The block or the run of free words that has this word, or null.
+  /** @param {number} place */
   pieceWith(place) {
     const index = this.indexWith(place);
     return index < 0 ? null : this.piece(index);
   }
 
   // The block that begins at a place, or null.
+  /** @param {number} place */
   block(place) {
     const index = this.indexWith(place);
     if (index < 0 || this.kinds[index] === KINDS.free || this.places[index] !== place) return null;
@@ -72,6 +81,10 @@ export class Store {
   }
 
   // The blocks and free pieces from one place on and before another.
+  /**
+   * @param {number} begin
+   * @param {number} end
+   */
   piecesBetween(begin, end) {
     const pieces = [];
     const first = Math.max(0, this.indexWith(Math.max(begin, this.begin)));
@@ -86,6 +99,7 @@ export class Store {
   }
 
   // The size of the free piece that has this word, or 0 where it is not free.
+  /** @param {number} place */
   freePieceWith(place) {
     const run = this.pieceWith(place);
     if (!run?.isFree) return 0;
@@ -95,13 +109,19 @@ export class Store {
   }
 
   // How many blocks and how many free pieces there are of each size, by the logarithms of the sizes.
+  /** @returns {{blocks: number, free: number}[]} */
   levels() {
+    this.counted ??= this.countLevels();
+    return this.counted;
+  }
+
+  countLevels() {
     const levels = Array.from({length: Math.log2(UNIT) + 1}, () => ({blocks: 0, free: 0}));
     for (let index = 0; index < this.places.length; index++) {
       if (this.kinds[index] !== KINDS.free)
-        levels[Math.log2(this.sizes[index])].blocks++;
+        levels[31 - Math.clz32(this.sizes[index])].blocks++;
       else
-        for (const {size} of freePieces(this.piece(index))) levels[Math.log2(size)].free++;
+        for (const {size} of freePieces(this.piece(index))) levels[31 - Math.clz32(size)].free++;
     }
     return levels;
   }
@@ -112,6 +132,7 @@ export class Store {
   }
 
   // The first place at which two stores differ, or null.
+  /** @param {Store} other */
   firstChange(other) {
     const size = Math.min(this.places.length, other.places.length);
     for (let index = 0; index < size; index++) {
@@ -124,6 +145,12 @@ export class Store {
 }
 
 // The free pieces of a run, or those of them that lie between two places.
+/**
+ * @param {Piece} run
+ * @param {number} begin
+ * @param {number} end
+ * @returns {Generator<Piece>}
+ */
 function* freePieces(run, begin = run.place, end = run.place + run.size) {
   let place = run.place;
   const stop = Math.min(run.place + run.size, end);
@@ -136,6 +163,10 @@ function* freePieces(run, begin = run.place, end = run.place + run.size) {
 }
 
 // The size of the largest piece that may begin at a place and has so much room.
+/**
+ * @param {number} place
+ * @param {number} room
+ */
 function sizeAt(place, room) {
   let size = 1;
   while (size < UNIT && place % (2 * size) === 0 && 2 * size <= room) size *= 2;

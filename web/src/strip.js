@@ -22,8 +22,26 @@ export class Strip {
     this.bySize = bySize;
     this.unitBox = unitBox;
     this.choose = choose;
+    /** @type {any} */
+    this.view = null;
+    /** @type {any} */
+    this.before = null;
+    /** @type {any} */
+    this.part = null; // of the store that is drawn
+    /** @type {any[]} */
+    this.pieces = [];
+    /** @type {any[]} */
+    this.widths = [];
+    /** @type {number | null} */
     this.unit = null; // that the reader chose, or null
-    this.chosen = null;
+    /** @type {number | undefined} */
+    this.latest = undefined; // in which something changed
+    /** @type {number | null} */
+    this.chosen = null; // the place of a block
+    this.begin = 0;     // of the store
+    this.count = 0;     // of its units
+    this.scale = 1;
+    this.amounts = "";
     bySize.addEventListener("change", () => this.draw());
     strip.addEventListener("click", (event) => this.pick(event));
     levels.addEventListener("click", (event) => this.pick(event));
@@ -46,14 +64,20 @@ export class Strip {
   }
 
   mark(place) {
+    if (this.chosen === place) return;
     this.chosen = place;
     if (this.view) this.draw();
+  }
+
+  // Another deck begins: no unit is chosen any more. (It stays where the same deck is run again.)
+  forgetUnit() {
+    this.unit = null;
+    this.latest = undefined;
   }
 
   forget() {
     this.view = null;
     this.before = null;
-    this.unit = null;
     this.chosen = null;
     this.text.textContent = "";
     this.units.hidden = this.levelsText.hidden = this.levels.hidden = this.unitBox.parentElement.hidden =
@@ -75,15 +99,16 @@ export class Strip {
     this.units.hidden = this.unitBox.parentElement.hidden = this.count === 1;
     this.unitBox.max = this.count;
     this.unitBox.value = this.part.unit + 1;
-    if (this.count > 1) this.drawUnits();
+    const isSeen = this.strip.parentElement.offsetHeight > 0; // (else it is drawn once it is shown)
+    if (this.count > 1 && isSeen) this.drawUnits();
     this.text.textContent = this.amounts;
     this.text.title = "words used, words free, and the largest free piece";
     this.levels.hidden = this.levelsText.hidden = !this.bySize.checked;
     if (this.bySize.checked) this.levelsText.textContent = levelsInWords(store.levels());
     this.strip.hidden = this.bySize.checked;
-    if (this.bySize.checked)
+    if (this.bySize.checked && isSeen)
       this.drawLevels();
-    else
+    else if (isSeen)
       this.drawStrip();
     this.strip.setAttribute("aria-label", this.textOf());
   }
@@ -99,7 +124,7 @@ export class Strip {
     const unit = Math.min(this.unit ?? this.latest ?? fallback, this.count - 1);
     const begin = this.begin + unit * UNIT;
     const used = store.piecesBetween(begin, begin + UNIT).filter((it) => !it.isFree);
-    const reach = used.length ? used.at(-1).place + used.at(-1).size - begin : 0;
+    const reach = used.reduce((most, it) => Math.max(most, it.place + it.size - begin), 0);
     let size = LEAST_PART;
     while (size < reach) size *= 2;
     if (this.bySize.checked || size > UNIT) size = UNIT;

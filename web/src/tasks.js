@@ -4,12 +4,14 @@
 import {byId} from "./dom.js";
 import {linkOf, numbersOf} from "./links.js";
 import {save} from "./papers.js";
+import {conditionsOf, testsOf} from "./verify.js";
 
 export class TaskMaker {
   // `source` has the job of the page, what it has printed, and opens a task.
+  /** @param {any} source */
   constructor(source) {
     this.source = source;
-    const on = (id, what) => byId(id).addEventListener("click", what);
+    const on = (/** @type {string} */ id, /** @type {() => void} */ what) => byId(id).addEventListener("click", what);
     on("task-printed", () => this.takePrinted());
     on("task-link", () => this.copyLink());
     on("task-file", () => this.saveFile());
@@ -17,7 +19,8 @@ export class TaskMaker {
   }
 
   open() {
-    byId("task-deck").value = this.source.job().deck;
+    this.solution = this.source.job().deck;
+    byId("task-deck").value = this.solution;
     if (!byId("task-printout").value) this.takePrinted();
     byId("task-note").textContent = "";
     byId("task-dialog").showModal();
@@ -27,19 +30,45 @@ export class TaskMaker {
     byId("task-printout").value = this.source.printed();
   }
 
+  // The conditions as they are written.
+  conditions() {
+    const [bug, field, length] = byId("task-list").value.trim().toUpperCase().split(/[\s,]+/);
+    return conditionsOf({
+      noLost: byId("task-lost").checked,
+      uses: byId("task-uses").value.trim().toUpperCase(),
+      list: {bug, field, length: length === undefined ? NaN : Number(length)}
+    });
+  }
+
+  // The hidden inputs, each with what the solution prints.
+  async tests() {
+    const parts = byId("task-tests").value.split(/^---+\s*$/m).map((it) => it.replace(/^\n/, ""));
+    const inputs = parts.filter((it) => it.trim());
+    const tests = [];
+    for (const input of inputs) tests.push({input, printout: await this.source.printoutOf(this.solution, input)});
+    return tests;
+  }
+
   // The task as it is written, or null, which is said, where something is missing.
-  task() {
+  async task() {
     const [task, printout] =
       [byId("task-text").value.trim(), byId("task-printout").value.replace(/\n+$/, "")];
     const missing = [!task && "what is to be done", !printout && "what it is to print"].filter((it) => it);
     byId("task-note").textContent = missing.length ? `Missing: ${missing.join(", and ")}.` : "";
     if (missing.length) return null;
     const {input, options} = this.source.job();
-    return {task, printout, deck: byId("task-deck").value, input, options};
+    const whole = {task, printout, deck: byId("task-deck").value, input, options};
+    try {
+      const more = {tests: await this.tests(), conditions: this.conditions()};
+      return {...whole, ...more};
+    } catch (error) {
+      byId("task-note").textContent = error.message;
+      return null;
+    }
   }
 
   async copyLink() {
-    const task = this.task();
+    const task = await this.task();
     if (!task) return;
     const link = new URL(await linkOf({...task, breakpoints: [], number: null}), location.href).href;
     try {
@@ -51,16 +80,16 @@ export class TaskMaker {
     }
   }
 
-  saveFile() {
-    const task = this.task();
+  async saveFile() {
+    const task = await this.task();
     if (!task) return;
     save("my.task", `${JSON.stringify(task, null, 1)}\n`, true);
     byId("task-note").textContent = "Saved. Pupils open the file with Open.";
   }
 
   // Shows the task as a pupil gets it.
-  tryIt() {
-    const task = this.task();
+  async tryIt() {
+    const task = await this.task();
     if (!task) return;
     byId("task-dialog").close();
     this.source.open(task);
@@ -68,12 +97,14 @@ export class TaskMaker {
 }
 
 // The task of a file's text, or null.
+/** @param {string} text */
 export function taskOf(text) {
   if (!/^\s*\{/.test(text)) return null;
   try {
-    const {task, printout, deck, input = "", options = {}} = JSON.parse(text);
+    const {task, printout, deck, input = "", options = {}, tests, conditions} = JSON.parse(text);
     const isRight = [task, printout, deck, input].every((it) => typeof it === "string") && task && printout;
-    return isRight ? {task, printout, deck, input, options: numbersOf(options)} : null;
+    const more = {tests: testsOf(tests), conditions: conditionsOf(conditions)};
+    return isRight ? {task, printout, deck, input, options: numbersOf(options), ...more} : null;
   } catch {
     return null;
   }

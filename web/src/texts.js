@@ -4,16 +4,20 @@
 
 const TEXT_VERBS = ["IN", "PR"];
 
-/** @returns {Set<string>} the names of bugs and fields; a chain is known by its last name */
+/**
+ * @param {any} deck
+ * @returns {Set<string>} the names of bugs and fields; a chain is known by its last name
+ */
 export function textNames(deck) {
   deck.texts ??= found(deck);
   return deck.texts;
 }
 
+/** @param {any} deck */
 function found(deck) {
   const texts = new Set();
   const moves = []; // pairs of names of which the first gets what the second holds
-  const lastOf = (chain) => (/^[A-Z]/.test(chain ?? "") ? kindOf(chain) : null);
+  const lastOf = (/** @type {string | undefined} */ chain) => (chain && /^[A-Z]/.test(chain) ? kindOf(chain) : null);
   for (const {tests, operations} of deck.statements) {
     for (const {elements: [first, verb = "", third]} of [...tests, ...operations]) {
       const isText = TEXT_VERBS.includes(verb) || (verb.length === 2 && verb[1] === "H" && verb !== "PH");
@@ -34,6 +38,7 @@ function found(deck) {
 }
 
 // The bug of a chain of one name, as "bug A"; else its last field.
+/** @param {string} chain */
 function kindOf(chain) {
-  return chain.length === 1 ? `bug ${chain}` : chain.at(-1);
+  return chain.length === 1 ? `bug ${chain}` : chain[chain.length - 1];
 }

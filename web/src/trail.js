@@ -9,15 +9,23 @@ const MOST_KEPT = 400;    // stretches
 /** @typedef {{statement: number, action: number}} Spot */
 
 export class Trail {
-  // `ask` answers the trail of so many states from one on.
+  /**
+   * `ask` answers the trail of so many states from one on.
+   * @param {(first: number, count: number) => Promise<any>} ask
+   */
   constructor(ask) {
     this.ask = ask;
+    /** @type {Map<number, {statements: Int32Array, actions: Uint8Array}>} */
     this.stretches = new Map();
     this.last = Infinity; // the last state's number, once it is known
   }
 
   // Where the run is in a state, or null where it is past the last one. `ahead` is how many stretches may be
   // asked for if it is not known: a positive number goes on from this one, a negative one comes before it.
+  /**
+   * @param {number} number
+   * @returns {Promise<Spot | null>}
+   */
   async at(number, ahead = 1) {
     if (number < 0 || number > this.last) return null;
     const index = Math.floor(number / STRETCH);
@@ -28,6 +36,10 @@ export class Trail {
     return {statement: stretch.statements[at], action: stretch.actions[at]};
   }
 
+  /**
+   * @param {number} index
+   * @param {number} ahead
+   */
   async fetch(index, ahead) {
     const count = Math.min(Math.abs(ahead), MOST_STRETCHES);
     const first = ahead < 0 ? Math.max(0, index - count + 1) : index;
@@ -53,6 +65,11 @@ export class Trail {
 
   // The number of the first state after one, for which `isFound` holds of where the run is there; else of the
   // last state. `isFound` is called for each state in turn.
+  /**
+   * @param {number} number
+   * @param {(spot: Spot, at: number) => boolean} isFound
+   * @returns {Promise<number>}
+   */
   async find(number, isFound) {
     for (let at = number + 1, fetched = 1;; at++) {
       const spot = await this.near(at, fetched);
@@ -63,6 +80,11 @@ export class Trail {
   }
 
   // As `at`, but only waits where the state is not known: a search goes through very many of them.
+  /**
+   * @param {number} number
+   * @param {number} ahead
+   * @returns {Spot | Promise<Spot | null>}
+   */
   near(number, ahead) {
     const stretch = this.stretches.get(Math.floor(number / STRETCH));
     const at = number % STRETCH;

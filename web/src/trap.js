@@ -15,7 +15,7 @@ const FULL = 1024; // entries of a pushdown, and calls that wait
 // Puts the explanation into a frame. Answers the chain that could not be followed, or {}; null where there is
 // nothing to be said beyond the trap's own text.
 export async function showTrap(frame, view, session, goTo) {
-  const number = Number(/TRAP (\d+)/.exec(view.state.line)[1]);
+  const number = Number(/TRAP (\d+)/.exec(view.state.line)?.[1]);
   const told = number <= 3 ? await chainTrap(number, view, session) : await otherTrap(number, view, session);
   if (!told) return null;
   const {text, freed} = told;
@@ -43,9 +43,8 @@ async function chainTrap(number, view, session) {
   const pointer = number === 2 ? pointerAt(session.reading, view.state) : null;
   if (!pointer) return null;
   const {steps} = await followed(pointer, view, session);
-  return steps?.length ?
-    tellChain(pointer, steps, {number, name: "", value: steps.at(-1).value}, view, session) :
-    null;
+  const last = steps?.at(-1);
+  return last ? tellChain(pointer, steps, {number, name: "", value: last.value}, view, session) : null;
 }
 
 async function followed(chain, view, session) {

@@ -74,7 +74,7 @@ export class Values {
     const states = await this.look(wanted.map(({number}) => number), (state) => followed(state).missing);
     return states.map((state) => {
       const {steps, trap} = followed(state);
-      return trap ? null : steps.at(-1).value;
+      return trap ? null : steps.at(-1)?.value ?? null;
     });
   }
 
@@ -92,7 +92,7 @@ export class Values {
       if (kind === "definition") return JSON.stringify(state.fields.get(definition) ?? null);
       if (kind === "chain") {
         const {steps, trap} = follow(chain, state);
-        return trap ? `trap ${trap.number}` : String(steps.at(-1).value);
+        return trap ? `trap ${trap.number}` : String(steps.at(-1)?.value);
       }
       const window = state.fields.get(field);
       const words = state.known.get(place);

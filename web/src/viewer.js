@@ -1,19 +1,20 @@
 // Shows a view of a run: where it is, what changed, what is printed, the blocks, the store, and the tables.
 
+import {openTree, showCallTree, showFrames} from "./calls.js";
 import {follow} from "./chain.js";
-import {changesOf, endingOf, shortened} from "./changes.js";
 import {byId, make} from "./dom.js";
 import {Drawing} from "./drawing.js";
 import {Stopped} from "./engine.js";
 import {History} from "./history.js";
-import {actionAt, meaningOf} from "./meaning.js";
-import {showBugs, showChain, showFields, showFrames, showWords} from "./panels.js";
-import {hasStacks, nextShown, operationAt} from "./steps.js";
+import {Legend} from "./legend.js";
+import {bugCards, showBugs, showBugStrip, showChain, showFields, showWords} from "./panels.js";
+import {hasStacks} from "./steps.js";
+import {Story} from "./story.js";
 import {Strip} from "./strip.js";
-import {textNames} from "./texts.js";
 import {showTrap} from "./trap.js";
 import {Values} from "./values.js";
-import {count, withCommas} from "./word.js";
+
+const MOST_IN_LINE = 300; // characters of a printout
 
 /** @type {import("./chain.js").Followed} */
 const NOWHERE = {
@@ -35,7 +36,9 @@ export class Viewer {
     this.followed = null; // the chain that is typed, and where it leads
     this.trapTold = null; // the chain that trapped
     const choose = (place) => this.chooseBlock(place);
-    this.drawing = new Drawing(byId("drawing"), {choose, hide: (name) => this.ask.hide(name)});
+    const told = (warnings, notes) => this.tellDrawing(warnings, notes);
+    this.drawing = new Drawing(byId("drawing"), {choose, hide: (name) => this.ask.hide(name), told});
+    this.legend = new Legend(this.drawing, {changed: () => this.redraw(), show: (name) => this.ask.hide(name)});
     const parts = {
       text: byId("store-text"),
       units: byId("units"),
@@ -50,6 +53,7 @@ export class Viewer {
       goTo: (number) => this.ask.goTo(number),
       trouble: (error) => this.failed(error),
     });
+    this.story = new Story(editor, (state) => this.ask.next(state));
     this.listen();
   }
 
@@ -57,12 +61,17 @@ export class Viewer {
     byId("place").addEventListener("input", () => this.placeTyped());
     byId("chain").addEventListener("input", () => this.chainTyped());
     byId("detail").addEventListener("change", () => {
-      this.drawing.detail = byId("detail").value;
+      this.drawing.detail = /** @type {any} */ (byId("detail").value);
+      this.drawing.replan();
       this.redraw();
     });
-    byId("zoom").addEventListener("input", () => {
-      this.drawing.zoom = Number(byId("zoom").value) / 100;
-      this.drawing.fit();
+    byId("tidy").addEventListener("click", () => this.tidy());
+    byId("show-calls").addEventListener("click", () => {
+      openTree(byId("call-tree").hidden);
+      this.showCalls();
+    });
+    byId("follow").addEventListener("change", () => {
+      this.drawing.camera.follows = byId("follow").checked;
     });
     new ResizeObserver(() => this.resized()).observe(byId("drawing"));
     matchMedia("(prefers-color-scheme: dark)").addEventListener("change", () => this.strip.draw());
@@ -72,12 +81,12 @@ export class Viewer {
   forget() {
     this.view = this.before = this.session = null;
     this.drawing.forget();
-    this.strip.unit = null;
     this.strip.latest = undefined;
   }
 
   // Begins with another deck: nothing of it is chosen.
   begin() {
+    this.strip.forgetUnit();
     this.chosen = this.watched = null;
     byId("place").value = byId("chain").value = "";
     this.showWatched();
@@ -90,18 +99,18 @@ export class Viewer {
     this.before = old;
     this.session = session;
     this.isStep = isStep;
-    this.drawing.texts = textNames(session.reading);
+    this.drawing.learn(session.reading, session.chronicle);
     byId("board").classList.toggle("vacant", view.store.blocks === 0);
-    byId("empty").textContent = view.store.used ? "" : "No block is in use.";
+    byId("empty").replaceChildren(...(view.store.used ? [] : [bugCards(view, old)]));
     this.showFrames();
+    this.strip.show(view, old); // (before the drawing, whose frame is what the others leave)
     this.drawing.show(view, old);
-    this.showLegend();
-    this.strip.show(view, old);
+    this.legend.show(session.hidden);
     this.history.show(view, session);
     this.showTables();
     this.showDetails();
     this.showPrinted();
-    this.showWhere();
+    this.story.show(view, old, session, isStep);
     this.showTrap();
   }
 
@@ -113,91 +122,8 @@ export class Viewer {
       colourOf: (name) => this.drawing.colourOf(name),
     };
     showBugs(byId("bugs"), byId("amounts"), view, before, choose);
+    showBugStrip(byId("bug-strip"), view, before, choose.watch);
     showFields(byId("fields"), view, before, choose);
-  }
-
-  // Where the run is, what comes next, and what changed.
-  showWhere() {
-    if (!this.view) return;
-    const {state} = this.view;
-    const hasNext = !state.ending || state.ending === "TRAP";
-    const spot = this.ask.next(state);
-    this.action = hasNext ? actionAt(this.editor.deck, spot.statement, spot.action) : null;
-    this.editor.point(this.action && {...this.action, statement: spot.statement});
-    byId("where").textContent = state.line;
-    byId("where").parentElement.classList.toggle("trap", state.ending === "TRAP");
-    this.showNext(state.ending ? "At: " : "Next: ", this.action);
-    this.showCard();
-    const [from, to] = this.isUndone ? [this.view, this.before] : [this.before, this.view];
-    this.changes = changesOf(from, to, this.session.input, this.isStep && from ? this.stepFrom(from) : null);
-    this.showChanges(this.changes);
-  }
-
-  // The operation that the next step from a state does, or null.
-  stepFrom({state}) {
-    const {reading} = this.session;
-    return {operation: operationAt(reading, nextShown(reading, state))};
-  }
-
-  // Whether the state that is shown is before that with which it is compared.
-  get isUndone() {
-    return Boolean(this.before) && this.before.state.number > this.view.state.number;
-  }
-
-  showNext(when, action) {
-    const next = action ? [when, make("code", {}, action.text), ` ${action.says}`] : [];
-    byId("next").replaceChildren(...next);
-    byId("next").title = action ? `${action.text} ${action.says}` : "";
-  }
-
-  // The card of what comes next, for windows in which the deck is out of sight.
-  showCard() {
-    const {action} = this;
-    const text = action && action.card >= 0 ? this.editor.lineOf(action.card) : null;
-    byId("card").hidden = text === null;
-    if (text === null) return;
-    const number = make("i", {}, `${action.card + 1} `);
-    byId("card").replaceChildren(
-      number, text.slice(0, action.from), make("b", {}, text.slice(action.from, action.to)),
-      text.slice(action.to)
-    );
-  }
-
-  // What the group does that the cursor is in, while nothing is run.
-  explain(group) {
-    this.showNext("", group && {text: `(${group.text})`, says: meaningOf(group.elements, group.text)});
-  }
-
-  // Tells all of it to a screen reader.
-  speak() {
-    const {action, changes, view} = this;
-    if (!view) return;
-    const {state} = view;
-    const at = `Statement ${state.statement}, after ${count(state.steps, "step")}`;
-    const where = state.ending ? state.line.replace("== ", "") : at;
-    const next = action && !state.ending ? [`Next: ${action.text} ${action.says}`] : [];
-    const what = this.isUndone ? "Undone" : "Changed";
-    const changed = changes.length ? [`${what}: ${shortened(changes).join("; ")}`] : [];
-    byId("spoken").textContent = [where, endingOf(view), ...next, ...changed].filter((it) => it).join(". ");
-  }
-
-  showChanges(changes) {
-    const {before, view} = this;
-    const parts = shortened(changes).flatMap((it, index) => [index ? " · " : "", it]);
-    const isFar = before && !this.isStep && Math.abs(before.state.number - view.state.number) > 1;
-    const since =
-      isFar ? `since state ${withCommas(Math.min(before.state.number, view.state.number))}: ` : "";
-    const undone = isFar ? `up to state ${withCommas(before.state.number)}: ` : "";
-    const ending = endingOf(view);
-    byId("changes").replaceChildren(
-      ...(ending ? [make("b", {class: "ending"}, ending), parts.length ? " " : ""] : []),
-      ...(
-        parts.length ?
-          [make("b", {}, this.isUndone ? "Undone: " : "Changed "), this.isUndone ? undone : since, ...parts] :
-          []
-      )
-    );
-    byId("changes").title = changes.slice(0, 60).join("\n");
   }
 
   // Why a run has trapped, with values and what happened before; the chain that could not be followed is lit.
@@ -224,8 +150,9 @@ export class Viewer {
   async showFrames() {
     const {view, session} = this;
     const {returns, contents, definitions} = view.amounts;
-    byId("frames").hidden = !hasStacks(session.reading) && returns + contents + definitions === 0;
-    if (byId("frames").hidden) return;
+    byId("calls").hidden = !hasStacks(session.reading) && returns + contents + definitions === 0;
+    this.showCalls();
+    if (byId("calls").hidden) return;
     try {
       const frames = await session.frames.of(view);
       if (this.view !== view) return;
@@ -239,6 +166,16 @@ export class Viewer {
     }
   }
 
+  // The tree of calls, while it is open.
+  showCalls() {
+    const {view, session} = this;
+    const isOpen = !byId("call-tree").hidden && !byId("calls").hidden;
+    openTree(isOpen);
+    if (!isOpen || !view) return;
+    const calls = session.chronicle?.calls ?? [];
+    showCallTree(byId("call-tree"), calls, view.state.number, (number) => this.ask.goTo(number));
+  }
+
   // What was asked for beside the view has failed. (It may have been stopped, which is said elsewhere.)
   failed(error) {
     if (!(error instanceof Stopped)) this.ask.trouble(error);
@@ -246,58 +183,60 @@ export class Viewer {
 
   // What is printed up to the state that is shown; what came last is marked.
   showPrinted() {
-    const {view, before} = this;
+    const {view, before, session} = this;
     const pre = byId("printed");
     const fresh =
       before && before.amounts.output < view.amounts.output ? view.printedSince(before.amounts.output) : "";
     const {output} = view;
+    const isEmpty = !session.input && !output && !session.printout?.printed && !view.state.ending;
+    byId("papers-below").classList.toggle("blank", isEmpty);
     const ending =
       view.state.ending ? `${output && !output.endsWith("\n") ? "\n" : ""}${view.state.line}` : "";
     pre.replaceChildren(
       output.slice(0, output.length - fresh.length), make("span", {class: "fresh"}, fresh),
       make("span", {class: "ending"}, ending)
     );
+    byId("printed-strip").replaceChildren(inLine(output.slice(0, output.length - fresh.length)),
+                                          make("span", {class: "fresh"}, inLine(fresh)));
+    byId("printed-strip").scrollLeft = byId("printed-strip").scrollWidth;
     byId("printed-label").textContent = view.state.ending ? "Printed" : `Printed so far`;
     pre.scrollTop = pre.scrollHeight;
   }
 
-  // The fields with links, each a button that turns the direction of its links; and the bugs that are hidden.
-  showLegend() {
-    const {windows, ways} = this.drawing.graph;
-    byId("legend").replaceChildren(...windows.map((window) => this.legendOf(window, ways.get(window.key))));
-    const show = (name) => make(
-      "button",
-      {type: "button", title: `Bug ${name} is not drawn: show it again`, onclick: () => this.ask.hide(name)},
-      `${name} hidden`
-    );
-    byId("hidden-bugs").replaceChildren(...(this.session?.hidden ?? []).map(show));
-  }
-
-  legendOf(window, way) {
-    const colour = this.drawing.colourOf(window.name);
-    if (!way) return make("span", {class: colour}, window.name);
-    const arrow = way.isBack ? "←" : "→";
-    const title = `Links of ${window.name} lead ${way.down ? "down" : "along a line"}: click to turn`;
-    return make(
-      "button", {type: "button", class: colour, title, onclick: () => this.turn(window, way)},
-      `${window.name} ${way.down ? "↓" : arrow}`
-    );
-  }
-
-  turn(window, way) {
-    for (const name of window.names) this.drawing.directions.set(name, way.down ? "right" : "down");
+  // The run was read meanwhile: the drawing is made of all of it.
+  learned(session) {
+    if (this.session !== session || !this.view) return;
+    this.drawing.learn(session.reading, session.chronicle);
     this.redraw();
+    this.showCalls();
+    this.story.tellChanges();
+  }
+
+  tidy() {
+    this.drawing.tidy();
+    byId("tidy").setAttribute("aria-pressed", String(this.drawing.isTidy));
+    this.redraw();
+  }
+
+  // What is said of the drawing: first pointers that dangle, then what one does not see.
+  tellDrawing(warnings, notes) {
+    const texts = [...warnings, ...notes];
+    const more = texts.length > 1 ? ` (and ${texts.length - 1} more)` : "";
+    const text = texts.length ? `${warnings.length ? "⚠ " : ""}${texts[0]}${more}` : "";
+    if (byId("warnings").textContent !== text) byId("warnings").textContent = text;
+    byId("warnings").title = texts.join("\n");
+    byId("warnings").classList.toggle("note", !warnings.length);
   }
 
   redraw() {
     if (!this.view) return;
-    this.drawing.forgetSize();
     this.drawing.show(this.view, this.before);
-    this.showLegend();
+    this.legend.show(this.session.hidden);
     this.showDetails();
   }
 
   async chooseBlock(place) {
+    this.ask.openTables();
     this.chosen = place;
     byId("place").value = place ?? "";
     byId("chain").value = "";
@@ -374,7 +313,7 @@ export class Viewer {
       this.editor.measure();
       this.editor.revealSpot();
       if (!this.view) return;
-      this.redraw();
+      this.drawing.resized();
       this.strip.draw();
     }, 120);
   }
@@ -382,22 +321,30 @@ export class Viewer {
   // Shows nothing of a run, and says why not.
   clear(why) {
     this.view = this.before = this.followed = this.trapTold = null;
+    this.story.forget();
     this.drawing.empty(why);
+    this.legend.forget();
+    byId("papers-below").classList.toggle("blank", !byId("input").value);
     this.strip.forget();
     this.history.forget();
     this.editor.point(null);
     for (const id of
-           ["next", "changes", "bugs", "fields", "words", "led", "answer", "legend", "hidden-bugs", "printed",
+           ["next", "changes", "bugs", "bug-strip", "fields", "words", "led", "answer", "printed", "printed-strip",
             "frames", "trap"])
       byId(id).replaceChildren();
-    for (const id of ["card", "frames", "trap"]) byId(id).hidden = true;
+    for (const id of ["card", "calls", "call-tree", "trap"]) byId(id).hidden = true;
     byId("board").classList.add("vacant");
     byId("amounts").textContent = "";
     byId("where").textContent = "Not run yet";
-    byId("where").parentElement.classList.remove("trap");
+    byId("now").classList.remove("trapped");
     byId("empty").replaceChildren(make(
       "div", {}, ...(why ? [make("b", {}, why), make("br")] : []),
       "Run goes to the end. Step goes on by one step."
     ));
   }
+}
+
+// The end of a printout in a line.
+function inLine(text) {
+  return text.slice(-MOST_IN_LINE).replaceAll("\n", " ⏎ ");
 }

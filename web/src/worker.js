@@ -1,7 +1,9 @@
 // The worker: it has the module, and does the jobs that the page sends, one after another.
 
 import {answered} from "./serve.js";
+import {surveyed} from "./survey.js";
 
+/** @type {any} */
 let module = null;
 
 self.onmessage = ({data}) => {
@@ -10,6 +12,10 @@ self.onmessage = ({data}) => {
     return;
   }
   try {
+    if (data.survey) {
+      self.postMessage({number: data.number, told: surveyed(module, data.survey)});
+      return;
+    }
     const answer = answered(module, data);
     const transfer = [answer.output.buffer, answer.errors.buffer];
     self.postMessage({number: data.number, answer}, {transfer});

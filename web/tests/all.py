@@ -28,7 +28,7 @@ TOP = WEB.parent
 PAGE = TOP / "dist" / "l6.html"
 AT_ONCE = 4  # parts
 SHARDS = 3  # into which the trials in Chromium are parted
-LEAST_IN_CHROMIUM = {"quick": [240, 210, 255], "all": [250, 240, 315]}  # trials of each shard
+LEAST_IN_CHROMIUM = {"quick": [295, 310, 335], "all": [355, 415, 430]}  # trials of each shard
 NEW_MANUAL = ["--new-manual"] if shutil.which("markdown_py") else []
 COUNT = re.compile(r"^(\d+) passed, (\d+) failed$")
 
@@ -93,10 +93,13 @@ def parts(program: Path, is_quick: bool) -> Iterator[Part]:
         yield Part({"chromium"}, f"the page in Chromium, {number} of {SHARDS}", shard, least)
     random = [sys.executable, str(HERE / "random_jobs.py"), str(program)]
     yield Part({"node"}, "random jobs in node", random, 3000)
-    yield Part({"node"}, "the parts of the page in node", ["node", str(HERE / "parts.mjs")], 760)
+    yield Part({"node"}, "the parts of the page in node", ["node", str(HERE / "parts.mjs")], 920)
+    yield Part({"node"}, "the provenance in node", ["node", str(HERE / "provenance.mjs")], 64)
+    yield Part({"node"}, "the layout in node", ["node", str(HERE / "layout.mjs")], 65)
+    yield Part({"node"}, "the camera in node", ["node", str(HERE / "camera.mjs")], 15)
     yield Part({"node"}, "the cases in node", ["node", str(HERE / "cases.mjs")], 620)
     yield Part({"tsc"}, "the types of the scripts", [sys.executable, str(HERE / "check_types.py")], 1)
-    yield Part({"firefox"}, "the page in Firefox", [sys.executable, str(HERE / "firefox.py")], 10)
+    yield Part({"firefox"}, "the page in Firefox", [sys.executable, str(HERE / "firefox.py")], 11)
 
 
 def main() -> int:

@@ -142,6 +142,41 @@ class Browser:
             how = {"x": at, "y": y, "button": "left", "buttons": buttons, "clickCount": 1}
             self._call("Input.dispatchMouseEvent", type=kind, **how)
 
+    def drag_from(self, x: float, y: float, dx: float, dy: float) -> None:
+        """Drags from a point of the window."""
+        for kind, part, buttons in (("mousePressed", 0, 1), ("mouseMoved", 0.5, 1), ("mouseMoved", 1, 1),
+                                    ("mouseReleased", 1, 0)):
+            how = {"x": x + dx * part, "y": y + dy * part, "button": "left", "buttons": buttons, "clickCount": 1}
+            self._call("Input.dispatchMouseEvent", type=kind, **how)
+
+    def wheel(self, x: float, y: float, by: float) -> None:
+        """Turns the wheel at a point of the window: below 0 is up."""
+        self._call("Input.dispatchMouseEvent", type="mouseWheel", x=x, y=y, deltaX=0, deltaY=by)
+        self.value("new Promise(it => setTimeout(it, 60))")
+
+    def pinch(self, x: float, y: float, before: float, after: float) -> None:
+        """Two fingers go from one distance to another around a point of the window."""
+        def points(apart: float) -> list[dict[str, float]]:
+            return [{"x": x - apart / 2, "y": y, "id": 0}, {"x": x + apart / 2, "y": y, "id": 1}]
+
+        self._call("Emulation.setTouchEmulationEnabled", enabled=True)
+        self._call("Input.dispatchTouchEvent", type="touchStart", touchPoints=points(before))
+        for part in (0.3, 0.6, 1):
+            apart = before + (after - before) * part
+            self._call("Input.dispatchTouchEvent", type="touchMove", touchPoints=points(apart))
+        self._call("Input.dispatchTouchEvent", type="touchEnd", touchPoints=[])
+        self._call("Emulation.setTouchEmulationEnabled", enabled=False)
+
+    def moving(self, is_on: bool) -> None:
+        """Whether the reader likes motion, from now on."""
+        features = [{"name": "prefers-reduced-motion", "value": "no-preference" if is_on else "reduce"}]
+        self._call("Emulation.setEmulatedMedia", features=features)
+
+    def printing(self, is_on: bool) -> None:
+        """Whether the page is shown as it is printed."""
+        self._call("Emulation.setEmulatedMedia", media="print" if is_on else "")
+        self.value("new Promise(it => setTimeout(it, 50))")
+
     def picture(self, path: Path) -> None:
         """Writes a picture of the window."""
         data = self._call("Page.captureScreenshot", format="png")["data"]

@@ -21,8 +21,12 @@ import trial_runs  # noqa: E402, F401
 import trial_decks  # noqa: E402, F401
 import trial_controls  # noqa: E402, F401
 import trial_class  # noqa: E402, F401
+import trial_store  # noqa: E402, F401
 import trial_large  # noqa: E402, F401
 import trial_lesson  # noqa: E402, F401
+import trial_stays  # noqa: E402, F401
+import trial_walks  # noqa: E402, F401
+import trial_outside  # noqa: E402, F401
 import trial_looks  # noqa: E402
 from browser import Browser, NotBegun  # noqa: E402
 from page import TOP, TRIALS, Page  # noqa: E402
@@ -83,7 +87,7 @@ def chosen(words: list[str]) -> list[Callable[[Page], None]]:
     only, part = taken("--only"), taken("--part")
     trials = [it for it in TRIALS if it.__name__ == only.replace(" ", "_")] if only else TRIALS
     if "--quick" in words:
-        trials = [it for it in trials if it.__module__ not in ("trial_large", "trial_lesson")]
+        trials = [it for it in trials if it.__module__ not in ("trial_large", "trial_lesson", "trial_walks")]
     first, step = map(int, part.split("/")) if part else (1, 1)
     return trials[first - 1::step]
 

@@ -142,7 +142,24 @@ def text(name: str) -> str:
     return f"document.getElementById('{name}').textContent"
 
 
-FITS = "(e => e.scrollWidth <= e.clientWidth)(document.getElementById('deck'))"
+LETTERS = "parseFloat(getComputedStyle(document.getElementById('deck')).fontSize) >= 14"
+STAYS = """(async () => {
+    const read = () => new Map([...document.querySelectorAll('#drawing .block')].map(it => {
+        const {x, y} = it.querySelector('.edge').getBoundingClientRect();
+        return [it.dataset.place, [x, y]];
+    }));
+    while (!l6.session.chronicle) await new Promise(it => setTimeout(it, 20));
+    l6.viewer.drawing.camera.follows = false;
+    let [old, moved] = [read(), 0];
+    for (let step = 0; step < 60; step++) {
+        await l6.step();
+        const now = read();
+        for (const [place, [x, y]] of now)
+            if (old.has(place) && Math.hypot(x - old.get(place)[0], y - old.get(place)[1]) > 1) moved++;
+        old = now;
+    }
+    return `${moved} of ${old.size}`;
+})()"""
 DRAWN = "['.block', '.arrow'].map(it => document.querySelectorAll(it).length).join(' ')"
 LISTED = f"l6.papers.open('listing').then(() => {text('paper')}.split('\\n')[0])"
 STOPPED = f"""(async () => {{
@@ -204,7 +221,8 @@ TRIALS = [  # what is tried, the link, a script, and its answer
     ("a state of an example", "#tree@137", DRAWN, "6 5"),
     ("the store", "#tree@137", text("store-text"), "6 blocks; 12 words used, 8,180 free, largest 1,024"),
     ("a listing", "", LISTED, "      1     0   (A,E,5)(A,PD)"),
-    ("72 columns fit", "#tree", FITS, True),
+    ("letters of the deck", "#tree", LETTERS, True),
+    ("no block moves", "#reverse@100", STAYS, "0 of 8"),
     ("an endless deck is stopped", "", STOPPED, "stopped"),
     ("the plan for 45 minutes", "", LESSON, LESSON_ENDS),
     ("the lecture view", "#tree@137", WIDE, "18px"),

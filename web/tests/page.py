@@ -25,7 +25,10 @@ class Page:
         self.passed = self.failed = 0
         self.trial = ""
 
-    def open(self, fragment: str = "") -> None:
+    def open(self, fragment: str = "", keeps: bool = False) -> None:
+        """Opens the page, without what was typed into it before, unless that is to be kept."""
+        if not keeps:
+            self.browser.value("window.l6 && (clearTimeout(l6.keeper?.timer), localStorage.removeItem('l6.work'))")
         self.browser.open(self.file, fragment)
 
     def put(self, deck: str, text: str = "", **options: int) -> None:

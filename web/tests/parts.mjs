@@ -1,5 +1,5 @@
 // Tests the parts of the page that need no browser: reading decks and transcripts, a session on the module,
-// the store's pieces, layouts and arrows, links, changes and chains.
+// the store's pieces, links, changes and chains.
 //
 // parts.mjs prints what differs, and last 'N passed, M failed'.
 
@@ -10,16 +10,17 @@ import {follow} from "../src/chain.js";
 import {changesOf, endingOf} from "../src/changes.js";
 import {findingsOf} from "../src/checker.js";
 import {linesOf, readDeck} from "../src/deck.js";
-import {graphOf, waysOf} from "../src/graph.js";
-import {arrange} from "../src/layout.js";
-import {linkOf, readLink} from "../src/links.js";
+import {waysOf} from "../src/graph.js";
+import {job, partsOf} from "../src/job.js";
+import {linkOf, readLink, sumOf} from "../src/links.js";
 import {actionAt, meaningOf, testMeaning} from "../src/meaning.js";
 import {DEFAULTS, RANGES} from "../src/options.js";
 import {Router} from "../src/route.js";
-import {job, partsOf, Session} from "../src/session.js";
+import {Session} from "../src/session.js";
 import {textNames} from "../src/texts.js";
 import {stateOf, Transcript} from "../src/transcript.js";
 import {unpacked} from "../src/unpack.js";
+import {isUsed} from "../src/verify.js";
 import {likelyText, octal, seenThrough, textOf} from "../src/word.js";
 
 import {canary, compiled, MEMORY, serveText, Tally, TOP, WEB} from "./common.mjs";
@@ -76,6 +77,11 @@ for (const {name, deck, said} of rowsOf("checks")) {
   same(`what is found in ${name}`, saidBy(found), said.slice(0, -counts.length - 1));
   const areThere = found.every(({from, to, says}) => from < to && says);
   tally.count(`the columns of what is found in ${name}`, areThere, () => JSON.stringify(found));
+  const bytes = Buffer.from(deck).toString("latin1"); // (a column is a byte)
+  const shown = findingsOf(serveText(module, ["check", "--long"], bytes).output, linesOf(bytes));
+  same(`the same with its cards in ${name}`, Buffer.from(saidBy(shown), "latin1").toString(), saidBy(found));
+  const isUnder = ({from, to, shown: card}) => card === "" || card.endsWith(`\n${" ".repeat(from)}${"^".repeat(to - from)}`);
+  tally.count(`signs under the columns in ${name}`, shown.every(isUnder), () => JSON.stringify(shown));
 }
 const [, , third] = findingsOf(
   "1:9: error: no card gives the label `LOPP`\n    is it `LOOP`?\n2:1: warning: an element\n" +
@@ -83,7 +89,7 @@ const [, , third] = findingsOf(
   [" (A,PD) LOPP", "X", " IF (A)  "]
 );
 same("a finding without advice", third, {
-  card: 2, from: 1, isError: true, to: 7, says: "the statement `IF (A)` ends", advice: ""
+  card: 2, from: 1, isError: true, to: 7, says: "the statement `IF (A)` ends", advice: "", shown: ""
 });
 same("a deck that is being typed", readDeck(" (A,E,5\nB (PL)) X\n?\n+(PL) C\n").cards, [0, 1, -1, 1]);
 
@@ -471,52 +477,13 @@ same("N leads to the right beside others", leads(["N", "F"], [["N", 1, 2], ["F",
   false, true
 ]);
 
-// ---- Drawings: no block covers another, and no arrow goes through one
+// ---- Large states, and the ways of arrows
 
 function overlaps(one, other) {
   return one.x < other.x + other.width && other.x < one.x + one.width && one.y < other.y + other.height &&
     other.y < one.y + one.height;
 }
 
-function drawn(name, view, room) {
-  const graph = graphOf(view, null, new Map(), "auto");
-  const blocks = graph.blocks.filter((it) => !it.isLost);
-  const {places, width} =
-    arrange(blocks, new Map(graph.bugs.map((it) => [it.name, it.place])), room, graph.isBox);
-  const boxes = blocks.map((it) => places.get(it.place));
-  const clash = boxes.findIndex((box, index) => boxes.slice(index + 1).some((it) => overlaps(box, it)));
-  tally.count(`${name}: each block has a place`, boxes.every((it) => it), () => "one has none");
-  tally.count(`${name}: no block covers another`, clash < 0, () => `that at ${blocks[clash].place} does`);
-  return {graph, places, width};
-}
-
-const files = readdirSync(`${TOP}/examples`).filter((it) => it.endsWith(".deck"));
-for (const file of files) {
-  const parts = partsOf(readFileSync(`${TOP}/examples/${file}`, "latin1"));
-  const one = session(parts.deck, parts.input);
-  await one.run();
-  for (const part of [0.3, 0.6, 0.9])
-    drawn(`${file} at ${part}`, await one.view(Math.floor(one.last * part)), 700);
-}
-const hundred = session(" (0,DN,18,35)\nG (L,GT,1,LN)(C,A,1)\n IF (C,L,100) THEN G\n");
-await hundred.run();
-const list = drawn("a list of 100", await hundred.view(hundred.last), 900);
-tally.count("it wraps", list.width <= 900, () => String(list.width));
-
-const double = session(`
- (0,DP,0,17)(0,DN,18,35)
-G (X,GT,1)(XP,E,L)
- IF (L,N,0) THEN (LN,E,X)
- (L,E,X)(C,A,1)
- IF (C,L,4) THEN G
-`);
-await double.run();
-const both = drawn("a list that is linked both ways", await double.view(double.last), 900);
-same(
-  "it is a line from its first block to its last",
-  [...both.places].sort((a, b) => a[1].x - b[1].x).map(([it]) => it), [1024, 1025, 1026, 1027]
-);
-same("in one line", new Set([...both.places.values()].map((it) => it.y)).size, 1);
 const big = session(" (0,DN,18,35)\nG (L,GT,1,LN,F) G\nF DONE\n");
 await big.run();
 const chosen = (await big.view(big.last)).shown;
@@ -526,7 +493,7 @@ tally.count(
   big.views.size < 80 && !big.has(big.last - 100) && big.has(big.last), () => `${big.views.size} are kept`
 );
 same(
-  "of 8,192 blocks 150 are shown", [chosen.places.length, chosen.hidden, chosen.places[0]], [150, 8042, 9215]
+  "of 8,192 blocks 300 are shown", [chosen.places.length, chosen.hidden, chosen.places[0]], [300, 7892, 9215]
 );
 
 const boxes = [
@@ -555,12 +522,30 @@ const own =
   await readLink(await linkOf({deck: " (<b>,PH)\n", input: "x", options, breakpoints: [1, 4], number: 7}));
 same(
   "a link keeps all", own,
-  {deck: " (<b>,PH)\n", input: "x", options, number: 7, breakpoints: [1, 4], lecture: false}
+  {deck: " (<b>,PH)\n", input: "x", options, number: 7, breakpoints: [1, 4], lecture: false, embed: false}
 );
 same(
   "an example's link", await readLink(await linkOf({example: "tree", breakpoints: [5], number: 137})),
-  {example: "tree", number: 137, breakpoints: [5], lecture: false}
+  {example: "tree", number: 137, breakpoints: [5], lecture: false, embed: false}
 );
+same(
+  "for a frame", await readLink(await linkOf({example: "tree", breakpoints: [], number: 137, embed: true})),
+  {example: "tree", number: 137, breakpoints: [], lecture: false, embed: true}
+);
+// (the sum of "123456789" is the check value of CRC-32, cbf43926)
+same("a checksum", sumOf("123456789"), 0xcbf43926.toString(36));
+const wholeLink = await linkOf({deck: " (A,E,5)(A,PD)\n", input: "ABC", options, breakpoints: [2], number: 3});
+let opened = 0;
+for (let place = 1; place < wholeLink.length; place++)
+  for (const other of ["A", "7", "-"]) {
+    const damaged = wholeLink.slice(0, place) + other + wholeLink.slice(place + 1);
+    if (damaged === wholeLink) continue;
+    const found = await readLink(damaged);
+    if (found && !found.damaged) opened++;
+  }
+for (let length = 2; length < wholeLink.length; length++)
+  if (!(await readLink(wholeLink.slice(0, length)))?.damaged && length > 5) opened++;
+same("of many damaged links none is opened", opened, 0);
 for (const bad of
        ["", "#", "#deck=%%", "#deck=AAAA", "#a b",
         "#deck=" +
@@ -574,10 +559,13 @@ for (const bad of
 
 const answers = readFileSync(`${TOP}/docs/answers.md`, "utf8");
 const printed = (deck, input) => serveText(module, ["run"], job(deck, null, input)).output.split("\n== ")[0];
-for (const {key, deck, input, printout} of JSON.parse(readFileSync(`${WEB}/exercises.json`, "utf8"))) {
+for (const {key, deck, input, printout, tests = [], conditions = {}} of JSON.parse(readFileSync(`${WEB}/exercises.json`, "utf8"))) {
   const answer = answers.split(`**${key.slice("exercise-".length)}.**`)[1];
   const parts = partsOf(/```text\n([^]*?)```/.exec(answer)[1]);
   same(`${key}: the answer`, printed(parts.deck, parts.input).trimEnd(), printout);
+  for (const test of tests)
+    same(`${key}: the answer, with ${test.input.trim()}`, printed(parts.deck, test.input).trimEnd(), test.printout);
+  if (conditions.uses) tally.count(`${key}: it uses ${conditions.uses}`, isUsed(readDeck(parts.deck), conditions.uses), () => "no");
   same(`${key}: the deck to begin with has no error`, serveText(module, ["check"], deck).status, 0);
   tally.count(
     `${key}: it is not the answer`, printed(deck, input ?? "").trimEnd() !== printout, () => "it is"

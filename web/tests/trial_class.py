@@ -108,7 +108,12 @@ def lecture(page: Page) -> None:
             page.browser.wait("!l6.engine.isBusy")
             small = [it for it in page.value(f"{LETTERS}('body')") if it < 18]
             page.same(f"letters of {key} at {width}x{height}", small, [])
-            page.right("the card is in sight", page.value(f"{IN_VIEW}(document.querySelector('.spot.at'))"))
+            page.right("the card is in sight", page.value(f"{IN_VIEW}(document.querySelector('.cards .at'))"))
+            cut = "[...document.querySelectorAll('.cards code')].filter(it => it.scrollWidth > it.clientWidth).length"
+            page.same("each card is whole", page.value(cut), 0)
+            shown = """['run', 'mark-next', 'number', 'printed-strip', 'bug-strip']
+                .filter(it => !document.getElementById(it).offsetHeight)"""
+            page.same("Run, Next break, the state, the printout and the bugs are there", page.value(shown), [])
             page.right("the place, too", page.value(f"{IN_VIEW}(document.getElementById('where'))"))
     gone = """['header', '#store-pane', '.details', '.papers']
         .filter(it => document.querySelector(it).offsetHeight)"""
@@ -143,7 +148,7 @@ def splitter(page: Page) -> None:
     page.focus("splitter")
     page.browser.key("ArrowRight")
     page.browser.wait(f"{widths}[0] > {left - 140}")
-    page.same("it says how much", page.value("document.getElementById('splitter').ariaValueNow"), "37")
+    page.same("it says how much", page.value("document.getElementById('splitter').ariaValueNow"), "31")
     x, y = page.value("(({x, y, height}) => [x + 6, y + height / 2])(splitter.getBoundingClientRect())")
     page.browser.click_at(x, y, times=2)
     page.browser.wait(f"{widths}[0] === {left}")
@@ -158,8 +163,9 @@ def signs_and_words(page: Page) -> None:
     shown = """[...document.querySelectorAll('.controls button')].filter(it => it.offsetHeight)
         .filter(it => ![...it.querySelectorAll('span')].every(one => one.offsetWidth > 0)).map(it => it.id)"""
     for width, without in (
-        (1280, []),
-        (1024, ["statement", "over", "out", "mark-back", "mark-next", "to-cursor"]),
+        (1920, []),
+        (1280, ["statement", "over", "out", "mark-back", "to-cursor", "start", "end"]),
+        (1024, ["stop", "statement", "over", "out", "mark-back", "to-cursor", "start", "end"]),
     ):
         page.browser.resize(width, 720)
         page.same(f"buttons without words at {width}", page.value(shown), without)
@@ -206,6 +212,7 @@ def a_hand_on_the_run(page: Page) -> None:
 def leaps(page: Page) -> None:
     """Statements, calls, returns, and the last change of what is chosen."""
     page.open()
+    page.value("l6.panes.open('tables')")
     page.put(CALLS)
     page.do("l6.statement()")
     page.same("on to the next statement", page.text("where"), "AT 1.0 AFTER 7 STEPS")
@@ -273,16 +280,14 @@ def calls_by_name_and_value(page: Page) -> None:
         "newest on top",
         stacks(page),
         [
-            "TWO from statement 1 ONE(TWO,DO,ONE) FAIL: ONE at 10",
-            "ONE from statement 0(ONE,DO) at 6",
-            "A = 6  at 9",
-            "A = 5  at 3",
-            "V = no definition at 5",
-            "N = word 0, bits 18–35 at 4",
+            "TWO from statement 1 ONE, FAIL: ONE at 10",
+            "ONE from statement 0 at 6A = 6 ",
+            "outside of callsA = 5 field V = no definitionfield N = word 0, bits 18–35",
         ],
     )
     page.do("l6.state(15)")
-    page.same("after a return", [it.split(" from")[0] for it in stacks(page)][:2], ["ONE", "A = 6  at 9"])
+    page.same("after a return", [it.split(" from")[0] for it in stacks(page)][:1], ["ONE"])
+    page.has("with what it saved", stacks(page)[0], "A = 6")
     page.browser.click("#frames li button.to")
     page.browser.wait("l6.view.state.number === 6 && !l6.isBusy")
     page.right("a click goes to the call", True)
@@ -291,10 +296,10 @@ def calls_by_name_and_value(page: Page) -> None:
     shown = stacks(page)
     page.same(
         "of 1,024 calls the newest are shown",
-        [len(shown), shown[0].split("(")[0], shown[24]],
-        [50, "R from statement 0 R", "and 1,000 older ones"],
+        [len(shown), shown[0].split(" at")[0], shown[-1]],
+        [202, "R from statement 0 R", "and 824 older ones"],
     )
-    page.has("with their values", shown[25], "A = 1024")
+    page.has("with their values", shown[1], "A = 1024")
 
 
 @trial
@@ -446,57 +451,6 @@ def tasks(page: Page) -> None:
 
 
 @trial
-def for_writers_of_allocators(page: Page) -> None:
-    pills = "[...document.querySelectorAll('.pill')].map(it => it.dataset.bug).sort().join()"
-    page.open()
-    page.put(" (C,E,1024)(0,DN,18,35)(D,GT,1)(A,GT,3)(AN,E,D)(D,E,0)(C,PD)\n")
-    page.do("l6.state(4)")
-    page.do("l6.step()")
-    page.has("what a get wastes", page.text("changes"), "got 4 words at 1028 (3 asked for, so 1 wasted; ")
-    page.has("the largest free piece", page.text("store-text"), "largest 1,024")
-    page.do("l6.run()")
-    page.same("a counter leads to a block", page.value(pills), "A,C")
-    page.browser.click(".pill[data-bug=C]")
-    page.browser.wait("!l6.isBusy && document.querySelectorAll('.pill').length === 1")
-    page.same("a click hides it", [page.value(pills), page.text("hidden-bugs")], ["A", "C hidden"])
-    page.browser.click("#hidden-bugs button")
-    page.browser.wait("!l6.isBusy && document.querySelectorAll('.pill').length === 2")
-    page.right("and another shows it", True)
-    page.value("document.getElementById('by-size').click()")
-    page.has(
-        "pieces a level", page.text("levels-text"), "of 1: 1 block, 1 free · of 2: 1 free · of 4: 1 block"
-    )
-    page.open("#join@0")
-    page.right(
-        "the examples of the store are by size", page.value("document.getElementById('by-size').checked")
-    )
-    page.example("lost")
-    page.right("the next deck is not", not page.value("document.getElementById('by-size').checked"))
-
-
-@trial
-def the_store_over_the_run(page: Page) -> None:
-    page.open("#buddy@130")
-    page.value("document.getElementById('over-states').click()")
-    page.browser.wait("document.querySelectorAll('#history polyline').length === 3")
-    page.has(
-        "the graph in words",
-        page.value("document.querySelector('#history svg').ariaLabel"),
-        "Over 177 states, of 8,192 words: words in blocks from 0 to 1,024",
-    )
-    page.has("and at this state", page.text("history"), "words in blocks: 704")
-    points = page.value("document.querySelector('#history .used').getAttribute('points').split(' ').length")
-    page.same("its points", points, 60)
-    box = page.value(
-        "(({left, top, width}) => [left, top, width])"
-        "(document.querySelector('#history svg').getBoundingClientRect())"
-    )
-    page.browser.click_at(box[0] + box[2] / 2, box[1] + 30)
-    page.browser.wait("l6.view.state.number === 88")
-    page.right("a click goes to a state", True)
-
-
-@trial
 def numbers_and_letters(page: Page) -> None:
     """A number is a number, unless the field holds texts."""
     cells = "[...document.querySelectorAll('.cell .value')].map(it => it.textContent)"
@@ -547,7 +501,7 @@ def on_a_small_screen(page: Page) -> None:
     """After Run the answer is in view; targets are large; an empty drawing folds."""
     page.browser.resize(375, 667, phone=True)
     page.open()
-    page.put(" (A,GT,1)(HELLO,PH)\n")
+    page.put(" (HELLO,PH)\n")
     height = "document.getElementById('run').getBoundingClientRect().y"
     place = page.value(height)
     page.value("l6.tellBusy()")

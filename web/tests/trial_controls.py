@@ -9,7 +9,8 @@ IDS = """[...new Set([...document.querySelectorAll(
     'button[id], select, textarea, input, summary, [tabindex="0"], [role=separator]')]
     .filter(it => !it.closest('svg'))
     .map(it => it.id || it.parentElement.id))].filter(it => it).sort()"""
-KEEP = """window.kept = []; URL.createObjectURL = (it) => { kept.push(it); return 'about:blank#'; };
+KEEP = """window.kept = []; window.address ??= URL.createObjectURL.bind(URL);
+    URL.createObjectURL = (it) => { kept.push(it); return 'about:blank#'; };
     HTMLAnchorElement.prototype.click = function () { kept.push(this.download); };
     navigator.clipboard.writeText = (it) => { window.copied = it; return Promise.resolve(); };
     window.confirm = () => true;"""
@@ -21,8 +22,13 @@ PICKED = """(() => {
 })()"""
 STATE, DECK = "l6.view.state.number", "document.getElementById('deck').value"
 OPEN = "document.querySelector('dialog[open]')?.id ?? ''"
-WIDTH = "l6.viewer.drawing.picture.getBoundingClientRect().width"
+DETAILS = "document.getElementById('details').getBoundingClientRect().height"
 SESSION = "l6.papers.open('session')"
+CLICKS = "window.kept = []; URL.createObjectURL = window.address ?? URL.createObjectURL; HTMLAnchorElement.prototype.click = function() { kept.push(this.download); };"
+SHARE = "document.getElementById('share').open = true;"
+MORE = "document.getElementById('task-more').open = true"
+ANSWERS = """document.getElementById('answers-note').textContent = '';
+    document.getElementById('%s').dispatchEvent(new Event('change'))"""
 TASK = "l6.tasks.open()"
 
 # Of each control: what comes before it, what is done with it (a click; a value and an event; a key), what is
@@ -57,6 +63,25 @@ CONTROLS: dict[str, tuple[str, object, str, object]] = {
         "document.getElementById('letter-keys').checked",
         False,
     ),
+    "share": ("0", "click", "document.getElementById('share').open", True),
+    "save-svg": (f"{KEEP} {SHARE}", "click", "kept.at(-1)", "drawing.svg"),
+    "save-png": (f"{CLICKS} {SHARE}", "click", "kept.at(-1)", "drawing.png"),
+    "keep-state": (SHARE, "click", "document.querySelectorAll('#handout figure').length", 1),
+    "print": (f"window.print = () => {{ window.printed = 1; }}; {SHARE}", "click", "window.printed", 1),
+    "frame-code": (
+        f"{SHARE} navigator.clipboard.writeText = () => Promise.resolve()", "click", NOTE,
+        "The code of the frame is copied."
+    ),
+    "task-more": (TASK, "click", "document.getElementById('task-more').open", True),
+    "task-tests": (f"{TASK}; {MORE}", ("AB", "input"), "document.getElementById('task-tests').value", "AB"),
+    "task-lost": (f"{TASK}; {MORE}", "click", "l6.tasks.conditions().noLost", True),
+    "task-list": (f"{TASK}; {MORE}", ("L N 3", "input"), "l6.tasks.conditions().list.length", 3),
+    "task-uses": (f"{TASK}; {MORE}", ("n", "input"), "l6.tasks.conditions().uses", "N"),
+    "read-answers": (TASK, "click", "document.getElementById('answers-dialog').open", True),
+    "answer-files": (ANSWERS % "answer-files", None, "document.getElementById('answers-note').textContent",
+                     "No file there ends in .answer."),
+    "answer-folder": (ANSWERS % "answer-folder", None, "document.getElementById('answers-note').textContent",
+                      "No file there ends in .answer."),
     "task": ("0", "click", OPEN, "task-dialog"),
     "lecture": ("0", "click", "document.body.className", "lecture"),
     "leave-lecture": ("l6.panes.lecture(true)", "click", "document.body.className", ""),
@@ -104,9 +129,25 @@ CONTROLS: dict[str, tuple[str, object, str, object]] = {
         "The input has changed.",
     ),
     "printed": ("0", "focus", "document.activeElement.id", "printed"),
-    "splitter": ("l6.panes.share(40)", "ArrowLeft", "document.getElementById('splitter').ariaValueNow", "38"),
+    "splitter": ("l6.panes.splitter.share(40)", "ArrowLeft", "document.getElementById('splitter').ariaValueNow", "38"),
     "detail": ("l6.viewer.redraw()", ("boxes", "change"), "l6.viewer.drawing.graph.isBox", True),
-    "zoom": (f"window.width = {WIDTH}", (200, "input"), f"Math.round({WIDTH} / width)", 2),
+    "follow": ("0", "click", "l6.viewer.drawing.camera.follows", False),
+    "tidy": ("0", "click", "l6.viewer.drawing.isTidy", True),
+    "show-store": ("0", "click", "document.getElementById('store-pane').offsetHeight", 0),
+    "show-tables": ("0", "click", "document.getElementById('details').offsetHeight", 0),
+    "row-splitter": (
+        f"window.height = {DETAILS}", "ArrowUp", f"Math.round(({DETAILS} - height) / innerHeight * 100)", 2
+    ),
+    "show-calls": (
+        "await l6.library.openExample('tree'), await l6.state(137)", "click",
+        "document.getElementById('call-tree').hidden", False
+    ),
+    "frames": ("await l6.library.openExample('tree'), await l6.state(137)", "focus",
+               "document.activeElement.id", "frames"),
+    "call-tree": (
+        "await l6.library.openExample('tree'), await l6.state(137), document.getElementById('show-calls').click()",
+        "focus", "document.activeElement.id", "call-tree"
+    ),
     "unit": ("0", (3, "input"), "document.getElementById('strip').ariaLabel", "3072 free of 1024"),
     "by-size": ("0", "click", "document.getElementById('levels').hidden", False),
     "over-states": ("0", "click", "document.querySelectorAll('#history polyline').length", 3),
@@ -210,13 +251,18 @@ BEGIN = """(async () => {
     l6.panes.lecture(false);
     if (l6.manual.isOpen) l6.manual.toggle();
     l6.pause();
-    for (const it of document.querySelectorAll('input[type=checkbox]')) it.checked = it.id === 'letter-keys';
-    const values = {zoom: 100, memory: 1024, detail: 'auto', 'task-text': '', 'task-printout': ''};
+    for (const it of document.querySelectorAll('input[type=checkbox]')) it.checked = /letter-keys|follow/.test(it.id);
+    const values = {memory: 1024, detail: 'auto', 'task-text': '', 'task-printout': ''};
     for (const [id, value] of Object.entries(values)) document.getElementById(id).value = value;
-    l6.viewer.drawing.zoom = 1;
     l6.viewer.drawing.detail = 'auto';
-    l6.panes.share(null);
-    document.getElementById('options').open = false;
+    l6.viewer.drawing.camera.follows = true;
+    l6.viewer.drawing.replan();
+    l6.panes.splitter.share(null);
+    l6.panes.chosen = new Map([['tables', true], ['store', true]]);
+    l6.panes.showRows();
+    for (const id of ['options', 'share', 'task-more']) document.getElementById(id).open = false;
+    for (const id of ['task-tests', 'task-list', 'task-uses']) document.getElementById(id).value = '';
+    l6.pictures.forget();
     l6.library.isChanged = false;
     l6.library.openExample('lost');
     l6.setBreakpoints([3]);
@@ -233,7 +279,7 @@ def begin(page: Page) -> None:
 
 def use(page: Page, name: str, act: object) -> None:
     """Uses a control."""
-    selector = "#options summary" if name == "options" else f"#{name}"
+    selector = f"#{name} summary" if name in ("options", "share", "task-more") else f"#{name}"
     if act == "click":
         page.browser.click(selector)
     elif isinstance(act, tuple):

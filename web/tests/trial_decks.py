@@ -54,6 +54,8 @@ def several_faults(page: Page) -> None:
     page.do("l6.checker.check()")
     page.same("each has a line", page.value("document.querySelectorAll('#fault .error').length"), 3)
     page.same("and a mark", page.value("document.querySelectorAll('.spot.bad').length"), 3)
+    cards = page.value("[...document.querySelectorAll('#fault pre')].map((it) => it.textContent)")
+    page.same("and its card", cards, ["(A,E,5)\n^", " (A,PRINT)\n    ^^^^^", " IF (A,E,0)\n ^^^^^^^^^^"])
     page.browser.click("#fault .error:nth-of-type(2) button")
     page.same("a click leads there", page.value("l6.editor.cursor()"), {"card": 2, "column": 4})
 
@@ -88,7 +90,9 @@ def while_typing(page: Page) -> None:
     page.has("what a group does", page.text("next"), "gets a block for 4 words")
     page.put("* " + "x" * 70 + "\n")
     fits = "(e => e.scrollWidth <= e.clientWidth)(document.getElementById('deck'))"
+    page.browser.resize(1920, 1080)
     page.right("72 columns fit", page.value(fits))
+    page.browser.resize(1400, 900)
     change(page, " (A,PD)\n$COMMANDS\nstep 2\n$INPUT\nAB\n")
     boxes = [page.box(name) for name in ("deck", "input", "commands")]
     page.same("a job that was pasted is parted", boxes, [" (A,PD)\n", "AB\n", "step 2\n"])
@@ -233,8 +237,7 @@ def limits(page: Page) -> None:
     page.has("the limit of output", page.text("where"), "== TRAP 14 OUTPUT FULL AT 0.1 AFTER")
     page.put(" (0,DN,18,35)\nG (L,GT,1,LN,F) G\nF DONE\n")
     page.click("run")
-    notes = page.value("l6.viewer.drawing.layer.notes.textContent")
-    page.has("too many blocks to draw", notes, "Not drawn: 8,042 blocks")
+    page.has("too many blocks to draw", page.text("warnings"), "Not drawn: 7,892 blocks")
     page.fill("store", 9999, "change")
     page.same("an option out of range stays", page.box("store"), "9999")
     wrong = "Units of the store: a number from 1 to 255, and not “9999”."

@@ -21,12 +21,9 @@ def many_blocks(page: Page) -> None:
     page.do("l6.run()")
     page.has("250,000 blocks", page.text("store-text"), "250,000 blocks; 250,000 words used")
     page.right("of the answers little is sent", page.value("most") <= 100_000, str(page.value("most")))
-    page.same("150 are drawn", page.count(".block"), 150)
-    page.has(
-        "what is left out is said",
-        page.value("l6.viewer.drawing.layer.notes.textContent"),
-        "Not drawn: 249,850 blocks",
-    )
+    page.same("300 are drawn", page.count(".block"), 300)
+    page.has("what is left out is said", page.text("warnings"), "Not drawn: 249,700 blocks")
+    page.right("where one sees it", page.value("document.getElementById('warnings').offsetHeight > 0"))
     page.do("l6.back()")
     page.has("a step back", page.text("where"), "AT 3.0 AFTER 1500002 STEPS")
     page.value("void l6.state(700000)")
@@ -116,7 +113,7 @@ def damaged_links(page: Page) -> None:
     page.put(" (A,E,5)(A,PD)\n")
     page.do("l6.library.makeLink()")
     whole = page.value("location.hash")
-    page.has("a whole link", whole, "#deck=")
+    page.has("a whole link", whole, "#job=")
     for damaged in (
         whole[:-9],
         whole[:20],
@@ -126,6 +123,8 @@ def damaged_links(page: Page) -> None:
         "#tree@99999999999",
         "#tree!x",
         "#deck=AAAA@1",
+        whole.replace("=", "=A", 1),
+        whole[:-1] + ("1" if whole[-1] == "0" else "0"),
     ):
         page.open(damaged)
         page.has(f"the link {damaged[-30:]}", page.note(), "The link is damaged: ")
@@ -161,3 +160,20 @@ def what_waits(page: Page) -> None:
     page.click("run")
     page.fill("input", "B")
     page.same("a run of another input is not shown", [page.state(), page.text("printed")], [-1, ""])
+
+
+@trial
+def steps_in_a_large_store(page: Page) -> None:
+    """Of 180,000 blocks a step takes less than 0.3 seconds, once the page had a moment to look ahead."""
+    page.open()
+    page.put(" (0,DN,18,35)\nG (L,GT,1,LN)(C,A,1)\n IF (C,L,180000) THEN G\n", store=255, steps=100_000_000)
+    page.do("l6.run()")
+    page.do("l6.back()")
+    times = []
+    for _ in range(7):
+        page.value("(async () => { do await new Promise(it => setTimeout(it, 200));"
+                   " while (l6.engine.isBusy || l6.isForeseeing); })()")
+        times.append(page.value("(async () => { const begun = performance.now(); await l6.back();"
+                                " document.body.getBoundingClientRect(); return performance.now() - begun; })()"))
+    page.right("a step", sorted(times)[3] < 300, str([round(it) for it in times]))
+    page.has("what is not drawn is said", page.text("warnings"), "Not drawn: 179,")

@@ -46,6 +46,11 @@ class Hand:
             # (what is found in a deck that was just opened may move its cards)
             self.page.browser.wait("!l6.isBusy && !l6.engine.isBusy")
             button = f"#gutter button[aria-label$=' {statement}']"
+            line = self.page.box("deck")[:self.page.box("deck").index(card)].count("\n")
+            is_seen = f"Boolean(document.querySelector({json.dumps(button)}))"
+            if not self.page.value(is_seen):  # (the reader scrolls there)
+                self.page.value(f"void (l6.editor.text.scrollTop = {line} * l6.editor.row - 60)")
+                self.page.browser.wait(is_seen)
             self.page.value(AT_REST % json.dumps(button))
             self.page.browser.click(button)
         self.page.same(
@@ -142,6 +147,13 @@ def a_lesson(page: Page) -> None:
     page.browser.resize(1280, 720)
     page.open()
     page.value("localStorage.clear()")
+    lesson(page, Hand(page, keys=False))
+    page.browser.resize(1400, 900)
+
+
+@trial
+def a_lesson_on_a_small_projector(page: Page) -> None:
+    page.browser.resize(1024, 640)
     lesson(page, Hand(page, keys=False))
     page.browser.resize(1400, 900)
 

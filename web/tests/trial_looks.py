@@ -105,7 +105,7 @@ def on_a_phone(page: Page) -> None:
     for state in range(4, 400, 18):
         page.do(f"l6.state({state})")
         kinds.append(page.value("l6.viewer.drawing.graph.isBox"))
-    page.same("blocks get small once", sum(one != other for one, other in zip(kinds, kinds[1:])), 1)
+    page.same("blocks keep their size", sum(one != other for one, other in zip(kinds, kinds[1:])), 0)
     heights = page.value("[...document.querySelectorAll('.controls button')].map(e => e.offsetHeight)")
     heights = [it for it in heights if it]
     page.right("buttons are large enough for a thumb", min(heights) >= 36, str(heights))
@@ -146,7 +146,7 @@ def policy(page: Page) -> None:
     loader = text.partition("<script>")[2].partition("</script>")[0]
     style = text.partition("<style>")[2].partition("</style>")[0]
     want = (f"default-src 'none'; script-src {hashed(loader)} {hashed(script)} 'wasm-unsafe-eval'; "
-            f"worker-src blob:; style-src {hashed(style)}; base-uri 'none'; form-action 'none'")
+            f"worker-src blob:; img-src blob:; style-src {hashed(style)}; base-uri 'none'; form-action 'none'")
     page.open()
     policies = "[...document.querySelectorAll('meta[http-equiv]')].map(it => it.content)"
     page.same("the policy", page.value(policies), [want])
@@ -219,8 +219,8 @@ def what_is_lost(page: Page) -> None:
         "1028": ["block lost", "Block 1028, 4 words, lost. N 0, V 0", COLOURS["lost"]],
     })
     page.same("arrows", page.value(ARROWS), [f"1024 N 1026 {COLOURS['f0']}"])
-    notes = "['.lost .size', '.note.lost'].map(it => document.querySelector(it).textContent)"
-    page.same("the lost block says so", page.value(notes), ["4 words, lost", "Lost: nothing leads to it"])
+    notes = "['.lost .size', '#warnings'].map(it => document.querySelector(it).textContent)"
+    page.same("the lost block says so", page.value(notes), ["4 words, lost", "Lost: nothing leads to 1028"])
     scale = page.value("l6.viewer.strip.scale")
     lost = page.value(f"{STRIP}({int(6 * scale)}, 20)")[:3]
     page.right("it has its colour in the strip", lost[0] > 180 and lost[0] - lost[2] > 90, str(lost))
@@ -271,8 +271,8 @@ def access(page: Page) -> None:
     live = page.value("[...document.querySelectorAll('[aria-live], [role=status], [role=alert]')].map(it => "
                       "`${it.id} ${it.getAttribute('aria-live') ?? it.getAttribute('role')}`).sort()")
     page.same("what is spoken by itself", live, [
-        "fault status", "led polite", "options-note alert", "paper-note status", "spoken polite",
-        "task-note status"])
+        "answers-note status", "fault status", "led polite", "options-note alert", "paper-note status", "spoken polite",
+        "task-note status", "warnings status"])
     page.value("document.activeElement.blur()")
     page.browser.key("Tab")
     skip = page.value("(it => [it.className, it.getBoundingClientRect().top >= 0, "

@@ -54,7 +54,7 @@ def a_session(page: Page) -> None:
     page.click("mark-next")
     page.same("a breakpoint", page.text("where"), "AT 3.0 AFTER 14 STEPS")
     page.same("the card is marked", page.value("l6.editor.spot.card"), 4)
-    page.same("its blocks", page.value("[...l6.viewer.drawing.groups.keys()]"), [1024, 1026, 1028])
+    page.same("its blocks", page.value("[...l6.viewer.drawing.figures.blocks.keys()]"), [1024, 1026, 1028])
     page.same("its lost block", page.count(".block.lost"), 1)
     page.click("back")
     page.same("nothing changed on that way", [page.state(), page.text("changes")], [13, ""])
@@ -94,7 +94,7 @@ def what_is_said_aloud(page: Page) -> None:
     page.open("#tree@137")
     drawing = "l6.viewer.drawing.picture.getAttribute('aria-label')"
     page.has("the drawing", page.value(drawing), "6 blocks; T leads to 1024")
-    block = "l6.viewer.drawing.groups.get(1026).getAttribute('aria-label')"
+    block = "l6.viewer.drawing.figures.blocks.get(1026).getAttribute('aria-label')"
     page.has("a block", page.value(block), "Block 1026, 2 words, X leads here. L leads to 1032")
     page.has("the store", page.label("strip"), "1024 block of 2, 1026 block of 2")
 
@@ -121,9 +121,9 @@ def blocks_and_chains(page: Page) -> None:
         freed.append(page.text("changes").removeprefix("Changed ").partition(" · ")[0])
     page.same("joinings", [it for it in freed if it.startswith("freed")], JOININGS)
     page.open("#tree@137")
-    before = page.value("l6.viewer.drawing.size.width")
-    page.value("document.querySelectorAll('.legend button')[0].click()")
-    page.right("links are turned", page.value("l6.viewer.drawing.size.width") != before)
+    before = page.value("l6.viewer.drawing.plan.width")
+    page.value("document.querySelectorAll('.legend .way')[0].click()")
+    page.right("links are turned", page.value("l6.viewer.drawing.plan.width") != before)
 
 
 @trial

@@ -45,9 +45,9 @@ five_operations =
     }
     ∷ []
 
-pub five-spelled : FiveIsSpelled
+pub five_spelled : FiveIsSpelled
 unfolding card_width
-five-spelled = record {
+five_spelled = record {
   written = record {
     label = None;
     condition = Always;
@@ -152,13 +152,13 @@ by_rule : EndsBy store_rule context final
 unfolding digits
 by_rule = record { number = 6; is = refl; last = refl }
 
-pub five-printed : ScanChooses → FiveIsPrinted
+pub five_printed : ScanChooses → FiveIsPrinted
 unfolding digits
-five-printed chooses = record {
+five_printed chooses = record {
   fits = lit≤ tt;
   input_fits = lit≤ tt;
   assembly = five_assembly;
-  spelled = five-spelled;
+  spelled = five_spelled;
   run = record {
     final = final;
     ends = record { reached = record { older = earlier; run = run chooses }; last = refl };

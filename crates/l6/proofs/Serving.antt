@@ -9,19 +9,19 @@ use Rattle.l6_device.specs.declared.fault.Part.{Part}
 use Rattle.l6_device.specs.declared.fault.Part.TheVariants.{Deck, Image, Input, Commands, Job}
 use Rattle.l6_device.specs.declared.fault.RunFault.{RunFault}
 use Rattle.l6_device.specs.declared.fault.RunFault.TheVariants.{TooLong, Asm, Load, Read, Write, NoMemory}
-use Rattle.l6_device.proofs.DeviceUses.{retries-alone}
+use Rattle.l6_device.proofs.DeviceUses.{retries_alone}
 use Rattle.l6_run.specs.Prints.{Prints, PrintsLoaded, RefusesDeck, RefusesImage}
 use Rattle.l6_run.specs.Serves.{Serves}
 use Rattle.l6_run.specs.Texts.{RefusesCards, RefusesRewriting, RewritesImage, WritesImage}
-use Rattle.l6_run.proofs.Servings.{unreported-reader}
-use Rattle.l6_debug.proofs.Sessions.{unreported-debugger_state}
+use Rattle.l6_run.proofs.Servings.{unreported_reader}
+use Rattle.l6_debug.proofs.Sessions.{unreported_debugger_state}
 use Rattle.l6_debug.specs.Serving as sessions
 use Rattle.l6.specs.declared.job.Outcome.{Outcome}
 use Rattle.l6.specs.declared.job.Outcome.TheVariants.{Checked, Ran, Written}
 use Rattle.l6.specs.declared.job.Verb.{Verb}
 use Rattle.l6.specs.declared.job.Verb.TheVariants as verbs
 use Rattle.l6.specs.Checks.{ChecksDeck, RefusesCheck}
-use Rattle.l6_check.specs.declared.writing.Layout.{Layout}
+use Rattle.l6.specs.declared.checking.Shown.{Shown}
 use Rattle.l6_device.specs.JobParts.{commands_of, deck_of, head_of, input_of}
 use Rattle.l6.specs.JobResult.{Answers, JobOutcome, Refuses}
 
@@ -58,14 +58,14 @@ image_refused verb options job deck old new fault is head served =
     old new (Err fault)) head served))
 
 -- why nothing was said of a deck is why the job was not done whose head it is
-pub check_refused : (verb : Verb) (layout : Layout) (options : OptionValues) (job deck : List ℕ)
-    (old new : Option (List ℕ)) (fault : RunFault) → verb ≡ verbs.Check layout → deck ≡ head_of job →
+pub check_refused : (verb : Verb) (shown : Shown) (options : OptionValues) (job deck : List ℕ)
+    (old new : Option (List ℕ)) (fault : RunFault) → verb ≡ verbs.Check shown → deck ≡ head_of job →
     Serves (ChecksDeck deck) (RefusesCheck deck) old new (Err fault) →
     JobOutcome verb options job old new (Err fault)
-check_refused verb layout options job deck old new fault is head served =
+check_refused verb shown options job deck old new fault is head served =
     subst (λ (v : Verb). JobOutcome v options job old new (Err fault)) (sym is)
     (renamed ℕ Outcome Checked (ChecksDeck (head_of job))
-    (Answers (verbs.Check layout) options job) (Refuses (verbs.Check layout) job) old new fault
+    (Answers (verbs.Check shown) options job) (Refuses (verbs.Check shown) job) old new fault
     (λ outcome text answers. answers)
     (subst (λ (d : List ℕ). Serves (ChecksDeck d) (RefusesCheck d) old new (Err fault)) head served))
 
@@ -163,41 +163,41 @@ debug_refused verb options job deck input commands old new fault is head followi
     (session_ended options deck input commands old new fault served))))
 
 -- a job that was read whole reports no trouble of its reader
-pub unreported-job : (verb : Verb) (options : OptionValues) (job : List ℕ) (part : Part)
+pub unreported_job : (verb : Verb) (options : OptionValues) (job : List ℕ) (part : Part)
     (old new : Option (List ℕ)) (result : Result Outcome RunFault) →
     JobOutcome verb options job old new result → reported_by (reports_read part) result ≡ false
-unreported-job verbs.Asm options job part old new result served =
-    unreported-reader (Answers verbs.Asm options job) (Refuses verbs.Asm job) part old new result
+unreported_job verbs.Asm options job part old new result served =
+    unreported_reader (Answers verbs.Asm options job) (Refuses verbs.Asm job) part old new result
     (λ _ refused. refused) served
-unreported-job verbs.List options job part old new result served =
-    unreported-reader (Answers verbs.List options job) (Refuses verbs.List job) part old new result
+unreported_job verbs.List options job part old new result served =
+    unreported_reader (Answers verbs.List options job) (Refuses verbs.List job) part old new result
     (λ _ refused. refused) served
-unreported-job (verbs.Check layout) options job part old new result served =
-    unreported-reader (Answers (verbs.Check layout) options job) (Refuses (verbs.Check layout) job) part
+unreported_job (verbs.Check shown) options job part old new result served =
+    unreported_reader (Answers (verbs.Check shown) options job) (Refuses (verbs.Check shown) job) part
     old new result
     (λ _ refused. refused) served
-unreported-job verbs.Run options job part old new result served =
-    unreported-reader (Answers verbs.Run options job) (Refuses verbs.Run job) part old new result
+unreported_job verbs.Run options job part old new result served =
+    unreported_reader (Answers verbs.Run options job) (Refuses verbs.Run job) part old new result
     (λ _ refused. refused) served
-unreported-job verbs.Load options job part old new result served =
-    unreported-reader (Answers verbs.Load options job) (Refuses verbs.Load job) part old new result
+unreported_job verbs.Load options job part old new result served =
+    unreported_reader (Answers verbs.Load options job) (Refuses verbs.Load job) part old new result
     (λ _ refused. refused) served
-unreported-job verbs.Renew options job part old new result served =
-    unreported-reader (Answers verbs.Renew options job) (Refuses verbs.Renew job) part old new result
+unreported_job verbs.Renew options job part old new result served =
+    unreported_reader (Answers verbs.Renew options job) (Refuses verbs.Renew job) part old new result
     (λ _ refused. refused) served
-unreported-job verbs.Debug options job part old new (Ok _) served = refl
-unreported-job verbs.Debug options job part old new (Err fault) served =
-    unreported-debugger_state options (deck_of (head_of job)) (input_of job) (commands_of (head_of job)) part
+unreported_job verbs.Debug options job part old new (Ok _) served = refl
+unreported_job verbs.Debug options job part old new (Err fault) served =
+    unreported_debugger_state options (deck_of (head_of job)) (input_of job) (commands_of (head_of job)) part
     old new (Err fault) served
 
 -- the reader of a job that was read whole
-pub retries-read : (verb : Verb) (options : OptionValues) (job : List ℕ)
+pub retries_read : (verb : Verb) (options : OptionValues) (job : List ℕ)
     (taken taken' : Option (List ℕ)) (result : Result Outcome RunFault) (old new : Health)
     (start left : ℕ) → start ≡ most_retries →
     RetriesAccountedWith (device_use old new false ∷ []) start left →
     JobOutcome verb options job taken taken' result →
     RetriesAccounted (reader_use Job old new result ∷ [])
-retries-read verb options job taken taken' result old new start left is retries served =
+retries_read verb options job taken taken' result old new start left is retries served =
     subst (λ (b : Bool). RetriesAccounted (device_use old new b ∷ []))
-    (sym (unreported-job verb options job Job taken taken' result served))
-    (retries-alone (device_use old new false ∷ []) start left is retries)
+    (sym (unreported_job verb options job Job taken taken' result served))
+    (retries_alone (device_use old new false ∷ []) start left is retries)

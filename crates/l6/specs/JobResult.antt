@@ -21,7 +21,7 @@ use Rattle.l6.specs.declared.job.Verb.TheVariants as verbs
 abbrev pub Answers : Verb → OptionValues → List ℕ → Outcome → List ℕ → Type 0
 Answers verbs.Asm options job Written text = WritesImage (head_of job) text
 Answers verbs.List options job Written text = WritesListing (head_of job) text
-Answers (verbs.Check layout) options job (Checked errors) text = ChecksDeck (head_of job) errors text
+Answers (verbs.Check shown) options job (Checked errors) text = ChecksDeck (head_of job) errors text
 Answers verbs.Run options job (Ran ending) text =
     Prints options (head_of job) (input_of job) ending text
 Answers verbs.Load options job (Ran ending) text =
@@ -33,7 +33,7 @@ Answers verb options job outcome text = ⊥
 abbrev pub Refuses : Verb → List ℕ → RunFault → Type 0
 Refuses verbs.Asm job fault = RefusesCards (head_of job) fault
 Refuses verbs.List job fault = RefusesCards (head_of job) fault
-Refuses (verbs.Check layout) job fault = RefusesCheck (head_of job) fault
+Refuses (verbs.Check shown) job fault = RefusesCheck (head_of job) fault
 Refuses verbs.Run job fault = RefusesDeck (head_of job) (input_of job) fault
 Refuses verbs.Load job fault = RefusesImage (head_of job) (input_of job) fault
 Refuses verbs.Renew job fault = RefusesRewriting (head_of job) fault

@@ -6,12 +6,15 @@ ghost use Rattle.l6_machine.specs.Options.{default_options};
 ghost use Rattle.l6.specs.Words.{fault_of};
 ghost use Rattle.l6.specs.declared.arguments.WordsFault.TheVariants.{NoMemory};
 
+use crate::checking::Shown;
 use crate::help::{self, Help};
 use crate::job::Verb;
+use crate::trace_options::{chosen_trying, with_trace_options};
+use crate::tracing::Trying;
 use clap::error::ErrorKind;
 use clap::{Arg, ArgAction, ArgMatches, Command};
 use l6_check::Layout;
-use l6_options::{chosen_options, store_option, with_options};
+use l6_options::{chosen_options, with_options};
 use l6_run::Options;
 use std::alloc::{AllocError, Global};
 use std::io::{self, ErrorKind as IoErrorKind};
@@ -22,18 +25,18 @@ const VERSION: &str = "1.0, images of version 2";
 
 /// What the words ask for.
 #[derive(Clone, Copy, Debug, PartialEq, Eq)]
-pub enum Task {
+pub enum Task<'a> {
     /// That something is done with a job.
-    Job(Request),
-    /// The answers to a trace of an allocator's calls, by a store of so many units.
-    Trace(u32),
+    Job(Request<'a>),
+    /// That the answers of a trace of an allocator's calls are tried.
+    Trace(Trying),
 }
 
 /// What is to be done with a job.
 #[derive(Clone, Copy, Debug, PartialEq, Eq)]
-pub struct Request {
+pub struct Request<'a> {
     /// What is to be done with the job.
-    pub verb: Verb,
+    pub verb: Verb<'a>,
     /// What the user chose for it.
     pub options: Options,
 }
@@ -99,18 +102,18 @@ fn fault_of_reading(error: &io::Error) -> WordsFault
 /// # Errors
 ///
 /// Why they ask for nothing that can be done.
-pub fn task_of(alloc: Global, words: &[String]) -> Result<Task, WordsFault> {
+pub fn task_of<'a>(alloc: Global, words: &'a [String]) -> Result<Task<'a>, WordsFault> {
     let mut command = program(alloc)?;
     let matches = command.try_get_matches_from_mut(words)?;
     if let Some(("trace", chosen)) = matches.subcommand() {
-        if let Some(units) = chosen.get_one::<u32>("store") {
-            return Ok(Task::Trace(units));
+        if let Some(trying) = chosen_trying(chosen) {
+            return Ok(Task::Trace(trying));
         }
     }
     let request = match matches.subcommand() {
         Some(("asm", _)) => Some(without_options(Verb::Asm)),
         Some(("list", _)) => Some(without_options(Verb::List)),
-        Some(("check", chosen)) => Some(without_options(Verb::Check(layout_of(chosen)))),
+        Some(("check", chosen)) => Some(without_options(Verb::Check(shown_of(chosen)))),
         Some(("renew", _)) => Some(without_options(Verb::Renew)),
         Some(("run", chosen)) => requested(Verb::Run, chosen),
         Some(("load", chosen)) => requested(Verb::Load, chosen),
@@ -134,12 +137,12 @@ fn program<'a>(alloc: Global) -> Result<Command<'a>, AllocError> {
         .subcommand_required(true)
         .subcommand(described(alloc, "asm", help::ASM))?
         .subcommand(described(alloc, "list", help::LIST))?
-        .subcommand(described(alloc, "check", help::CHECK).arg(long_option(alloc)?)?)?
+        .subcommand(check(alloc)?)?
         .subcommand(with_options(described(alloc, "run", help::RUN), alloc)?)?
         .subcommand(with_options(described(alloc, "load", help::LOAD), alloc)?)?
         .subcommand(described(alloc, "renew", help::RENEW))?
         .subcommand(with_options(described(alloc, "debug", help::DEBUG), alloc)?)?
-        .subcommand(described(alloc, "trace", help::TRACE).arg(store_option(alloc)?)?)
+        .subcommand(with_trace_options(described(alloc, "trace", help::TRACE), alloc)?)
 }
 
 /// A command with its name and its help.
@@ -150,28 +153,33 @@ fn described<'a>(alloc: Global, name: &'a str, help: Help) -> Command<'a> {
         .after_help(help.details)
 }
 
-/// The option by which `check` shows cards.
-fn long_option<'a>(alloc: Global) -> Result<Arg<'a>, AllocError> {
-    Ok(
-        Arg::new(alloc, "long")
-            .long("long")
-            .help("Show each card, with signs under its columns")
-            .action(ArgAction::SetTrue),
-    )
+/// The command `check`.
+fn check<'a>(alloc: Global) -> Result<Command<'a>, AllocError> {
+    let long = Arg::new(alloc, "long")
+        .long("long")
+        .help("Show each card, with signs under its columns")
+        .action(ArgAction::SetTrue);
+    let name = Arg::new(alloc, "name").long("name").value_name("FILE").help(
+        "The name of the deck's file, for the beginning of each line",
+    );
+    described(alloc, "check", help::CHECK).arg(long)?.arg(name)
 }
 
-/// The layout that was chosen for what is said of a deck.
-fn layout_of(chosen: &ArgMatches<'_>) -> Layout {
-    if chosen.get_flag("long") {
-        Layout::Long
-    } else {
-        Layout::Short
+/// How what is said of a deck was chosen to be shown.
+fn shown_of<'a>(chosen: &ArgMatches<'a>) -> Shown<'a> {
+    Shown {
+        layout: if chosen.get_flag("long") {
+            Layout::Long
+        } else {
+            Layout::Short
+        },
+        name: chosen.get_str("name").unwrap_or_default(),
     }
 }
 
 /// The request for a verb for which nothing can be chosen.
-fn without_options(verb: Verb) -> Request
-    ensures { result ≡ record { verb = verb; options = default_options } }
+fn without_options(verb: Verb<'_>) -> Request<'_>
+    ensures { result ≡ record { verb = verb.entry; options = default_options } }
 {
     Request {
         verb,
@@ -180,8 +188,8 @@ fn without_options(verb: Verb) -> Request
 }
 
 /// The request for the verb with what was chosen for it, if that is in range.
-fn requested(verb: Verb, chosen: &ArgMatches<'_>) -> Option<Request>
-    ensures { IfSome result (λ asked. asked.verb ≡ verb) }
+fn requested<'a>(verb: Verb<'a>, chosen: &ArgMatches<'_>) -> Option<Request<'a>>
+    ensures { IfSome result (λ asked. asked.verb ≡ verb.entry) }
 {
     let options = chosen_options(chosen)?;
     Some(Request { verb, options })

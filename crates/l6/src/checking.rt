@@ -10,7 +10,16 @@ use l6_check::{Layout, checked_text_of};
 use l6_run::{Part, Patience, RunFault, Sink, write_text};
 use std::alloc::Global;
 
-/// Writes what is wrong with a deck in a layout, and answers how many errors it has.
+/// How what is wrong with a deck is shown.
+#[derive(Clone, Copy, Debug, PartialEq, Eq, Hash)]
+pub struct Shown<'a> {
+    /// The layout.
+    pub layout: Layout,
+    /// The name of the deck's file, for the beginning of each line, or nothing.
+    pub name: &'a str,
+}
+
+/// Writes what is wrong with a deck, shown so, and answers how many errors it has.
 ///
 /// # Errors
 ///
@@ -19,7 +28,7 @@ use std::alloc::Global;
 pub(crate) fn write_deck_check<W: Sink>(
     alloc: Global,
     deck: &[u8],
-    layout: Layout,
+    shown: Shown<'_>,
     writer: &mut W,
     patience: &mut Patience,
 ) -> Result<u32, RunFault>
@@ -30,7 +39,9 @@ pub(crate) fn write_deck_check<W: Sink>(
         patience.old patience.new result }
 {
     Part::Deck.check(deck)?;
-    let checked = checked_text_of(alloc, deck, "", layout).map_err(|_| RunFault::NoMemory)?;
+    let checked = checked_text_of(alloc, deck, shown.name, shown.layout).map_err(
+        |_| RunFault::NoMemory,
+    )?;
     write_text(writer, checked.text.as_bytes(), 0, patience)?;
     Ok(checked.errors)
 }

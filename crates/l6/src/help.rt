@@ -31,7 +31,7 @@ Examples:
 Exit status:
   0   the run ended by DONE, an image, a listing or answers were written, or the deck that was
       checked has no error
-  1   the run ended by FAIL, or an answer differs from the one in a trace
+  1   the run ended by FAIL, or an answer in a trace is wrong, or its calls are missing
   2   the run trapped
   3   the run reached its limit of steps
   4   the job was refused: its deck, image or trace is faulty, or a part is too long
@@ -71,16 +71,17 @@ writing failed, 64 the command line is wrong, or asks for help",
 
 /// The help of `check`.
 pub(crate) const CHECK: Help = Help {
-    usage: "l6 check [--long] < JOB",
+    usage: "l6 check [--long] [--name FILE] < JOB",
     about: "Says what is wrong with a deck: card, column and why",
     details: "\
-A line for each error and each warning begins with the numbers of its card and its column; a line
-that is indented has advice. With --long the card stands between, with signs under its columns. At
-most 100 are shown, and the last line counts them all. An input after the deck, from a line $INPUT
-on, is ignored.
+A line for each error and each warning begins with the numbers of its card and its column, and with
+--name with that name before; a line that is indented has advice. With --long the card stands
+between, with signs under its columns. At most 100 are shown, and the last line counts them all. An
+input after the deck, from a line $INPUT on, is ignored.
 
-Example:
+Examples:
   printf ' (A,E,5(A,PD)\\n' | l6 check
+  l6 check --name my.deck < my.deck
 
 Exit status: 0 the deck has no error, 4 it has one, or is too long, 5 memory ran out, or reading or
 writing failed, 64 the command line is wrong, or asks for help",
@@ -140,13 +141,20 @@ pub(crate) const TRACE: Help = Help {
     details: "\
 Standard input has a call on each line: get NAME WORDS, free NAME, lists, map, stats. Blank lines and
 lines that begin with # are skipped. After a get, = PLACE or = none says what another allocator
-answered, and after a free, = N how often it joined the piece.
+answered, and after a free, = N how often it joined the piece. A last line end N says how many gets and
+frees there are, so that a trace that was cut off is found.
 
-Example:
+Without --any-place the answers are to be those of the proved store, and the first that differs is
+shown. With it the allocator may choose places by any rule: each answer is judged by where blocks may
+be, and what is wrong is named with the lines of the blocks.
+
+Examples:
   printf 'get a 5\\nget b 2048\\nfree a\\nlists\\n' | l6 trace --store 1
+  printf 'get a 5 = 2040\\nget b 1 = 2039\\nend 2\\n' | l6 trace --any-place --units 1
 
-Exit status: 0 the answers were written, 1 one differs, 4 the trace was refused, 5 memory ran out, or
-reading or writing failed, 64 the command line is wrong, or asks for help",
+Exit status: 0 the answers were written and none is wrong, 1 one is or calls are missing, 4 the trace
+was refused, 5 memory ran out, or reading or writing failed, 64 the command line is wrong, or asks for
+help",
 };
 
 /// The help of `debug`.

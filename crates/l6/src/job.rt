@@ -7,8 +7,7 @@ ghost use Rattle.l6_device.specs.Transfer.{GivesAtMost};
 ghost use Rattle.l6_device.specs.declared.fault.Part.TheVariants.{Job};
 ghost use Rattle.l6.specs.JobResult.{JobOutcome, IsUnwrittenBy, JobResult};
 
-use crate::checking::write_deck_check;
-use l6_check::Layout;
+use crate::checking::{Shown, write_deck_check};
 use l6_debug::debug_deck;
 use l6_run::{
     Ending, Options, Part, Patience, RunFault, Sink, Source, head_parts_of, parts_of, read_part,
@@ -18,13 +17,13 @@ use std::alloc::Global;
 
 /// What is to be done with a job.
 #[derive(Clone, Copy, Debug, PartialEq, Eq, Hash)]
-pub enum Verb {
+pub enum Verb<'a> {
     /// The head of the job is a deck, of which the image is written.
     Asm,
     /// The head of the job is a deck, of which the listing is written.
     List,
-    /// The head of the job is a deck, of which is said what is wrong with it, in this layout.
-    Check(Layout),
+    /// The head of the job is a deck, of which is said what is wrong with it, shown so.
+    Check(Shown<'a>),
     /// The head of the job is a deck, which is run with the input of the job.
     Run,
     /// The head of the job is the text of an image, which is run with the input of the job.
@@ -55,15 +54,15 @@ pub enum Outcome {
 /// session: then the first answers went out, each whole.
 pub fn perform<R: Source, W: Sink>(
     alloc: Global,
-    verb: Verb,
+    verb: Verb<'_>,
     options: Options,
     reader: &mut R,
     writer: &mut W,
 ) -> Result<Outcome, RunFault>
     // What the reader gave, and what went out for it.
-    ensures done { JobResult verb options (R.left reader.old) (R.left reader.new)
+    ensures done { JobResult verb.entry options (R.left reader.old) (R.left reader.new)
         (W.taken writer.old) (W.taken writer.new) result }
-    ensures unwritten { IsUnwrittenBy verb result → writer.new ≡ writer.old }
+    ensures unwritten { IsUnwrittenBy verb.entry result → writer.new ≡ writer.old }
     ensures at_most { GivesAtMost (most_job_bytes + 1) (R.left reader.old) (R.left reader.new) }
 
     // The retries of the devices are accounted for: the reading has its own, and so has what is
@@ -81,14 +80,14 @@ pub fn perform<R: Source, W: Sink>(
 /// Does with a job what the verb says, and writes the answer.
 fn serve<W: Sink>(
     alloc: Global,
-    verb: Verb,
+    verb: Verb<'_>,
     options: Options,
     job: &[u8],
     writer: &mut W,
     patience: &mut Patience,
 ) -> Result<Outcome, RunFault>
-    ensures done { JobOutcome verb options job.now (W.taken writer.old) (W.taken writer.new) result }
-    ensures unwritten { IsUnwrittenBy verb result → writer.new ≡ writer.old }
+    ensures done { JobOutcome verb.entry options job.now (W.taken writer.old) (W.taken writer.new) result }
+    ensures unwritten { IsUnwrittenBy verb.entry result → writer.new ≡ writer.old }
     ensures retries { WriterRetries (W.health writer.old) (W.health writer.new)
         patience.old patience.new result }
 {
@@ -102,8 +101,8 @@ fn serve<W: Sink>(
             write_deck_listing(alloc, parts.head, writer, patience)?;
             Ok(Outcome::Written)
         }
-        Verb::Check(layout) => {
-            let errors = write_deck_check(alloc, parts.head, layout, writer, patience)?;
+        Verb::Check(shown) => {
+            let errors = write_deck_check(alloc, parts.head, shown, writer, patience)?;
             Ok(Outcome::Checked(errors))
         }
         Verb::Run => {

@@ -10,6 +10,7 @@ mod program;
 mod status;
 #[cfg(test)]
 mod tests;
+mod trace_options;
 mod tracing;
 mod worked;
 
@@ -18,22 +19,21 @@ use l6_run::Host;
 use program::exit_code;
 use std::env;
 use std::process::ExitCode;
-use tracing::trace_exit_code;
 
 fn main(rt: HostRuntime) -> ExitCode {
-    let asked = match task(&rt) {
-        Ok(Task::Job(request)) => Ok(request),
-        Ok(Task::Trace(units)) => {
-            return trace_exit_code(
-                rt.alloc(),
-                units,
-                &mut Host::new(rt.stdin()),
-                &mut Host::new(rt.stdout()),
-                &mut rt.stderr(),
-            );
-        }
-        Err(fault) => Err(fault),
-    };
+    match words(&rt) {
+        Ok(words) => done(&rt, task_of(rt.alloc(), words.as_slice())),
+        Err(fault) => done(&rt, Err(fault)),
+    }
+}
+
+/// The words of the command line.
+fn words(rt: &HostRuntime) -> Result<Vec<String>, WordsFault> {
+    Ok(env::args(rt)?.collect(rt.alloc())?)
+}
+
+/// Does what was asked for.
+fn done(rt: &HostRuntime, asked: Result<Task<'_>, WordsFault>) -> ExitCode {
     exit_code(
         rt.alloc(),
         asked,
@@ -41,10 +41,4 @@ fn main(rt: HostRuntime) -> ExitCode {
         &mut Host::new(rt.stdout()),
         &mut rt.stderr(),
     )
-}
-
-/// What the words of the command line ask for.
-fn task(rt: &HostRuntime) -> Result<Task, WordsFault> {
-    let words: Vec<String> = env::args(rt)?.collect(rt.alloc())?;
-    task_of(rt.alloc(), words.as_slice())
 }

@@ -4,34 +4,42 @@
 ghost use Rattle.std.specs.Process.{exit_status};
 ghost use Rattle.l6.specs.Exit.{Exits};
 
-use crate::arguments::{Request, WordsFault};
+use crate::arguments::{Task, WordsFault};
 use crate::job::perform;
 use crate::status::{status, status_of_words};
+use crate::tracing::{tracing_status, try_trace};
 use l6_run::{Sink, Source};
 use std::alloc::Global;
 use std::io::Write;
 use std::process::ExitCode;
 
-/// Does what was asked for with the job that the reader gives, and says on `errors` why it was not done,
+/// Does what was asked for with the job or the trace that the reader gives, and says on `errors` why it was not done,
 /// or why nothing could be asked for. Answers how the process is to end. A text that `errors` does not
 /// take is lost.
 pub fn exit_code<R: Source, W: Sink, E: Write>(
     alloc: Global,
-    asked: Result<Request, WordsFault>,
+    asked: Result<Task<'_>, WordsFault>,
     reader: &mut R,
     writer: &mut W,
     errors: &mut E,
 ) -> ExitCode
-    ensures { Exits asked (R.left reader.old) (R.left reader.new)
+    ensures { Exits asked.entry (R.left reader.old) (R.left reader.new)
         (W.taken writer.old) (W.taken writer.new) (exit_status result) }
 {
     match asked {
-        Ok(request) => {
+        Ok(Task::Job(request)) => {
             let answer = perform(alloc, request.verb, request.options, reader, writer);
             if let Err(fault) = &answer {
                 let _ = writeln!(errors, "l6: {fault}");
             }
             ExitCode::from(status(&answer))
+        }
+        Ok(Task::Trace(trying)) => {
+            let answer = try_trace(alloc, trying, reader, writer, errors);
+            if let Err(fault) = &answer {
+                let _ = writeln!(errors, "l6: {fault}");
+            }
+            ExitCode::from(tracing_status(&answer))
         }
         Err(fault) => {
             let _ = write!(errors, "{fault}");

@@ -4,10 +4,10 @@ ghost use Rattle.std.specs.Prelude.{◌≡◌};
 ghost use Rattle.l6.specs.TraceStatus.{status_of_trace};
 
 use l6_device::{Part, Patience, RunFault, Sink, Source, read_part, write_text};
-use l6_trace::{TraceFault, answers_to};
+use l6_trace::{Form, Pool, TraceFault, answers_to, judgement_of};
+use l6_word::first_line;
 use std::alloc::Global;
 use std::io::Write;
-use std::process::ExitCode;
 use thiserror::Error;
 
 /// Why a trace was not answered.
@@ -21,39 +21,55 @@ pub enum TracingFault {
     Trace(#[from] TraceFault),
 }
 
-/// Reads a trace whole, and writes its answers by an empty store of so many units; or says on `errors`
-/// why there are none. Answers how the process is to end.
-pub fn trace_exit_code<R: Source, W: Sink, E: Write>(
+/// How the answers of a trace are tried.
+#[derive(Clone, Copy, Debug, PartialEq, Eq)]
+pub enum Trying {
+    /// They are to be those of a store of so many units.
+    Exact { units: u32 },
+    /// They may have any rule of choice, and are judged. The smallest piece of the pool has so many bytes.
+    AnyPlace { pool: Pool, piece: u32, form: Form },
+}
+
+/// Reads a trace whole, and writes its answers, or what is found of them; and says on `errors` why there are none, or
+/// why not all may have been compared. Says whether something is wrong with them.
+pub fn try_trace<R: Source, W: Sink, E: Write>(
     alloc: Global,
-    units: u32,
+    trying: Trying,
     reader: &mut R,
     writer: &mut W,
     errors: &mut E,
-) -> ExitCode {
-    let traced = answer_trace(alloc, units, reader, writer);
-    if let Err(fault) = &traced {
-        let _ = writeln!(errors, "l6: {fault}");
-    }
-    ExitCode::from(tracing_status(&traced))
-}
-
-/// Reads a trace whole, and writes its answers. Says whether one of them differs from another
-/// allocator's.
-fn answer_trace<R: Source, W: Sink>(
-    alloc: Global,
-    units: u32,
-    reader: &mut R,
-    writer: &mut W,
 ) -> Result<bool, TracingFault> {
     let trace = read_part(alloc, reader, Part::Job, &mut Patience::new())?;
-    let answers = answers_to(alloc, units, trace.as_slice())?;
-    write_text(writer, answers.text.as_slice(), 0, &mut Patience::new())?;
-    Ok(answers.differs)
+    let text = trace.as_slice();
+    match trying {
+        Trying::Exact { units } => {
+            let answers = answers_to(alloc, units, text)?;
+            write_text(writer, answers.text.as_slice(), 0, &mut Patience::new())?;
+            say_notes(errors, answers.notes.as_slice());
+            Ok(answers.fails)
+        }
+        Trying::AnyPlace { pool, piece, form } => {
+            let judgement = judgement_of(alloc, pool, piece, form, text)?;
+            write_text(writer, judgement.text.as_slice(), 0, &mut Patience::new())?;
+            Ok(judgement.findings != 0)
+        }
+    }
 }
 
-/// The exit status: 0 if no answer differs, 1 if one does, 4 if the trace was refused, and 5 if memory
-/// ran out or a device failed.
-fn tracing_status(traced: &Result<bool, TracingFault>) -> u8
+/// Says each line of some notes. A text that `errors` does not take is lost.
+fn say_notes<E: Write>(errors: &mut E, notes: &[u8]) {
+    let mut rest = notes;
+    while let Some((line, following)) = first_line(rest) {
+        let _ = errors.write_all(b"l6: ");
+        let _ = errors.write_all(line);
+        let _ = errors.write_all(b"\n");
+        rest = following;
+    }
+}
+
+/// The exit status: 0 if nothing is wrong with the answers, 1 if something is, 4 if the trace was refused, and 5 if
+/// memory ran out or a device failed.
+pub fn tracing_status(traced: &Result<bool, TracingFault>) -> u8
     ensures { result ≡ status_of_trace traced.now }
 {
     match traced {
@@ -63,6 +79,8 @@ fn tracing_status(traced: &Result<bool, TracingFault>) -> u8
         | Err(
             TracingFault::Trace(
                 TraceFault::BadUnits
+                | TraceFault::BadPlaces
+                | TraceFault::CutOff(_)
                 | TraceFault::NotACall(_)
                 | TraceFault::TooMany(_)
                 | TraceFault::Held(_),

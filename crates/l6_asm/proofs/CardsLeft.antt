@@ -13,53 +13,53 @@ either : (one : Bool) (x y z w : List ℕ) → x ≡ y → z ≡ w →
 either true x y z w first second = first
 either false x y z w first second = second
 
-drop-none : (count : ℕ) → drop {A = Parts} count [] ≡ []
-drop-none zero = refl
-drop-none (suc count) = refl
+drop_none : (count : ℕ) → drop {A = Parts} count [] ≡ []
+drop_none zero = refl
+drop_none (suc count) = refl
 
 -- the first words that are left are those of the next statement
-first-words : (program : List Parts) (over : ℕ) →
+first_words_left : (program : List Parts) (over : ℕ) →
     flat_map word_line (first_words (map statement_words (drop over program)))
     ≡ statement_lines program over
-first-words [] zero = refl
-first-words [] (suc over) = refl
-first-words (statement ∷ program) zero = refl
-first-words (statement ∷ program) (suc over) = first-words program over
+first_words_left [] zero = refl
+first_words_left [] (suc over) = refl
+first_words_left (statement ∷ program) zero = refl
+first_words_left (statement ∷ program) (suc over) = first_words_left program over
 
-other-words : (program : List Parts) (over : ℕ) →
+other_words_left : (program : List Parts) (over : ℕ) →
     other_words (map statement_words (drop over program))
     ≡ map statement_words (drop (over + 1) program)
-other-words [] over =
-    ap (λ ps. other_words (map statement_words ps)) (drop-none over)
-    ∙ sym (ap (map statement_words) (drop-none (over + 1)))
-other-words (statement ∷ program) zero = refl
-other-words (statement ∷ program) (suc over) =
+other_words_left [] over =
+    ap (λ ps. other_words (map statement_words ps)) (drop_none over)
+    ∙ sym (ap (map statement_words) (drop_none (over + 1)))
+other_words_left (statement ∷ program) zero = refl
+other_words_left (statement ∷ program) (suc over) =
     let next : suc (over + 1) ≡ suc over + 1 = omega arith in
-    other-words program over
+    other_words_left program over
     ∙ ap (λ n. map statement_words (drop n (statement ∷ program))) next
 
 -- the cards that are left are listed with the words of the statements that are left
-pub left-listed : (program : List Parts) (card over : ℕ) (lines : List (List ℕ)) →
+pub left_listed : (program : List Parts) (card over : ℕ) (lines : List (List ℕ)) →
     cards_left (map statement_words (drop over program)) card over lines
     ≡ cards_listed program (card + 1) over lines
-left-listed program card over [] = refl
-left-listed program card over (line ∷ lines) =
+left_listed program card over [] = refl
+left_listed program card over (line ∷ lines) =
     ap (λ others. card_line (Some (card + 1)) (number_on (role_of line) over) (columns_of line) ++ others)
     (either (is_last (role_of line) (goes_on lines)) _ _ _ _
     (ap (λ words. words ++ cards_left (other_words (map statement_words (drop over program)))
-    (card + 1) (over + 1) lines) (first-words program over)
+    (card + 1) (over + 1) lines) (first_words_left program over)
     ∙ ap (λ words. statement_lines program over ++ cards_left words (card + 1) (over + 1) lines)
-    (other-words program over)
+    (other_words_left program over)
     ∙ ap (λ others. statement_lines program over ++ others)
-    (left-listed program (card + 1) (over + 1) lines))
-    (left-listed program (card + 1) over lines))
+    (left_listed program (card + 1) (over + 1) lines))
+    (left_listed program (card + 1) over lines))
 
 -- the line of the next word is added to a text
-pub word-added : (text more : List ℕ) (word : ℕ) (words following others : List ℕ) →
+pub word_added : (text more : List ℕ) (word : ℕ) (words following others : List ℕ) →
     words ≡ word ∷ following → more ≡ text ++ word_line word →
     text ++ (flat_map word_line words ++ others)
     ≡ more ++ (flat_map word_line following ++ others)
-word-added text more word words following others are added =
+word_added text more word words following others are added =
     let rest : List ℕ = flat_map word_line following in
     ap (λ ws. text ++ (flat_map word_line ws ++ others)) are
     ∙ ap (λ t. text ++ t) (append_assoc (word_line word) rest others)
@@ -97,7 +97,7 @@ module _ (text more words : List ℕ) (statements : List (List ℕ)) (card over 
   other-added is = card-added _ (rw (is, none) refl)
 
 -- a text that is longer leaves less
-pub less-left : (text more left less : List ℕ) → text ++ left ≡ more ++ less →
+pub less_left : (text more left less : List ℕ) → text ++ left ≡ more ++ less →
     length text < length more → length less < length left
-less-left text more left less same longer =
+less_left text more left less same longer =
     omega (arith, ap length same, length-append text left, length-append more less, longer)

@@ -4,10 +4,10 @@ use Rattle.std.proofs.Math.Seq.{set-append_seam, get_or-append_seam}
 use Rattle.std.proofs.lemmas.List.{map_more, drop_more, length-take-le, length-map}
 
 -- one column more shows what it shows
-pub shown-more : (f : ℕ → ℕ) (columns items : List ℕ) (place value : ℕ) → place < length columns →
+pub shown_more : (f : ℕ → ℕ) (columns items : List ℕ) (place value : ℕ) → place < length columns →
     items ≡ map f (take place columns) ++ drop place columns → value ≡ f (get_or items place 0) →
     set items place value ≡ map f (take (place + 1) columns) ++ drop (place + 1) columns
-shown-more f columns items place value within so_far is =
+shown_more f columns items place value within so_far is =
     let front : List ℕ = map f (take place columns) in
     let column : ℕ = get_or columns place 0 in
     let rest : List ℕ = drop (place + 1) columns in

@@ -24,11 +24,11 @@ element_more false column count [] so_far = absurd (omega (arith, so_far))
 element_more false column count (part ∷ parts) so_far = omega (arith, so_far)
 
 -- no comma comes after the last element of columns
-pub columns-elements : (columns : List ℕ) → columns_in (elements_of columns) ≡ length columns + 1
-columns-elements [] = refl
-columns-elements (column ∷ columns) =
+pub columns_elements : (columns : List ℕ) → columns_in (elements_of columns) ≡ length columns + 1
+columns_elements [] = refl
+columns_elements (column ∷ columns) =
     let more = element_more (is_comma column) column (length columns) (elements_of columns)
-    (columns-elements columns) in
+    (columns_elements columns) in
     omega (arith, more)
 
 -- a column more is a character more, or a blank
@@ -39,11 +39,11 @@ solid_more true column others count so_far = omega (arith, so_far)
 solid_more false column others count so_far = omega (arith, so_far)
 
 -- columns have no more characters than columns, since blanks are left out
-pub spelled-few : (columns : List ℕ) → length (spelled columns) ≤ length columns
-spelled-few [] = omega arith
-spelled-few (column ∷ columns) =
+pub spelled_few : (columns : List ℕ) → length (spelled columns) ≤ length columns
+spelled_few [] = omega arith
+spelled_few (column ∷ columns) =
     let more = solid_more (not (is_blank column)) column
-    (filter (λ given. not (is_blank given)) columns) (length columns) (spelled-few columns) in
+    (filter (λ given. not (is_blank given)) columns) (length columns) (spelled_few columns) in
     omega (arith, more)
 
 -- what was read, and what was read after it
@@ -70,14 +70,14 @@ code_more (Some one) (Some read) codes count so_far found =
     omega (arith, ap length same, so_far read refl)
 
 -- an element has as many codes as characters
-codes-length : (element codes : List ℕ) → codes_of element ≡ Some codes →
+codes_length : (element codes : List ℕ) → codes_of element ≡ Some codes →
     length codes ≡ length element
-codes-length [] codes found =
+codes_length [] codes found =
     let same : [] ≡ codes = cc in
     ap length (sym same)
-codes-length (first ∷ rest) codes found =
+codes_length (first ∷ rest) codes found =
     let more = code_more (code_of first) (codes_of rest) codes (length rest)
-    (λ read so. codes-length rest read so) found in
+    (λ read so. codes_length rest read so) found in
     omega (arith, more)
 
 -- where codes are taken as a text, the text is these codes
@@ -87,12 +87,12 @@ text_taken true codes text found = cc
 text_taken false codes text found = absurd (cc)
 
 -- so has a printed text
-pub print_text-length : (element text : List ℕ) → print_text_of element ≡ Some text →
+pub print_text_length : (element text : List ℕ) → print_text_of element ≡ Some text →
     length text ≡ length element
-print_text-length element text found =
+print_text_length element text found =
     let read = both_read (codes_of element) print_text_from text found in
     let same = text_taken _ read.0 text read.2 in
-    ap length (sym same) ∙ codes-length element read.0 read.1
+    ap length (sym same) ∙ codes_length element read.0 read.1
 
 -- each line of a table has this, by its spelling and what that means
 abbrev pub HasEach : {Meaning : Type 0} → (List ℕ → Meaning → Type 0) → List (Line Meaning) → Type 0

@@ -13,8 +13,8 @@ use Rattle.l6_group.specs.Spelling.{find_spelled}
 use Rattle.l6_group.specs.Value.{value_of}
 use Rattle.l6_group.specs.Operation.{one, two, three, four, field_operations, field_operation, content_operations, content_operation, definition_operations, definition_operation, spellings_of_one, spellings_of_two, spellings_of_three, spellings_of_four, spellings_of_five, defined_field, definition, operation_from, operation_of}
 use Rattle.l6_group.specs.Test.{comparison_of, test_by, test_from, test_of}
-use Rattle.l6_image.proofs.Slots.{length-sixes}
-use Rattle.l6_asm.proofs.ElementLengths.{columns_in, columns-elements, spelled-few, both_read, has_character, print_text-length, HasEach, ◌also◌, found_has, found_or_has}
+use Rattle.l6_image.proofs.Slots.{length_sixes}
+use Rattle.l6_asm.proofs.ElementLengths.{columns_in, columns_elements, spelled_few, both_read, has_character, print_text_length, HasEach, ◌also◌, found_has, found_or_has}
 use Rattle.l6_asm.proofs.RowLengths.{operation_count, test_count}
 
 -- what this verb makes by a reading of one other element, of two, three or four, has few words: twice
@@ -102,8 +102,8 @@ few_of_text a made so =
     omega (
       arith,
       ap (λ o. operation_count o) same,
-      print_text-length a read.0 read.1,
-      length-sixes read.0,
+      print_text_length a read.0 read.1,
+      length_sixes read.0,
     )
 
 -- a field operation has three words, whatever its letter
@@ -158,7 +158,7 @@ few_of_content a b made so =
     let few =
     found_has FewOfOne content_operations (spelled a) found.0 each_of_contents found.1 b made found.2
     in
-    omega (arith, few, spelled-few a)
+    omega (arith, few, spelled_few a)
 
 each_of_definitions : HasEach FewOfOne definition_operations
 each_of_definitions =
@@ -172,7 +172,7 @@ few_of_pushed a b made so =
     let few =
     found_has FewOfOne definition_operations (spelled a) found.0 each_of_definitions found.1 b made
     found.2 in
-    omega (arith, few, spelled-few a)
+    omega (arith, few, spelled_few a)
 
 -- each line of the tables has few words
 abbrev FewAlone : List ℕ → Op Label → Type 0
@@ -237,35 +237,35 @@ few_of_elements : (elements : List (List ℕ)) (made : Op Label) →
 few_of_elements [] made so = absurd (cc)
 few_of_elements (verb ∷ []) made so =
     let few = found_has FewAlone spellings_of_one (spelled verb) made each_of_one so in
-    omega (arith, few, spelled-few verb)
+    omega (arith, few, spelled_few verb)
 few_of_elements (a ∷ verb ∷ []) made so =
     let found = both_read (find_spelled spellings_of_two (spelled verb)) _ made so in
     let few =
     found_has FewOfOne spellings_of_two (spelled verb) found.0 each_of_two found.1 a made found.2 in
-    omega (arith, few, spelled-few verb)
+    omega (arith, few, spelled_few verb)
 few_of_elements (a ∷ verb ∷ b ∷ []) made so =
     let few =
     found_or_has FewOfTwo spellings_of_three (spelled verb) (field_operation (spelled verb))
     each_of_three (few_of_field (spelled verb)) a b made so in
-    omega (arith, few, spelled-few verb)
+    omega (arith, few, spelled_few verb)
 few_of_elements (a ∷ verb ∷ b ∷ d ∷ []) made so =
     let few =
     found_or_has FewOfThree spellings_of_four (spelled verb) (definition (spelled verb))
     each_of_four (few_of_definition (spelled verb)) a b d made so in
-    omega (arith, few, spelled-few verb)
+    omega (arith, few, spelled_few verb)
 few_of_elements (a ∷ verb ∷ b ∷ d ∷ e ∷ []) made so =
     let found = both_read (find_spelled spellings_of_five (spelled verb)) _ made so in
     let few =
     found_has FewOfFour spellings_of_five (spelled verb) found.0 each_of_five found.1 a b d e made
     found.2 in
-    omega (arith, few, spelled-few verb)
+    omega (arith, few, spelled_few verb)
 few_of_elements (a ∷ b ∷ c ∷ d ∷ e ∷ f ∷ elements) made so = absurd (cc)
 
 -- twice the words of an operation are at most the columns of its group, with the parentheses
-pub operation-few : (columns : List ℕ) (made : Op Label) → operation_of columns ≡ Some made →
+pub operation_few : (columns : List ℕ) (made : Op Label) → operation_of columns ≡ Some made →
     2 * operation_count made ≤ length columns + 2
-operation-few columns made so =
-    omega (arith, few_of_elements (elements_of columns) made so, columns-elements columns)
+operation_few columns made so =
+    omega (arith, few_of_elements (elements_of columns) made so, columns_elements columns)
 
 -- the first element of a test, and the characters of its verb, are not empty
 test_has_verb : (verb a b : List ℕ) (made : Test) → test_by verb a b ≡ Some made →
@@ -284,11 +284,11 @@ few_of_test (a ∷ []) made so = absurd (cc)
 few_of_test (a ∷ b ∷ []) made so = absurd (cc)
 few_of_test (a ∷ verb ∷ b ∷ []) made so =
     let some = test_has_verb (spelled verb) a b made so in
-    omega (arith, some.0, some.1, spelled-few verb)
+    omega (arith, some.0, some.1, spelled_few verb)
 few_of_test (a ∷ b ∷ d ∷ e ∷ elements) made so = absurd (cc)
 
 -- and so are twice the words of a test
-pub test-few : (columns : List ℕ) (made : Test) → test_of columns ≡ Some made →
+pub test_few : (columns : List ℕ) (made : Test) → test_of columns ≡ Some made →
     2 * test_count ≤ length columns + 2
-test-few columns made so =
-    omega (arith, few_of_test (elements_of columns) made so, columns-elements columns)
+test_few columns made so =
+    omega (arith, few_of_test (elements_of columns) made so, columns_elements columns)

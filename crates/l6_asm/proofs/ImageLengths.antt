@@ -19,62 +19,62 @@ use Rattle.l6_asm.specs.Laws.{ImagesOfDecksFit}
 use Rattle.l6_asm.specs.Resolution.{each_made, statement_of, statements_of}
 use Rattle.l6_asm.specs.Spells.{Spells}
 use Rattle.l6_asm.proofs.Labels.{went_on}
-use Rattle.l6_asm.proofs.StatementLengths.{rise-bytes, statements-few}
+use Rattle.l6_asm.proofs.StatementLengths.{rise_bytes, statements-few}
 
 -- a number has as many digits as are asked for
-pub digits-length : (places number : ℕ) → length (octal_digits places number) ≡ places
-digits-length zero number = refl
-digits-length (suc more) number =
+pub digits_length : (places number : ℕ) → length (octal_digits places number) ≡ places
+digits_length zero number = refl
+digits_length (suc more) number =
     let front = octal_digits more (number / octal_digit_count) in
     let last = byte "0" + number % octal_digit_count in
     omega (
       arith,
       length-append front (last ∷ []),
-      digits-length more (number / octal_digit_count),
+      digits_length more (number / octal_digit_count),
     )
 
 -- the line of a word has its digits and a line feed
-line-length : (word : ℕ) → length (word_line word) ≡ word_octals + 1
+line_length : (word : ℕ) → length (word_line word) ≡ word_octals + 1
 unfolding octal12
-line-length word =
-    omega (arith, length-append (octal12 word) (byte "\n" ∷ []), digits-length word_octals word)
+line_length word =
+    omega (arith, length-append (octal12 word) (byte "\n" ∷ []), digits_length word_octals word)
 
 -- and the text of words as many lines as there are words
-text-length : (words : List ℕ) →
+text_length : (words : List ℕ) →
     length (text_of_words words) ≡ (word_octals + 1) * length words
-text-length [] = refl
-text-length (word ∷ words) =
+text_length [] = refl
+text_length (word ∷ words) =
     omega (
       arith,
       length-append (word_line word) (text_of_words words),
-      line-length word,
-      text-length words,
+      line_length word,
+      text_length words,
     )
 
 -- a program has three words before those of its statements
-program-length : (version : Version) (program : List Parts) →
+program_length : (version : Version) (program : List Parts) →
     length (words_in version program) ≡ length (body version program) + 3
 unfolding words_in
-program-length version program = omega arith
+program_length version program = omega arith
 
 -- so the text of an image has a line for each word of the statements, and three more
-pub image-length : (version : Version) (program : List Parts) →
+pub image_length : (version : Version) (program : List Parts) →
     length (text_in version program) ≡ (word_octals + 1) * (length (body version program) + 3)
 unfolding text_in
-image-length version program =
-    text-length (words_in version program)
-    ∙ ap (λ n. (word_octals + 1) * n) (program-length version program)
+image_length version program =
+    text_length (words_in version program)
+    ∙ ap (λ n. (word_octals + 1) * n) (program_length version program)
 
 -- in neither version a program has more statements than a program may have
-most-in : (version : Version) → most_in version ≤ most_statements
-most-in One = omega arith
-most-in Two = omega arith
+most_in_version : (version : Version) → most_in version ≤ most_statements
+most_in_version One = omega arith
+most_in_version Two = omega arith
 
 -- twice the words of the statements of a program are at most the bytes of its deck, and two for each
 -- statement
-pub body-few : (version : Version) (deck : List ℕ) (assembly : Assembled) → Spells deck assembly →
+pub body_few : (version : Version) (deck : List ℕ) (assembly : Assembled) → Spells deck assembly →
     2 * length (body version assembly.program) ≤ length deck + 2 * length assembly.program
-body-few version deck assembly spells =
+body_few version deck assembly spells =
     let written = spells.written in
     let labelled = went_on (labels_of written) _ assembly spells.whole in
     let labels = labelled.0 in
@@ -86,7 +86,7 @@ body-few version deck assembly spells =
     omega (
       arith,
       few,
-      rise-bytes 0 (all_spans written) (length deck) (spans_rise deck written spells.reads),
+      rise_bytes 0 (all_spans written) (length deck) (spans_rise deck written spells.reads),
       ap (λ (p : List Parts). length (body version p)) program,
       ap (λ (p : List Parts). length p) program,
       length-append made.0 (plain_done ∷ []),
@@ -100,8 +100,8 @@ images_of_decks_fit deck image assembly fits spells (version, known, text) =
     omega (
       arith,
       ap length text,
-      image-length version assembly.program,
-      body-few version deck assembly spells,
+      image_length version assembly.program,
+      body_few version deck assembly spells,
       known.few,
-      most-in version,
+      most_in_version version,
     )

@@ -52,14 +52,14 @@ refused labels number there given found =
 abbrev pub is_entry_below : ℕ → Label × ℕ → Bool
 is_entry_below end entry = ltb entry.1 end
 
-with_label-below : (end : ℕ) (labels more : List (Label × ℕ)) (number : ℕ)
+with_label_below : (end : ℕ) (labels more : List (Label × ℕ)) (number : ℕ)
     (given : Option PlacedLabel) →
     list_all (is_entry_below end) labels ≡ true → number < end →
     with_label labels number given ≡ Ok more → list_all (is_entry_below end) more ≡ true
-with_label-below end labels more number None all below made =
+with_label_below end labels more number None all below made =
     let same : labels ≡ more = cc in
     ap (list_all (is_entry_below end)) (sym same) ∙ all
-with_label-below end labels more number (Some given) all below made =
+with_label_below end labels more number (Some given) all below made =
     with_given (is_some (number_of labels given.label)) made
   where
     with_given : (there : Bool) →
@@ -83,19 +83,19 @@ went_on (Ok middle) step made so = (middle, refl, so)
 went_on (Err fault) step made so = absurd (cc)
 
 -- each label's statement is one of those that there are
-pub labels_after-below : (end : ℕ) (written : List DeckStatementParts) (labels more : List (Label × ℕ))
+pub labels_after_below : (end : ℕ) (written : List DeckStatementParts) (labels more : List (Label × ℕ))
     (number : ℕ) →
     list_all (is_entry_below end) labels ≡ true → number + length written ≤ end →
     labels_after labels number written ≡ Ok more → list_all (is_entry_below end) more ≡ true
-labels_after-below end [] labels more number all fits made =
+labels_after_below end [] labels more number all fits made =
     let same : labels ≡ more = cc in
     ap (list_all (is_entry_below end)) (sym same) ∙ all
-labels_after-below end (one ∷ written) labels more number all fits made =
+labels_after_below end (one ∷ written) labels more number all fits made =
     let first =
     went_on (with_label labels number one.label) (λ next. labels_after next (number + 1) written)
     more made in
-    labels_after-below end written first.0 more (number + 1)
-    (with_label-below end labels first.0 number one.label all (omega arith) first.1)
+    labels_after_below end written first.0 more (number + 1)
+    (with_label_below end labels first.0 number one.label all (omega arith) first.1)
     (omega arith) first.2
 
 found_step : (end : ℕ) (same : Bool) (entry : Label × ℕ) (others : Option ℕ) (number : ℕ) →

@@ -26,17 +26,17 @@ use Rattle.l6_card.specs.Laws.{AreWithinLimits}
 use Rattle.l6_asm.specs.Labels.{number_of, labels_of, and_then}
 use Rattle.l6_asm.specs.Resolution.{number_if_given, resolved, found_on, operation_of, exit_of, each_made, statement_of, statements_of}
 use Rattle.l6_asm.proofs.Makings.{each_made-length, all_made}
-use Rattle.l6_asm.proofs.Labels.{is_entry_below, went_on, labels_after-below, found_below}
+use Rattle.l6_asm.proofs.Labels.{is_entry_below, went_on, labels_after_below, found_below}
 
 -- a test of a list of lists in a row
-all-flat : {A B : Type 0} (test : B → Bool) (f : A → List B) (xs : List A) →
+all_flat : {A B : Type 0} (test : B → Bool) (f : A → List B) (xs : List A) →
     list_all (λ x. list_all test (f x)) xs ≡ true → list_all test (flat_map f xs) ≡ true
-all-flat test f [] all = refl
-all-flat test f (x ∷ xs) all =
+all_flat test f [] all = refl
+all_flat test f (x ∷ xs) all =
     let parts = and_parts (list_all test (f x)) (list_all (λ y. list_all test (f y)) xs) all in
     list_all-append test (f x) (flat_map f xs)
     ∙ and_from (list_all test (f x)) (list_all test (flat_map f xs)) parts.0
-    (all-flat test f xs parts.1)
+    (all_flat test f xs parts.1)
 
 -- what maps to something was something
 mapped : {A B : Type 0} (f : A → B) (found : Option A) (made : B) →
@@ -212,13 +212,13 @@ statement_good end labels all written made fit so =
     (targets_of_exit m.leaving)
     ∙ and_from (list_all (is_below end) (flat_map targets_of_operation m.operations))
     (list_all (is_below end) (targets_of_exit m.leaving))
-    (all-flat (is_below end) targets_of_operation m.operations targets)
+    (all_flat (is_below end) targets_of_operation m.operations targets)
     (exit_below end labels all written.exit m.leaving m.exit_is))
 
 -- what follows a list is the last of both
-slice_get-last : (front : List Parts) (last : Parts) →
+slice_get_last : (front : List Parts) (last : Parts) →
     slice_get (front ++ last ∷ []) (length (front ++ last ∷ []) - 1) ≡ Some last
-slice_get-last front last =
+slice_get_last front last =
     let seam : length (front ++ last ∷ []) - 1 ≡ length front =
     omega (arith, length-append front (last ∷ [])) in
     let within : length front < length (front ++ last ∷ []) =
@@ -247,12 +247,12 @@ all_left p q (x ∷ xs) all =
     (and_from (p x) (list_all p xs) own.0 others.0, and_from (q x) (list_all q xs) own.1 others.1)
 
 -- what the cards say, with numbers in place of labels and the plain DONE after it, is a program
-pub program_of-made : (written : List DeckStatementParts) (labels : List (Label × ℕ))
+pub program_of_made : (written : List DeckStatementParts) (labels : List (Label × ℕ))
     (statements : List Parts) →
     AreWithinLimits written → labels_of written ≡ Ok labels →
     statements_of labels written ≡ Ok statements →
     program_of statements ≡ Ok statements
-program_of-made written labels statements limits labelled made =
+program_of_made written labels statements limits labelled made =
     let first = went_on (each_made (statement_of labels) written) _ statements made in
     let front = first.0 in
     let whole : front ++ plain_done ∷ [] ≡ statements = cc (first.2) in
@@ -260,7 +260,7 @@ program_of-made written labels statements limits labelled made =
     let end = length (front ++ plain_done ∷ []) in
     let ends : end ≡ length written + 1 =
     omega (arith, count, length-append front (plain_done ∷ [])) in
-    let below = labels_after-below end written [] labels 0 refl (omega arith) labelled in
+    let below = labels_after_below end written [] labels 0 refl (omega arith) labelled in
     let good =
     all_made (statement_of labels) is_fit (is_good end) (statement_good end labels below)
     written front limits.each first.1 in
@@ -270,11 +270,11 @@ program_of-made written labels statements limits labelled made =
     let own = all_left fits has_its_tests front parts.0 in
     let fitting = each_good fits front own.0 refl in
     let tested = each_good has_its_tests front own.1 refl in
-    let targets = all-flat (is_below end) targets_of (front ++ plain_done ∷ [])
+    let targets = all_flat (is_below end) targets_of (front ++ plain_done ∷ [])
     (each_good (λ s. list_all (is_below end) (targets_of s)) front parts.1 refl) in
     let few = le-leb end most_statements (omega (arith, ends, limits.count)) in
     subst (λ (s : List Parts). program_of s ≡ Ok s) whole
-    (Prim.rw (few, fitting, targets, tested, slice_get-last front plain_done) refl)
+    (Prim.rw (few, fitting, targets, tested, slice_get_last front plain_done) refl)
 
 -- a statement of operations and an exit that were made
 pub statement_from : (labels : List (Label × ℕ)) (written : DeckStatementParts)

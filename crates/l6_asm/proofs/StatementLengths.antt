@@ -19,8 +19,8 @@ use Rattle.l6_card.specs.Statement.{DeckStatementParts}
 use Rattle.l6_asm.specs.Resolution.{resolved, operation_of as made_operation, each_made, statement_of}
 use Rattle.l6_asm.proofs.Makings.{both_made}
 use Rattle.l6_asm.proofs.Programs.{found_operation, statement_made}
-use Rattle.l6_asm.proofs.RowLengths.{operation-count, resolved-count, test-count}
-use Rattle.l6_asm.proofs.GroupLengths.{operation-few, test-few}
+use Rattle.l6_asm.proofs.RowLengths.{operation_row_count, resolved_count, test_row_count}
+use Rattle.l6_asm.proofs.GroupLengths.{operation_few, test_few}
 
 -- how many bytes spans have together
 abbrev pub bytes_in : List Span → ℕ
@@ -28,22 +28,22 @@ bytes_in [] = 0
 bytes_in (span ∷ spans) = span.length + bytes_in spans
 
 -- spans in a row have the bytes of both
-bytes_in-append : (front following : List Span) →
+bytes_in_append : (front following : List Span) →
     bytes_in (front ++ following) ≡ bytes_in front + bytes_in following
-bytes_in-append [] following = omega arith
-bytes_in-append (span ∷ front) following = omega (arith, bytes_in-append front following)
+bytes_in_append [] following = omega arith
+bytes_in_append (span ∷ front) following = omega (arith, bytes_in_append front following)
 
 -- spans that rise have no more bytes than are between their ends
-pub rise-bytes : (from : ℕ) (spans : List Span) (end : ℕ) → Rise from spans end →
+pub rise_bytes : (from : ℕ) (spans : List Span) (end : ℕ) → Rise from spans end →
     from + bytes_in spans ≤ end
-rise-bytes from [] end rise = omega (arith, rise)
-rise-bytes from (span ∷ spans) end rise =
-    omega (arith, rise.0, rise-bytes (span.offset + span.length) spans end rise.1)
+rise_bytes from [] end rise = omega (arith, rise)
+rise_bytes from (span ∷ spans) end rise =
+    omega (arith, rise.0, rise_bytes (span.offset + span.length) spans end rise.1)
 
 -- the columns of a group and its parentheses are within its span
-group-columns : {A : Type 0} (read : List ℕ → Option A) (deck : List ℕ) (group : Placed A)
+group_columns : {A : Type 0} (read : List ℕ → Option A) (deck : List ℕ) (group : Placed A)
     (spelled : IsSpelled read deck group) → length spelled.columns + 2 ≤ group.span.length
-group-columns read deck group spelled =
+group_columns read deck group spelled =
     omega (
       arith,
       ap length spelled.bytes,
@@ -64,9 +64,9 @@ module _ (version : Version) (deck : List ℕ) where
       omega (
         arith,
         length-append (words test.reading) (flat_map words others),
-        test-count version test.reading,
-        test-few spelled.columns test.reading spelled.reads,
-        group-columns test_of deck test spelled,
+        test_row_count version test.reading,
+        test_few spelled.columns test.reading spelled.reads,
+        group_columns test_of deck test spelled,
         tests-few tests (All-tail (IsSpelled test_of deck) test tests each),
       )
 
@@ -79,10 +79,10 @@ module _ (version : Version) (deck : List ℕ) where
         let found = found_operation group.card (resolved labels group.reading) made so in
         omega (
           arith,
-          operation-count version made,
-          resolved-count labels group.reading made found,
-          operation-few spelled.columns group.reading spelled.reads,
-          group-columns operation_of deck group spelled,
+          operation_row_count version made,
+          resolved_count labels group.reading made found,
+          operation_few spelled.columns group.reading spelled.reads,
+          group_columns operation_of deck group spelled,
         )
 
     operations-few : (groups : List (Placed (Op Label))) (made : List (Op ℕ)) →
@@ -121,7 +121,7 @@ module _ (version : Version) (deck : List ℕ) where
               (flat_map (operation_words version) m.operations),
           tests-few written.tests spelled.tests,
           operations-few written.operations m.operations spelled.operations m.operations_are,
-          bytes_in-append (map (λ (test : Placed Test). test.span) written.tests)
+          bytes_in_append (map (λ (test : Placed Test). test.span) written.tests)
               (map (λ (operation : Placed (Op Label)). operation.span) written.operations),
         )
 
@@ -144,5 +144,5 @@ module _ (version : Version) (deck : List ℕ) where
           statement-few one parts.first (All-head (AreSpelled deck) one written each) parts.first_is,
           statements-few written parts.rest (All-tail (AreSpelled deck) one written each)
               parts.rest_is,
-          bytes_in-append (spans_of one) (all_spans written),
+          bytes_in_append (spans_of one) (all_spans written),
         )

@@ -24,7 +24,7 @@ use Rattle.l6_asm.specs.Laws.{DecksHaveImages}
 use Rattle.l6_asm.specs.Resolution.{number_if_given, resolved, operation_of as made_operation, each_made, statement_of, statements_of}
 use Rattle.l6_asm.proofs.Labels.{went_on}
 use Rattle.l6_asm.proofs.Makings.{both_made, each_made-length}
-use Rattle.l6_asm.proofs.Programs.{found_operation, statement_made, each_good, program_of-made}
+use Rattle.l6_asm.proofs.Programs.{found_operation, statement_made, each_good, program_of_made}
 use Rattle.l6_asm.proofs.GroupValues.{operation_values, test_values}
 
 -- what was made of an operation by a choice of its labels has its values
@@ -53,40 +53,40 @@ unchanged operation made so =
     ap (λ o. is_operation o) (sym same)
 
 -- numbers in place of labels change no values
-resolved-values : (labels : List (Label × ℕ)) (operation : Op Label) (made : Op ℕ) →
+resolved_values : (labels : List (Label × ℕ)) (operation : Op Label) (made : Op ℕ) →
     resolved labels operation ≡ Some made → is_operation made ≡ is_operation operation
-resolved-values labels (Get c v d label) made so =
+resolved_values labels (Get c v d label) made so =
     chosen (Get c v d) (number_if_given labels label) made _ (λ given. refl) so
-resolved-values labels (Duplicate c v label) made so =
+resolved_values labels (Duplicate c v label) made so =
     chosen (Duplicate c v) (number_if_given labels label) made _ (λ given. refl) so
-resolved-values labels (Call label fail) made so =
+resolved_values labels (Call label fail) made so =
     called (number_of labels label) (number_if_given labels fail) made so
-resolved-values labels (Input c v label) made so =
+resolved_values labels (Input c v label) made so =
     chosen (Input c v) (number_if_given labels label) made _ (λ given. refl) so
-resolved-values labels (Set c v) made so = unchanged (Set c v) made so
-resolved-values labels (Add c v) made so = unchanged (Add c v) made so
-resolved-values labels (Subtract c v) made so = unchanged (Subtract c v) made so
-resolved-values labels (Multiply c v) made so = unchanged (Multiply c v) made so
-resolved-values labels (Divide c v) made so = unchanged (Divide c v) made so
-resolved-values labels (Remainder c v) made so = unchanged (Remainder c v) made so
-resolved-values labels (And c v) made so = unchanged (And c v) made so
-resolved-values labels (Or c v) made so = unchanged (Or c v) made so
-resolved-values labels (ExclusiveOr c v) made so = unchanged (ExclusiveOr c v) made so
-resolved-values labels (Complement c v) made so = unchanged (Complement c v) made so
-resolved-values labels (ShiftLeft c v) made so = unchanged (ShiftLeft c v) made so
-resolved-values labels (ShiftRight c v) made so = unchanged (ShiftRight c v) made so
-resolved-values labels (Exchange c d) made so = unchanged (Exchange c d) made so
-resolved-values labels (Define f w a z) made so = unchanged (Define f w a z) made so
-resolved-values labels (SaveContent c) made so = unchanged (SaveContent c) made so
-resolved-values labels (RestoreContent c) made so = unchanged (RestoreContent c) made so
-resolved-values labels (SaveDefinition f) made so = unchanged (SaveDefinition f) made so
-resolved-values labels (RestoreDefinition f) made so = unchanged (RestoreDefinition f) made so
-resolved-values labels (Free c v) made so = unchanged (Free c v) made so
-resolved-values labels (PrintCharacters c v) made so = unchanged (PrintCharacters c v) made so
-resolved-values labels (PrintDecimal c) made so = unchanged (PrintDecimal c) made so
-resolved-values labels (PrintOctal c) made so = unchanged (PrintOctal c) made so
-resolved-values labels (PrintText text) made so = unchanged (PrintText text) made so
-resolved-values labels PrintLine made so = unchanged PrintLine made so
+resolved_values labels (Set c v) made so = unchanged (Set c v) made so
+resolved_values labels (Add c v) made so = unchanged (Add c v) made so
+resolved_values labels (Subtract c v) made so = unchanged (Subtract c v) made so
+resolved_values labels (Multiply c v) made so = unchanged (Multiply c v) made so
+resolved_values labels (Divide c v) made so = unchanged (Divide c v) made so
+resolved_values labels (Remainder c v) made so = unchanged (Remainder c v) made so
+resolved_values labels (And c v) made so = unchanged (And c v) made so
+resolved_values labels (Or c v) made so = unchanged (Or c v) made so
+resolved_values labels (ExclusiveOr c v) made so = unchanged (ExclusiveOr c v) made so
+resolved_values labels (Complement c v) made so = unchanged (Complement c v) made so
+resolved_values labels (ShiftLeft c v) made so = unchanged (ShiftLeft c v) made so
+resolved_values labels (ShiftRight c v) made so = unchanged (ShiftRight c v) made so
+resolved_values labels (Exchange c d) made so = unchanged (Exchange c d) made so
+resolved_values labels (Define f w a z) made so = unchanged (Define f w a z) made so
+resolved_values labels (SaveContent c) made so = unchanged (SaveContent c) made so
+resolved_values labels (RestoreContent c) made so = unchanged (RestoreContent c) made so
+resolved_values labels (SaveDefinition f) made so = unchanged (SaveDefinition f) made so
+resolved_values labels (RestoreDefinition f) made so = unchanged (RestoreDefinition f) made so
+resolved_values labels (Free c v) made so = unchanged (Free c v) made so
+resolved_values labels (PrintCharacters c v) made so = unchanged (PrintCharacters c v) made so
+resolved_values labels (PrintDecimal c) made so = unchanged (PrintDecimal c) made so
+resolved_values labels (PrintOctal c) made so = unchanged (PrintOctal c) made so
+resolved_values labels (PrintText text) made so = unchanged (PrintText text) made so
+resolved_values labels PrintLine made so = unchanged PrintLine made so
 
 module _ (deck : List ℕ) where
   -- the tests of a statement are tests
@@ -117,7 +117,7 @@ module _ (deck : List ℕ) where
         parts.first_is in
         ap (list_all (λ o. is_operation o)) (sym parts.whole)
         ∙ and_from (is_operation parts.first) (list_all (λ o. is_operation o) parts.rest)
-        (resolved-values labels group.reading parts.first found
+        (resolved_values labels group.reading parts.first found
         ∙ operation_values spelled.columns group.reading spelled.reads)
         (operations-values groups parts.rest
         (All-tail (IsSpelled operation_of deck) group groups each) parts.rest_is)
@@ -162,7 +162,7 @@ decks_have_images deck assembly spells =
     let values = each_good has_values made.0
     (statements-values deck labels written made.0 (groups_are_at_spans deck written spells.reads)
     made.1) refl in
-    let taken = program_of-made written labels stated.0 limits labelled.1 stated.1 in
+    let taken = program_of_made written labels stated.0 limits labelled.1 stated.1 in
     let count = each_made-length (statement_of labels) written made.0 made.1 in
     record {
       is =

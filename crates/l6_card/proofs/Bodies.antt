@@ -6,7 +6,7 @@ use Rattle.std.specs.Str.{byte}
 use Rattle.std.proofs.lemmas.Bool.{and_parts, or_cases, eqb-true, not-true}
 use Rattle.std.proofs.lemmas.List.{append-nil}
 use Rattle.l6_word.specs.Split.{lacks}
-use Rattle.l6_word.proofs.Cuts.{lacks-cons}
+use Rattle.l6_word.proofs.Cuts.{lacks_cons}
 use Rattle.l6_group.specs.Character.{is_blank}
 use Rattle.l6_card.specs.Items.{Item, group, word, unclosed, unopened, after_opening, after_blank, after_letter, after_column, items_of}
 use Rattle.l6_card.specs.Objection.{count_blanks, count_solid}
@@ -15,66 +15,66 @@ use Rattle.l6_card.specs.declared.item.Token.{Token}
 use Rattle.l6_card.specs.declared.item.Token.TheVariants.{End, Group, Word, Unclosed, Unopened}
 use Rattle.l6_card.specs.inner.Token.{BeginsWith, GroupFirst, WordFirst, IsUnclosed, ClosesFirst, IsShorter, UnclosedFirst, UnopenedFirst, OpensFirst, ClosesAt, IsCutAtParenthesis, letters_of, begins_with_none, begins_with_closing, begins_a_word}
 
-closes_first-opening : (offset : ℕ) (items : List Item) →
+closes_first_opening : (offset : ℕ) (items : List Item) →
     closes_first (after_opening offset items) ≡ false
-closes_first-opening offset [] = refl
-closes_first-opening offset (group at columns ∷ items) = refl
-closes_first-opening offset (word first past columns ∷ items) = refl
-closes_first-opening offset (unclosed at ∷ items) = refl
-closes_first-opening offset (unopened closing columns ∷ items) = refl
+closes_first_opening offset [] = refl
+closes_first_opening offset (group at columns ∷ items) = refl
+closes_first_opening offset (word first past columns ∷ items) = refl
+closes_first_opening offset (unclosed at ∷ items) = refl
+closes_first_opening offset (unopened closing columns ∷ items) = refl
 
-closes_first-blank : (blank : ℕ) (items : List Item) →
+closes_first_blank : (blank : ℕ) (items : List Item) →
     closes_first items ≡ false → closes_first (after_blank blank items) ≡ false
-closes_first-blank blank [] open' = refl
-closes_first-blank blank (group at columns ∷ items) open' = refl
-closes_first-blank blank (word first past columns ∷ items) open' = refl
-closes_first-blank blank (unclosed at ∷ items) open' = refl
-closes_first-blank blank (unopened closing columns ∷ items) open' = absurd (cc)
+closes_first_blank blank [] open' = refl
+closes_first_blank blank (group at columns ∷ items) open' = refl
+closes_first_blank blank (word first past columns ∷ items) open' = refl
+closes_first_blank blank (unclosed at ∷ items) open' = refl
+closes_first_blank blank (unopened closing columns ∷ items) open' = absurd (cc)
 
-closes_first-letter : (offset letter : ℕ) (items : List Item) →
+closes_first_letter : (offset letter : ℕ) (items : List Item) →
     closes_first items ≡ false → closes_first (after_letter offset letter items) ≡ false
-closes_first-letter offset letter [] open' = refl
-closes_first-letter offset letter (group at columns ∷ items) open' = refl
-closes_first-letter offset letter (word first past columns ∷ items) open' = refl
-closes_first-letter offset letter (unclosed at ∷ items) open' = refl
-closes_first-letter offset letter (unopened closing columns ∷ items) open' = absurd (cc)
+closes_first_letter offset letter [] open' = refl
+closes_first_letter offset letter (group at columns ∷ items) open' = refl
+closes_first_letter offset letter (word first past columns ∷ items) open' = refl
+closes_first_letter offset letter (unclosed at ∷ items) open' = refl
+closes_first_letter offset letter (unopened closing columns ∷ items) open' = absurd (cc)
 
-closes_first-cond : (opens blank : Bool) (offset column : ℕ) (items : List Item) →
+closes_first_cond : (opens blank : Bool) (offset column : ℕ) (items : List Item) →
     closes_first items ≡ false →
     closes_first
     (cond opens (after_opening offset items)
     (cond blank (after_blank column items) (after_letter offset column items)))
     ≡ false
-closes_first-cond true blank offset column items open' = closes_first-opening offset items
-closes_first-cond false true offset column items open' = closes_first-blank column items open'
-closes_first-cond false false offset column items open' = closes_first-letter offset column items open'
+closes_first_cond true blank offset column items open' = closes_first_opening offset items
+closes_first_cond false true offset column items open' = closes_first_blank column items open'
+closes_first_cond false false offset column items open' = closes_first_letter offset column items open'
 
-closes_first-column : (offset column : ℕ) (items : List Item) →
+closes_first_column : (offset column : ℕ) (items : List Item) →
     eqb column (byte ")") ≡ false → closes_first items ≡ false →
     closes_first (after_column offset column items) ≡ false
-closes_first-column offset column items other open' =
+closes_first_column offset column items other open' =
     rw other
-    (closes_first-cond (eqb column (byte "(")) (is_blank column) offset column items open')
+    (closes_first_cond (eqb column (byte "(")) (is_blank column) offset column items open')
 
 -- bytes without a `)` have none that no `(` opens
-pub closes_first-lacks : (offset : ℕ) (columns : List ℕ) → lacks (byte ")") columns ≡ true →
+pub closes_first_lacks : (offset : ℕ) (columns : List ℕ) → lacks (byte ")") columns ≡ true →
     closes_first (items_of offset columns) ≡ false
-closes_first-lacks offset [] lacking = refl
-closes_first-lacks offset (column ∷ columns) lacking =
-    let parts = lacks-cons (byte ")") column columns lacking in
-    closes_first-column offset column (items_of (offset + 1) columns) parts.0
-    (closes_first-lacks (offset + 1) columns parts.1)
+closes_first_lacks offset [] lacking = refl
+closes_first_lacks offset (column ∷ columns) lacking =
+    let parts = lacks_cons (byte ")") column columns lacking in
+    closes_first_column offset column (items_of (offset + 1) columns) parts.0
+    (closes_first_lacks (offset + 1) columns parts.1)
 
 -- a `(` before the first `)` leaves none that no `(` opens
-pub closes_first-open : (offset : ℕ) (front following : List ℕ) →
+pub closes_first_open : (offset : ℕ) (front following : List ℕ) →
     lacks (byte ")") front ≡ true →
     closes_first (items_of offset (front ++ byte "(" ∷ following)) ≡ false
-closes_first-open offset [] following lacking =
-    closes_first-opening offset (items_of (offset + 1) following)
-closes_first-open offset (column ∷ columns) following lacking =
-    let parts = lacks-cons (byte ")") column columns lacking in
-    closes_first-column offset column (items_of (offset + 1) (columns ++ byte "(" ∷ following))
-    parts.0 (closes_first-open (offset + 1) columns following parts.1)
+closes_first_open offset [] following lacking =
+    closes_first_opening offset (items_of (offset + 1) following)
+closes_first_open offset (column ∷ columns) following lacking =
+    let parts = lacks_cons (byte ")") column columns lacking in
+    closes_first_column offset column (items_of (offset + 1) (columns ++ byte "(" ∷ following))
+    parts.0 (closes_first_open (offset + 1) columns following parts.1)
 
 opened_unclosed : (offset : ℕ) (items : List Item) → closes_first items ≡ false →
     OpensFirst offset (after_opening offset items)
@@ -90,14 +90,14 @@ or_true_left true other either fails = refl
 or_true_left false other either fails = absurd (cc)
 
 -- a `(` is no group's where the first parenthesis after it is no `)`, or where there is none
-pub unclosed-cut : (inside front rest : List ℕ) → IsCutAtParenthesis inside front rest →
+pub unclosed_cut : (inside front rest : List ℕ) → IsCutAtParenthesis inside front rest →
     begins_with_closing rest ≡ false → IsUnclosed inside
-unclosed-cut inside front [] parts closing offset =
+unclosed_cut inside front [] parts closing offset =
     let lacking : lacks (byte ")") inside ≡ true =
     ap (lacks (byte ")")) (parts.whole ∙ append-nil front) ∙ parts.no_closing in
     opened_unclosed offset (items_of (offset + 1) inside)
-    (closes_first-lacks (offset + 1) inside lacking)
-unclosed-cut inside front (column ∷ others) parts closing offset =
+    (closes_first_lacks (offset + 1) inside lacking)
+unclosed_cut inside front (column ∷ others) parts closing offset =
     let opening =
     eqb-true column (byte "(")
     (or_true_left (eqb column (byte "(")) (eqb column (byte ")")) parts.rest_begins closing) in
@@ -105,7 +105,7 @@ unclosed-cut inside front (column ∷ others) parts closing offset =
     parts.whole ∙ ap (λ c. front ++ c ∷ others) opening in
     opened_unclosed offset (items_of (offset + 1) inside)
     (ap (λ i. closes_first (items_of (offset + 1) i)) whole
-    ∙ closes_first-open (offset + 1) front others parts.no_closing)
+    ∙ closes_first_open (offset + 1) front others parts.no_closing)
 
 joined : (blank : Bool) (offset column closing : ℕ) (columns : List ℕ) (items : List Item) →
     cond blank (after_blank column (unopened closing columns ∷ items))
@@ -114,32 +114,32 @@ joined : (blank : Bool) (offset column closing : ℕ) (columns : List ℕ) (item
 joined true offset column closing columns items = refl
 joined false offset column closing columns items = refl
 
-pub closed-front : (offset : ℕ) (columns following : List ℕ) →
+pub closed_front : (offset : ℕ) (columns following : List ℕ) →
     lacks (byte ")") columns ≡ true → lacks (byte "(") columns ≡ true →
     items_of offset (columns ++ byte ")" ∷ following)
     ≡ unopened (offset + length columns) columns ∷ items_of (offset + length columns + 1) following
-closed-front offset [] following no_close no_open =
+closed_front offset [] following no_close no_open =
     ap (λ o. unopened offset [] ∷ items_of o following) (omega arith)
     ∙ ap (λ o. unopened o [] ∷ items_of (offset + length {A = ℕ} [] + 1) following) (omega arith)
-closed-front offset (column ∷ columns) following no_close no_open =
-    let closes = lacks-cons (byte ")") column columns no_close in
-    let opens = lacks-cons (byte "(") column columns no_open in
+closed_front offset (column ∷ columns) following no_close no_open =
+    let closes = lacks_cons (byte ")") column columns no_close in
+    let opens = lacks_cons (byte "(") column columns no_open in
     let closing = offset + 1 + length columns in
     let items = items_of (closing + 1) following in
     let alone : after_column offset column (unopened closing columns ∷ items)
     ≡ unopened closing (column ∷ columns) ∷ items =
     rw (closes.0, opens.0) (joined (is_blank column) offset column closing columns items) in
     let same : closing ≡ offset + length (column ∷ columns) = omega arith in
-    ap (after_column offset column) (closed-front (offset + 1) columns following closes.1 opens.1)
+    ap (after_column offset column) (closed_front (offset + 1) columns following closes.1 opens.1)
     ∙ alone
     ∙ ap (λ o. unopened o (column ∷ columns) ∷ items_of (o + 1) following) same
 
 -- the columns in front of the first parenthesis are those of a group where it is a `)`
-pub closed-cut : (inside columns following : List ℕ) →
+pub closed_cut : (inside columns following : List ℕ) →
     IsCutAtParenthesis inside columns (byte ")" ∷ following) → ClosesFirst inside columns following
-closed-cut inside columns following parts = record {
+closed_cut inside columns following parts = record {
   items = λ offset. ap (items_of offset) parts.whole
-      ∙ closed-front offset columns following parts.no_closing parts.no_opening;
+      ∙ closed_front offset columns following parts.no_closing parts.no_opening;
   whole = omega (arith, ap length parts.whole, length-append columns (byte ")" ∷ following));
 }
 
@@ -175,18 +175,18 @@ nothing_blank column (word first past columns ∷ items) open' = refl
 nothing_blank column (unclosed at ∷ items) open' = refl
 nothing_blank column (unopened closing columns ∷ items) open' = absurd (cc)
 
-skipped-blanks : (offset : ℕ) (blanks columns : List ℕ) →
+skipped_blanks : (offset : ℕ) (blanks columns : List ℕ) →
     list_all is_blank blanks ≡ true →
     closes_first (items_of (offset + length blanks) columns) ≡ false →
     items_of offset (blanks ++ columns) ≡ items_of (offset + length blanks) columns
-skipped-blanks offset [] columns all_blank open' = ap (λ o. items_of o columns) (omega arith)
-skipped-blanks offset (blank ∷ blanks) columns all_blank open' =
+skipped_blanks offset [] columns all_blank open' = ap (λ o. items_of o columns) (omega arith)
+skipped_blanks offset (blank ∷ blanks) columns all_blank open' =
     let parts = and_parts (is_blank blank) (list_all is_blank blanks) all_blank in
     let next = offset + 1 + length blanks in
     let same : offset + length (blank ∷ blanks) ≡ next = omega arith in
     let still : closes_first (items_of next columns) ≡ false =
     ap (λ o. closes_first (items_of o columns)) (sym same) ∙ open' in
-    ap (after_column offset blank) (skipped-blanks (offset + 1) blanks columns parts.1 still)
+    ap (after_column offset blank) (skipped_blanks (offset + 1) blanks columns parts.1 still)
     ∙ blank_column offset blank (items_of next columns) parts.0
     ∙ nothing_blank blank (items_of next columns) still
     ∙ ap (λ o. items_of o columns) (sym same)
@@ -232,14 +232,14 @@ pub begins_following_blanks : (first : Token) (blanks body rest : List ℕ) →
 begins_following_blanks End blanks body rest whole all_blank begins = λ offset.
     let none = begins (offset + length blanks) in
     ap (items_of offset) whole
-    ∙ skipped-blanks offset blanks rest all_blank (ap closes_first none) ∙ none
+    ∙ skipped_blanks offset blanks rest all_blank (ap closes_first none) ∙ none
 begins_following_blanks (Group columns following) blanks body rest whole all_blank begins = λ offset.
     let one = begins (offset + length blanks) in
     record {
       opening = one.opening;
       after = omega (arith, one.after);
       items = ap (items_of offset) whole
-          ∙ skipped-blanks offset blanks rest all_blank (ap closes_first one.items) ∙ one.items;
+          ∙ skipped_blanks offset blanks rest all_blank (ap closes_first one.items) ∙ one.items;
       ends = omega (arith, one.ends, ap length whole, length-append blanks rest);
     }
 begins_following_blanks (Word columns following) blanks body rest whole all_blank begins = λ offset.
@@ -248,13 +248,13 @@ begins_following_blanks (Word columns following) blanks body rest whole all_blan
       opening = one.opening;
       after = omega (arith, one.after);
       items = ap (items_of offset) whole
-          ∙ skipped-blanks offset blanks rest all_blank (ap closes_first one.items) ∙ one.items;
+          ∙ skipped_blanks offset blanks rest all_blank (ap closes_first one.items) ∙ one.items;
       ends = omega (arith, one.ends, ap length whole, length-append blanks rest);
     }
 begins_following_blanks (Unclosed following) blanks body rest whole all_blank begins = λ offset.
     let one = begins (offset + length blanks) in
     let open' = opens_not_closing one.opening (items_of (offset + length blanks) rest) one.items in
-    let same = ap (items_of offset) whole ∙ skipped-blanks offset blanks rest all_blank open' in
+    let same = ap (items_of offset) whole ∙ skipped_blanks offset blanks rest all_blank open' in
     record {
       opening = one.opening;
       after = omega (arith, one.after);
@@ -286,44 +286,44 @@ starts_fresh (word first past columns ∷ items) = false
 starts_fresh (unopened closing columns ∷ items) = false
 starts_fresh _ = true
 
-fresh-opening : (offset : ℕ) (items : List Item) →
+fresh_opening : (offset : ℕ) (items : List Item) →
     starts_fresh (after_opening offset items) ≡ true
-fresh-opening offset [] = refl
-fresh-opening offset (group at columns ∷ items) = refl
-fresh-opening offset (word first past columns ∷ items) = refl
-fresh-opening offset (unclosed at ∷ items) = refl
-fresh-opening offset (unopened closing columns ∷ items) = refl
+fresh_opening offset [] = refl
+fresh_opening offset (group at columns ∷ items) = refl
+fresh_opening offset (word first past columns ∷ items) = refl
+fresh_opening offset (unclosed at ∷ items) = refl
+fresh_opening offset (unopened closing columns ∷ items) = refl
 
 -- these letters, if there are any, as a word from this offset on in front of items
 abbrev word_then : ℕ → ℕ → List ℕ → List Item → List Item
 word_then first past [] items = items
 word_then first past letters items = word first past letters ∷ items
 
-then-blank : (first past blank : ℕ) (letters : List ℕ) (items : List Item) →
+then_blank : (first past blank : ℕ) (letters : List ℕ) (items : List Item) →
     starts_fresh items ≡ true →
     after_blank blank (word_then first past letters items) ≡ word_then first past letters items
-then-blank first past blank (letter ∷ letters) items fresh = refl
-then-blank first past blank [] [] fresh = refl
-then-blank first past blank [] (group at columns ∷ items) fresh = refl
-then-blank first past blank [] (unclosed at ∷ items) fresh = refl
-then-blank first past blank [] (word other end columns ∷ items) fresh = absurd (cc)
-then-blank first past blank [] (unopened closing columns ∷ items) fresh = absurd (cc)
+then_blank first past blank (letter ∷ letters) items fresh = refl
+then_blank first past blank [] [] fresh = refl
+then_blank first past blank [] (group at columns ∷ items) fresh = refl
+then_blank first past blank [] (unclosed at ∷ items) fresh = refl
+then_blank first past blank [] (word other end columns ∷ items) fresh = absurd (cc)
+then_blank first past blank [] (unopened closing columns ∷ items) fresh = absurd (cc)
 
 -- where a word ends that a letter in front of these letters begins
 abbrev past_letters : ℕ → ℕ → List ℕ → ℕ
 past_letters offset past [] = offset + 1
 past_letters offset past letters = past
 
-then-letter : (offset first past letter : ℕ) (letters : List ℕ) (items : List Item) →
+then_letter : (offset first past letter : ℕ) (letters : List ℕ) (items : List Item) →
     starts_fresh items ≡ true →
     after_letter offset letter (word_then first past letters items)
     ≡ word offset (past_letters offset past letters) (letter ∷ letters) ∷ items
-then-letter offset first past letter (other ∷ letters) items fresh = refl
-then-letter offset first past letter [] [] fresh = refl
-then-letter offset first past letter [] (group at columns ∷ items) fresh = refl
-then-letter offset first past letter [] (unclosed at ∷ items) fresh = refl
-then-letter offset first past letter [] (word other end columns ∷ items) fresh = absurd (cc)
-then-letter offset first past letter [] (unopened closing columns ∷ items) fresh = absurd (cc)
+then_letter offset first past letter (other ∷ letters) items fresh = refl
+then_letter offset first past letter [] [] fresh = refl
+then_letter offset first past letter [] (group at columns ∷ items) fresh = refl
+then_letter offset first past letter [] (unclosed at ∷ items) fresh = refl
+then_letter offset first past letter [] (word other end columns ∷ items) fresh = absurd (cc)
+then_letter offset first past letter [] (unopened closing columns ∷ items) fresh = absurd (cc)
 
 no_letters : (columns : List ℕ) → list_all is_blank columns ≡ true → letters_of columns ≡ []
 no_letters [] blank = refl
@@ -380,24 +380,24 @@ past_one offset column columns false is_so solid =
     ∙ omega (arith, counted)
 
 -- a column in front of a word, or of blanks
-then-column : (blank all : Bool) (offset column : ℕ) (columns : List ℕ) (items : List Item) →
+then_column : (blank all : Bool) (offset column : ℕ) (columns : List ℕ) (items : List Item) →
     is_blank column ≡ blank → list_all is_blank columns ≡ all → starts_fresh items ≡ true →
     let later = word_then (offset + 1 + count_blanks columns) (offset + 1 + count_solid columns)
     (letters_of columns) items in
     cond blank (after_blank column later) (after_letter offset column later)
     ≡ word_then (offset + count_blanks (column ∷ columns)) (offset + count_solid (column ∷ columns))
     (letters_of (column ∷ columns)) items
-then-column true true offset column columns items is_so all_so fresh =
+then_column true true offset column columns items is_so all_so fresh =
     let first = offset + 1 + count_blanks columns in
     let past = offset + 1 + count_solid columns in
     let none = no_letters columns all_so in
     let kept : letters_of (column ∷ columns) ≡ letters_of columns =
     ap (λ b. cond (not b) (column ∷ letters_of columns) (letters_of columns)) is_so in
-    then-blank first past column (letters_of columns) items fresh
+    then_blank first past column (letters_of columns) items fresh
     ∙ ap (λ ls. word_then first past ls items) none
     ∙ sym (ap (λ ls. word_then (offset + count_blanks (column ∷ columns))
     (offset + count_solid (column ∷ columns)) ls items) (kept ∙ none))
-then-column true false offset column columns items is_so all_so fresh =
+then_column true false offset column columns items is_so all_so fresh =
     let first = offset + 1 + count_blanks columns in
     let past = offset + 1 + count_solid columns in
     let kept : letters_of (column ∷ columns) ≡ letters_of columns =
@@ -408,20 +408,20 @@ then-column true false offset column columns items is_so all_so fresh =
     ap (λ b. b && list_all is_blank columns) is_so ∙ all_so in
     let solid : count_solid (column ∷ columns) ≡ count_solid columns + 1 =
     ap (λ b. cond b 0 (count_solid columns + 1)) some in
-    then-blank first past column (letters_of columns) items fresh
+    then_blank first past column (letters_of columns) items fresh
     ∙ ap (λ f. word_then f past (letters_of columns) items) (omega (arith, blanks))
     ∙ ap (λ p. word_then (offset + count_blanks (column ∷ columns)) p (letters_of columns) items)
     (omega (arith, solid))
     ∙ ap (λ ls. word_then (offset + count_blanks (column ∷ columns))
     (offset + count_solid (column ∷ columns)) ls items) (sym kept)
-then-column false all offset column columns items is_so all_so fresh =
+then_column false all offset column columns items is_so all_so fresh =
     let first = offset + 1 + count_blanks columns in
     let past = offset + 1 + count_solid columns in
     let kept : letters_of (column ∷ columns) ≡ column ∷ letters_of columns =
     ap (λ b. cond (not b) (column ∷ letters_of columns) (letters_of columns)) is_so in
     let blanks : count_blanks (column ∷ columns) ≡ 0 =
     ap (λ b. cond b (count_blanks columns + 1) 0) is_so in
-    then-letter offset first past column (letters_of columns) items fresh
+    then_letter offset first past column (letters_of columns) items fresh
     ∙ ap (λ p. word offset p (column ∷ letters_of columns) ∷ items)
     (past_one offset column columns all all_so is_so)
     ∙ ap (λ f. word f (offset + count_solid (column ∷ columns)) (column ∷ letters_of columns) ∷ items)
@@ -439,8 +439,8 @@ word_front : (offset : ℕ) (columns rest : List ℕ) → lacks (byte ")") colum
 word_front offset [] rest no_close no_open fresh =
     ap (λ o. items_of o rest) (omega arith)
 word_front offset (column ∷ columns) rest no_close no_open fresh =
-    let closes = lacks-cons (byte ")") column columns no_close in
-    let opens = lacks-cons (byte "(") column columns no_open in
+    let closes = lacks_cons (byte ")") column columns no_close in
+    let opens = lacks_cons (byte "(") column columns no_open in
     let same : offset + length (column ∷ columns) ≡ offset + 1 + length columns = omega arith in
     let items = items_of (offset + 1 + length columns) rest in
     let still : starts_fresh items ≡ true =
@@ -453,7 +453,7 @@ word_front offset (column ∷ columns) rest no_close no_open fresh =
     ap (after_column offset column)
     (word_front (offset + 1) columns rest closes.1 opens.1 still)
     ∙ alone
-    ∙ then-column (is_blank column) (list_all is_blank columns) offset column columns items refl refl
+    ∙ then_column (is_blank column) (list_all is_blank columns) offset column columns items refl refl
     still
     ∙ ap (λ o. word_then (offset + count_blanks (column ∷ columns))
     (offset + count_solid (column ∷ columns)) (letters_of (column ∷ columns)) (items_of o rest))
@@ -468,7 +468,7 @@ rest_fresh offset (column ∷ columns) none closing =
     (or_true_left (eqb column (byte "(")) (eqb column (byte ")")) none closing) in
     let items = items_of (offset + 1) columns in
     let P : ℕ → Type 0 = λ c. starts_fresh (after_column offset c items) ≡ true in
-    subst P (sym opening) (fresh-opening offset items)
+    subst P (sym opening) (fresh_opening offset items)
 
 no_word : (rest : List ℕ) → begins_with_none rest ≡ true → begins_with_closing rest ≡ false →
     begins_a_word rest ≡ true → ⊥
@@ -524,7 +524,7 @@ closing_first body columns (column ∷ rest) parts closing offset =
     let whole : body ≡ columns ++ byte ")" ∷ rest =
     parts.whole ∙ ap (λ c. columns ++ c ∷ rest) (eqb-true column (byte ")") closing) in
     let items = ap (items_of offset) whole
-    ∙ closed-front offset columns rest parts.no_closing parts.no_opening in
+    ∙ closed_front offset columns rest parts.no_closing parts.no_opening in
     record {
       closing = offset + length columns;
       after = omega arith;

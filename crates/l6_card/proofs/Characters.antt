@@ -25,8 +25,8 @@ kept_twice p [] = refl
 kept_twice p (x ∷ xs) = kept_step p x xs (p x) refl (kept_twice p xs)
 
 -- a word spells what its columns spell, since blanks are left out anyway
-pub spelled-letters : (columns : List ℕ) → spelled (letters_of columns) ≡ spelled columns
-spelled-letters columns = ap (map character_of) (kept_twice (λ given. not (is_blank given)) columns)
+pub spelled_letters : (columns : List ℕ) → spelled (letters_of columns) ≡ spelled columns
+spelled_letters columns = ap (map character_of) (kept_twice (λ given. not (is_blank given)) columns)
 
 no_plain_exit : (characters : List ℕ) → most_label_characters < length characters →
     find_spelled plain_exits characters ≡ None

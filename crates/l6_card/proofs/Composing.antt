@@ -21,14 +21,14 @@ then_then (Ok known) one other = refl
 then_then (Err fault) one other = refl
 
 -- pieces in a row are taken in a row
-known-append : (front following : List Piece) (known : Known) →
+known_append : (front following : List Piece) (known : Known) →
     after_pieces known (front ++ following)
     ≡ and_then (after_pieces known front) (λ next. after_pieces next following)
-known-append [] following known = refl
-known-append (piece ∷ front) following known =
+known_append [] following known = refl
+known_append (piece ∷ front) following known =
     then_same (after_piece known piece) (λ next. after_pieces next (front ++ following))
     (λ next. and_then (after_pieces next front) (λ n. after_pieces n following))
-    (λ next. known-append front following next)
+    (λ next. known_append front following next)
     ∙ sym (then_then (after_piece known piece) (λ next. after_pieces next front)
     (λ n. after_pieces n following))
 
@@ -75,7 +75,7 @@ pub parts_compose : PartsCompose
 parts_compose [] rest known begin = after_end rest known begin
 parts_compose (card ∷ part) rest known begin =
     let both = pieces_of_cards (part ++ rest) in
-    known-append (pieces_of_card card) both known
+    known_append (pieces_of_card card) both known
     ∙ then_same (after_pieces known (pieces_of_card card)) (λ next. after_pieces next both)
     (λ next. and_then (after_pieces next (pieces_of_cards part))
     (λ n. after_pieces n (pieces_of_cards rest)))
@@ -84,4 +84,4 @@ parts_compose (card ∷ part) rest known begin =
     (λ next. after_pieces next (pieces_of_cards part))
     (λ n. after_pieces n (pieces_of_cards rest)))
     ∙ sym (ap (λ r. and_then r (λ n. after_pieces n (pieces_of_cards rest)))
-    (known-append (pieces_of_card card) (pieces_of_cards part) known))
+    (known_append (pieces_of_card card) (pieces_of_cards part) known))

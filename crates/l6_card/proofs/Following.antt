@@ -20,7 +20,7 @@ use Rattle.l6_card.specs.Fault.{Begun, Known, nothing_known, and_then, column_ob
 use Rattle.l6_card.specs.ReadAlone.{objection_to_cards}
 use Rattle.l6_card.specs.inner.StatementBuilder.{StatementBuilder, new_builder, is_whole, statement_from, with_item, expected_in, builder_then, builder_of}
 use Rattle.l6_card.specs.inner.Pass.{Stage, first_stage, stage_if, when_over, when_begun, when_continued, when_labelled, reason_of, when_built, after_pieces, pass_of}
-use Rattle.l6_card.proofs.Steps.{builder_of-append}
+use Rattle.l6_card.proofs.Steps.{builder_of_append}
 use Rattle.l6_card.proofs.Fitness.{items_sound, new_sound}
 use Rattle.l6_card.proofs.Forms.{View}
 use Rattle.l6_card.proofs.Viewing.{view, items_seen}
@@ -247,7 +247,7 @@ item_agree stage card i over (Some statement) sees =
       is_open = sees.is_open;
       body = sees.body;
       continuations = sees.continuations;
-      made = builder_of-append statement.items one new_builder stage.builder sees.made
+      made = builder_of_append statement.items one new_builder stage.builder sees.made
           ∙ ap (λ r. builder_then r (λ d. Some d)) is_made;
     })
 

@@ -254,25 +254,25 @@ sooner deck from later (unopened at columns ∷ items) end soon are_prefix =
     sooner deck from later items end soon are_prefix
 
 -- items in a row
-pub items_fit-append : (deck : List ℕ) (from middle end : ℕ) (front following : List Item) →
+pub items_fit_append : (deck : List ℕ) (from middle end : ℕ) (front following : List Item) →
     ItemsArePrefix deck from front middle → ItemsArePrefix deck middle following end →
     ItemsArePrefix deck from (front ++ following) end
-items_fit-append deck from middle end [] following are_prefix are_prefix' =
+items_fit_append deck from middle end [] following are_prefix are_prefix' =
     sooner deck from middle following end are_prefix are_prefix'
-items_fit-append deck from middle end
+items_fit_append deck from middle end
     (group offset columns ∷ front) following are_prefix are_prefix' =
     let next = offset + length columns + 2 in (
       are_prefix.0,
       are_prefix.1,
-      items_fit-append deck next middle end front following
+      items_fit_append deck next middle end front following
           are_prefix.2 are_prefix',
     )
-items_fit-append deck from middle end (word at past columns ∷ front) following are_prefix are_prefix' =
-    items_fit-append deck from middle end front following are_prefix are_prefix'
-items_fit-append deck from middle end (unclosed at ∷ front) following are_prefix are_prefix' =
-    items_fit-append deck from middle end front following are_prefix are_prefix'
-items_fit-append deck from middle end (unopened at columns ∷ front) following are_prefix are_prefix' =
-    items_fit-append deck from middle end front following are_prefix are_prefix'
+items_fit_append deck from middle end (word at past columns ∷ front) following are_prefix are_prefix' =
+    items_fit_append deck from middle end front following are_prefix are_prefix'
+items_fit_append deck from middle end (unclosed at ∷ front) following are_prefix are_prefix' =
+    items_fit_append deck from middle end front following are_prefix are_prefix'
+items_fit_append deck from middle end (unopened at columns ∷ front) following are_prefix are_prefix' =
+    items_fit_append deck from middle end front following are_prefix are_prefix'
 
 -- so do items whose first may be a `)` with what is before it, right at this offset
 abbrev pub ItemsBegin : List ℕ → ℕ → List Item → ℕ → Type 0

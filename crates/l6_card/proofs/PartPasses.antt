@@ -11,7 +11,7 @@ use Rattle.l6_card.specs.inner.Reader.{Follows}
 use Rattle.l6_card.specs.Fault.{and_then, objection_met}
 use Rattle.l6_card.specs.ReadAlone.{objection_to_lines, LinesReadAs}
 use Rattle.l6_card.specs.inner.Pass.{Stage, first_stage, after_piece, after_pieces}
-use Rattle.l6_card.proofs.Passes.{after_pieces-append}
+use Rattle.l6_card.proofs.Passes.{after_pieces_append}
 use Rattle.l6_card.proofs.Following.{objection_of_cards_pass}
 use Rattle.l6_card.proofs.Statements.{cards_denoted}
 
@@ -43,7 +43,7 @@ pub line_goes : {all : List (List ℕ)} (line : List ℕ) (lines : List (List �
 line_goes line lines number offset known next pass split before taken =
     let others = line_pieces (number + 1) (offset + length line + 1) lines in
     sym (ap (λ r. and_then r (λ k. after_pieces k others)) taken)
-    ∙ sym (after_pieces-append (pieces_of_card (card_of number offset (columns_of line))) others known)
+    ∙ sym (after_pieces_append (pieces_of_card (card_of number offset (columns_of line))) others known)
     ∙ sym (ap (λ ls. after_pieces known (line_pieces number offset ls)) split)
     ∙ before
 
@@ -60,7 +60,7 @@ line_stops line lines number offset known pass (Some fault) split before stops =
     let others = line_pieces (number + 1) (offset + length line + 1) lines in
     sym before
     ∙ ap (λ ls. after_pieces known (line_pieces number offset ls)) split
-    ∙ after_pieces-append (pieces_of_card (card_of number offset (columns_of line))) others known
+    ∙ after_pieces_append (pieces_of_card (card_of number offset (columns_of line))) others known
     ∙ ap (λ r. and_then r (λ k. after_pieces k others)) stops
 
 ended_pass : {left : List (List ℕ)} (at offset : ℕ) (known : Stage) (pass ended : Result Stage Objection) →

@@ -17,23 +17,23 @@ use Rattle.l6_card.specs.Laws.{IsFirstFault}
 use Rattle.l6_card.specs.Fault.{and_then}
 use Rattle.l6_card.proofs.Settling.{first_fault_met}
 
-and_then-append : (pass : Result Stage Objection) (front following : List Piece) →
+and_then_append : (pass : Result Stage Objection) (front following : List Piece) →
     ((known : Stage) →
     after_pieces known (front ++ following) ≡ and_then (after_pieces known front)
     (λ next. after_pieces next following)) →
     and_then pass (λ known. after_pieces known (front ++ following))
     ≡ and_then (and_then pass (λ known. after_pieces known front))
     (λ next. after_pieces next following)
-and_then-append (Ok known) front following each = each known
-and_then-append (Err fault) front following each = refl
+and_then_append (Ok known) front following each = each known
+and_then_append (Err fault) front following each = refl
 
 -- pieces in a row are taken in a row
-pub after_pieces-append : (front following : List Piece) (known : Stage) →
+pub after_pieces_append : (front following : List Piece) (known : Stage) →
     after_pieces known (front ++ following) ≡ and_then (after_pieces known front)
     (λ next. after_pieces next following)
-after_pieces-append [] following known = refl
-after_pieces-append (piece ∷ front) following known =
-    and_then-append (after_piece known piece) front following (after_pieces-append front following)
+after_pieces_append [] following known = refl
+after_pieces_append (piece ∷ front) following known =
+    and_then_append (after_piece known piece) front following (after_pieces_append front following)
 
 -- pieces that were taken leave the others to take
 pub pieces_go : {X : Type 0} (result : Result X ReadError) (front following : List Piece)
@@ -42,7 +42,7 @@ pub pieces_go : {X : Type 0} (result : Result X ReadError) (front following : Li
     Follows result final (after_pieces known (front ++ following))
 pieces_go result front following known next final taken follows =
     subst (Follows result final)
-    (sym (after_pieces-append front following known
+    (sym (after_pieces_append front following known
     ∙ ap (λ r. and_then r (λ k. after_pieces k following)) taken)) follows
 
 -- pieces that met an objection are where the pass stops
@@ -51,7 +51,7 @@ pub pieces_stop : (found : Option Objection) (front following : List Piece) (kno
     IfSome found (λ objection. after_pieces known (front ++ following) ≡ Err objection)
 pieces_stop None front following known stops = tt
 pieces_stop (Some objection) front following known stops =
-    after_pieces-append front following known
+    after_pieces_append front following known
     ∙ ap (λ r. and_then r (λ k. after_pieces k following)) stops
 
 -- the first card of a text, by its columns, and the text after it
@@ -127,7 +127,7 @@ pub first_card : (text columns following : List ℕ) (number offset : ℕ) (know
 first_card text columns following number offset known first =
     let others = text_pieces (number + 1) (offset + length first.line + 1) following in
     ap (λ ls. after_pieces known (pieces_of_cards (cards_from number offset ls))) first.lines
-    ∙ after_pieces-append (pieces_of_card (card_of number offset (columns_of first.line)))
+    ∙ after_pieces_append (pieces_of_card (card_of number offset (columns_of first.line)))
     others known
     ∙ ap (λ c. and_then (after_pieces known (pieces_of_card (card_of number offset c)))
     (λ next. after_pieces next others))
@@ -203,21 +203,21 @@ abbrev pub bytes_in : List (List ℕ) → ℕ
 bytes_in [] = 0
 bytes_in (line ∷ lines) = length line + 1 + bytes_in lines
 
-bytes_in-onto : (first : ℕ) (lines : List (List ℕ)) (text : List ℕ) →
+bytes_in_onto : (first : ℕ) (lines : List (List ℕ)) (text : List ℕ) →
     bytes_in lines ≤ length text + 1 → bytes_in (onto_first first lines) ≤ length text + 2
-bytes_in-onto first [] text few = omega arith
-bytes_in-onto first (line ∷ lines) text few = omega arith
+bytes_in_onto first [] text few = omega arith
+bytes_in_onto first (line ∷ lines) text few = omega arith
 
-bytes_in-first : (feeds : Bool) (first : ℕ) (lines : List (List ℕ)) (text : List ℕ) →
+bytes_in_first : (feeds : Bool) (first : ℕ) (lines : List (List ℕ)) (text : List ℕ) →
     bytes_in lines ≤ length text + 1 →
     bytes_in (cond feeds ([] ∷ lines) (onto_first first lines)) ≤ length text + 2
-bytes_in-first true first lines text few = omega arith
-bytes_in-first false first lines text few = bytes_in-onto first lines text few
+bytes_in_first true first lines text few = omega arith
+bytes_in_first false first lines text few = bytes_in_onto first lines text few
 
 -- the lines of a text have its bytes, and one more where no line feed ends the last
-pub bytes_in-lines : (text : List ℕ) → bytes_in (lines_of text) ≤ length text + 1
-bytes_in-lines [] = omega arith
-bytes_in-lines (first ∷ rest) =
-    let more = bytes_in-first (eqb first (byte "\n")) first (lines_of rest) rest
-    (bytes_in-lines rest) in
+pub bytes_in_lines : (text : List ℕ) → bytes_in (lines_of text) ≤ length text + 1
+bytes_in_lines [] = omega arith
+bytes_in_lines (first ∷ rest) =
+    let more = bytes_in_first (eqb first (byte "\n")) first (lines_of rest) rest
+    (bytes_in_lines rest) in
     omega arith

@@ -29,7 +29,7 @@ use Rattle.l6_card.specs.Laws.{IsSpelled, AreSpelled, GroupsAreAtSpans, SpansRis
 use Rattle.l6_card.proofs.Building.{builders_of}
 use Rattle.l6_card.proofs.Steps.{is_prefix}
 use Rattle.l6_card.proofs.Fitness.{decided}
-use Rattle.l6_card.proofs.Offsets.{GroupStands, ItemsArePrefix, BodyStands, CardsArePrefixes, end_of, items_fit-append, body_items, deck_holds}
+use Rattle.l6_card.proofs.Offsets.{GroupStands, ItemsArePrefix, BodyStands, CardsArePrefixes, end_of, items_fit_append, body_items, deck_holds}
 
 -- spans that rise may begin sooner
 rise_sooner : (from later : ℕ) (spans : List Span) (end : ℕ) → from ≤ later →
@@ -359,7 +359,7 @@ body_first deck from end body items is_prefix' are_prefix =
     ap (λ (is : List Item). is ++ whats items) (sym (whats_placed body.card own))
     ∙ sym (map-append (λ (i : PlacedItem). i.what) (placed_items body) items) in
     subst (λ (is : List Item). ItemsArePrefix deck from is end) same
-    (items_fit-append deck from (end_of body) end own (whats items)
+    (items_fit_append deck from (end_of body) end own (whats items)
     (body_items deck from body is_prefix') are_prefix)
 
 -- what cards say: the items that continue the statement before are first, and then the statements

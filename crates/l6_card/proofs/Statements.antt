@@ -15,7 +15,7 @@ use Rattle.l6_card.specs.inner.Pass.{Stage, first_stage, stage_if, after_pieces}
 use Rattle.l6_card.specs.ReadsAs.{placed_items, continued_items, continuations, DenotesFrom, CardsDenote}
 use Rattle.l6_card.specs.Fault.{and_then, column_objects}
 use Rattle.l6_card.proofs.Building.{denotes_of}
-use Rattle.l6_card.proofs.Steps.{opened, went_if, went_labelled, Taken, items_taken, builder_of-append}
+use Rattle.l6_card.proofs.Steps.{opened, went_if, went_labelled, Taken, items_taken, builder_of_append}
 
 -- what cards say that were taken within a statement: its items, and the statements after it
 pub record OpenSaid (cards : List Card) (known final : Stage) : Type 0 where
@@ -57,7 +57,7 @@ begun_denoted given body cards over final room taken denoted =
           (record {
             builder = denoted.builder;
             items_make =
-                builder_of-append (placed_items body) (continued_items cards)
+                builder_of_append (placed_items body) (continued_items cards)
                 new_builder taken.builder taken.made
                 ∙ denoted.made;
             whole = denoted.whole;
@@ -157,7 +157,7 @@ open_denoted (continued body ∷ cards) statements given builder last further fi
     let room = ltb-true further most_continuations went.sound in
     record {
       builder = denoted.builder;
-      made = builder_of-append (placed_items body) (continued_items cards)
+      made = builder_of_append (placed_items body) (continued_items cards)
           builder items.builder items.made
           ∙ denoted.made;
       whole = denoted.whole;

@@ -104,15 +104,15 @@ made_on (Ok builder) front following each middle makes = each builder middle mak
 made_on (Err objection) front following each middle makes = absurd (cc)
 
 -- items in a row make the builder that the last of them make of what the first made
-pub builder_of-append : (front following : List PlacedItem) (builder middle : StatementBuilder) →
+pub builder_of_append : (front following : List PlacedItem) (builder middle : StatementBuilder) →
     builder_of builder front ≡ Some middle →
     builder_of builder (front ++ following) ≡ builder_of middle following
-builder_of-append [] following builder middle makes =
+builder_of_append [] following builder middle makes =
     let same : builder ≡ middle = cc in
     ap (λ d. builder_of d following) same
-builder_of-append (i ∷ front) following builder middle makes =
+builder_of_append (i ∷ front) following builder middle makes =
     made_on (with_item i.card builder i.what) front following
-    (builder_of-append front following) middle makes
+    (builder_of_append front following) middle makes
 
 -- an item that is accepted, and what it makes
 pub record Stands (made : Result StatementBuilder DeckFault) (step : StatementBuilder →

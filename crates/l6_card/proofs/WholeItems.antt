@@ -12,7 +12,7 @@ use Rattle.l6_card.specs.Statement.{DeckStatementParts, is_fit}
 use Rattle.l6_card.specs.Denotes.{ItemsDenote}
 use Rattle.l6_card.specs.Fault.{objection_met}
 use Rattle.l6_card.specs.inner.StatementBuilder.{StatementBuilder, Phase, New, Worded, Tested, Open, Closed, new_builder, statement_from, with_item, builder_then, builder_of}
-use Rattle.l6_card.proofs.Steps.{builder_of-append}
+use Rattle.l6_card.proofs.Steps.{builder_of_append}
 use Rattle.l6_card.proofs.Fitness.{items_sound, new_sound, statement_fit}
 use Rattle.l6_card.proofs.Viewing.{view, items_seen}
 use Rattle.l6_card.proofs.Objections.{objection_of, item_objects}
@@ -54,7 +54,7 @@ next_taken i front builder made is_prefix' few =
     taken_item (with_item i.card builder i.what) (item_objects i.card builder i.what sound ∙ none) in (
       taken.0,
       taken.1,
-      builder_of-append front one new_builder builder made
+      builder_of_append front one new_builder builder made
           ∙ ap (λ r. builder_then r (λ d. Some d)) taken.1,
     )
 

@@ -8,24 +8,24 @@ use Rattle.l6_word.specs.Split.{lacks}
 use Rattle.l6_group.specs.Character.{is_blank}
 use Rattle.l6_card.specs.Items.{Item, group, word, unclosed, unopened, after_column, after_letter, after_opening, items_of}
 use Rattle.l6_card.specs.Laws.{is_inner, closes_first, end_a_word, GroupsAreInParentheses, BlanksVanish, LettersMakeWords, LettersBeginWords, OpeningsNeedClosings, OpeningsDoNotNest}
-use Rattle.l6_card.proofs.Bodies.{closed-front, closes_first-lacks, closes_first-open, blank_column, nothing_blank}
+use Rattle.l6_card.proofs.Bodies.{closed_front, closes_first_lacks, closes_first_open, blank_column, nothing_blank}
 
 -- columns without a parenthesis lack both
-lacks-inner : (columns : List ℕ) → list_all is_inner columns ≡ true →
+lacks_inner : (columns : List ℕ) → list_all is_inner columns ≡ true →
     (lacks (byte ")") columns ≡ true) × (lacks (byte "(") columns ≡ true)
-lacks-inner [] inner = (refl, refl)
-lacks-inner (column ∷ columns) inner =
+lacks_inner [] inner = (refl, refl)
+lacks_inner (column ∷ columns) inner =
     let parts = and_parts (is_inner column) (list_all is_inner columns) inner in
     let both = and_parts (not (eqb column (byte "("))) (not (eqb column (byte ")"))) parts.0 in
-    let others = lacks-inner columns parts.1 in (
+    let others = lacks_inner columns parts.1 in (
       and_from (not (eqb column (byte ")"))) (lacks (byte ")") columns) both.1 others.0,
       and_from (not (eqb column (byte "("))) (lacks (byte "(") columns) both.0 others.1,
     )
 
 pub groups_in_parentheses : GroupsAreInParentheses
 groups_in_parentheses offset columns following inner =
-    let lacking = lacks-inner columns inner in
-    ap (after_opening offset) (closed-front (offset + 1) columns following lacking.0 lacking.1)
+    let lacking = lacks_inner columns inner in
+    ap (after_opening offset) (closed_front (offset + 1) columns following lacking.0 lacking.1)
     ∙ ap (λ o. group offset columns ∷ items_of o following) (omega arith)
 
 pub blanks_vanish : BlanksVanish
@@ -44,12 +44,12 @@ opened_unclosed offset (unopened closing columns ∷ items) open' = absurd (cc)
 pub openings_need_closings : OpeningsNeedClosings
 openings_need_closings offset columns lacking =
     opened_unclosed offset (items_of (offset + 1) columns)
-    (closes_first-lacks (offset + 1) columns lacking)
+    (closes_first_lacks (offset + 1) columns lacking)
 
 pub openings_do_not_nest : OpeningsDoNotNest
 openings_do_not_nest offset columns following inner =
     opened_unclosed offset (items_of (offset + 1) (columns ++ byte "(" ∷ following))
-    (closes_first-open (offset + 1) columns following (lacks-inner columns inner).0)
+    (closes_first_open (offset + 1) columns following (lacks_inner columns inner).0)
 
 -- what is no parenthesis and no blank is a letter or the like
 letter_column : (offset letter : ℕ) (items : List Item) → is_blank letter ≡ false →

@@ -20,37 +20,37 @@ use Rattle.l6_check.specs.Faults.{fault_on, fault_of_finding, form_kind, limit_k
 use Rattle.l6_check.specs.Kept.{most_findings, are_full, IsSkipped, HasNone, IsAdded, Say, Match, AreOf}
 use Rattle.l6_check.specs.Statements.{objected}
 
-match-length : {A : Type 0} (R : Finding → A → Type 0) (kept : List Finding) (things : List A) →
+match_length : {A : Type 0} (R : Finding → A → Type 0) (kept : List Finding) (things : List A) →
     Match R kept things → length kept ≡ length things
-match-length R [] [] are = refl
-match-length R [] (thing ∷ things) are = absurd are
-match-length R (finding ∷ kept) [] are = absurd are
-match-length R (finding ∷ kept) (thing ∷ things) are =
-    ap (λ n. suc n) (match-length R kept things are.1)
+match_length R [] [] are = refl
+match_length R [] (thing ∷ things) are = absurd are
+match_length R (finding ∷ kept) [] are = absurd are
+match_length R (finding ∷ kept) (thing ∷ things) are =
+    ap (λ n. suc n) (match_length R kept things are.1)
 
-match-append : {A : Type 0} (R : Finding → A → Type 0) (kept : List Finding) (things : List A)
+match_append : {A : Type 0} (R : Finding → A → Type 0) (kept : List Finding) (things : List A)
     (finding : Finding) (thing : A) → Match R kept things → R finding thing →
     Match R (kept ++ finding ∷ []) (things ++ thing ∷ [])
-match-append R [] [] finding thing are one = (one, tt)
-match-append R [] (first ∷ things) finding thing are one = absurd are
-match-append R (first ∷ kept) [] finding thing are one = absurd are
-match-append R (first ∷ kept) (other ∷ things) finding thing are one =
-    (are.0, match-append R kept things finding thing are.1 one)
+match_append R [] [] finding thing are one = (one, tt)
+match_append R [] (first ∷ things) finding thing are one = absurd are
+match_append R (first ∷ kept) [] finding thing are one = absurd are
+match_append R (first ∷ kept) (other ∷ things) finding thing are one =
+    (are.0, match_append R kept things finding thing are.1 one)
 
 matched_next : {A : Type 0} (R : Finding → A → Type 0) (most : ℕ) (things : List A) (thing : A)
     (kept : List Finding) (finding : Finding) (room : Bool) →
     Match R kept (take most things) → R finding thing → ltb (length kept) most ≡ room →
     Match R (cond room (kept ++ finding ∷ []) kept) (take most (things ++ thing ∷ []))
 matched_next R most things thing kept finding true before one tested =
-    let count = match-length R kept (take most things) before ∙ length-take most things in
+    let count = match_length R kept (take most things) before ∙ length-take most things in
     let few : length things < most = omega (arith, count, ltb-true (length kept) most tested) in
     let more = length-append things (thing ∷ []) in
     let all = take_all most things (omega (arith, few)) in
     let all_more = take_all most (things ++ thing ∷ []) (omega (arith, few, more)) in
     subst (Match R (kept ++ finding ∷ [])) (sym all_more)
-    (match-append R kept things finding thing (subst (Match R kept) all before) one)
+    (match_append R kept things finding thing (subst (Match R kept) all before) one)
 matched_next R most things thing kept finding false before one tested =
-    let count = match-length R kept (take most things) before ∙ length-take most things in
+    let count = match_length R kept (take most things) before ∙ length-take most things in
     let full : most ≤ length things = omega (arith, count, ltb-false (length kept) most tested) in
     subst (Match R kept) (sym (take-append-le most things (thing ∷ []) full)) before
 
@@ -81,7 +81,7 @@ pub matched_skipped : {A : Type 0} (R : Finding → A → Type 0) (things : List
     AreOf R things before → AreOf R (things ++ thing ∷ []) after
 matched_skipped R things thing before after full skipped are =
     let kept = before.kept.items in
-    let count = match-length R kept (take most_findings things) are.kept
+    let count = match_length R kept (take most_findings things) are.kept
     ∙ length-take most_findings things in
     let most = leb-true most_findings (length kept) full in
     let enough : most_findings ≤ length things = omega (arith, count, most) in

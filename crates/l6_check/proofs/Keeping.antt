@@ -7,24 +7,24 @@ use Rattle.l6_check.specs.declared.finding.Finding.{Finding}
 use Rattle.l6_check.specs.declared.findings.Findings.{Findings}
 use Rattle.l6_check.specs.Kept.{most_findings, are_full, IsSkipped, HasNone, IsAdded, Say}
 
-said-append : {A : Type 0} (said : Finding → Option A) (front : List Finding) (finding : Finding) →
+said_append : {A : Type 0} (said : Finding → Option A) (front : List Finding) (finding : Finding) →
     map said (front ++ finding ∷ []) ≡ map said front ++ said finding ∷ []
-said-append said [] finding = refl
-said-append said (first ∷ front) finding = ap (λ l. said first ∷ l) (said-append said front finding)
+said_append said [] finding = refl
+said_append said (first ∷ front) finding = ap (λ l. said first ∷ l) (said_append said front finding)
 
-some-append : {A : Type 0} (things : List A) (thing : A) →
+some_append : {A : Type 0} (things : List A) (thing : A) →
     map Some (things ++ thing ∷ []) ≡ map Some things ++ Some thing ∷ []
-some-append [] thing = refl
-some-append (first ∷ things) thing = ap (λ l. Some first ∷ l) (some-append things thing)
+some_append [] thing = refl
+some_append (first ∷ things) thing = ap (λ l. Some first ∷ l) (some_append things thing)
 
-said-length : {A : Type 0} (said : Finding → Option A) (kept : List Finding) →
+said_length : {A : Type 0} (said : Finding → Option A) (kept : List Finding) →
     length (map said kept) ≡ length kept
-said-length said [] = refl
-said-length said (first ∷ kept) = ap (λ n. suc n) (said-length said kept)
+said_length said [] = refl
+said_length said (first ∷ kept) = ap (λ n. suc n) (said_length said kept)
 
-some-length : {A : Type 0} (things : List A) → length (map Some things) ≡ length things
-some-length [] = refl
-some-length (first ∷ things) = ap (λ n. suc n) (some-length things)
+some_length : {A : Type 0} (things : List A) → length (map Some things) ≡ length things
+some_length [] = refl
+some_length (first ∷ things) = ap (λ n. suc n) (some_length things)
 
 kept_next : {A : Type 0} (said : Finding → Option A) (most : ℕ) (things : List A) (thing : A)
     (kept : List Finding) (finding : Finding) (room : Bool) →
@@ -32,19 +32,19 @@ kept_next : {A : Type 0} (said : Finding → Option A) (most : ℕ) (things : Li
     ltb (length kept) most ≡ room →
     map said (cond room (kept ++ finding ∷ []) kept) ≡ map Some (take most (things ++ thing ∷ []))
 kept_next said most things thing kept finding true before says tested =
-    let count = sym (said-length said kept) ∙ ap length before ∙ some-length (take most things)
+    let count = sym (said_length said kept) ∙ ap length before ∙ some_length (take most things)
     ∙ length-take most things in
     let few : length things < most = omega (arith, count, ltb-true (length kept) most tested) in
     let more = length-append things (thing ∷ []) in
     let all = take_all most things (omega (arith, few)) in
     let all_more = take_all most (things ++ thing ∷ []) (omega (arith, few, more)) in
-    said-append said kept finding
+    said_append said kept finding
     ∙ ap (λ l. l ++ said finding ∷ []) (before ∙ ap (map Some) all)
     ∙ ap (λ o. map Some things ++ o ∷ []) says
-    ∙ sym (some-append things thing)
+    ∙ sym (some_append things thing)
     ∙ sym (ap (map Some) all_more)
 kept_next said most things thing kept finding false before says tested =
-    let count = sym (said-length said kept) ∙ ap length before ∙ some-length (take most things)
+    let count = sym (said_length said kept) ∙ ap length before ∙ some_length (take most things)
     ∙ length-take most things in
     let full : most ≤ length things = omega (arith, count, ltb-false (length kept) most tested) in
     before ∙ sym (ap (map Some) (take-append-le most things (thing ∷ []) full))
@@ -95,8 +95,8 @@ pub skipped_next : {A : Type 0} (said : Finding → Option A) (things : List A) 
     Say said things before → Say said (things ++ thing ∷ []) after
 skipped_next said things thing before after full skipped says =
     let kept = before.kept.items in
-    let count = sym (said-length said kept) ∙ ap length says.kept
-    ∙ some-length (take most_findings things) ∙ length-take most_findings things in
+    let count = sym (said_length said kept) ∙ ap length says.kept
+    ∙ some_length (take most_findings things) ∙ length-take most_findings things in
     let most = leb-true most_findings (length kept) full in
     let enough : most_findings ≤ length things = omega (arith, count, most) in
     let more = length-append things (thing ∷ []) in

@@ -1,12 +1,15 @@
 pub mod CardSteps
 pub mod FieldSteps
 pub mod Flat
+pub mod Indenting
 pub mod Keeping
 pub mod Explaining
 pub mod LabelSteps
 pub mod Marking
+pub mod Mending
 pub mod MissingParts
 pub mod MissingSteps
+pub mod Objections
 pub mod Reaching
 pub mod StatementParts
 pub mod TargetSteps

@@ -42,11 +42,11 @@ pub written : (count : ℕ) (new old : List Bool) → length new ≡ count → t
 written count new old long =
     take-append-le count new old (omega (arith, long)) ∙ take_all count new (omega (arith, long))
 
-pub length-marked : (marks : List Bool) (numbers : List ℕ) →
+pub length_marked : (marks : List Bool) (numbers : List ℕ) →
     length (marked marks numbers) ≡ length marks
-length-marked marks [] = refl
-length-marked marks (number ∷ numbers) =
-    length-marked (set marks number true) numbers ∙ length-set marks number true
+length_marked marks [] = refl
+length_marked marks (number ∷ numbers) =
+    length_marked (set marks number true) numbers ∙ length-set marks number true
 
 -- one more number is marked
 marked_one : (marks : List Bool) (number one : ℕ) (same : Bool) → number < length marks →
@@ -100,7 +100,7 @@ marks_at count numbers below number false is =
     let past = ltb-false number count is in
     let all = marked (replicate count false) numbers in
     let short : length all ≤ number =
-    omega (arith, length-marked (replicate count false) numbers, length-replicate count false, past) in
+    omega (arith, length_marked (replicate count false) numbers, length-replicate count false, past) in
     get_or_past all number false short ∙ sym (none_past count numbers number below past)
 
 -- fresh marks, marked with numbers that all have a place, are those of the numbers

@@ -1,5 +1,5 @@
 -- The missing labels of a part of a deck, and those of the others.
-use Rattle.std.proofs.Common.{◌≡◌, ℕ, ◌+◌, ◌≤◌, suc, true, List, [], ◌∷◌, ◌++◌, length, take, drop, arith, refl, sym, ap, ◌∙◌, subst}
+use Rattle.std.proofs.Common.{◌≡◌, ℕ, ◌+◌, ◌≤◌, suc, true, List, [], ◌∷◌, ◌++◌, length, arith, refl, sym, ap, subst}
 use Rattle.std.specs.List.{list_all}
 use Rattle.std.proofs.lemmas.Bool.{and_from}
 use Rattle.l6_group.specs.declared.label.Label.{Label}
@@ -8,8 +8,7 @@ use Rattle.l6_card.specs.ReadsAs.{CardsDenote}
 use Rattle.l6_card.specs.ReadAlone.{LinesReadAs}
 use Rattle.l6_card.specs.Statement.{DeckStatementParts, is_fit}
 use Rattle.l6_check.specs.Missing.{MissingFrom, MissingInPart}
-use Rattle.l6_check.specs.Statements.{parts_of, further_count}
-use Rattle.l6_check.proofs.StatementParts.{first_part, count_taken, taken_part}
+use Rattle.l6_check.specs.Statements.{parts_of}
 
 -- cards say no more statements than there are cards
 few_statements : (cards : List Card) (statements : List DeckStatementParts) →
@@ -60,27 +59,13 @@ pub part_is_short : (number : ℕ) (lines : List (List ℕ)) (statements : List 
 part_is_short number lines statements reads =
     omega (arith, length_cards number 0 lines, few_statements (cards_from number 0 lines) statements reads.cards)
 
--- the missing labels of the first part come before those of the others
-pub missing_next : {all others : List (List ℕ)} (given : List (Label × ℕ)) (line : List ℕ)
-    (number count next : ℕ) (left : List (List ℕ)) (here more : List (ℕ × Label)) →
-    all ≡ line ∷ others → count ≡ further_count others → left ≡ drop count others →
-    next ≡ number + (count + 1) →
-    MissingInPart given number (take (count + 1) all) here →
-    MissingFrom given next (parts_of left) more →
+-- the missing labels of the next part come before those of the others
+pub missing_next : (all left : List (List ℕ)) (given : List (Label × ℕ)) (part : List (List ℕ))
+    (number count next : ℕ) (here more : List (ℕ × Label)) →
+    parts_of all ≡ part ∷ parts_of left → length part ≡ count → next ≡ number + count →
+    MissingInPart given number part here → MissingFrom given next (parts_of left) more →
     MissingFrom given number (parts_of all) (here ++ more)
-missing_next {all} {others} given line number count next left here more split counted rest numbered
-    part following =
-    let first = line ∷ take count others in
-    let same = ap (λ n. length (take n others)) counted ∙ count_taken others in
-    let leads : next ≡ number + length first = omega (arith, same, counted, numbered) in
-    let is_first : parts_of all ≡ first ∷ parts_of left =
-    ap parts_of split ∙ first_part line others
-    ∙ ap (λ n. (line ∷ take n others) ∷ parts_of (drop n others)) (sym counted)
-    ∙ ap (λ ls. first ∷ parts_of ls) (sym rest) in
-    subst (λ (ps : List (List (List ℕ))). MissingFrom given number ps (here ++ more)) (sym is_first) (
-      here,
-      more,
-      subst (λ (ls : List (List ℕ)). MissingInPart given number ls here) (taken_part line count split) part,
-      subst (λ (n : ℕ). MissingFrom given n (parts_of left) more) leads following,
-      refl,
-    )
+missing_next all left given part number count next here more split counted numbered are following =
+    let leads : next ≡ number + length part = omega (arith, counted, numbered) in
+    subst (λ (ps : List (List (List ℕ))). MissingFrom given number ps (here ++ more)) (sym split)
+    (here, more, are, subst (λ (n : ℕ). MissingFrom given n (parts_of left) more) leads following, refl)

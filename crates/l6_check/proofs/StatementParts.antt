@@ -1,10 +1,9 @@
 -- The first part of a deck, and the others.
-use Rattle.std.proofs.Common.{◌≡◌, ℕ, ◌+◌, ◌∙◌, Bool, true, false, cond, zero, suc, List, [], ◌∷◌, ◌++◌, length, take, drop, option_to_list, arith, append_assoc, refl, sym, ap}
+use Rattle.std.proofs.Common.{◌≡◌, ℕ, ◌+◌, ◌∙◌, Bool, true, false, cond, zero, suc, List, [], ◌∷◌, ◌++◌, length, take, drop, arith, append_assoc, refl, sym, ap}
 use native.Mathlib.Numerals.{unary_clauses}
 use Rattle.l6_card.specs.Role.{role_of}
-use Rattle.l6_card.specs.ReadAlone.{objection_to_lines}
 use Rattle.l6_card.specs.declared.objection.Objection.{Objection}
-use Rattle.l6_check.specs.Statements.{belongs, further_count, onto_part, parts_of, objections_from}
+use Rattle.l6_check.specs.Statements.{belongs, further_count, most_of_statement, objections_from, objections_in, onto_part, parts_of}
 
 -- the part that a line begins, and what follows it
 abbrev split_after : List ℕ → List (List ℕ) → ℕ → List (List (List ℕ))
@@ -51,20 +50,6 @@ pub count_next : {all : List (List ℕ)} (line : List ℕ) (others : List (List 
 count_next line others split holds =
     ap further_count split ∙ counted_next (belongs (role_of line)) (further_count others) holds
 
--- the objection to the first part, and then those to the others
-pub objections_split : {all others : List (List ℕ)} (line : List ℕ) (number count : ℕ)
-    (left : List (List ℕ)) →
-    all ≡ line ∷ others → count ≡ further_count others → left ≡ drop count others →
-    objections_from number (parts_of all)
-    ≡ option_to_list (objection_to_lines number (line ∷ take count others))
-    ++ objections_from (number + length (line ∷ take count others)) (parts_of left)
-objections_split {all} {others} line number count left split counted rest =
-    ap (λ ls. objections_from number (parts_of ls)) split
-    ∙ ap (objections_from number) (first_part line others)
-    ∙ ap (λ n. objections_from number (split_after line others n)) (sym counted)
-    ∙ ap (λ ls. option_to_list (objection_to_lines number (line ∷ take count others))
-    ++ objections_from (number + length (line ∷ take count others)) (parts_of ls)) (sym rest)
-
 counted_taken : (holds : Bool) (line : List ℕ) (lines : List (List ℕ)) →
     length (take (further_count lines) lines) ≡ further_count lines →
     length (take (cond holds (further_count lines + 1) 0) (line ∷ lines))
@@ -84,23 +69,34 @@ taken_part {all} {others} line count split =
     let one : take (count + 1) (line ∷ others) ≡ line ∷ take count others = simp unary_clauses refl in
     ap (take (count + 1)) split ∙ one
 
--- where the objection to the first part is found, those to the others are left
-pub objections_next : {all others : List (List ℕ)} (line : List ℕ) (number count next : ℕ)
-    (left : List (List ℕ)) (before after found : List Objection) →
+-- the next part, of which the first line is this one with so many more, is followed by the others
+pub part_next : {all others left : List (List ℕ)} (line : List ℕ) (count : ℕ) →
     all ≡ line ∷ others → count ≡ further_count others → left ≡ drop count others →
-    next ≡ number + (count + 1) →
-    after ≡ before ++ option_to_list (objection_to_lines number (take (count + 1) all)) →
-    before ++ objections_from number (parts_of all) ≡ found →
-    after ++ objections_from next (parts_of left) ≡ found
-objections_next {all} {others} line number count next left before after found split counted rest
-    numbered grown so_far =
-    let part = line ∷ take count others in
-    let some = objections_from next (parts_of left) in
+    parts_of all ≡ take (count + 1) all ∷ parts_of left
+part_next {all} {others} {left} line count split counted rest =
+    ap parts_of split ∙ first_part line others
+    ∙ ap (split_after line others) (sym counted)
+    ∙ ap (λ ls. (line ∷ take count others) ∷ parts_of ls) (sym rest)
+    ∙ ap (λ part. part ∷ parts_of left) (sym (taken_part line count split))
+
+-- and has so many lines
+pub part_counted : {all others : List (List ℕ)} (line : List ℕ) (count : ℕ) →
+    all ≡ line ∷ others → count ≡ further_count others → length (take (count + 1) all) ≡ count + 1
+part_counted {all} {others} line count split counted =
     let same = ap (λ n. length (take n others)) counted ∙ count_taken others in
-    let leads : next ≡ number + length part = omega (arith, same, counted, numbered) in
-    ap (λ a. a ++ some) grown
-    ∙ append_assoc before (option_to_list (objection_to_lines number (take (count + 1) all))) some
-    ∙ ap (λ ls. before ++ (option_to_list (objection_to_lines number ls) ++ some)) (taken_part line count split)
-    ∙ ap (λ n. before ++ (option_to_list (objection_to_lines number part) ++ objections_from n (parts_of left))) leads
-    ∙ sym (ap (λ es. before ++ es) (objections_split line number count left split counted rest))
+    let one = ap length (taken_part line count split) in
+    omega (arith, same, counted, one)
+
+-- where the objections to the next part are found, those to the others are left
+pub objections_next : (all left : List (List ℕ)) (part : List (List ℕ)) (number count next : ℕ)
+    (before found : List Objection) →
+    parts_of all ≡ part ∷ parts_of left → length part ≡ count → next ≡ number + count →
+    before ++ objections_from number (parts_of all) ≡ found →
+    (before ++ objections_in most_of_statement number part) ++ objections_from next (parts_of left) ≡ found
+objections_next all left part number count next before found split counted numbered so_far =
+    let here = objections_in most_of_statement number part in
+    let leads : next ≡ number + length part = omega (arith, counted, numbered) in
+    append_assoc before here (objections_from next (parts_of left))
+    ∙ ap (λ n. before ++ (here ++ objections_from n (parts_of left))) leads
+    ∙ sym (ap (λ ps. before ++ objections_from number ps) split)
     ∙ so_far

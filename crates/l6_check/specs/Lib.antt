@@ -4,6 +4,7 @@ pub mod OnCard
 pub mod Faults
 pub mod Statements
 pub mod Labels
+pub mod Indented
 pub mod Missing
 pub mod Warnings
 pub mod Ways

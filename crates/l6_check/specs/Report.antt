@@ -9,7 +9,8 @@ use Rattle.l6_check.specs.Kept.{HasNone, Say, AreOf}
 use Rattle.l6_check.specs.OnCard.{AreOnTheirCards}
 use Rattle.l6_check.specs.Faults.{fault_of_finding, Explains}
 use Rattle.l6_check.specs.Statements.{statement_faults, statement_objections}
-use Rattle.l6_check.specs.Labels.{labels_given, twice_labelled, twice_said}
+use Rattle.l6_check.specs.Labels.{twice_labelled, twice_said}
+use Rattle.l6_check.specs.Indented.{labels_meant}
 use Rattle.l6_check.specs.Missing.{SayMissing}
 use Rattle.l6_check.specs.Warnings.{condition_card, condition_cards, past_card, past_cards}
 use Rattle.l6_check.specs.JobText.{image_card, image_cards, mark_card, mark_cards}
@@ -42,10 +43,9 @@ pub record IsClean (deck : List ℕ) (report : Report) : Type 0 where
   pub none : HasNoErrors report
   pub warnings : WarnsOf deck program report.program
 
--- the report has this first error and these warnings, and: each statement's error as a deck of its own,
--- its card, its columns and the kind of its reason;
--- each card whose label an earlier card gives, with that card; and each label that is named and that no
--- card gives
+-- the report has this first error and these warnings, and: the errors of each statement as a deck of its
+-- own, their cards, their columns and the kinds of their reasons; each card whose label an earlier card gives,
+-- with that card; and each label that is named and that no card gives or means to give
 pub record HasErrors (deck : List ℕ) (first : Finding) (cards : CardWarnings) (report : Report) :
     Type 0 where
   pub first_is : report.first ≡ Some first
@@ -54,7 +54,7 @@ pub record HasErrors (deck : List ℕ) (first : Finding) (cards : CardWarnings) 
   pub reading_places : AreOnTheirCards report.reading
   pub twice : Say twice_said (twice_labelled deck) report.twice
   pub twice_places : AreOnTheirCards report.twice
-  pub missing : SayMissing (labels_given deck) deck report.missing
+  pub missing : SayMissing (labels_meant deck) deck report.missing
   pub missing_places : AreOnTheirCards report.missing
   pub cards_are : report.cards ≡ cards
 

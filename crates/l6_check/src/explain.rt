@@ -7,7 +7,7 @@ ghost use Rattle.l6_check.specs.OnCard.{IsOnCard, IsOnItsCard};
 
 use crate::conditions::gives_condition;
 use crate::finding::{Finding, Span};
-use crate::label_places::{Part, line_on};
+use crate::parts::Part;
 use crate::reason::{FormReason, LimitReason, Reason};
 use l6_card::{Objection, Reason as Kind, columns_of};
 use l6_group::{GroupFault, GroupObjection, operation_objection, test_objection};
@@ -18,7 +18,7 @@ pub(crate) fn reading_error(objection: Objection, part: Part<'_>) -> Finding<'_>
     ensures explains { Explains result objection }
     ensures place { IsOnItsCard result }
 {
-    let line = line_on(objection.card, part);
+    let line = part.line_on(objection.card);
     let piece = Span::on_card(objection.from, objection.to);
     match objection.reason {
         Kind::NoOperation => {

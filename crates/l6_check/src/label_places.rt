@@ -8,30 +8,6 @@ use crate::finding::Span;
 use crate::scan::{columns_from, without_blanks, without_last_blanks};
 use l6_card::{Token, first_item, split_label};
 use l6_group::{Label, is_blank, is_letter, label_of};
-use l6_word::{first_line, without_return};
-
-/// The statements of a part of a deck, where they are in it.
-#[derive(Clone, Copy, Debug)]
-pub(crate) struct Part<'a> {
-    /// How many cards are before it.
-    pub(crate) before: u32,
-    /// The text that begins with it.
-    pub(crate) text: &'a [u8],
-}
-
-/// The line of a card of a part, without a return.
-pub(crate) fn line_on(card: u32, part: Part<'_>) -> &[u8] {
-    let mut rest = part.text;
-    let mut number = part.before;
-    while let Some((line, following)) = first_line(rest) {
-        number = number.saturating_add(1);
-        if number >= card {
-            return without_return(line);
-        }
-        rest = following;
-    }
-    &[]
-}
 
 /// Where columns name a label.
 pub(crate) fn span_of(columns: &[u8], label: &Label) -> Span

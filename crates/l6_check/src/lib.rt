@@ -15,13 +15,16 @@ mod finding;
 mod findings;
 mod forms;
 mod group_words;
+mod indented;
 mod job;
 mod label_places;
 mod labels;
 mod laws;
 mod marks;
+mod mended;
 mod names;
 mod nearest;
+mod parts;
 mod reached;
 mod reading;
 mod reason;
@@ -48,6 +51,5 @@ pub use reason::{
     CertainTrap, FormReason, LabelText, LimitReason, MissingLabel, Reason, WarningReason,
 };
 pub use report::{ProgramWarnings, Report, check};
-pub use verdict::first_error;
 pub use ways::{StatementWarnings, statement_warnings};
 pub use writing::{CheckedText, Layout, checked_text, checked_text_of};

@@ -10,9 +10,10 @@ ghost use Rattle.l6_check.specs.inner.Names as inner;
 use crate::explain::text_at;
 use crate::finding::Finding;
 use crate::findings::Findings;
-use crate::label_places::{Part, line_on, span_of};
+use crate::label_places::span_of;
 use crate::labels::Labels;
 use crate::nearest::{label_text, nearest};
+use crate::parts::Part;
 use crate::reason::{MissingLabel, Reason};
 use l6_card::{DeckStatement, Placed, PlacedLabel, columns_of};
 use l6_group::Label;
@@ -156,7 +157,7 @@ fn missing_on<'a>(given: &Labels, card: u32, label: &Label, part: Part<'a>) -> F
     ensures said { spec.missing_said result ≡ Some (card, label.now) }
     ensures place { IsOnItsCard result }
 {
-    let line = line_on(card, part);
+    let line = part.line_on(card);
     let columns = columns_of(line);
     let span = span_of(columns, label);
     Finding {

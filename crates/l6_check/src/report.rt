@@ -9,6 +9,7 @@ use crate::fault::OutOfMemory;
 use crate::fields::undefined_fields;
 use crate::finding::Finding;
 use crate::findings::Findings;
+use crate::indented::add_indented;
 use crate::labels::labels_of;
 use crate::reading::{StatementErrors, statement_errors};
 use crate::verdict::plain;
@@ -124,7 +125,8 @@ fn with_errors<'a>(
     requires { length deck.now ≤ most_deck_bytes }
     ensures { IfOk result (spec.HasErrors deck.now first.entry cards.entry) }
 {
-    let labels = labels_of(alloc, deck)?;
+    let mut labels = labels_of(alloc, deck)?;
+    add_indented(alloc, &mut labels.given, deck)?;
     let errors = statement_errors(alloc, &labels.given, deck)?;
     let StatementErrors { reading, missing } = errors;
     Ok(Report {

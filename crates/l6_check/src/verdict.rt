@@ -1,7 +1,6 @@
-//! Whether a deck spells a program.
+//! The error at which the assembly of a deck stops, plainly.
 
-ghost use Rattle.std.specs.Prelude.{◌≡◌, ◌≤◌, length, IfOk};
-ghost use Rattle.l6_card.specs.Numerals.{most_deck_bytes};
+ghost use Rattle.std.specs.Prelude.{◌≡◌, IfOk};
 ghost use Rattle.l6_asm.specs.AssemblyFault.{assembly_fault};
 ghost use Rattle.l6_check.specs.Faults.{fault_of_finding};
 ghost use Rattle.l6_check.specs.inner.Names.{is_no_label};
@@ -9,28 +8,11 @@ ghost use Rattle.l6_check.specs.Verdict as spec;
 
 use crate::fault::OutOfMemory;
 use crate::finding::{Finding, Span};
-use crate::label_places::{Part, line_on};
+use crate::parts::line_on;
 use crate::reason::{FormReason, LabelText, LimitReason, MissingLabel, Reason};
-use l6_asm::{AsmFault, assemble};
+use l6_asm::AsmFault;
 use l6_card::columns_of;
 use l6_group::MAX_LABEL_CHARACTERS;
-use std::alloc::Global;
-
-/// The error at which the assembly of a deck stops, plainly, if it does: where there is none, the deck
-/// spells a program.
-///
-/// # Errors
-///
-/// Memory ran out.
-pub fn first_error<'a>(alloc: Global, deck: &'a [u8]) -> Result<Option<Finding<'a>>, OutOfMemory>
-    requires { length deck.now ≤ most_deck_bytes }
-    ensures { IfOk result (spec.IsVerdict deck.now) }
-{
-    match assemble(alloc, deck) {
-        Ok(_) => Ok(None),
-        Err(fault) => Ok(Some(plain(deck, fault)?)),
-    }
-}
 
 /// The error that this fault of the assembler is, plainly.
 pub(crate) fn plain<'a>(deck: &'a [u8], fault: AsmFault) -> Result<Finding<'a>, OutOfMemory>
@@ -63,11 +45,7 @@ fn whole_card<'a>(deck: &'a [u8], card: u32, reason: Reason) -> Finding<'a>
     ensures number { result.card ≡ card }
     ensures why { result.reason ≡ reason }
 {
-    let whole = Part {
-        before: 0,
-        text: deck,
-    };
-    let line = line_on(card, whole);
+    let line = line_on(deck, 0, card);
     Finding {
         card,
         span: Span::whole(),

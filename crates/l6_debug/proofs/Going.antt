@@ -20,32 +20,32 @@ use Rattle.l6_debug.specs.Serving.{GoOut, TakesAnswers}
 use Rattle.l6_debug.specs.inner.DebuggerRun.{HaveGoneOut}
 
 -- answers of two lists, joined
-concat-both : (one other : List (List ℕ)) → concat (one ++ other) ≡ concat one ++ concat other
-concat-both [] other = refl
-concat-both (first ∷ one) other =
-    ap (λ text. first ++ text) (concat-both one other)
+concat_both : (one other : List (List ℕ)) → concat (one ++ other) ≡ concat one ++ concat other
+concat_both [] other = refl
+concat_both (first ∷ one) other =
+    ap (λ text. first ++ text) (concat_both one other)
     ∙ sym (append_assoc first (concat one) (concat other))
 
-length-both : (one other : List (List ℕ)) → length (one ++ other) ≡ length one + length other
-length-both [] other = omega arith
-length-both (first ∷ one) other = omega (arith, length-both one other)
+length_both : (one other : List (List ℕ)) → length (one ++ other) ≡ length one + length other
+length_both [] other = omega arith
+length_both (first ∷ one) other = omega (arith, length_both one other)
 
 -- nothing has gone out yet
-pub nothing-out : (taken : Option (List ℕ)) → Appends taken taken []
-nothing-out None = tt
-nothing-out (Some bytes) = sym (append-nil bytes)
+pub nothing_out : (taken : Option (List ℕ)) → Appends taken taken []
+nothing_out None = tt
+nothing_out (Some bytes) = sym (append-nil bytes)
 
 -- and so no answer
-pub no-answer : (all : List (List ℕ)) (taken : Option (List ℕ)) → TakesAnswers all taken taken
-no-answer all taken = record { count = 0; within = omega arith; out = nothing-out taken }
+pub no_answer : (all : List (List ℕ)) (taken : Option (List ℕ)) → TakesAnswers all taken taken
+no_answer all taken = record { count = 0; within = omega arith; out = nothing_out taken }
 
 -- more answers go out
-pub gone-more : (all now rest : List (List ℕ)) (old mid new : Option (List ℕ)) (sent sent' : ℕ) →
+pub gone_more : (all now rest : List (List ℕ)) (old mid new : Option (List ℕ)) (sent sent' : ℕ) →
     HaveGoneOut all (now ++ rest) old mid sent → Appends mid new (concat now) →
     sent' ≡ min (sent + length (concat now)) most_counted →
     HaveGoneOut all rest old new sent'
-gone-more all now rest old mid new sent sent' before out counted =
-    let joined = concat-both before.gone now in
+gone_more all now rest old mid new sent sent' before out counted =
+    let joined = concat_both before.gone now in
     record {
       gone = before.gone ++ now;
       are = before.are ∙ sym (append_assoc before.gone now rest);
@@ -61,26 +61,26 @@ gone-more all now rest old mid new sent sent' before out counted =
     }
 
 -- all have gone out
-all-gone : (one : List (List ℕ)) → one ++ [] ≡ one
-all-gone [] = refl
-all-gone (first ∷ one) = ap (λ rest. first ∷ rest) (all-gone one)
+all_gone : (one : List (List ℕ)) → one ++ [] ≡ one
+all_gone [] = refl
+all_gone (first ∷ one) = ap (λ rest. first ∷ rest) (all_gone one)
 
 -- a fault while answers go out is one of all answers
-pub gone-fault : (T U : Type 0) (all now rest : List (List ℕ)) (old mid new : Option (List ℕ))
+pub gone_fault : (T U : Type 0) (all now rest : List (List ℕ)) (old mid new : Option (List ℕ))
     (sent : ℕ) (fault : RunFault) →
     HaveGoneOut all (now ++ rest) old mid sent →
     GoOut {Outcome = T} now sent mid new (Err fault) →
     GoOut {Outcome = U} all 0 old new (Err fault)
-gone-fault T U all now rest old mid new sent (TooLong part) gone out = absurd out
-gone-fault T U all now rest old mid new sent (Asm part) gone out = absurd out
-gone-fault T U all now rest old mid new sent (Load part) gone out = absurd out
-gone-fault T U all now rest old mid new sent (Read part) gone out = absurd out
-gone-fault T U all now rest old mid new sent (Write n) gone out =
+gone_fault T U all now rest old mid new sent (TooLong part) gone out = absurd out
+gone_fault T U all now rest old mid new sent (Asm part) gone out = absurd out
+gone_fault T U all now rest old mid new sent (Load part) gone out = absurd out
+gone_fault T U all now rest old mid new sent (Read part) gone out = absurd out
+gone_fault T U all now rest old mid new sent (Write n) gone out =
     let front = concat gone.gone in
     let following = concat now ++ concat rest in
     let whole : concat all ≡ front ++ following =
-    ap concat gone.are ∙ concat-both gone.gone (now ++ rest)
-    ∙ ap (λ text. front ++ text) (concat-both now rest) in
+    ap concat gone.are ∙ concat_both gone.gone (now ++ rest)
+    ∙ ap (λ text. front ++ text) (concat_both now rest) in
     let text : take out.count (concat now) ≡ take out.count following =
     sym (take-append-le out.count (concat now) (concat rest) (omega (arith, out.short))) in
     record {
@@ -98,7 +98,7 @@ gone-fault T U all now rest old mid new sent (Write n) gone out =
           (Appends-trans old mid new front (take out.count (concat now)) gone.out out.front);
       counted = omega (arith, out.counted, gone.counted);
     }
-gone-fault T U all now rest old mid new sent NoMemory gone out =
+gone_fault T U all now rest old mid new sent NoMemory gone out =
     let whole = gone.are in
     let text : take out.count now ≡ take out.count (now ++ rest) =
     sym (take-append-le out.count now rest out.within) in
@@ -108,11 +108,11 @@ gone-fault T U all now rest old mid new sent NoMemory gone out =
         arith,
         out.within,
         ap length whole,
-        length-both gone.gone (now ++ rest),
-        length-both now rest,
+        length_both gone.gone (now ++ rest),
+        length_both now rest,
       );
       out = subst (Appends old new)
-          (sym (concat-both gone.gone (take out.count now))
+          (sym (concat_both gone.gone (take out.count now))
           ∙ ap concat (ap (λ more. gone.gone ++ more) text
           ∙ sym (take-append-add gone.gone (now ++ rest) out.count)
           ∙ ap (take (length gone.gone + out.count)) (sym whole)))
@@ -121,13 +121,13 @@ gone-fault T U all now rest old mid new sent NoMemory gone out =
     }
 
 -- another one has its answer, in front of those that follow
-pub from-line : (rule : Rule) (context : RunContext) (debugger_state : DebuggerState) (line : List ℕ)
+pub from_line : (rule : Rule) (context : RunContext) (debugger_state : DebuggerState) (line : List ℕ)
     (lines : List (List ℕ)) (reading : Reading) → reading_of line ≡ reading →
     is_quit reading ≡ false →
     answers_from rule context debugger_state (line ∷ lines)
     ≡ answered rule context debugger_state reading
     ++ answers_from rule context (moved rule context debugger_state reading) lines
-from-line rule context debugger_state line lines reading is other =
+from_line rule context debugger_state line lines reading is other =
     ap (λ r. answered rule context debugger_state r
     ++ (if is_quit r then [] else answers_from rule context
     (moved rule context debugger_state r) lines)) is
@@ -136,7 +136,7 @@ from-line rule context debugger_state line lines reading is other =
     (moved rule context debugger_state reading) lines)) other
 
 -- what is left of the answers begins with that to the next line
-line-opened : (rule : Rule) (context same : RunContext) (debugger_state : DebuggerState)
+line_opened : (rule : Rule) (context same : RunContext) (debugger_state : DebuggerState)
     (rest line following : List ℕ)
     (reading : Reading) (all : List (List ℕ)) (old mid : Option (List ℕ)) (sent : ℕ) →
     same ≡ context → lines_of rest ≡ line ∷ lines_of following → reading ≡ reading_of line →
@@ -146,17 +146,17 @@ line-opened : (rule : Rule) (context same : RunContext) (debugger_state : Debugg
     (answered rule same debugger_state reading
     ++ answers_from rule context (moved rule same debugger_state reading) (lines_of following)) old
     mid sent
-line-opened rule context same debugger_state rest line following reading all old mid sent is lines
+line_opened rule context same debugger_state rest line following reading all old mid sent is lines
     read other
     gone =
     subst (λ r. HaveGoneOut all r old mid sent)
     (ap (answers_from rule context debugger_state) lines
-    ∙ from-line rule context debugger_state line (lines_of following) reading (sym read) other
+    ∙ from_line rule context debugger_state line (lines_of following) reading (sym read) other
     ∙ ap (λ w. answered rule w debugger_state reading
     ++ answers_from rule context (moved rule w debugger_state reading) (lines_of following))
     (sym is)) gone
 
-pub line-gone : (rule : Rule) (context same : RunContext) (debugger_state next : DebuggerState)
+pub line_gone : (rule : Rule) (context same : RunContext) (debugger_state next : DebuggerState)
     (rest line following : List ℕ) (reading : Reading) (all : List (List ℕ))
     (old mid new : Option (List ℕ)) (sent sent' : ℕ) →
     same ≡ context → lines_of rest ≡ line ∷ lines_of following → reading ≡ reading_of line →
@@ -165,20 +165,20 @@ pub line-gone : (rule : Rule) (context same : RunContext) (debugger_state next :
     Appends mid new (concat (answered rule same debugger_state reading)) →
     sent' ≡ min (sent + length (concat (answered rule same debugger_state reading))) most_counted →
     HaveGoneOut all (answers_from rule context next (lines_of following)) old new sent'
-line-gone rule context same debugger_state next rest line following reading all old mid new sent
+line_gone rule context same debugger_state next rest line following reading all old mid new sent
     sent' is lines
     read other moves gone out counted =
     subst (λ s. HaveGoneOut all (answers_from rule context s (lines_of following)) old new sent')
     (sym moves)
-    (gone-more all (answered rule same debugger_state reading)
+    (gone_more all (answered rule same debugger_state reading)
     (answers_from rule context (moved rule same debugger_state reading) (lines_of following)) old
     mid new sent
     sent'
-    (line-opened rule context same debugger_state rest line following reading all old mid sent is
+    (line_opened rule context same debugger_state rest line following reading all old mid sent is
     lines read
     other gone) out counted)
 
-pub line-fault : (T U : Type 0) (rule : Rule) (context same : RunContext)
+pub line_fault : (T U : Type 0) (rule : Rule) (context same : RunContext)
     (debugger_state : DebuggerState)
     (rest line following : List ℕ) (reading : Reading) (all : List (List ℕ))
     (old mid new : Option (List ℕ)) (sent : ℕ) (fault : RunFault) →
@@ -187,13 +187,13 @@ pub line-fault : (T U : Type 0) (rule : Rule) (context same : RunContext)
     HaveGoneOut all (answers_from rule context debugger_state (lines_of rest)) old mid sent →
     GoOut {Outcome = T} (answered rule same debugger_state reading) sent mid new (Err fault) →
     GoOut {Outcome = U} all 0 old new (Err fault)
-line-fault T U rule context same debugger_state rest line following reading all old mid new sent
+line_fault T U rule context same debugger_state rest line following reading all old mid new sent
     fault is lines
     read other gone out =
-    gone-fault T U all (answered rule same debugger_state reading)
+    gone_fault T U all (answered rule same debugger_state reading)
     (answers_from rule context (moved rule same debugger_state reading) (lines_of following)) old
     mid new sent
     fault
-    (line-opened rule context same debugger_state rest line following reading all old mid sent is
+    (line_opened rule context same debugger_state rest line following reading all old mid sent is
     lines read
     other gone) out

@@ -6,50 +6,50 @@ use Rattle.std.proofs.lemmas.Nat.{pow_pos}
 use Rattle.l6_store.specs.Blocks.{Blocks, Fits, end_of}
 
 -- the lines of what is left begin with that of the next one
-line-next : {A : Type 0} (line : ℕ × A → List ℕ) (left : List A) (number : ℕ) (one : A)
+line_next : {A : Type 0} (line : ℕ × A → List ℕ) (left : List A) (number : ℕ) (one : A)
     (rest : List A) → left ≡ one ∷ rest →
     flat_map line (enumerate_from number left)
     ≡ line (number, one) ++ flat_map line (enumerate_from (number + 1) rest)
-line-next line left number one rest is =
+line_next line left number one rest is =
     ap (λ l. flat_map line (enumerate_from number l)) is
 
-pub line-more : {A : Type 0} (line : ℕ × A → List ℕ) (all : List A) (first index : ℕ) (one : A) →
+pub line_more : {A : Type 0} (line : ℕ × A → List ℕ) (all : List A) (first index : ℕ) (one : A) →
     index < length all → one ≡ get_or all index one →
     flat_map line (enumerate_from (first + index) (drop index all))
     ≡ line (first + index, one)
     ++ flat_map line (enumerate_from (first + (index + 1)) (drop (index + 1) all))
-line-more line all first index one within is =
+line_more line all first index one within is =
     let next : first + index + 1 ≡ first + (index + 1) = omega arith in
     let left : drop index all ≡ one ∷ drop (index + 1) all =
     drop-cons all index one within
     ∙ ap (λ o. o ∷ drop (suc index) all) (sym is)
     ∙ ap (λ n. one ∷ drop n all) (sym (add-one index)) in
-    line-next line (drop index all) (first + index) one (drop (index + 1) all) left
+    line_next line (drop index all) (first + index) one (drop (index + 1) all) left
     ∙ ap (λ n. line (first + index, one) ++ flat_map line (enumerate_from n (drop (index + 1) all)))
     next
 
 -- so a text with the lines that are left stays the same
-pub text-more : {A : Type 0} (line : ℕ × A → List ℕ) (all : List A) (first index : ℕ) (one : A)
+pub text_more : {A : Type 0} (line : ℕ × A → List ℕ) (all : List A) (first index : ℕ) (one : A)
     (old new whole : List ℕ) → index < length all → one ≡ get_or all index one →
     old ++ flat_map line (enumerate_from (first + index) (drop index all)) ≡ whole →
     new ≡ old ++ line (first + index, one) →
     new ++ flat_map line (enumerate_from (first + (index + 1)) (drop (index + 1) all)) ≡ whole
-text-more line all first index one old new whole within is so_far added =
+text_more line all first index one old new whole within is so_far added =
     let left = flat_map line (enumerate_from (first + (index + 1)) (drop (index + 1) all)) in
     ap (λ text. text ++ left) added
     ∙ append_assoc old (line (first + index, one)) left
-    ∙ ap (λ text. old ++ text) (sym (line-more line all first index one within is))
+    ∙ ap (λ text. old ++ text) (sym (line_more line all first index one within is))
     ∙ so_far
 
 -- no block begins past the end of a store
-past-by : (units : ℕ) (blocks : Blocks) → Fits units blocks → (place : ℕ) → end_of units ≤ place →
+past_by : (units : ℕ) (blocks : Blocks) → Fits units blocks → (place : ℕ) → end_of units ≤ place →
     (found : Option (List ℕ)) → map.get blocks place ≡ found → map.get blocks place ≡ None
-past-by units blocks fits place past None is = is
-past-by units blocks fits place past (Some words) is =
+past_by units blocks fits place past None is = is
+past_by units blocks fits place past (Some words) is =
     let block = fits.each place words is in
     absurd (omega (arith, block.is_aligned.within, past, pow_pos block.level))
 
-pub none-past : (units : ℕ) (blocks : Blocks) → Fits units blocks → (place : ℕ) →
+pub none_past : (units : ℕ) (blocks : Blocks) → Fits units blocks → (place : ℕ) →
     end_of units ≤ place → map.get blocks place ≡ None
-none-past units blocks fits place past =
-    past-by units blocks fits place past (map.get blocks place) refl
+none_past units blocks fits place past =
+    past_by units blocks fits place past (map.get blocks place) refl

@@ -14,17 +14,17 @@ use Rattle.l6_device.specs.declared.fault.RunFault.TheVariants.{TooLong, Asm, Lo
 use Rattle.l6_debug.specs.Serving.{Debugs, GoOut, ServesSession}
 use Rattle.l6_debug.specs.Transcript.{answers_to}
 
-pub unreported-debugger_state : {Outcome : Type 0} (options : OptionValues) (deck input commands : List ℕ)
+pub unreported_debugger_state : {Outcome : Type 0} (options : OptionValues) (deck input commands : List ℕ)
     (part : Part) (old new : Option (List ℕ)) (result : Result Outcome RunFault) →
     ServesSession options deck input commands old new result →
     reported_by (reports_read part) result ≡ false
-unreported-debugger_state options deck input commands part old new (Ok _) served = refl
-unreported-debugger_state options deck input commands part old new (Err (TooLong _)) served = refl
-unreported-debugger_state options deck input commands part old new (Err (Asm _)) served = refl
-unreported-debugger_state options deck input commands part old new (Err (Load _)) served = refl
-unreported-debugger_state options deck input commands part old new (Err (Read _)) served = absurd served
-unreported-debugger_state options deck input commands part old new (Err (Write _)) served = refl
-unreported-debugger_state options deck input commands part old new (Err NoMemory) served = refl
+unreported_debugger_state options deck input commands part old new (Ok _) served = refl
+unreported_debugger_state options deck input commands part old new (Err (TooLong _)) served = refl
+unreported_debugger_state options deck input commands part old new (Err (Asm _)) served = refl
+unreported_debugger_state options deck input commands part old new (Err (Load _)) served = refl
+unreported_debugger_state options deck input commands part old new (Err (Read _)) served = absurd served
+unreported_debugger_state options deck input commands part old new (Err (Write _)) served = refl
+unreported_debugger_state options deck input commands part old new (Err NoMemory) served = refl
 
 -- the deck spells a program, and the answers went out so
 module _ {Outcome : Type 0} (options : OptionValues) (deck input commands : List ℕ)

@@ -16,8 +16,8 @@ IsCutAt bytes found =
     ≡ take place bytes ∷ slice_split is_blank
     (take (length bytes - (place + 1)) (drop (place + 1) bytes)))
 
-pub split-first : (bytes : List ℕ) → IsCutAt bytes (position is_blank bytes)
-split-first bytes =
+pub split_first : (bytes : List ℕ) → IsCutAt bytes (position is_blank bytes)
+split_first bytes =
     let place = position_or_len is_blank bytes in
     elim (cases_lt place (length bytes)) as (λ _. IsCutAt bytes (position is_blank bytes)) [
       | inl within ↦

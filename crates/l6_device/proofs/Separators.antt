@@ -6,63 +6,63 @@ use Rattle.std.proofs.lemmas.Bool.{both_ways, false_from_ne_true}
 use Rattle.std.proofs.lemmas.List.Folds.{list_all_at}
 use Rattle.std.proofs.Math.Seq.{take-append_seam, get_or-append_seam}
 use Rattle.l6_word.specs.Split.{lacks, IsCutAt}
-use Rattle.l6_word.proofs.Cuts.{lacks-cons}
+use Rattle.l6_word.proofs.Cuts.{lacks_cons}
 use Rattle.l6_device.specs.JobParts.{TextHalves, halves, is_separator, text_of_lines, whole_lines, without_feed}
 use Rattle.l6_device.specs.inner.Lines.{BeginsWithLine}
 use Rattle.l6_word.specs.Lines.{without_return}
 use Rattle.l6_device.specs.JobParts.{reads_as}
 
 -- a line in front of a text
-whole_lines-front : (line following : List ℕ) → lacks (byte "\n") line ≡ true →
+whole_lines_front : (line following : List ℕ) → lacks (byte "\n") line ≡ true →
     whole_lines (line ++ byte "\n" ∷ following) ≡ (line ++ byte "\n" ∷ []) ∷ whole_lines following
 unfolding whole_lines
-whole_lines-front [] following lacking = refl
-whole_lines-front (first ∷ rest) following lacking =
-    let parts = lacks-cons (byte "\n") first rest lacking in
-    rw parts.0 (ap (onto_first first) (whole_lines-front rest following parts.1))
+whole_lines_front [] following lacking = refl
+whole_lines_front (first ∷ rest) following lacking =
+    let parts = lacks_cons (byte "\n") first rest lacking in
+    rw parts.0 (ap (onto_first first) (whole_lines_front rest following parts.1))
 
 -- a text that has no line feed
-whole_lines-last : (first : ℕ) (rest : List ℕ) → lacks (byte "\n") (first ∷ rest) ≡ true →
+whole_lines_last : (first : ℕ) (rest : List ℕ) → lacks (byte "\n") (first ∷ rest) ≡ true →
     whole_lines (first ∷ rest) ≡ (first ∷ rest) ∷ []
 unfolding whole_lines
-whole_lines-last first [] lacking =
-    let parts = lacks-cons (byte "\n") first [] lacking in
+whole_lines_last first [] lacking =
+    let parts = lacks_cons (byte "\n") first [] lacking in
     rw parts.0 refl
-whole_lines-last first (second ∷ rest) lacking =
-    let parts = lacks-cons (byte "\n") first (second ∷ rest) lacking in
-    rw parts.0 (ap (onto_first first) (whole_lines-last second rest parts.1))
+whole_lines_last first (second ∷ rest) lacking =
+    let parts = lacks_cons (byte "\n") first (second ∷ rest) lacking in
+    rw parts.0 (ap (onto_first first) (whole_lines_last second rest parts.1))
 
 -- the lines of a text make it
-text_of_lines-onto : (first : ℕ) (lines : List (List ℕ)) →
+text_of_lines_onto : (first : ℕ) (lines : List (List ℕ)) →
     text_of_lines (onto_first first lines) ≡ first ∷ text_of_lines lines
 unfolding text_of_lines
-text_of_lines-onto first [] = refl
-text_of_lines-onto first (line ∷ lines) = refl
+text_of_lines_onto first [] = refl
+text_of_lines_onto first (line ∷ lines) = refl
 
-text_of_lines-first : (feeds : Bool) (first : ℕ) (rest : List ℕ) → eqb first (byte "\n") ≡ feeds →
+text_of_lines_first : (feeds : Bool) (first : ℕ) (rest : List ℕ) → eqb first (byte "\n") ≡ feeds →
     text_of_lines (whole_lines rest) ≡ rest → text_of_lines (whole_lines (first ∷ rest)) ≡ first ∷ rest
 unfolding text_of_lines whole_lines
-text_of_lines-first true first rest is others = rw is (ap (λ l. first ∷ l) others)
-text_of_lines-first false first rest is others =
-    rw is (text_of_lines-onto first (whole_lines rest) ∙ ap (λ l. first ∷ l) others)
+text_of_lines_first true first rest is others = rw is (ap (λ l. first ∷ l) others)
+text_of_lines_first false first rest is others =
+    rw is (text_of_lines_onto first (whole_lines rest) ∙ ap (λ l. first ∷ l) others)
 
-pub text_of_lines-lines : (text : List ℕ) → text_of_lines (whole_lines text) ≡ text
+pub text_of_lines_lines : (text : List ℕ) → text_of_lines (whole_lines text) ≡ text
 unfolding text_of_lines whole_lines
-text_of_lines-lines [] = refl
-text_of_lines-lines (first ∷ rest) =
-    text_of_lines-first (eqb first (byte "\n")) first rest refl (text_of_lines-lines rest)
+text_of_lines_lines [] = refl
+text_of_lines_lines (first ∷ rest) =
+    text_of_lines_first (eqb first (byte "\n")) first rest refl (text_of_lines_lines rest)
 
 -- a line with its line feed, without it
-without_feed-fed : (line : List ℕ) → without_feed (line ++ byte "\n" ∷ []) ≡ line
-without_feed-fed line =
+without_feed_fed : (line : List ℕ) → without_feed (line ++ byte "\n" ∷ []) ≡ line
+without_feed_fed line =
     let size : length (line ++ byte "\n" ∷ []) - 1 ≡ length line =
     omega (arith, length-append line (byte "\n" ∷ [])) in
     rw (size, get_or-append_seam line (byte "\n") [] 0) (take-append_seam line (byte "\n" ∷ []))
 
 -- a line that has none
-without_feed-lacks : (line : List ℕ) → 0 < length line → lacks (byte "\n") line ≡ true →
+without_feed_lacks : (line : List ℕ) → 0 < length line → lacks (byte "\n") line ≡ true →
     without_feed line ≡ line
-without_feed-lacks line some lacking =
+without_feed_lacks line some lacking =
     let last : ℕ = get_or line (length line - 1) 0 in
     let other : eqb last (byte "\n") ≡ false =
     false_from_ne_true (eqb last (byte "\n"))
@@ -76,8 +76,8 @@ pub line_cut : {text line following : List ℕ} → IsCutAt (byte "\n") text lin
 line_cut {text} {line} {following} cut = record {
   whole = line ++ byte "\n" ∷ [];
   text_is = cut.whole ∙ sym (append_assoc line (byte "\n" ∷ []) following);
-  lines = ap whole_lines cut.whole ∙ whole_lines-front line following cut.first;
-  line_is = without_feed-fed line;
+  lines = ap whole_lines cut.whole ∙ whole_lines_front line following cut.first;
+  line_is = without_feed_fed line;
 }
 
 -- the one line of a text without a line feed
@@ -88,8 +88,8 @@ line_whole [] some lacking = absurd (omega (arith, some))
 line_whole (first ∷ rest) some lacking = record {
   whole = first ∷ rest;
   text_is = sym (append-nil (first ∷ rest));
-  lines = whole_lines-last first rest lacking;
-  line_is = without_feed-lacks (first ∷ rest) some lacking;
+  lines = whole_lines_last first rest lacking;
+  line_is = without_feed_lacks (first ∷ rest) some lacking;
 }
 
 -- halves with some lines more in front of the first
@@ -137,7 +137,7 @@ before_separator word text rest line following kept begins is =
     ap (λ l. reads_as word (without_return l)) begins.line_is ∙ is in
     let parts : halves word (whole_lines rest) ≡ record { before = []; following = following } =
     ap (halves word) begins.lines
-    ∙ rw separator (ap (λ l. record { before = []; following = l }) (text_of_lines-lines following)) in
+    ∙ rw separator (ap (λ l. record { before = []; following = l }) (text_of_lines_lines following)) in
     let both : halves word (whole_lines text) ≡ record { before = kept.front; following = following } =
     kept.parts ∙ ap (following_front kept.front) parts
     ∙ ap (λ l. record { before = l; following = following }) (append-nil kept.front) in

@@ -5,23 +5,23 @@ use Rattle.l6_prog.specs.Numerals.{name_count}
 use Rattle.l6_steps.specs.State.{Memory}
 use Rattle.l6_draw.specs.Reach.{is_reached, letters_from}
 use Rattle.l6_draw.specs.StoreMap.{block_line, free_line, line_of, size_at, stretches_from}
-use Rattle.l6_draw.proofs.Letters.{letters-more, letters-none}
+use Rattle.l6_draw.proofs.Letters.{letters_more, letters_none}
 
 -- the line of one letter more, or none
-pub letter_line-more : (line : ℕ → List ℕ) (letter : ℕ) (text now all : List ℕ) → letter < name_count
+pub letter_line_more : (line : ℕ → List ℕ) (letter : ℕ) (text now all : List ℕ) → letter < name_count
     → now ≡ text ++ line letter → text ++ flat_map line (letters_from letter) ≡ all
     → now ++ flat_map line (letters_from (letter + 1)) ≡ all
-letter_line-more line letter text now all below added before =
+letter_line_more line letter text now all below added before =
     ap (λ (t : List ℕ). t ++ flat_map line (letters_from (letter + 1))) added
     ∙ append_assoc text (line letter) (flat_map line (letters_from (letter + 1)))
-    ∙ ap (λ (bugs : List ℕ). text ++ flat_map line bugs) (sym (letters-more letter below))
+    ∙ ap (λ (bugs : List ℕ). text ++ flat_map line bugs) (sym (letters_more letter below))
     ∙ before
 
-pub letter_line-none : (line : ℕ → List ℕ) (letter : ℕ) (text all : List ℕ) → letter ≡ name_count
+pub letter_line_none : (line : ℕ → List ℕ) (letter : ℕ) (text all : List ℕ) → letter ≡ name_count
     → text ++ flat_map line (letters_from letter) ≡ all → text ≡ all
-letter_line-none line letter text all is before =
+letter_line_none line letter text all is before =
     sym (append-nil text)
-    ∙ ap (λ (bugs : List ℕ). text ++ flat_map line bugs) (sym (letters-none letter is)) ∙ before
+    ∙ ap (λ (bugs : List ℕ). text ++ flat_map line bugs) (sym (letters_none letter is)) ∙ before
 
 -- the lines of one block more
 one_stretch : (memory : Memory) (start : ℕ) (starts : List ℕ) (from end : ℕ)
@@ -45,7 +45,7 @@ next_start : (starts : List ℕ) (index : ℕ) → index < length starts
     → drop index starts ≡ get_or starts index 0 ∷ drop (index + 1) starts
 next_start starts index within = rw (add-one, drop-cons starts index 0)
 
-pub stretch-more : (memory : Memory) (starts : List ℕ) (index from end : ℕ)
+pub stretch_more : (memory : Memory) (starts : List ℕ) (index from end : ℕ)
     (text free block all : List ℕ) (reached : Bool) (gap size : ℕ) → index < length starts
     → gap ≡ get_or starts index 0 - from → free ≡ text ++ free_line from gap
     → size ≡ size_at memory (get_or starts index 0)
@@ -54,7 +54,7 @@ pub stretch-more : (memory : Memory) (starts : List ℕ) (index from end : ℕ)
     → text ++ flat_map (line_of memory) (stretches_from memory from end (drop index starts)) ≡ all
     → block ++ flat_map (line_of memory)
     (stretches_from memory (get_or starts index 0 + size) end (drop (index + 1) starts)) ≡ all
-stretch-more memory starts index from end text free block all reached gap size within far added is
+stretch_more memory starts index from end text free block all reached gap size within far added is
     test line
     before =
     one_stretch memory (get_or starts index 0) (drop (index + 1) starts) from end text free block

@@ -183,41 +183,41 @@ closed_at_last memory =
           (let count = block_count memory in omega arith) place is)
     ]
 
-pub reached-is : (memory : Memory) (place : ℕ) → is_reached memory place ≡ true
+pub reached_is : (memory : Memory) (place : ℕ) → is_reached memory place ≡ true
     → IsReachable memory place
 unfolding is_reached
-reached-is memory place is = within_reached memory (places.len memory.blocks) place is
+reached_is memory place is = within_reached memory (places.len memory.blocks) place is
 
-pub is-reached : (memory : Memory) (place : ℕ) → IsReachable memory place
+pub reached_exactly : (memory : Memory) (place : ℕ) → IsReachable memory place
     → is_reached memory place ≡ true
 unfolding is_reached
-is-reached memory place path =
+reached_exactly memory place path =
     closed_finds memory (places.len memory.blocks) (closed_at_last memory) path.0 place path.1
 
-pub reached-live : (memory : Memory) (place : ℕ) → is_reached memory place ≡ true
+pub reached_live : (memory : Memory) (place : ℕ) → is_reached memory place ≡ true
     → IsLive memory.blocks place
 unfolding is_reached
-reached-live memory place is = within_live memory (places.len memory.blocks) place is
+reached_live memory place is = within_live memory (places.len memory.blocks) place is
 
-pub reach-decided : ReachIsDecided
-reach-decided memory place = (reached-is memory place, is-reached memory place)
+pub reach_decided : ReachIsDecided
+reach_decided memory place = (reached_is memory place, reached_exactly memory place)
 
 pub are_reached : (memory : Memory) → AreReachable memory (reached_places memory)
 are_reached memory = record {
   rising = IsStrictlyIncreasing-filter (is_reached memory) (places.keys memory.blocks)
       (keys_rise memory.blocks);
   each = λ place. (
-    (λ is. reached-is memory place
+    (λ is. reached_is memory place
         (filter_has (is_reached memory) (places.keys memory.blocks) place is).1),
     (λ path.
-        let passes = is-reached memory place path in
+        let passes = reached_exactly memory place path in
         filter_keeps (is_reached memory) (places.keys memory.blocks) place
-        (live_key memory.blocks place (reached-live memory place passes)) passes),
+        (live_key memory.blocks place (reached_live memory place passes)) passes),
   );
 }
 
-pub reach-settled : ReachIsSettled
-reach-settled memory =
+pub reach_settled : ReachIsSettled
+reach_settled memory =
     let ours = are_reached memory in (
       ours,
       λ others theirs.

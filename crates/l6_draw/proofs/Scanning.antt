@@ -71,8 +71,8 @@ pub record Scanned (blocks : Blocks) (place : ℕ) (found : List ℕ) : Type 0 w
   pub live : (start : ℕ) → Contains found start → IsLive blocks start
   pub all : (start : ℕ) → IsLive blocks start → start < place → Contains found start
 
-pub scanned-none : (units : ℕ) (blocks : Blocks) → Fits units blocks → Scanned blocks unit_size []
-scanned-none units blocks fits = record {
+pub scanned_none : (units : ℕ) (blocks : Blocks) → Fits units blocks → Scanned blocks unit_size []
+scanned_none units blocks fits = record {
   rising = λ k within. absurd (omega arith);
   below = λ start is. absurd (none_in start is);
   live = λ start is. absurd (none_in start is);
@@ -81,9 +81,9 @@ scanned-none units blocks fits = record {
 }
 
 -- after a place where no block begins
-pub scanned-past : (blocks : Blocks) (place : ℕ) (found : List ℕ) → (IsLive blocks place → ⊥)
+pub scanned_past : (blocks : Blocks) (place : ℕ) (found : List ℕ) → (IsLive blocks place → ⊥)
     → Scanned blocks place found → Scanned blocks (place + 1) found
-scanned-past blocks place found none scanned = record {
+scanned_past blocks place found none scanned = record {
   rising = scanned.rising;
   below = λ start is. (let before = scanned.below start is in omega arith);
   live = scanned.live;
@@ -97,10 +97,10 @@ scanned-past blocks place found none scanned = record {
 }
 
 -- and after a block
-pub scanned-block : (units : ℕ) (blocks : Blocks) → Fits units blocks → (place size : ℕ)
+pub scanned_block : (units : ℕ) (blocks : Blocks) → Fits units blocks → (place size : ℕ)
     (found : List ℕ) → IsLive blocks place → size ≡ length (block_at blocks place)
     → Scanned blocks place found → Scanned blocks (place + size) (found ++ place ∷ [])
-scanned-block units blocks fits place size found here is scanned = record {
+scanned_block units blocks fits place size found here is scanned = record {
   rising = rises_push found place scanned.rising scanned.below;
   below = λ start there.
       (let some = live_some units blocks fits place here in
@@ -129,9 +129,9 @@ scanned-block units blocks fits place size found here is scanned = record {
 }
 
 -- at the end of the store they are all
-pub scanned-all : (units : ℕ) (blocks : Blocks) → Fits units blocks → (place : ℕ) (found : List ℕ)
+pub scanned_all : (units : ℕ) (blocks : Blocks) → Fits units blocks → (place : ℕ) (found : List ℕ)
     → end_of units ≤ place → Scanned blocks place found → found ≡ places.keys blocks
-scanned-all units blocks fits place found past scanned =
+scanned_all units blocks fits place found past scanned =
     same_rising found (places.keys blocks) scanned.rising (keys_rise blocks)
     (λ start is. live_key blocks start (scanned.live start is))
     (λ start is.
@@ -141,31 +141,31 @@ scanned-all units blocks fits place found past scanned =
     let some = live_some units blocks fits start live in omega arith))
 
 -- the scan as the code makes it
-pub scan-begins : (units : ℕ) (blocks : Blocks) → Fits units blocks → (place : ℕ) (found : List ℕ)
+pub scan_begins : (units : ℕ) (blocks : Blocks) → Fits units blocks → (place : ℕ) (found : List ℕ)
     → place ≡ unit_size → found ≡ [] → Scanned blocks place found
-scan-begins units blocks fits place found is none =
+scan_begins units blocks fits place found is none =
     subst (λ (p : ℕ). Scanned blocks p found) (sym is)
-    (subst (λ (f : List ℕ). Scanned blocks unit_size f) (sym none) (scanned-none units blocks fits))
+    (subst (λ (f : List ℕ). Scanned blocks unit_size f) (sym none) (scanned_none units blocks fits))
 
-pub scan-passes : (blocks : Blocks) (place word : ℕ) (found : List ℕ) → word ≡ place
+pub scan_passes : (blocks : Blocks) (place word : ℕ) (found : List ℕ) → word ≡ place
     → (IsLive blocks word → ⊥) → Scanned blocks place found → Scanned blocks (place + 1) found
-scan-passes blocks place word found is none scanned =
-    scanned-past blocks place found
+scan_passes blocks place word found is none scanned =
+    scanned_past blocks place found
     (λ live. none (subst (λ (p : ℕ). IsLive blocks p) (sym is) live)) scanned
 
 small_power : (level : ℕ) → level ≤ largest_level → 1 * 2 ^ level % 2 ^ 32 ≡ 2 ^ level
 small_power level small = one_shl level 32 (omega arith)
 
-pub scan-finds : (units : ℕ) (blocks : Blocks) → Fits units blocks → (place word level : ℕ)
+pub scan_finds : (units : ℕ) (blocks : Blocks) → Fits units blocks → (place word level : ℕ)
     (found after : List ℕ) → word ≡ place → IsLive blocks word
     → option_map (λ (k : ℕ). 2 ^ k) (Some level)
     ≡ option_map (λ (words : List ℕ). length words) (places.get blocks word)
     → level ≤ largest_level → after ≡ found ++ place ∷ [] → Scanned blocks place found
     → Scanned blocks (place + 1 * 2 ^ level % 2 ^ 32) after
-scan-finds units blocks fits place word level found after is live size small pushed scanned =
+scan_finds units blocks fits place word level found after is live size small pushed scanned =
     let here : IsLive blocks place = subst (λ (p : ℕ). IsLive blocks p) is live in
     let determined = subst (λ (p : ℕ). option_map (λ (k : ℕ). 2 ^ k) (Some level)
     ≡ option_map (λ (words : List ℕ). length words) (places.get blocks p)) is size in
     subst (λ (f : List ℕ). Scanned blocks (place + 1 * 2 ^ level % 2 ^ 32) f) (sym pushed)
-    (scanned-block units blocks fits place (1 * 2 ^ level % 2 ^ 32) found here
+    (scanned_block units blocks fits place (1 * 2 ^ level % 2 ^ 32) found here
     (small_power level small ∙ sym (live_size blocks place level here determined)) scanned)

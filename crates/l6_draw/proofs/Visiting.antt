@@ -118,12 +118,12 @@ met_grows blocks number walk =
     })
     (λ _. grows_same walk)
 
-pub all_met-grows : (blocks : Blocks) (numbers : List ℕ) (walk : Walk)
+pub all_met_grows : (blocks : Blocks) (numbers : List ℕ) (walk : Walk)
     → Grows walk (all_met blocks numbers walk)
-all_met-grows blocks [] walk = grows_same walk
-all_met-grows blocks (number ∷ numbers) walk =
+all_met_grows blocks [] walk = grows_same walk
+all_met_grows blocks (number ∷ numbers) walk =
     grows_on walk (met blocks number walk) (all_met blocks numbers (met blocks number walk))
-    (met_grows blocks number walk) (all_met-grows blocks numbers (met blocks number walk))
+    (met_grows blocks number walk) (all_met_grows blocks numbers (met blocks number walk))
 
 -- there is a visit for each block
 pub record Room (blocks : Blocks) (visited : List Bool) : Type 0 where
@@ -152,18 +152,18 @@ met_visited blocks number walk room live =
           (not_from_false (is_visited walk.visited number) untagged)) live))
     ])
 
-pub all_met-visited : (blocks : Blocks) (numbers : List ℕ) (walk : Walk) → Room blocks walk.visited
+pub all_met_visited : (blocks : Blocks) (numbers : List ℕ) (walk : Walk) → Room blocks walk.visited
     → (number : ℕ) → Contains numbers number → IsLive blocks number
     → is_visited (all_met blocks numbers walk).visited number ≡ true
-all_met-visited blocks [] walk room number is live = absurd (none_in number is)
-all_met-visited blocks (first ∷ numbers) walk room number is live =
+all_met_visited blocks [] walk room number is live = absurd (none_in number is)
+all_met_visited blocks (first ∷ numbers) walk room number is live =
     let grown = room_stays blocks walk (met blocks first walk) (met_grows blocks first walk) room in
     elim (first_or_later first number numbers is)
     as (λ _. is_visited (all_met blocks numbers (met blocks first walk)).visited number ≡ true) [
       | inl same ↦
-          (all_met-grows blocks numbers (met blocks first walk)).stays number
+          (all_met_grows blocks numbers (met blocks first walk)).stays number
           (subst (λ (n : ℕ). is_visited (met blocks first walk).visited n ≡ true) same
           (met_visited blocks first walk room
           (subst (λ (n : ℕ). IsLive blocks n) (sym same) live)))
-      | inr later ↦ all_met-visited blocks numbers (met blocks first walk) grown number later live
+      | inr later ↦ all_met_visited blocks numbers (met blocks first walk) grown number later live
     ]

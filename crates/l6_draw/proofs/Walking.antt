@@ -9,9 +9,9 @@ use Rattle.l6_steps.specs.State.{Memory}
 use Rattle.l6_draw.specs.Reach.{IsPath, held_by_bugs, held_in, is_reached}
 use Rattle.l6_draw.specs.inner.Walk.{Walk, all_met, is_visited, met}
 use Rattle.l6_draw.proofs.Members.{first_in, first_or_later, later_in, none_in}
-use Rattle.l6_draw.proofs.Reaching.{is-reached, reached-is}
+use Rattle.l6_draw.proofs.Reaching.{reached_exactly, reached_is}
 use Rattle.l6_draw.proofs.Scanning.{live_some, live_within}
-use Rattle.l6_draw.proofs.Visiting.{visited_place_stays, visited_place_by, untagged, left, met_by, all_met-grows, Room, room_stays, all_met-visited}
+use Rattle.l6_draw.proofs.Visiting.{visited_place_stays, visited_place_by, untagged, left, met_by, all_met_grows, Room, room_stays, all_met_visited}
 
 -- the walk has looked at a block: where its fields lead is visited
 pub record LookedAt (memory : Memory) (visited : List Bool) (place : ℕ) : Type 0 where
@@ -99,15 +99,15 @@ met_walks memory front number walk reached walks =
     } in after))
     (λ _. walks)
 
-all_met-walks : (memory : Memory) (front numbers : List ℕ) (walk : Walk)
+all_met_walks : (memory : Memory) (front numbers : List ℕ) (walk : Walk)
     → ((number : ℕ) → Contains numbers number → IsLive memory.blocks number
     → is_reached memory number ≡ true)
     → Walks memory walk.visited (front ++ walk.worklist)
     → Walks memory (all_met memory.blocks numbers walk).visited
     (front ++ (all_met memory.blocks numbers walk).worklist)
-all_met-walks memory front [] walk reached walks = walks
-all_met-walks memory front (number ∷ numbers) walk reached walks =
-    all_met-walks memory front numbers (met memory.blocks number walk)
+all_met_walks memory front [] walk reached walks = walks
+all_met_walks memory front (number ∷ numbers) walk reached walks =
+    all_met_walks memory front numbers (met memory.blocks number walk)
     (λ other is. reached other (later_in number other numbers is))
     (met_walks memory front number walk (reached number (first_in number numbers)) walks)
 
@@ -129,17 +129,17 @@ untagged_walks memory walk none untagged = record {
 
 bug_reached : (memory : Memory) (number : ℕ) → Contains (held_by_bugs memory) number
     → IsLive memory.blocks number → is_reached memory number ≡ true
-bug_reached memory number held live = is-reached memory number ([], (held, live))
+bug_reached memory number held live = reached_exactly memory number ([], (held, live))
 
-pub bugs-walk : (memory : Memory) (walk : Walk) → Room memory.blocks walk.visited → walk.worklist ≡ []
+pub bugs_walk : (memory : Memory) (walk : Walk) → Room memory.blocks walk.visited → walk.worklist ≡ []
     → ((place : ℕ) → is_visited walk.visited place ≡ false)
     → IsWalk memory (all_met memory.blocks (held_by_bugs memory) walk)
-bugs-walk memory walk room none untagged = record {
+bugs_walk memory walk room none untagged = record {
   room = room_stays memory.blocks walk (all_met memory.blocks (held_by_bugs memory) walk)
-      (all_met-grows memory.blocks (held_by_bugs memory) walk) room;
-  walks = all_met-walks memory [] (held_by_bugs memory) walk (bug_reached memory)
+      (all_met_grows memory.blocks (held_by_bugs memory) walk) room;
+  walks = all_met_walks memory [] (held_by_bugs memory) walk (bug_reached memory)
       (untagged_walks memory walk none untagged);
-  bugs = all_met-visited memory.blocks (held_by_bugs memory) walk room;
+  bugs = all_met_visited memory.blocks (held_by_bugs memory) walk room;
 }
 
 -- and after each block that is looked at
@@ -147,8 +147,8 @@ further_reached : (memory : Memory) (before place : ℕ) → is_reached memory b
     → Contains (held_in memory before) place → IsLive memory.blocks place
     → is_reached memory place ≡ true
 further_reached memory before place reached held live =
-    let path = reached-is memory before reached in
-    is-reached memory place (before ∷ path.0, (held, live, path.1))
+    let path = reached_is memory before reached in
+    reached_exactly memory place (before ∷ path.0, (held, live, path.1))
 
 first_waits : (memory : Memory) (visited : List Bool) (place : ℕ) (rest : List ℕ)
     → Walks memory visited (rest ++ place ∷ []) → Walks memory visited (place ∷ rest)
@@ -196,23 +196,23 @@ looked_off memory visited place rest looked walks = record {
       ];
 }
 
-pub block-walk : (memory : Memory) (walk popped : Walk) (place : ℕ) → IsWalk memory walk
+pub block_walk : (memory : Memory) (walk popped : Walk) (place : ℕ) → IsWalk memory walk
     → walk.worklist ≡ popped.worklist ++ place ∷ [] → popped.visited ≡ walk.visited
     → IsWalk memory (all_met memory.blocks (held_in memory place) popped)
-block-walk memory walk popped place is waited same =
+block_walk memory walk popped place is waited same =
     let room : Room memory.blocks popped.visited
     = subst (λ (m : List Bool). Room memory.blocks m) (sym same) is.room in
-    let grows = all_met-grows memory.blocks (held_in memory place) popped in
+    let grows = all_met_grows memory.blocks (held_in memory place) popped in
     let before : Walks memory popped.visited (popped.worklist ++ place ∷ [])
     = subst (λ (w : List ℕ). Walks memory popped.visited w) waited
     (subst (λ (m : List Bool). Walks memory m walk.worklist) (sym same) is.walks) in
     let reached = before.sound place
     (before.waits place (Contains-push popped.worklist place)) in
-    let after = all_met-walks memory (place ∷ []) (held_in memory place) popped
+    let after = all_met_walks memory (place ∷ []) (held_in memory place) popped
     (λ number held live. further_reached memory place number reached held live)
     (first_waits memory popped.visited place popped.worklist before) in
     let looked : LookedAt memory (all_met memory.blocks (held_in memory place) popped).visited place
-    = record { each = all_met-visited memory.blocks (held_in memory place) popped room } in
+    = record { each = all_met_visited memory.blocks (held_in memory place) popped room } in
     record {
       room = room_stays memory.blocks popped
           (all_met memory.blocks (held_in memory place) popped) grows room;
@@ -224,11 +224,11 @@ block-walk memory walk popped place is waited same =
     }
 
 -- so there is less left to do
-pub block-less : (blocks : Blocks) (numbers : List ℕ) (walk popped : Walk) (place : ℕ)
+pub block_less : (blocks : Blocks) (numbers : List ℕ) (walk popped : Walk) (place : ℕ)
     → walk.worklist ≡ popped.worklist ++ place ∷ [] → popped.visited ≡ walk.visited
     → left (all_met blocks numbers popped) < left walk
-block-less blocks numbers walk popped place waited same =
-    let grows = all_met-grows blocks numbers popped in
+block_less blocks numbers walk popped place waited same =
+    let grows = all_met_grows blocks numbers popped in
     let done = grows.to_do in
     let visited = ap untagged same in
     let waits = ap length waited in
@@ -254,12 +254,12 @@ same_tests true other to from = sym (to refl)
 same_tests false true to from = from refl
 same_tests false false to from = refl
 
-pub walk-done : (memory : Memory) (walk : Walk) → IsWalk memory walk → walk.worklist ≡ []
+pub walk_done : (memory : Memory) (walk : Walk) → IsWalk memory walk → walk.worklist ≡ []
     → (place : ℕ) → is_visited walk.visited place ≡ is_reached memory place
-walk-done memory walk is none place =
+walk_done memory walk is none place =
     same_tests (is_visited walk.visited place) (is_reached memory place) (is.walks.sound place)
     (λ reached.
-    let path = reached-is memory place reached in
+    let path = reached_is memory place reached in
     path_visited_place memory walk is none path.0 place path.1)
 
 -- the walk as the code makes it: it begins with no visit
@@ -268,11 +268,11 @@ fresh_visited zero place = refl
 fresh_visited (suc end) zero = refl
 fresh_visited (suc end) (suc place) = fresh_visited end place
 
-pub walk-begun : (units end : ℕ) (memory : Memory) → Fits units memory.blocks
+pub walk_begun : (units end : ℕ) (memory : Memory) → Fits units memory.blocks
     → end ≡ end_of units → (old new : Walk)
     → old ≡ record { visited = replicate end false; worklist = [] }
     → new ≡ all_met memory.blocks (held_by_bugs memory) old → IsWalk memory new
-walk-begun units end memory fits is old new fresh met_all =
+walk_begun units end memory fits is old new fresh met_all =
     let room : Room memory.blocks old.visited = record {
       each = λ place live.
           (let within = live_within units memory.blocks fits place live in
@@ -282,21 +282,21 @@ walk-begun units end memory fits is old new fresh met_all =
           omega arith);
     } in
     subst (λ (walk : Walk). IsWalk memory walk) (sym met_all)
-    (bugs-walk memory old room (ap (λ (walk : Walk). walk.worklist) fresh)
+    (bugs_walk memory old room (ap (λ (walk : Walk). walk.worklist) fresh)
     (λ place. ap (λ (walk : Walk). is_visited walk.visited place) fresh ∙ fresh_visited end place))
 
-pub walk-goes_on : (memory : Memory) (walk popped new : Walk) (place : ℕ) → IsWalk memory walk
+pub walk_goes_on : (memory : Memory) (walk popped new : Walk) (place : ℕ) → IsWalk memory walk
     → popped.visited ≡ walk.visited → walk.worklist ≡ popped.worklist ++ place ∷ []
     → new ≡ all_met memory.blocks (held_in memory place) popped → IsWalk memory new
-walk-goes_on memory walk popped new place is same waited met_all =
+walk_goes_on memory walk popped new place is same waited met_all =
     subst (λ (w : Walk). IsWalk memory w) (sym met_all)
-    (block-walk memory walk popped place is waited same)
+    (block_walk memory walk popped place is waited same)
 
-pub walk-less : (memory : Memory) (walk popped new : Walk) (place : ℕ)
+pub walk_less : (memory : Memory) (walk popped new : Walk) (place : ℕ)
     → popped.visited ≡ walk.visited → walk.worklist ≡ popped.worklist ++ place ∷ []
     → new ≡ all_met memory.blocks (held_in memory place) popped → left new < left walk
-walk-less memory walk popped new place same waited met_all =
-    let less = block-less memory.blocks (held_in memory place) walk popped place waited same in
+walk_less memory walk popped new place same waited met_all =
+    let less = block_less memory.blocks (held_in memory place) walk popped place waited same in
     let same_left = ap left met_all in
     omega arith
 
@@ -305,9 +305,9 @@ none_left : (worklist : List ℕ) → (0 < length worklist → ⊥) → worklist
 none_left [] none = refl
 none_left (place ∷ worklist) none = absurd (none (omega arith))
 
-pub walk-ends : (memory : Memory) (walk after : Walk) (visited : List Bool) → IsWalk memory walk
+pub walk_ends : (memory : Memory) (walk after : Walk) (visited : List Bool) → IsWalk memory walk
     → (0 < length walk.worklist → ⊥) → after.visited ≡ walk.visited → visited ≡ after.visited
     → (place : ℕ) → is_visited visited place ≡ is_reached memory place
-walk-ends memory walk after visited is none same determined place =
+walk_ends memory walk after visited is none same determined place =
     ap (λ (m : List Bool). is_visited m place) (determined ∙ same)
-    ∙ walk-done memory walk is (none_left walk.worklist none) place
+    ∙ walk_done memory walk is (none_left walk.worklist none) place

@@ -3,42 +3,42 @@ use Rattle.std.proofs.Common.{◌≡◌, ℕ, List, [], ◌∷◌, ◌++◌, ref
 use Rattle.std.specs.List.{onto_first}
 use Rattle.std.specs.Str.{byte}
 use Rattle.l6_word.specs.Split.{lacks, IsCutAt}
-use Rattle.l6_word.proofs.Cuts.{lacks-cons}
+use Rattle.l6_word.proofs.Cuts.{lacks_cons}
 use Rattle.l6_group.specs.Element.{is_comma, elements_of}
 use Rattle.l6_group.specs.Test.{test_from}
 use Rattle.l6_group.specs.Operation.{operation_from}
 
-elements-front : (front following : List ℕ) →
+elements_front : (front following : List ℕ) →
     lacks (byte ",") front ≡ true →
     elements_of (front ++ byte "," ∷ following) ≡ front ∷ elements_of following
-elements-front [] following lacking = refl
-elements-front (first ∷ rest) following lacking =
-    let parts = lacks-cons (byte ",") first rest lacking in
-    rw parts.0 (ap (onto_first first) (elements-front rest following parts.1))
+elements_front [] following lacking = refl
+elements_front (first ∷ rest) following lacking =
+    let parts = lacks_cons (byte ",") first rest lacking in
+    rw parts.0 (ap (onto_first first) (elements_front rest following parts.1))
 
 -- the first element ends at the first comma
-pub elements-cut : {columns front following : List ℕ} →
+pub elements_cut : {columns front following : List ℕ} →
     IsCutAt (byte ",") columns front following → elements_of columns ≡ front ∷ elements_of following
-elements-cut {columns} {front} {following} cut = ap elements_of cut.whole
-    ∙ elements-front front following cut.first
+elements_cut {columns} {front} {following} cut = ap elements_of cut.whole
+    ∙ elements_front front following cut.first
 
 -- columns without a comma are one element
-pub elements-lacks : (columns : List ℕ) → lacks (byte ",") columns ≡ true →
+pub elements_lacks : (columns : List ℕ) → lacks (byte ",") columns ≡ true →
     elements_of columns ≡ columns ∷ []
-elements-lacks [] lacking = refl
-elements-lacks (first ∷ rest) lacking =
-    let parts = lacks-cons (byte ",") first rest lacking in
-    rw parts.0 (ap (onto_first first) (elements-lacks rest parts.1))
+elements_lacks [] lacking = refl
+elements_lacks (first ∷ rest) lacking =
+    let parts = lacks_cons (byte ",") first rest lacking in
+    rw parts.0 (ap (onto_first first) (elements_lacks rest parts.1))
 
 -- columns that may have been cut at their first comma: one element, or the first and those after
 -- it
-pub elements-first : (columns : List ℕ) (found : Option (Bor (List ℕ) × Bor (List ℕ))) →
+pub elements_first : (columns : List ℕ) (found : Option (Bor (List ℕ) × Bor (List ℕ))) →
     IfNone found (lacks (byte ",") columns ≡ true) →
     IfSome found (λ parts. IsCutAt (byte ",") columns parts.0.now parts.1.now) →
     MatchOption found (elements_of columns ≡ columns ∷ [])
     (λ parts. elements_of columns ≡ parts.0.now ∷ elements_of parts.1.now)
-elements-first columns None lacking cut = elements-lacks columns lacking
-elements-first columns (Some parts) lacking cut = elements-cut cut
+elements_first columns None lacking cut = elements_lacks columns lacking
+elements_first columns (Some parts) lacking cut = elements_cut cut
 
 -- there is a first element, and others
 pub record HasElement (elements : List (List ℕ)) : Type 0 where
@@ -59,12 +59,12 @@ has_element [] = record { first = []; others = []; all = refl }
 has_element (column ∷ columns) = element_following (is_comma column) column (elements_of columns)
 
 -- six elements or more are no operation
-pub operation_from-many : (a b d e f others : List ℕ) →
+pub operation_from_many : (a b d e f others : List ℕ) →
     operation_from (a ∷ b ∷ d ∷ e ∷ f ∷ elements_of others) ≡ None
-operation_from-many a b d e f others =
+operation_from_many a b d e f others =
     ap (λ elements. operation_from (a ∷ b ∷ d ∷ e ∷ f ∷ elements)) (has_element others).all
 
 -- four elements or more are no test
-pub test_from-many : (a b d others : List ℕ) → test_from (a ∷ b ∷ d ∷ elements_of others) ≡ None
-test_from-many a b d others =
+pub test_from_many : (a b d others : List ℕ) → test_from (a ∷ b ∷ d ∷ elements_of others) ≡ None
+test_from_many a b d others =
     ap (λ elements. test_from (a ∷ b ∷ d ∷ elements)) (has_element others).all

@@ -5,7 +5,7 @@ use Rattle.l6_group.specs.Shape.{fits}
 use Rattle.l6_group.specs.Objection.{first_misfit}
 
 -- the last element is what it has to be
-pub misfit-last : (start : ℕ) (shape : Shape) (shapes : List Shape) (element : List ℕ) →
+pub misfit_last : (start : ℕ) (shape : Shape) (shapes : List Shape) (element : List ℕ) →
     fits shape element ≡ true → first_misfit start (shape ∷ shapes) (element ∷ []) ≡ None
-misfit-last start shape [] element fit = rw fit refl
-misfit-last start shape (other ∷ shapes) element fit = rw fit refl
+misfit_last start shape [] element fit = rw fit refl
+misfit_last start shape (other ∷ shapes) element fit = rw fit refl

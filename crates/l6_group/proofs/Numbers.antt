@@ -30,10 +30,10 @@ large_number base value begun (Some digits) positive large =
     rw (and_right (begun || ltb 0 (length digits)) (ltb number (2 ^ word_bits)) too_large) refl
 
 -- digits that follow a value too large for a word write no number
-pub number_from-large : (base value : ℕ) (digits rest : List ℕ) → 0 < base → 2 ^ word_bits ≤ value →
+pub number_from_large : (base value : ℕ) (digits rest : List ℕ) → 0 < base → 2 ^ word_bits ≤ value →
     number_from_digits_after base value rest ≡ number_from_digits base digits →
     number_from base digits ≡ None
-number_from-large base value digits rest positive large same =
+number_from_large base value digits rest positive large same =
     let written = number_from_digits base digits in
     let reached = number_after_ge base value rest positive in
     let too_large = le-ltb written (2 ^ word_bits) (omega arith) in

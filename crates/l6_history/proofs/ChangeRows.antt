@@ -13,20 +13,20 @@ use Rattle.l6_history.specs.inner.Changing.{IsRow, IsTable, action_changes, chan
 
 -- ---- a row
 -- where nothing is said to change nothing, all that is said is so
-true-all : (count index : ℕ) → slice_index_or (replicate count true) index true ≡ true
-true-all zero index = refl
-true-all (suc count) zero = refl
-true-all (suc count) (suc index) = true-all count index
+true_all : (count index : ℕ) → slice_index_or (replicate count true) index true ≡ true
+true_all zero index = refl
+true_all (suc count) zero = refl
+true_all (suc count) (suc index) = true_all count index
 
-pub first-row : (chains : List (List ℕ)) (statement : Parts) (count : ℕ) →
+pub first_row : (chains : List (List ℕ)) (statement : Parts) (count : ℕ) →
     IsRow chains statement (replicate count true)
-first-row chains statement count number none =
-    absurd (true≢false (sym (true-all count number) ∙ none))
+first_row chains statement count number none =
+    absurd (true≢false (sym (true_all count number) ∙ none))
 
 -- the entry that was set
-set-here : (row : List Bool) (number : ℕ) (entry : Bool) →
+set_here : (row : List Bool) (number : ℕ) (entry : Bool) →
     slice_index_or (slice_set row number entry) number true ≡ false → entry ≡ false
-set-here row number entry none = elim (cases_lt number (length row)) as (λ _. entry ≡ false) [
+set_here row number entry none = elim (cases_lt number (length row)) as (λ _. entry ≡ false) [
   | inl below ↦ sym (get_or-set_at row number number entry true refl below) ∙ none
   | inr past ↦
       (let same = length-set row number entry in
@@ -36,25 +36,25 @@ set-here row number entry none = elim (cases_lt number (length row)) as (λ _. e
 ]
 
 -- one more entry is known
-pub set-row : (chains : List (List ℕ)) (statement : Parts) (row : List Bool) (number : ℕ)
+pub set_row : (chains : List (List ℕ)) (statement : Parts) (row : List Bool) (number : ℕ)
     (entry : Bool) → IsRow chains statement row →
     (entry ≡ false → action_changes chains (action_of statement number) ≡ false) →
     IsRow chains statement (slice_set row number entry)
-set-row chains statement row number entry known is other none =
+set_row chains statement row number entry known is other none =
     elim (eqb_tells other number) as (λ _. action_changes chains (action_of statement other) ≡ false) [
       | inl here ↦
           (let at : other ≡ number = here.1 in
           ap (λ n. action_changes chains (action_of statement n)) at
-          ∙ is (set-here row number entry
+          ∙ is (set_here row number entry
           (ap (λ n. slice_index_or (slice_set row number entry) n true) (sym at) ∙ none)))
       | inr elsewhere ↦
           known other (sym (get_or-set_other row number other entry true elsewhere.1) ∙ none)
     ]
 
 -- the action after the last operation is the exit
-pub exit-changes : (chains : List (List ℕ)) (statement : Parts) →
+pub exit_changes : (chains : List (List ℕ)) (statement : Parts) →
     action_changes chains (action_of statement (length statement.operations + 1)) ≡ false
-exit-changes chains statement =
+exit_changes chains statement =
     let count = length statement.operations in
     let back : count + 1 - 1 ≡ count = omega arith in
     ap (λ b. action_changes chains (if b then condition statement.condition statement.tests
@@ -65,10 +65,10 @@ exit-changes chains statement =
     ∙ slice_get_past statement.operations count (omega arith))
 
 -- and before it, each is an operation
-pub operation-changes : (chains : List (List ℕ)) (statement : Parts) (index : ℕ) (op : Op ℕ) →
+pub operation_changes : (chains : List (List ℕ)) (statement : Parts) (index : ℕ) (op : Op ℕ) →
     index < length statement.operations → op ≡ get_or statement.operations index op →
     action_changes chains (action_of statement (index + 1)) ≡ changes_some chains op
-operation-changes chains statement index op within is =
+operation_changes chains statement index op within is =
     let back : index + 1 - 1 ≡ index = omega arith in
     ap (λ b. action_changes chains (if b then condition statement.condition statement.tests
     else action_following statement.exit (slice_get statement.operations (index + 1 - 1))))
@@ -79,14 +79,14 @@ operation-changes chains statement index op within is =
 
 -- ---- a table
 -- none of an action is said to change nothing at first
-all-rows : (count entries statement action : ℕ) →
+all_rows : (count entries statement action : ℕ) →
     slice_index_or (slice_index_or (replicate count (replicate entries true)) statement []) action true
     ≡ true
-all-rows zero entries statement action = refl
-all-rows (suc count) entries zero action = true-all entries action
-all-rows (suc count) entries (suc statement) action = all-rows count entries statement action
+all_rows zero entries statement action = refl
+all_rows (suc count) entries zero action = true_all entries action
+all_rows (suc count) entries (suc statement) action = all_rows count entries statement action
 
-pub first-table : (chains : List (List ℕ)) (program : List Parts) (count entries : ℕ) →
+pub first_table : (chains : List (List ℕ)) (program : List Parts) (count entries : ℕ) →
     IsTable chains program (replicate count (replicate entries true))
-first-table chains program count entries at none =
-    absurd (true≢false (sym (all-rows count entries at.statement at.action) ∙ none))
+first_table chains program count entries at none =
+    absurd (true≢false (sym (all_rows count entries at.statement at.action) ∙ none))

@@ -66,92 +66,92 @@ is_in_block (Field place window) = true
 abbrev IsInBlock : Locus → Type 0
 IsInBlock at = is_in_block at ≡ true
 
-if-within : (b : Bool) (at : Locus) → IsInBlock at →
+if_within : (b : Bool) (at : Locus) → IsInBlock at →
     IfOk (if b then Ok at else Err WordOutsideBlock) IsInBlock
-if-within true at is = is
-if-within false at is = tt
+if_within true at is = is
+if_within false at is = tt
 
 -- where a field is, a block is
-field-in : (memory : Memory) (name pointer : ℕ) → IfOk (field_at memory name pointer) IsInBlock
-field-in memory name pointer =
+field_in : (memory : Memory) (name pointer : ℕ) → IfOk (field_at memory name pointer) IsInBlock
+field_in memory name pointer =
     both IsInBlock (ok_or (slice_index_or memory.definitions name None) UndefinedField) _
     (λ (window : Window). both IsInBlock (ok_or (finite.get memory.blocks pointer) NotABlock) _
-    (λ (words : List ℕ). if-within (nat_lt window.word (length words)) (Field pointer window) refl))
+    (λ (words : List ℕ). if_within (nat_lt window.word (length words)) (Field pointer window) refl))
 
-follow-in : (memory : Memory) (at : Locus) (name : ℕ) (names : List ℕ) →
+follow_in : (memory : Memory) (at : Locus) (name : ℕ) (names : List ℕ) →
     IfOk (follow memory at (name ∷ names)) IsInBlock
-follow-in memory at name [] =
+follow_in memory at name [] =
     after IsInBlock IsInBlock (field_at memory name (content memory at)) _
-    (field-in memory name (content memory at)) (λ next is. is)
-follow-in memory at name (other ∷ names) =
+    (field_in memory name (content memory at)) (λ next is. is)
+follow_in memory at name (other ∷ names) =
     both IsInBlock (field_at memory name (content memory at)) _
-    (λ (next : Locus). follow-in memory next other names)
+    (λ (next : Locus). follow_in memory next other names)
 
-content-same : (old new : Memory) (at : Locus) → new.blocks ≡ old.blocks → IsInBlock at →
+content_same : (old new : Memory) (at : Locus) → new.blocks ≡ old.blocks → IsInBlock at →
     content new at ≡ content old at
-content-same old new (Bug bug) blocks is = cc
-content-same old new (Field place window) blocks is =
+content_same old new (Bug bug) blocks is = cc
+content_same old new (Field place window) blocks is =
     ap (λ b. content (record old { blocks = b }) (Field place window)) blocks
 
-field-same : (old new : Memory) (name pointer : ℕ) → new.definitions ≡ old.definitions →
+field_same : (old new : Memory) (name pointer : ℕ) → new.definitions ≡ old.definitions →
     new.blocks ≡ old.blocks → field_at new name pointer ≡ field_at old name pointer
-field-same old new name pointer definitions blocks =
+field_same old new name pointer definitions blocks =
     ap (λ d. field_at (record new { definitions = d }) name pointer) definitions
     ∙ ap (λ b. field_at (record old { blocks = b }) name pointer) blocks
 
 -- what is found at one locus is followed alike
-then-same : (old new : Memory) (names : List ℕ) (found : Result Locus Trap) → IfOk found IsInBlock →
+then_same : (old new : Memory) (names : List ℕ) (found : Result Locus Trap) → IfOk found IsInBlock →
     ((next : Locus) → IsInBlock next →
     (follow new next names >>= λ at. Ok (content new at))
     ≡ (follow old next names >>= λ at. Ok (content old at))) →
     ((found >>= λ next. follow new next names) >>= λ at. Ok (content new at))
     ≡ ((found >>= λ next. follow old next names) >>= λ at. Ok (content old at))
-then-same old new names (Ok next) is each = each next is
-then-same old new names (Err trap) is each = refl
+then_same old new names (Ok next) is each = each next is
+then_same old new names (Err trap) is each = refl
 
-follow-same : (old new : Memory) (at : Locus) (names : List ℕ) →
+follow_same : (old new : Memory) (at : Locus) (names : List ℕ) →
     new.definitions ≡ old.definitions → new.blocks ≡ old.blocks →
     content new at ≡ content old at →
     (follow new at names >>= λ at. Ok (content new at))
     ≡ (follow old at names >>= λ at. Ok (content old at))
-follow-same old new at [] definitions blocks same = ap (λ (n : ℕ). Ok n) same
-follow-same old new at (name ∷ names) definitions blocks same =
+follow_same old new at [] definitions blocks same = ap (λ (n : ℕ). Ok n) same
+follow_same old new at (name ∷ names) definitions blocks same =
     let there : field_at new name (content new at) ≡ field_at old name (content old at) =
-    field-same old new name (content new at) definitions blocks ∙ ap (field_at old name) same in
+    field_same old new name (content new at) definitions blocks ∙ ap (field_at old name) same in
     ap (λ (found : Result Locus Trap).
     (found >>= λ next. follow new next names) >>= λ at. Ok (content new at)) there
-    ∙ then-same old new names (field_at old name (content old at))
-    (field-in old name (content old at))
-    (λ next is. follow-same old new next names definitions blocks
-    (content-same old new next blocks is))
+    ∙ then_same old new names (field_at old name (content old at))
+    (field_in old name (content old at))
+    (λ next is. follow_same old new next names definitions blocks
+    (content_same old new next blocks is))
 
-pub value-same : (old new : Memory) (watched : List ℕ) → Keeps watched old new →
+pub value_same : (old new : Memory) (watched : List ℕ) → Keeps watched old new →
     value_of new watched ≡ value_of old watched
-value-same old new [] kept = refl
-value-same old new (first ∷ []) kept = ap (λ (n : ℕ). Some n) kept.bug
-value-same old new (first ∷ name ∷ names) kept =
+value_same old new [] kept = refl
+value_same old new (first ∷ []) kept = ap (λ (n : ℕ). Some n) kept.bug
+value_same old new (first ∷ name ∷ names) kept =
     ap (λ (r : Result ℕ Trap). result_ok r)
     (let has = lt-ltb 1 (length (first ∷ name ∷ names)) (omega arith) in
-    follow-same old new (Bug first) (name ∷ names) (kept.definitions has) (kept.blocks has) kept.bug)
+    follow_same old new (Bug first) (name ∷ names) (kept.definitions has) (kept.blocks has) kept.bug)
 
 -- ---- and a step keeps it
-keeps-same : (watched : List ℕ) (memory : Memory) → Keeps watched memory memory
-keeps-same watched memory = record { bug = refl; definitions = λ _. refl; blocks = λ _. refl }
+keeps_same : (watched : List ℕ) (memory : Memory) → Keeps watched memory memory
+keeps_same watched memory = record { bug = refl; definitions = λ _. refl; blocks = λ _. refl }
 
 -- without fields all but the bugs may change
-without-fields : (watched : List ℕ) (old new : Memory) → has_fields watched ≡ false →
+without_fields : (watched : List ℕ) (old new : Memory) → has_fields watched ≡ false →
     new.bugs ≡ old.bugs → Keeps watched old new
-without-fields watched old new none bugs = record {
+without_fields watched old new none bugs = record {
   bug = ap (λ (words : List ℕ). slice_index words (index_of (first_of watched))) bugs;
   definitions = λ has. absurd (true≢false (sym has ∙ none));
   blocks = λ has. absurd (true≢false (sym has ∙ none));
 }
 
 -- what is assigned to another bug
-assign-bug : (watched : List ℕ) (old new : Memory) (bug number : ℕ) → Keeps watched old new →
+assign_bug : (watched : List ℕ) (old new : Memory) (bug number : ℕ) → Keeps watched old new →
     changes_by (bug ∷ []) watched ≡ false → Keeps watched old (assign new (Bug bug) number)
-assign-bug [] old new bug number kept other = absurd (true≢false other)
-assign-bug (first ∷ fields) old new bug number kept other = record {
+assign_bug [] old new bug number kept other = absurd (true≢false other)
+assign_bug (first ∷ fields) old new bug number kept other = record {
   bug = get_or-set_other new.bugs (index_of bug) (index_of first) (number % 2 ^ word_bits) 0
       (eqb-false (index_of first) (index_of bug) other)
       ∙ kept.bug;
@@ -160,11 +160,11 @@ assign-bug (first ∷ fields) old new bug number kept other = record {
 }
 
 -- or to a field
-assign-field : (watched : List ℕ) (old new : Memory) (at : Locus) (number : ℕ) →
+assign_field : (watched : List ℕ) (old new : Memory) (at : Locus) (number : ℕ) →
     Keeps watched old new → IsInBlock at → has_fields watched ≡ false →
     Keeps watched old (assign new at number)
-assign-field watched old new (Bug bug) number kept is none = absurd (true≢false (sym is))
-assign-field watched old new (Field place window) number kept is none = record {
+assign_field watched old new (Bug bug) number kept is none = absurd (true≢false (sym is))
+assign_field watched old new (Field place window) number kept is none = record {
   bug = kept.bug;
   definitions = kept.definitions;
   blocks = λ has. absurd (true≢false (sym has ∙ none));
@@ -178,10 +178,10 @@ assigned watched old new there [] at number kept is other =
     absurd (none-some at (ap (λ (r : Result Locus Trap). result_ok r) is))
 assigned watched old new there (bug ∷ []) at number kept is other =
     IfOk-at_ok (λ (l : Locus). Keeps watched old (assign new l number)) is
-    (assign-bug watched old new bug number kept other)
+    (assign_bug watched old new bug number kept other)
 assigned watched old new there (bug ∷ name ∷ names) at number kept is other =
-    assign-field watched old new at number kept
-    (IfOk-at_ok IsInBlock is (follow-in there (Bug bug) name names)) other
+    assign_field watched old new at number kept
+    (IfOk-at_ok IsInBlock is (follow_in there (Bug bug) name names)) other
 
 -- ---- action by action
 -- an action may change what a chain reads as
@@ -194,11 +194,11 @@ itself : (found : Result Locus Trap) → IfOk found (λ at. found ≡ Ok at)
 itself (Ok at) = refl
 itself (Err trap) = tt
 
-at-locus : {B : Type 0} (P : B → Type 0) (memory : Memory) (chain : List ℕ)
+at_locus : {B : Type 0} (P : B → Type 0) (memory : Memory) (chain : List ℕ)
     (second : Locus → Result B Trap) →
     ((at : Locus) → locus memory chain ≡ Ok at → IfOk (second at) P) →
     IfOk (locus memory chain >>= second) P
-at-locus P memory chain second each =
+at_locus P memory chain second each =
     after (λ at. locus memory chain ≡ Ok at) P (locus memory chain) second
     (itself (locus memory chain)) each
 
@@ -212,12 +212,12 @@ module _ (parameters : RunParameters) (choice : Choice) (watched : List ℕ) (me
   Leaves action_result = Keeps watched memory action_result.memory
 
   same : Keeps watched memory memory
-  same = keeps-same watched memory
+  same = keeps_same watched memory
 
   combined : (calculation : Calculation) (chain : List ℕ) (operand : Operand) →
       changes_by chain watched ≡ false → IfOk (combine calculation chain operand memory) Leaves
   combined calculation chain operand other =
-      at-locus Leaves memory chain _
+      at_locus Leaves memory chain _
       (λ at is. both Leaves (read memory operand) _
       (λ value. both Leaves (calculated calculation (width at) (content memory at) value) _
       (λ number. assigned watched memory memory memory chain at number same is other)))
@@ -244,14 +244,14 @@ module _ (parameters : RunParameters) (choice : Choice) (watched : List ℕ) (me
   new-block words chain at place none is other =
       assigned watched memory
       (record memory { blocks = finite.insert memory.blocks place words }) memory chain at place
-      (without-fields watched memory
+      (without_fields watched memory
       (record memory { blocks = finite.insert memory.blocks place words }) none refl)
       is other
 
   old-kept : (old : List ℕ) (number : ℕ) (later : Memory) → Keeps watched memory later →
       changes_by old watched ≡ false → IfOk (keep (Some old) number later) (Keeps watched memory)
   old-kept old number later kept other =
-      at-locus (Keeps watched memory) later old _
+      at_locus (Keeps watched memory) later old _
       (λ at is. assigned watched memory later later old at number kept is other)
 
   got : (chain : List ℕ) (size : Operand) (old : Option (List ℕ)) (label : Option ℕ) →
@@ -259,7 +259,7 @@ module _ (parameters : RunParameters) (choice : Choice) (watched : List ℕ) (me
       IfOk (row parameters choice (op.Get chain size old label) memory) Leaves
   got chain size None label other =
       let parts = or_parts (has_fields watched) (changes_by chain watched) other in
-      at-locus Leaves memory chain _
+      at_locus Leaves memory chain _
       (λ at is. both Leaves (read memory size) _
       (λ wanted. both Leaves (level_for wanted) _
       (λ level. placed (choice level) label (get level at None memory)
@@ -268,7 +268,7 @@ module _ (parameters : RunParameters) (choice : Choice) (watched : List ℕ) (me
       let parts =
       or_parts (has_fields watched) (changes_by chain watched || changes_by old watched) other in
       let chains = or_parts (changes_by chain watched) (changes_by old watched) parts.1 in
-      at-locus Leaves memory chain _
+      at_locus Leaves memory chain _
       (λ at is. both Leaves (read memory size) _
       (λ wanted. both Leaves (level_for wanted) _
       (λ level. placed (choice level) label (get level at (Some old) memory)
@@ -284,7 +284,7 @@ module _ (parameters : RunParameters) (choice : Choice) (watched : List ℕ) (me
       IfOk (row parameters choice (op.Duplicate chain block label) memory) Leaves
   duplicated chain block label other =
       let parts = or_parts (has_fields watched) (changes_by chain watched) other in
-      at-locus Leaves memory chain _
+      at_locus Leaves memory chain _
       (λ at is. both Leaves (read memory block) _
       (λ from. both Leaves (level_at memory from) _
       (λ level. placed (choice level) label (duplicate level from at memory)
@@ -295,13 +295,13 @@ module _ (parameters : RunParameters) (choice : Choice) (watched : List ℕ) (me
       IfOk (row parameters choice (op.Free chain value) memory) Leaves
   freed-kept chain value other =
       let parts = or_parts (has_fields watched) (changes_by chain watched) other in
-      at-locus Leaves memory chain _
+      at_locus Leaves memory chain _
       (λ at is. both Leaves (level_at memory (content memory at)) _
       (λ level. both Leaves (read_or_0 memory value) _
       (λ number.
       let rest : Memory =
       record memory { blocks = finite.remove memory.blocks (content memory at) } in
-      let kept = without-fields watched memory rest parts.0 refl in
+      let kept = without_fields watched memory rest parts.0 refl in
       either (Keeps watched memory) (lies_in (content memory at) at) rest (assign rest at number)
       kept (assigned watched memory rest memory chain at number kept is parts.1))))
 
@@ -309,7 +309,7 @@ module _ (parameters : RunParameters) (choice : Choice) (watched : List ℕ) (me
       changes_by chain watched ≡ false →
       IfOk (row parameters choice (op.Input chain count label) memory) Leaves
   taken chain count label other =
-      at-locus Leaves memory chain _
+      at_locus Leaves memory chain _
       (λ at is. both Leaves (read memory count) _
       (λ wanted. both Leaves (count_of wanted) _
       (λ characters. chosen Leaves (nat_le characters (length (left_of parameters memory))) _ _
@@ -335,8 +335,8 @@ module _ (parameters : RunParameters) (choice : Choice) (watched : List ℕ) (me
   row-kept (op.ShiftRight chain operand) other = combined ShiftRight chain operand other
   row-kept (op.Exchange one two) other =
       let parts = or_parts (changes_by one watched) (changes_by two watched) other in
-      at-locus Leaves memory one _
-      (λ here is. at-locus Leaves memory two _
+      at_locus Leaves memory one _
+      (λ here is. at_locus Leaves memory two _
       (λ there is_there.
       assigned watched memory (assign memory here (content memory there)) memory two there
       (content memory here)
@@ -349,7 +349,7 @@ module _ (parameters : RunParameters) (choice : Choice) (watched : List ℕ) (me
       (λ to.
       let window : Window = record { word = index; first = from; last = to } in
       chosen Leaves (is_window window) _ _
-      (without-fields watched memory
+      (without_fields watched memory
       (record memory { definitions = slice_set memory.definitions field (Some window) }) other refl)
       tt)))
   row-kept (op.SaveContent chain) other =
@@ -357,7 +357,7 @@ module _ (parameters : RunParameters) (choice : Choice) (watched : List ℕ) (me
       (λ content. both Leaves (push content memory.saved_contents) _
       (λ saved. record { bug = refl; definitions = λ _. refl; blocks = λ _. refl }))
   row-kept (op.RestoreContent chain) other =
-      at-locus Leaves memory chain _
+      at_locus Leaves memory chain _
       (λ at is. both Leaves (pop memory.saved_contents) _
       (λ saved. assigned watched memory (record memory { saved_contents = saved.rest }) memory chain
       at saved.latest (record { bug = refl; definitions = λ _. refl; blocks = λ _. refl }) is other))
@@ -366,7 +366,7 @@ module _ (parameters : RunParameters) (choice : Choice) (watched : List ℕ) (me
       (λ saved. record { bug = refl; definitions = λ _. refl; blocks = λ _. refl })
   row-kept (op.RestoreDefinition field) other =
       both Leaves (pop memory.saved_definitions) _
-      (λ saved. without-fields watched memory
+      (λ saved. without_fields watched memory
       (record memory {
         definitions = slice_set memory.definitions field saved.latest;
         saved_definitions = saved.rest;
@@ -420,51 +420,51 @@ module _ (parameters : RunParameters) (choice : Choice) (watched : List ℕ) (me
       (λ action_result kept.
       record { bug = kept.bug; definitions = kept.definitions; blocks = kept.blocks })
 
-outcome-kept : (watched : List ℕ) (old : State) (result : Result ActionResult Trap) →
+outcome_kept : (watched : List ℕ) (old : State) (result : Result ActionResult Trap) →
     IfOk result (λ (r : ActionResult). Keeps watched old.memory r.memory) →
     Keeps watched old.memory (outcome old result).memory
-outcome-kept watched old (Ok action_result) kept = kept
-outcome-kept watched old (Err trap) kept = keeps-same watched old.memory
+outcome_kept watched old (Ok action_result) kept = kept
+outcome_kept watched old (Err trap) kept = keeps_same watched old.memory
 
-after-kept : (rule : Rule) (context : RunContext) (old : Configuration) (watched : List ℕ)
+after_kept : (rule : Rule) (context : RunContext) (old : Configuration) (watched : List ℕ)
     (last : Bool) → action_changes_one watched (action_at context.program old.state.at) ≡ false →
     Keeps watched old.state.memory
     (if last then old else next_configuration rule context old).state.memory
-after-kept rule context old watched true other = keeps-same watched old.state.memory
-after-kept rule context old watched false other =
-    outcome-kept watched old.state (action_result_at context (pick_at rule context old) old.state)
+after_kept rule context old watched true other = keeps_same watched old.state.memory
+after_kept rule context old watched false other =
+    outcome_kept watched old.state (action_result_at context (pick_at rule context old) old.state)
     (taken-kept context.parameters (pick_at rule context old) watched old.state.memory
     (action_at context.program old.state.at) old.state.at other)
 
 -- ---- and all of some chains
-first-apart : (chain : List ℕ) (chains : List (List ℕ)) (action : Action) →
+first_apart : (chain : List ℕ) (chains : List (List ℕ)) (action : Action) →
     action_changes (chain ∷ chains) action ≡ false →
     (action_changes_one chain action ≡ false) × (action_changes chains action ≡ false)
-first-apart chain chains (condition cond tests) other = (refl, refl)
-first-apart chain chains (operation op) other =
+first_apart chain chains (condition cond tests) other = (refl, refl)
+first_apart chain chains (operation op) other =
     or_parts (changes op chain) (changes_some chains op) other
-first-apart chain chains (exit last) other = (refl, refl)
+first_apart chain chains (exit last) other = (refl, refl)
 
-values-kept : (rule : Rule) (context : RunContext) (old : Configuration)
+values_kept : (rule : Rule) (context : RunContext) (old : Configuration)
     (chains : List (List ℕ)) →
     action_changes chains (action_at context.program old.state.at) ≡ false →
     values_of chains (configuration_after rule context old).state.memory
     ≡ values_of chains old.state.memory
-values-kept rule context old [] other = refl
-values-kept rule context old (chain ∷ chains) other =
+values_kept rule context old [] other = refl
+values_kept rule context old (chain ∷ chains) other =
     let action = action_at context.program old.state.at in
     let after = (configuration_after rule context old).state.memory in
-    let parts = first-apart chain chains action other in
+    let parts = first_apart chain chains action other in
     let kept : Keeps chain old.state.memory after =
-    after-kept rule context old chain (is_last context old.state) parts.0 in
-    ap (λ (v : Option ℕ). v ∷ values_of chains after) (value-same old.state.memory after chain kept)
+    after_kept rule context old chain (is_last context old.state) parts.0 in
+    ap (λ (v : Option ℕ). v ∷ values_of chains after) (value_same old.state.memory after chain kept)
     ∙ ap (λ (vs : List (Option ℕ)). value_of old.state.memory chain ∷ vs)
-    (values-kept rule context old chains parts.1)
+    (values_kept rule context old chains parts.1)
 
-pub known-kept : (rule : Rule) (context : RunContext) (old : Configuration)
+pub known_kept : (rule : Rule) (context : RunContext) (old : Configuration)
     (chains : List (List ℕ)) (table : List (List Bool)) → IsTable chains context.program table →
     says table old.state.at ≡ false →
     values_of chains (configuration_after rule context old).state.memory
     ≡ values_of chains old.state.memory
-known-kept rule context old chains table known none =
-    values-kept rule context old chains (known old.state.at none)
+known_kept rule context old chains table known none =
+    values_kept rule context old chains (known old.state.at none)

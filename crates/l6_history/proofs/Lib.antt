@@ -4,3 +4,4 @@ pub mod NumberedMachines
 pub mod Rings
 pub mod Snapshots
 pub mod Sought
+pub mod Forgotten

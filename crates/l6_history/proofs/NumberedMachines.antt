@@ -16,56 +16,56 @@ use Rattle.l6_steps.specs.Output.{BeginAlike}
 use Rattle.l6_steps.specs.RunState.{RunState}
 use Rattle.l6_steps.specs.State.{State, RunContext, is_last}
 use Rattle.l6_steps.specs.Step.{action_result_at, ending_after, outcome}
-use Rattle.l6_steps.proofs.Lasting.{last-found, last-is, last-least, last-configuration, last-or_goes_on, last-within, not_last-below}
-use Rattle.l6_steps.proofs.Numbered.{later-stays, configuration_after-goes_on}
-use Rattle.l6_steps.proofs.Outputs.{outputs-begin_alike}
+use Rattle.l6_steps.proofs.Lasting.{last_found, last_is, last_least, last_configuration, last_or_goes_on, last_within, not_last_below}
+use Rattle.l6_steps.proofs.Numbered.{later_stays, configuration_after_goes_on}
+use Rattle.l6_steps.proofs.Outputs.{outputs_begin_alike}
 use Rattle.l6_machine.specs.Counting.{number_by, number_of}
 use Rattle.l6_machine.specs.Later.{configuration_later, state_later}
 use Rattle.l6_history.specs.History.{number_to, run_state_at}
 use Rattle.l6_history.specs.inner.NumberedMachine.{IsAtState}
 
 -- a run has no state of a greater number than the most steps that are allowed
-pub last-bound : (rule : Rule) (context : RunContext) → are_allowed context.parameters.limits ≡ true →
+pub last_bound : (rule : Rule) (context : RunContext) → are_allowed context.parameters.limits ≡ true →
     last_number rule context ≤ most_steps
-last-bound rule context allowed =
+last_bound rule context allowed =
     let steps = leb-true context.parameters.limits.steps most_steps (and_parts _ _ allowed).0 in
-    omega (arith, steps, last-within rule context)
+    omega (arith, steps, last_within rule context)
 
 -- where a machine is, by the number of the state
-pub is-last-at : (rule : Rule) (run_state : RunState) (number : ℕ) (last : _) →
+pub is_last_at : (rule : Rule) (run_state : RunState) (number : ℕ) (last : _) →
     IsAtState rule run_state number → is_last run_state.context run_state.configuration.state ≡ last →
     is_last run_state.context (state_at rule run_state.context number) ≡ last
-is-last-at rule run_state number last holds_there is =
+is_last_at rule run_state number last holds_there is =
     ap (λ (s : RunState). is_last run_state.context s.configuration.state) (sym holds_there.is) ∙ is
 
 -- a last state is where it is
-pub stays-last : (rule : Rule) (run_state : RunState) (number : ℕ) → IsAtState rule run_state number →
+pub stays_last : (rule : Rule) (run_state : RunState) (number : ℕ) → IsAtState rule run_state number →
     is_last run_state.context run_state.configuration.state ≡ true →
     number ≡ last_number rule run_state.context
-stays-last rule run_state number holds_there is =
-    let least = last-least rule run_state.context number
-    (is-last-at rule run_state number true holds_there is) in
+stays_last rule run_state number holds_there is =
+    let least = last_least rule run_state.context number
+    (is_last_at rule run_state number true holds_there is) in
     omega (arith, least, holds_there.within)
 
 -- another one is before the last
-pub goes-on : (rule : Rule) (run_state : RunState) (number : ℕ) → IsAtState rule run_state number →
+pub goes_on_there : (rule : Rule) (run_state : RunState) (number : ℕ) → IsAtState rule run_state number →
     is_last run_state.context run_state.configuration.state ≡ false →
     number < last_number rule run_state.context
-goes-on rule run_state number holds_there is =
-    not_last-below rule run_state.context number holds_there.within
-    (is-last-at rule run_state number false holds_there is)
+goes_on_there rule run_state number holds_there is =
+    not_last_below rule run_state.context number holds_there.within
+    (is_last_at rule run_state number false holds_there is)
 
 -- and a step leads to the next
-pub steps-on : (rule : Rule) (old new : RunState) (number : ℕ) → IsAtState rule old number →
+pub steps_on : (rule : Rule) (old new : RunState) (number : ℕ) → IsAtState rule old number →
     is_last old.context old.configuration.state ≡ false →
     new.configuration ≡ configuration_after rule old.context old.configuration →
     new.context ≡ old.context →
     IsAtState rule new (number + 1)
-steps-on rule old new number holds_there is next same =
+steps_on rule old new number holds_there is next same =
     let there : new.configuration ≡ configuration_at rule old.context (number + 1) =
     next ∙ ap (λ (s : RunState). configuration_after rule old.context s.configuration) holds_there.is
     ∙ ap (configuration_at rule old.context) (sym (add-one number)) in
-    let below = goes-on rule old number holds_there is in
+    let below = goes_on_there rule old number holds_there is in
     record {
       is = ap (λ m. record { context = new.context; configuration = m })
           (there ∙ ap (λ w. configuration_at rule w (number + 1)) (sym same));
@@ -75,78 +75,78 @@ steps-on rule old new number holds_there is next same =
     }
 
 -- a jump that goes on or ends the run is counted, and a trap is not
-by-jump : (jump : Jump) (count : ℕ) → number_by (ending_after jump) count ≡ count
-by-jump Onward count = refl
-by-jump Next count = refl
-by-jump (To statement) count = refl
-by-jump (Back there) count = refl
-by-jump (Call called fail) count = refl
-by-jump Done count = refl
-by-jump Fail count = refl
+by_jump : (jump : Jump) (count : ℕ) → number_by (ending_after jump) count ≡ count
+by_jump Onward count = refl
+by_jump Next count = refl
+by_jump (To statement) count = refl
+by_jump (Back there) count = refl
+by_jump (Call called fail) count = refl
+by_jump Done count = refl
+by_jump Fail count = refl
 
-by-action_result : (old : State) (number : ℕ) (asked : Result ActionResult Trap) → old.count ≡ number →
+by_action_result : (old : State) (number : ℕ) (asked : Result ActionResult Trap) → old.count ≡ number →
     number_of (outcome old asked) ≡ number + 1
-by-action_result old number (Ok action_result) is =
-    by-jump action_result.jump (old.count + 1) ∙ ap (λ n. n + 1) is
-by-action_result old number (Err trap) is = ap (λ n. n + 1) is
+by_action_result old number (Ok action_result) is =
+    by_jump action_result.jump (old.count + 1) ∙ ap (λ n. n + 1) is
+by_action_result old number (Err trap) is = ap (λ n. n + 1) is
 
-counted-following : (rule : Rule) (context : RunContext) (n : ℕ) →
+counted_following : (rule : Rule) (context : RunContext) (n : ℕ) →
     is_last context (state_at rule context n) ≡ false →
     number_of (state_at rule context (suc n)) ≡ n + 1
-counted-following rule context n goes_on =
+counted_following rule context n goes_on =
     let old = configuration_at rule context n in
-    elim (last-or_goes_on rule context n)
+    elim (last_or_goes_on rule context n)
     as (λ _. number_of (state_at rule context (suc n)) ≡ n + 1) [
       | inl last ↦ absurd (cc (last, goes_on))
       | inr open' ↦
           ap (λ (m : Configuration). number_of m.state)
-          (configuration_after-goes_on rule context old goes_on)
-          ∙ by-action_result old.state n
+          (configuration_after_goes_on rule context old goes_on)
+          ∙ by_action_result old.state n
           (action_result_at context (pick_at rule context old) old.state) open'.counted
     ]
 
-counted-at : (rule : Rule) (context : RunContext) (n : ℕ) →
+counted_at : (rule : Rule) (context : RunContext) (n : ℕ) →
     ((k : ℕ) → k < n → is_last context (state_at rule context k) ≡ false) →
     number_of (state_at rule context n) ≡ n
-counted-at rule context zero before = refl
-counted-at rule context (suc n) before =
-    counted-following rule context n (before n (omega arith)) ∙ add-one n
+counted_at rule context zero before = refl
+counted_at rule context (suc n) before =
+    counted_following rule context n (before n (omega arith)) ∙ add-one n
 
 -- so the number of the last state follows from its count and its ending
-pub last-counted : (rule : Rule) (context : RunContext) →
+pub last_counted : (rule : Rule) (context : RunContext) →
     number_of (state_at rule context (last_number rule context)) ≡ last_number rule context
-last-counted rule context =
-    counted-at rule context (last_number rule context) (last-found rule context).2
+last_counted rule context =
+    counted_at rule context (last_number rule context) (last_found rule context).2
 
 -- and that of each state before it, too
-number-at : (rule : Rule) (context : RunContext) (n : ℕ) → n ≤ last_number rule context →
+number_at : (rule : Rule) (context : RunContext) (n : ℕ) → n ≤ last_number rule context →
     number_of (state_at rule context n) ≡ n
-number-at rule context n within =
-    counted-at rule context n
-    (λ k below. (last-found rule context).2 k (omega (arith, below, within)))
+number_at rule context n within =
+    counted_at rule context n
+    (λ k below. (last_found rule context).2 k (omega (arith, below, within)))
 
 -- which goes on where it is not the last, and counts as many steps
-open-at : (rule : Rule) (context : RunContext) (n : ℕ) → n < last_number rule context →
+open_at : (rule : Rule) (context : RunContext) (n : ℕ) → n < last_number rule context →
     (state_at rule context n).count ≡ n
-open-at rule context n below =
-    elim (last-or_goes_on rule context n) as (λ _. (state_at rule context n).count ≡ n) [
+open_at rule context n below =
+    elim (last_or_goes_on rule context n) as (λ _. (state_at rule context n).count ≡ n) [
       | inl last ↦
-          (let least = last-least rule context n last in absurd (omega (arith, least, below)))
+          (let least = last_least rule context n last in absurd (omega (arith, least, below)))
       | inr open' ↦ open'.counted
     ]
 
 -- a configuration of the run is that of its number
-configuration-of-number : (rule : Rule) (context : RunContext) (configuration : Configuration)
+configuration_of_number : (rule : Rule) (context : RunContext) (configuration : Configuration)
     (last : Bool) →
     IsNumbered rule context configuration → is_last context configuration.state ≡ last →
     (configuration ≡ configuration_at rule context (number_of configuration.state))
     × (number_of configuration.state ≤ last_number rule context)
-configuration-of-number rule context configuration true numbered is =
-    let there = last-configuration rule context configuration numbered is in
+configuration_of_number rule context configuration true numbered is =
+    let there = last_configuration rule context configuration numbered is in
     let same : number_of configuration.state ≡ last_number rule context =
-    ap (λ (m : Configuration). number_of m.state) there ∙ last-counted rule context in
+    ap (λ (m : Configuration). number_of m.state) there ∙ last_counted rule context in
     (there ∙ ap (configuration_at rule context) (sym same), omega (arith, same))
-configuration-of-number rule context configuration false numbered is =
+configuration_of_number rule context configuration false numbered is =
     let n = numbered.number in
     let within : n ≤ last_number rule context =
     elim (cases_lt (last_number rule context) n) as (λ _. n ≤ last_number rule context) [
@@ -155,15 +155,15 @@ configuration-of-number rule context configuration false numbered is =
           omega (arith, past) in
           let stays : configuration ≡ configuration_at rule context (last_number rule context) =
           numbered.is ∙ ap (configuration_at rule context) apart
-          ∙ later-stays rule context (n - last_number rule context) (last_number rule context)
-          (last-is rule context) in
+          ∙ later_stays rule context (n - last_number rule context) (last_number rule context)
+          (last_is rule context) in
           let last : is_last context configuration.state ≡ true =
-          ap (λ (m : Configuration). is_last context m.state) stays ∙ last-is rule context in
+          ap (λ (m : Configuration). is_last context m.state) stays ∙ last_is rule context in
           absurd (cc (last, is)))
       | inr within ↦ within
     ] in
     let same : number_of configuration.state ≡ n =
-    ap (λ (m : Configuration). number_of m.state) numbered.is ∙ number-at rule context n within in
+    ap (λ (m : Configuration). number_of m.state) numbered.is ∙ number_at rule context n within in
     (numbered.is ∙ ap (configuration_at rule context) (sym same), omega (arith, same, within))
 
 -- a machine that goes on up to a count is at the state of that number, or at the last one
@@ -174,53 +174,53 @@ pub record GoesTo (rule : Rule) (old new : RunState) (goal ran : ℕ) : Type 0 w
   pub few : ran ≤ goal - old.configuration.state.count
   pub stops : is_last new.context new.configuration.state ≡ false → goal ≤ new.configuration.state.count
 
-count-within : (ending : Option Halt) (count : ℕ) → count ≤ number_by ending count
-count-within (Some (halts.Trap trap)) count = omega arith
-count-within (Some halts.Done) count = omega arith
-count-within (Some halts.Fail) count = omega arith
-count-within None count = omega arith
+count_within : (ending : Option Halt) (count : ℕ) → count ≤ number_by ending count
+count_within (Some (halts.Trap trap)) count = omega arith
+count_within (Some halts.Done) count = omega arith
+count_within (Some halts.Fail) count = omega arith
+count_within None count = omega arith
 
 -- it is not short of the goal, unless the run ends before
 reached : (rule : Rule) (old new : RunState) (goal ran : ℕ) (last : Bool) →
     GoesTo rule old new goal ran → is_last new.context new.configuration.state ≡ last →
     number_to rule new.context goal ≤ number_of new.configuration.state
 reached rule old new goal ran true goes is =
-    let there = last-configuration rule new.context new.configuration goes.numbered is in
+    let there = last_configuration rule new.context new.configuration goes.numbered is in
     let same : number_of new.configuration.state ≡ last_number rule new.context =
-    ap (λ (m : Configuration). number_of m.state) there ∙ last-counted rule new.context in
+    ap (λ (m : Configuration). number_of m.state) there ∙ last_counted rule new.context in
     omega (arith, same)
 reached rule old new goal ran false goes is =
     let stops = goes.stops is in
-    let counted = count-within new.configuration.state.ending new.configuration.state.count in
+    let counted = count_within new.configuration.state.ending new.configuration.state.count in
     omega (arith, stops, counted)
 
 -- nor past it
-within-goal : (rule : Rule) (old new : RunState) (number goal ran : ℕ) →
+within_goal : (rule : Rule) (old new : RunState) (number goal ran : ℕ) →
     IsAtState rule old number → number ≤ goal → GoesTo rule old new goal ran →
     number + ran ≤ last_number rule old.context → number + ran ≤ goal
-within-goal rule old new number goal ran holds_there on goes within =
+within_goal rule old new number goal ran holds_there on goes within =
     elim (cases_lt number (last_number rule old.context)) as (λ _. number + ran ≤ goal) [
       | inl below ↦
           (let counted : old.configuration.state.count ≡ number =
           ap (λ (s : RunState). s.configuration.state.count) holds_there.is
-          ∙ open-at rule old.context number below in
+          ∙ open_at rule old.context number below in
           let few = goes.few in
           omega (arith, counted, few, on))
       | inr past ↦ omega (arith, past, within, on)
     ]
 
-pub goes-to : (rule : Rule) (old new : RunState) (number goal ran : ℕ) →
+pub goes_to : (rule : Rule) (old new : RunState) (number goal ran : ℕ) →
     IsAtState rule old number → number ≤ goal → GoesTo rule old new goal ran →
     IsAtState rule new (number + ran) × (number + ran ≡ number_to rule old.context goal)
-goes-to rule old new number goal ran holds_there on goes =
+goes_to rule old new number goal ran holds_there on goes =
     let context = new.context in
     let before : number_of old.configuration.state ≡ number =
     ap (λ (s : RunState). number_of s.configuration.state) holds_there.is
-    ∙ number-at rule old.context number holds_there.within in
+    ∙ number_at rule old.context number holds_there.within in
     let there : number_of new.configuration.state ≡ number + ran =
     goes.counted ∙ ap (λ n. n + ran) before in
     let holds_at =
-    configuration-of-number rule context new.configuration
+    configuration_of_number rule context new.configuration
     (is_last context new.configuration.state) goes.numbered refl in
     let same : last_number rule context ≡ last_number rule old.context =
     ap (last_number rule) goes.context in
@@ -228,7 +228,7 @@ goes-to rule old new number goal ran holds_there on goes =
     omega (arith, there, holds_at.1, same) in
     let short =
     reached rule old new goal ran (is_last context new.configuration.state) goes refl in
-    let past = within-goal rule old new number goal ran holds_there on goes last in (
+    let past = within_goal rule old new number goal ran holds_there on goes last in (
       record {
         is = ap (λ m. record { context = context; configuration = m })
             (holds_at.0 ∙ ap (configuration_at rule context) there);
@@ -240,27 +240,27 @@ goes-to rule old new number goal ran holds_there on goes =
     )
 
 -- the outputs of machines that are at states of one run begin alike
-pub outputs-alike : (rule : Rule) (one other : RunState) (first second : ℕ) →
+pub outputs_alike : (rule : Rule) (one other : RunState) (first second : ℕ) →
     IsAtState rule one first → IsAtState rule other second → one.context ≡ other.context →
     BeginAlike one.configuration.state.memory.output other.configuration.state.memory.output
-outputs-alike rule one other first second holds_there also same =
+outputs_alike rule one other first second holds_there also same =
     subst (λ (s : RunState). BeginAlike s.configuration.state.memory.output
     other.configuration.state.memory.output) (sym holds_there.is)
     (subst (λ (s : RunState). BeginAlike (state_at rule one.context first).memory.output
     s.configuration.state.memory.output) (sym also.is)
     (subst (λ (w : RunContext). BeginAlike (state_at rule one.context first).memory.output
     (state_at rule w second).memory.output) same
-    (outputs-begin_alike rule one.context first second)))
+    (outputs_begin_alike rule one.context first second)))
 
 -- ---- to what is watched for
 -- the configuration so many steps after that of a number
-later-at : (rule : Rule) (context : RunContext) (number made : ℕ) →
+later_at : (rule : Rule) (context : RunContext) (number made : ℕ) →
     configuration_later rule context made (configuration_at rule context number)
     ≡ configuration_at rule context (number + made)
-later-at rule context number zero =
+later_at rule context number zero =
     ap (configuration_at rule context) (let same : number ≡ number + 0 = omega arith in same)
-later-at rule context number (suc made) =
-    ap (configuration_after rule context) (later-at rule context number made)
+later_at rule context number (suc made) =
+    ap (configuration_after rule context) (later_at rule context number made)
     ∙ ap (configuration_at rule context)
     (let same : suc (number + made) ≡ number + suc made = omega arith in same)
 
@@ -300,7 +300,7 @@ module _ (rule : Rule) (old new : RunState) (number goal made : ℕ) (watched : 
       ≡ state_at rule old.context (number + k)
   way k =
       ap (λ (s : RunState). state_later rule old.context k s.configuration) holds_there.is
-      ∙ ap (λ (m : Configuration). m.state) (later-at rule old.context number k)
+      ∙ ap (λ (m : Configuration). m.state) (later_at rule old.context number k)
 
   not_past : number + made ≤ last
   not_past = elim (cases_lt last (number + made)) as (λ _. number + made ≤ last) [
@@ -311,7 +311,7 @@ module _ (rule : Rule) (old new : RunState) (number goal made : ℕ) (watched : 
         let wrong : is_last old.context (state_at rule old.context last) ≡ false =
         ap (λ n. is_last old.context (state_at rule old.context n)) (sym there)
         ∙ ap (is_last old.context) (sym (way k)) ∙ open_yet in
-        let is = last-is rule old.context in
+        let is = last_is rule old.context in
         absurd (cc (wrong, is)))
     | inr within ↦ within
   ]
@@ -322,7 +322,7 @@ module _ (rule : Rule) (old new : RunState) (number goal made : ℕ) (watched : 
       (goes.there
       ∙ ap (λ (s : RunState). configuration_later rule old.context made s.configuration)
       holds_there.is
-      ∙ later-at rule old.context number made
+      ∙ later_at rule old.context number made
       ∙ ap (λ (w : RunContext). configuration_at rule w (number + made)) (sym goes.context))
 
   -- the state at which it is
@@ -335,7 +335,7 @@ module _ (rule : Rule) (old new : RunState) (number goal made : ℕ) (watched : 
   not_far =
       let before : number_of old.configuration.state ≡ number =
       ap (λ (s : RunState). number_of s.configuration.state) holds_there.is
-      ∙ number-at rule old.context number holds_there.within in
+      ∙ number_at rule old.context number holds_there.within in
       let few = goes.few in
       omega (arith, before, few, on)
 
@@ -346,9 +346,9 @@ module _ (rule : Rule) (old new : RunState) (number goal made : ℕ) (watched : 
       let open_yet : is_last new.context new.configuration.state ≡ false =
       ap (λ (w : RunContext). is_last w new.configuration.state) goes.context
       ∙ ap (is_last old.context) here
-      ∙ (last-found rule old.context).2 (number + made) below in
+      ∙ (last_found rule old.context).2 (number + made) below in
       let counted : new.configuration.state.count ≡ number + made =
-      ap (λ (s : State). s.count) here ∙ open-at rule old.context (number + made) below in
+      ap (λ (s : State). s.count) here ∙ open_at rule old.context (number + made) below in
       let stops = goes.stops open_yet (omega (arith, counted, short)) in
       (omega (arith, stops.0), ap watched (sym here) ∙ stops.1)
 

@@ -11,12 +11,12 @@ use Rattle.l6_steps.specs.State.{Memory}
 use Rattle.l6_history.specs.Stop.{differs, some_differ, value_of, values_of}
 
 -- whether some differ from here on is said by the next ones and by those after them
-pub differ-more : (old new : List (Option ℕ)) (index : ℕ) (kept value : Option ℕ) (changes : Bool) →
+pub differ_more : (old new : List (Option ℕ)) (index : ℕ) (kept value : Option ℕ) (changes : Bool) →
     index < length old → index < length new → kept ≡ get_or old index kept →
     value ≡ get_or new index value → changes ≡ differs kept value →
     some_differ (drop index old) (drop index new) ≡ some_differ old new →
     (changes || some_differ (drop (index + 1) old) (drop (index + 1) new)) ≡ some_differ old new
-differ-more old new index kept value changes within within' is is' are before =
+differ_more old new index kept value changes within within' is is' are before =
     let next_old : drop index old ≡ kept ∷ drop (index + 1) old =
     drop_more old index kept within ∙ ap (λ o. o ∷ drop (index + 1) old) (sym is) in
     let next_new : drop index new ≡ value ∷ drop (index + 1) new =
@@ -27,42 +27,42 @@ differ-more old new index kept value changes within within' is is' are before =
     ∙ before
 
 -- two values that do not differ are one
-pub same-value : (one other : Option ℕ) → differs one other ≡ false → one ≡ other
-same-value None None same = refl
-same-value None (Some other) same = cc
-same-value (Some one) None same = cc
-same-value (Some one) (Some other) same = ap (λ (n : ℕ). Some n)
+pub same_value : (one other : Option ℕ) → differs one other ≡ false → one ≡ other
+same_value None None same = refl
+same_value None (Some other) same = cc
+same_value (Some one) None same = cc
+same_value (Some one) (Some other) same = ap (λ (n : ℕ). Some n)
     (eqb-true one other (not-false (one == other) same))
 
 -- as many values that do not differ are the same
-pub none-differ : (ones others : List (Option ℕ)) → length ones ≡ length others →
+pub none_differ : (ones others : List (Option ℕ)) → length ones ≡ length others →
     some_differ ones others ≡ false → ones ≡ others
-none-differ [] [] many same = refl
-none-differ [] (other ∷ others) many same = absurd (omega (arith, many))
-none-differ (one ∷ ones) [] many same = absurd (omega (arith, many))
-none-differ (one ∷ ones) (other ∷ others) many same =
+none_differ [] [] many same = refl
+none_differ [] (other ∷ others) many same = absurd (omega (arith, many))
+none_differ (one ∷ ones) [] many same = absurd (omega (arith, many))
+none_differ (one ∷ ones) (other ∷ others) many same =
     let parts = or_parts (differs one other) (some_differ ones others) same in
-    ap (λ o. o ∷ ones) (same-value one other parts.0)
-    ∙ ap (λ l. other ∷ l) (none-differ ones others (omega (arith, many)) parts.1)
+    ap (λ o. o ∷ ones) (same_value one other parts.0)
+    ∙ ap (λ l. other ∷ l) (none_differ ones others (omega (arith, many)) parts.1)
 
 -- what a chain reads as is the value at its index
-pub read-as : (chains : List (List ℕ)) (memory : Memory) (index : ℕ) (chain : List ℕ)
+pub read_as : (chains : List (List ℕ)) (memory : Memory) (index : ℕ) (chain : List ℕ)
     (value : Option ℕ) → index < length chains → chain ≡ get_or chains index chain →
     value ≡ result_ok (read memory (Chain chain)) →
     value ≡ get_or (values_of chains memory) index value
-read-as chains memory index chain value within is reads =
+read_as chains memory index chain value within is reads =
     reads ∙ ap (value_of memory) is
     ∙ sym (get_or-map (value_of memory) chains index chain value within)
 
 -- what is compared with itself does not differ
-same-differs : (value : Option ℕ) → differs value value ≡ false
-same-differs None = refl
-same-differs (Some n) = elim (eqb_tells n n) as (λ _. not (n == n) ≡ false) [
+same_differs : (value : Option ℕ) → differs value value ≡ false
+same_differs None = refl
+same_differs (Some n) = elim (eqb_tells n n) as (λ _. not (n == n) ≡ false) [
   | inl same ↦ ap not same.0
   | inr other ↦ absurd (other.1 refl)
 ]
 
-pub same-values : (values : List (Option ℕ)) → some_differ values values ≡ false
-same-values [] = refl
-same-values (value ∷ values) =
-    ap (λ b. b || some_differ values values) (same-differs value) ∙ same-values values
+pub same_values : (values : List (Option ℕ)) → some_differ values values ≡ false
+same_values [] = refl
+same_values (value ∷ values) =
+    ap (λ b. b || some_differ values values) (same_differs value) ∙ same_values values

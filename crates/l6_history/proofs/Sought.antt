@@ -3,9 +3,9 @@ use Rattle.std.proofs.Common.{◌≡◌, ℕ, zero, suc, ◌+◌, ◌-◌, ◌<�
 use Rattle.std.specs.Prelude.{◌==◌, ◌&&◌, ◌||◌, is_none, is_some, nat_lt, not, slice_index_or, unwrap_or}
 use Rattle.std.specs.List.{list_any}
 use Rattle.std.proofs.Math.Bool.{and-false, or-false}
-use Rattle.std.proofs.lemmas.Bool.{and_parts, cases_lt, eqb-true, le-ltb, lt-ltb, not-true, or_parts}
+use Rattle.std.proofs.lemmas.Bool.{and_parts, cases_lt, eqb-true, le-ltb, lt-ltb, not-true, or_parts, true≢false}
 use Rattle.std.proofs.lemmas.List.{length-map}
-use Rattle.l6_store.proofs.Least.{Answers, answers-alone, least-answers}
+use Rattle.l6_store.proofs.Least.{Answers, answers_alone, least_answers}
 use Rattle.l6_store.specs.Least.{least}
 use Rattle.l6_store.specs.Rule.{Rule}
 use Rattle.l6_steps.specs.Configuration.{state_at}
@@ -13,33 +13,34 @@ use Rattle.l6_steps.specs.Numbering.{last_number}
 use Rattle.l6_steps.specs.RunState.{RunState}
 use Rattle.l6_steps.specs.State.{RunContext, State}
 use Rattle.l6_history.specs.History.{number_to, run_state_at}
-use Rattle.l6_history.specs.Stop.{Stop, changes_between, differs, is_at_breakpoint, is_shallow, some_differ, stops_at, stops_nowhere, value_of, values_of}
+use Rattle.l6_prog.specs.declared.condition.Test.{Test}
+use Rattle.l6_history.specs.Stop.{Stop, breaks_at, changes_between, differs, is_shallow, is_wanted, meets, some_differ, stops_at, stops_nowhere, value_of, values_of}
 use Rattle.l6_history.specs.Seeking.{greatest, next_stop, previous_stop, stops_back, stops_forward}
 use Rattle.l6_history.specs.inner.Seeking.{ComesTo, IsLast, IsLastIn, NoneAfter, NoneIn, Snapshot, later_of, snapshot_of}
 use Rattle.l6_history.specs.inner.Watches.{ChainWatch, chains_changed}
-use Rattle.l6_history.proofs.Snapshots.{none-differ, same-values}
+use Rattle.l6_history.proofs.Snapshots.{none_differ, same_values}
 
 -- ---- what is seen
-pub snapshot-at : (rule : Rule) (context : RunContext) (number : ℕ) (stop : Stop) (there : RunState)
+pub snapshot_at : (rule : Rule) (context : RunContext) (number : ℕ) (stop : Stop) (there : RunState)
     (snapshot : Snapshot) → there ≡ run_state_at rule context number →
     snapshot ≡ snapshot_of stop there.configuration.state →
     snapshot ≡ snapshot_of stop (state_at rule context number)
-snapshot-at rule context number stop there snapshot is seen =
+snapshot_at rule context number stop there snapshot is seen =
     seen ∙ ap (λ (s : RunState). snapshot_of stop s.configuration.state) is
 
 -- as many values are seen as chains are watched
-pub snapshot-length : (stop : Stop) (state : State) (snapshot : Snapshot) → snapshot ≡ snapshot_of stop state →
+pub snapshot_length : (stop : Stop) (state : State) (snapshot : Snapshot) → snapshot ≡ snapshot_of stop state →
     length snapshot.values ≡ length stop.watched
-snapshot-length stop state snapshot seen =
+snapshot_length stop state snapshot seen =
     ap (λ (s : Snapshot). length s.values) seen ∙ length-map stop.watched (value_of state.memory)
 
-pub back-is : (rule : Rule) (context : RunContext) (stop : Stop) (n : ℕ) (there following : Snapshot)
+pub back_is : (rule : Rule) (context : RunContext) (stop : Stop) (n : ℕ) (there following : Snapshot)
     (differ : Bool) → there ≡ snapshot_of stop (state_at rule context n) →
     following ≡ snapshot_of stop (state_at rule context (n + 1)) →
     differ ≡ some_differ there.values following.values →
     stops_back rule context stop n ≡ (there.stops || differ)
 unfolding stops_back
-back-is rule context stop n there following differ seen seen_following is =
+back_is rule context stop n there following differ seen seen_following is =
     ap (λ (s : Snapshot). s.stops || changes_between stop (state_at rule context n)
     (state_at rule context (n + 1))) (sym seen)
     ∙ ap (λ (b : Bool). there.stops || b)
@@ -48,13 +49,13 @@ back-is rule context stop n there following differ seen seen_following is =
     s.values) seen_following))
 
 -- ---- forward
-pub none-yet : (test : ℕ → Bool) (from : ℕ) → NoneAfter test from from
-none-yet test from =
+pub none_yet : (test : ℕ → Bool) (from : ℕ) → NoneAfter test from from
+none_yet test from =
     record { on = omega arith; none = λ k later within. absurd (omega (arith, later, within)) }
 
-pub none-more : (test : ℕ → Bool) (from number : ℕ) → NoneAfter test from number →
+pub none_more : (test : ℕ → Bool) (from number : ℕ) → NoneAfter test from number →
     test (number + 1) ≡ false → NoneAfter test from (number + 1)
-none-more test from number passed other = record {
+none_more test from number passed other = record {
   on = omega (arith, passed.on);
   none = λ k later within. elim (cases_lt number k) as (λ _. test k ≡ false) [
     | inl past ↦ (let same : k ≡ number + 1 = omega (arith, past, within) in ap test same ∙ other)
@@ -62,63 +63,63 @@ none-more test from number passed other = record {
   ];
 }
 
-not-later : (test : ℕ → Bool) (from k : ℕ) → (from < k → test k ≡ false) →
+none_at_least : (test : ℕ → Bool) (from k : ℕ) → (from < k → test k ≡ false) →
     (nat_lt from k && test k) ≡ false
-not-later test from k none = elim (cases_lt from k) as (λ _. (nat_lt from k && test k) ≡ false) [
+none_at_least test from k none = elim (cases_lt from k) as (λ _. (nat_lt from k && test k) ≡ false) [
   | inl later ↦ ap (λ b. nat_lt from k && b) (none later) ∙ and-false (nat_lt from k)
   | inr earlier ↦ ap (λ b. b && test k) (le-ltb from k earlier)
 ]
 
-pub next-found : (rule : Rule) (context : RunContext) (stop : Stop) (from number : ℕ) →
+pub next_found : (rule : Rule) (context : RunContext) (stop : Stop) (from number : ℕ) →
     NoneAfter (stops_forward rule context stop) from number → number < last_number rule context →
     stops_forward rule context stop (number + 1) ≡ true →
     next_stop rule context stop from ≡ number + 1
 unfolding next_stop Answers
-next-found rule context stop from number passed below is =
+next_found rule context stop from number passed below is =
     let last = last_number rule context in
     let stops = stops_forward rule context stop in
     let test : ℕ → Bool = λ n. nat_lt from n && stops n in
     let later = lt-ltb from (number + 1) (omega (arith, passed.on)) in
     let found : least (suc last) test ≡ Some (number + 1) =
-    answers-alone (suc last) test (least (suc last) test) (Some (number + 1))
-    (least-answers (suc last) test) (
+    answers_alone (suc last) test (least (suc last) test) (Some (number + 1))
+    (least_answers (suc last) test) (
       omega (arith, below),
       ap (λ b. b && stops (number + 1)) later ∙ is,
-      λ k before. not-later stops from k
+      λ k before. none_at_least stops from k
           (λ following. passed.none k following (omega (arith, before))),
     ) in
     ap (λ answer. unwrap_or answer last) found
 
-pub next-ends : (rule : Rule) (context : RunContext) (stop : Stop) (from number : ℕ) →
+pub next_ends : (rule : Rule) (context : RunContext) (stop : Stop) (from number : ℕ) →
     NoneAfter (stops_forward rule context stop) from number → last_number rule context ≤ number →
     next_stop rule context stop from ≡ last_number rule context
 unfolding next_stop Answers
-next-ends rule context stop from number passed past =
+next_ends rule context stop from number passed past =
     let last = last_number rule context in
     let stops = stops_forward rule context stop in
     let test : ℕ → Bool = λ n. nat_lt from n && stops n in
     let found : least (suc last) test ≡ None =
-    answers-alone (suc last) test (least (suc last) test) None (least-answers (suc last) test)
-    (λ k within. not-later stops from k
+    answers_alone (suc last) test (least (suc last) test) None (least_answers (suc last) test)
+    (λ k within. none_at_least stops from k
     (λ following. passed.none k following (omega (arith, within, past)))) in
     ap (λ answer. unwrap_or answer last) found
 
 -- ---- back
-pub last-more : (test : ℕ → Bool) (begin end : ℕ) (last : Option ℕ) (passes : Bool) → begin ≤ end →
+pub last_more : (test : ℕ → Bool) (begin end : ℕ) (last : Option ℕ) (passes : Bool) → begin ≤ end →
     IsLastIn test begin end last → test end ≡ passes →
     IsLastIn test begin (end + 1) (later_of passes end last)
-last-more test begin end last true on before is = record {
+last_more test begin end last true on before is = record {
   begins = on;
   ends = omega arith;
   passes = is;
   none = λ k from below. absurd (omega (arith, from, below));
 }
-last-more test begin end None false on before is = λ k from below.
+last_more test begin end None false on before is = λ k from below.
     elim (cases_lt k end) as (λ _. test k ≡ false) [
       | inl earlier ↦ before k from earlier
       | inr not_earlier ↦ (let same : k ≡ end = omega (arith, not_earlier, below) in ap test same ∙ is)
     ]
-last-more test begin end (Some n) false on before is = record {
+last_more test begin end (Some n) false on before is = record {
   begins = before.begins;
   ends = omega (arith, before.ends);
   passes = before.passes;
@@ -128,56 +129,56 @@ last-more test begin end (Some n) false on before is = record {
   ];
 }
 
-greatest-found : (bound n : ℕ) (test : ℕ → Bool) → n < bound → test n ≡ true →
+greatest_found : (bound n : ℕ) (test : ℕ → Bool) → n < bound → test n ≡ true →
     NoneIn test (n + 1) bound → greatest bound test ≡ Some n
 unfolding greatest
-greatest-found zero n test below is none = absurd (omega (arith, below))
-greatest-found (suc bound) n test below is none =
+greatest_found zero n test below is none = absurd (omega (arith, below))
+greatest_found (suc bound) n test below is none =
     elim (cases_lt n bound) as (λ _. greatest (suc bound) test ≡ Some n) [
       | inl less ↦
           ap (λ b. if b then Some bound else greatest bound test)
           (none bound (omega (arith, less)) (omega arith))
-          ∙ greatest-found bound n test less is (λ k from under. none k from (omega (arith, under)))
+          ∙ greatest_found bound n test less is (λ k from under. none k from (omega (arith, under)))
       | inr not_less ↦
           (let same : bound ≡ n = omega (arith, not_less, below) in
           ap (λ b. if b then Some bound else greatest bound test) (ap test same ∙ is)
           ∙ ap (λ (k : ℕ). Some k) same)
     ]
 
-greatest-none : (bound : ℕ) (test : ℕ → Bool) → NoneIn test 0 bound → greatest bound test ≡ None
+greatest_none : (bound : ℕ) (test : ℕ → Bool) → NoneIn test 0 bound → greatest bound test ≡ None
 unfolding greatest
-greatest-none zero test none = refl
-greatest-none (suc bound) test none =
+greatest_none zero test none = refl
+greatest_none (suc bound) test none =
     ap (λ b. if b then Some bound else greatest bound test) (none bound (omega arith) (omega arith))
-    ∙ greatest-none bound test (λ k from under. none k from (omega (arith, under)))
+    ∙ greatest_none bound test (λ k from under. none k from (omega (arith, under)))
 
-pub previous-found : (rule : Rule) (context : RunContext) (stop : Stop) (number begin end n : ℕ) →
+pub previous_found : (rule : Rule) (context : RunContext) (stop : Stop) (number begin end n : ℕ) →
     IsLast (stops_back rule context stop) begin end n → end ≤ number →
     NoneIn (stops_back rule context stop) end number →
     previous_stop rule context stop number ≡ n
 unfolding previous_stop
-previous-found rule context stop number begin end n last on none =
+previous_found rule context stop number begin end n last on none =
     let test = stops_back rule context stop in
     let found : greatest number test ≡ Some n =
-    greatest-found number n test (omega (arith, last.ends, on)) last.passes
+    greatest_found number n test (omega (arith, last.ends, on)) last.passes
     (λ k from below. elim (cases_lt k end) as (λ _. test k ≡ false) [
       | inl earlier ↦ last.none k from earlier
       | inr not_earlier ↦ none k not_earlier below
     ]) in
     ap (λ answer. unwrap_or answer 0) found
 
-pub previous-none : (rule : Rule) (context : RunContext) (stop : Stop) (number end : ℕ) →
+pub previous_none : (rule : Rule) (context : RunContext) (stop : Stop) (number end : ℕ) →
     NoneIn (stops_back rule context stop) end number → end ≤ 0 →
     previous_stop rule context stop number ≡ 0
 unfolding previous_stop
-previous-none rule context stop number end none start =
-    let found = greatest-none number (stops_back rule context stop)
+previous_none rule context stop number end none start =
+    let found = greatest_none number (stops_back rule context stop)
     (λ k from below. none k (omega (arith, start)) below) in
     ap (λ answer. unwrap_or answer 0) found
 
-pub none-nearer : (test : ℕ → Bool) (begin end number : ℕ) → NoneIn test begin end →
+pub none_nearer : (test : ℕ → Bool) (begin end number : ℕ) → NoneIn test begin end →
     NoneIn test end number → NoneIn test begin number
-none-nearer test begin end number first rest k from below =
+none_nearer test begin end number first rest k from below =
     elim (cases_lt k end) as (λ _. test k ≡ false) [
       | inl earlier ↦ first k from earlier
       | inr not_earlier ↦ rest k not_earlier below
@@ -191,28 +192,28 @@ pub record StepsOn (rule : Rule) (context : RunContext) (stop : Stop) (from numb
   pub below : from < last_number rule context
   pub seen : snapshot ≡ snapshot_of stop (state_at rule context number)
 
-pub steps-on : (rule : Rule) (context now there : RunContext) (stop : Stop) (from number : ℕ)
+pub steps_on : (rule : Rule) (context now there : RunContext) (stop : Stop) (from number : ℕ)
     (run_state : RunState) (snapshot : Snapshot) → now ≡ context → there ≡ now →
     number ≡ number_to rule now (from + 1) → from < last_number rule now →
     run_state ≡ run_state_at rule there number → snapshot ≡ snapshot_of stop run_state.configuration.state →
     StepsOn rule context stop from number snapshot
-steps-on rule context now there stop from number run_state snapshot same same_there is below at seen =
+steps_on rule context now there stop from number run_state snapshot same same_there is below at seen =
     record {
       on = omega (arith, is, below);
       below = subst (λ (w : RunContext). from < last_number rule w) same below;
-      seen = snapshot-at rule there number stop run_state snapshot at seen
+      seen = snapshot_at rule there number stop run_state snapshot at seen
           ∙ ap (λ (w : RunContext). snapshot_of stop (state_at rule w number)) (same_there ∙ same);
     }
 
-pub last-next : (test : ℕ → Bool) (begin from next number : ℕ) (last answer : Option ℕ)
+pub last_next : (test : ℕ → Bool) (begin from next number : ℕ) (last answer : Option ℕ)
     (passes : Bool) → begin ≤ from → next ≡ from + 1 → number ≡ from →
     answer ≡ later_of passes number last → test from ≡ passes → IsLastIn test begin from last →
     IsLastIn test begin next answer
-last-next test begin from next number last answer passes on next_is number_is is passed before =
+last_next test begin from next number last answer passes on next_is number_is is passed before =
     subst (λ (o : Option ℕ). IsLastIn test begin next o)
     (sym (is ∙ ap (λ (n : ℕ). later_of passes n last) number_is))
     (subst (λ (n : ℕ). IsLastIn test begin n (later_of passes from last)) (sym next_is)
-    (last-more test begin from last passes on before passed))
+    (last_more test begin from last passes on before passed))
 
 -- ---- to what is watched for
 -- the values of watched chains, as they were at first
@@ -236,7 +237,7 @@ module _ (rule : Rule) (context : RunContext) (stop : Stop) (from number : ℕ)
   same : (n : ℕ) → from ≤ n → n < number → values from ≡ values n
   same n on before = elim (cases_lt from n) as (λ _. values from ≡ values n) [
     | inl later ↦
-        none-differ (values from) (values n) (as_many n)
+        none_differ (values from) (values n) (as_many n)
         (or_parts (stops_at stop (state_at rule context n)) (some_differ (values from) (values n))
         (comes.none n later before)).1
     | inr not_later ↦ (let here : from ≡ n = omega (arith, on, not_later) in ap values here)
@@ -275,7 +276,7 @@ module _ (rule : Rule) (context : RunContext) (stop : Stop) (from number : ℕ)
   found moved is =
       let next : back + 1 ≡ number = omega (arith, moved) in
       let within = comes.within in
-      sym (next-found rule context stop from back
+      sym (next_found rule context stop from back
       (passed back (omega (arith, moved)) (omega (arith, moved)))
       (omega (arith, moved, within)) (ap (stops_forward rule context stop) next ∙ is)
       ∙ next)
@@ -286,9 +287,9 @@ module _ (rule : Rule) (context : RunContext) (stop : Stop) (from number : ℕ)
   ended moved last is =
       let next : back + 1 ≡ number = omega (arith, moved) in
       last
-      ∙ sym (next-ends rule context stop from number
+      ∙ sym (next_ends rule context stop from number
       (subst (NoneAfter (stops_forward rule context stop) from) next
-      (none-more (stops_forward rule context stop) from back
+      (none_more (stops_forward rule context stop) from back
       (passed back (omega (arith, moved)) (omega (arith, moved)))
       (ap (stops_forward rule context stop) next ∙ is)))
       (omega (arith, last)))
@@ -319,16 +320,16 @@ module _ (rule : Rule) (context : RunContext) (stop : Stop) (from number : ℕ)
                   (let on = comes.on in
                   let here : from ≡ number = omega (arith, on, stayed) in
                   last
-                  ∙ sym (next-ends rule context stop from from
-                  (none-yet (stops_forward rule context stop) from) (omega (arith, here, last))))
+                  ∙ sym (next_ends rule context stop from from
+                  (none_yet (stops_forward rule context stop) from) (omega (arith, here, last))))
             ])
       ]
 
 -- a stretch more in which none passes
-pub none-on : (test : ℕ → Bool) (from number next : ℕ) → NoneAfter test from number →
+pub none_on : (test : ℕ → Bool) (from number next : ℕ) → NoneAfter test from number →
     number < next → ((k : ℕ) → number < k → k < next → test k ≡ false) → test next ≡ false →
     NoneAfter test from next
-none-on test from number next passed further between last =
+none_on test from number next passed further between last =
     let on = passed.on in
     record {
       on = omega (arith, on, further);
@@ -343,10 +344,10 @@ none-on test from number next passed further between last =
     }
 
 -- and one at whose end one passes, or the last number is
-pub comes-on : (test : ℕ → Bool) (from number last next : ℕ) → NoneAfter test from number →
+pub comes_on : (test : ℕ → Bool) (from number last next : ℕ) → NoneAfter test from number →
     number ≤ next → next ≤ last → ((k : ℕ) → number < k → k < next → test k ≡ false) →
     (next < last → (number < next) × (test next ≡ true)) → ComesTo test from last next
-comes-on test from number last next passed further within between stops =
+comes_on test from number last next passed further within between stops =
     let on = passed.on in
     record {
       on = omega (arith, on, further);
@@ -359,9 +360,9 @@ comes-on test from number last next passed further within between stops =
     }
 
 -- what is seen by another test that says the same is seen
-pub comes-alike : (one other : ℕ → Bool) (from last number : ℕ) → ComesTo one from last number →
+pub comes_alike : (one other : ℕ → Bool) (from last number : ℕ) → ComesTo one from last number →
     ((n : ℕ) → other n ≡ one n) → ComesTo other from last number
-comes-alike one other from last number comes alike = record {
+comes_alike one other from last number comes alike = record {
   on = comes.on;
   within = comes.within;
   none = λ k later before. alike k ∙ comes.none k later before;
@@ -369,46 +370,50 @@ comes-alike one other from last number comes alike = record {
       (let seen = comes.stops below in (seen.0, alike number ∙ seen.1));
 }
 
-pub none-watched : (stop : Stop) (chains : List (List ℕ)) → chains ≡ stop.watched →
+pub none_watched : (stop : Stop) (chains : List (List ℕ)) → chains ≡ stop.watched →
     length chains ≡ 0 → stop.watched ≡ []
-none-watched stop [] same none = sym same
-none-watched stop (chain ∷ chains) same none = absurd (omega (arith, none))
+none_watched stop [] same none = sym same
+none_watched stop (chain ∷ chains) same none = absurd (omega (arith, none))
 
 -- without chains the places alone are seen
-pub seen-by-place : (rule : Rule) (context : RunContext) (stop : Stop) (from n : ℕ) →
+pub seen_by_place : (rule : Rule) (context : RunContext) (stop : Stop) (from n : ℕ) →
     stop.watched ≡ [] →
     is_seen rule context stop from n ≡ stops_at stop (state_at rule context n)
-seen-by-place rule context stop from n none =
+seen_by_place rule context stop from n none =
     let there = state_at rule context n in
     ap (λ (chains : List (List ℕ)). stops_at stop there
     || some_differ (values_of chains (state_at rule context from).memory)
     (values_of chains there.memory)) none
     ∙ or-false (stops_at stop there)
 
--- without chains and depth breakpoints alone are seen
-not-shallow : (depth : Option ℕ) (state : State) → is_some depth ≡ false →
+-- without chains, depth, and stops at each statement, breakpoints alone are seen
+not_shallow : (depth : Option ℕ) (state : State) → is_some depth ≡ false →
     is_shallow depth state ≡ false
-not-shallow None state none = refl
-not-shallow (Some depth) state none = absurd (cc)
+not_shallow None state none = refl
+not_shallow (Some depth) state none = absurd (cc)
 
-pub seen-by-breakpoint : (rule : Rule) (context : RunContext) (stop : Stop) (from n : ℕ) →
-    stop.watched ≡ [] → is_some stop.depth ≡ false →
-    is_seen rule context stop from n
-    ≡ is_at_breakpoint stop.breakpoints (state_at rule context n)
-seen-by-breakpoint rule context stop from n none no_depth =
+not_further : (each : Bool) (depth : Option ℕ) (state : State) → (each || is_some depth) ≡ false →
+    is_wanted each depth state ≡ false
+not_further true depth state none = absurd (true≢false none)
+not_further false depth state none = not_shallow depth state none
+
+pub seen_by_breakpoint : (rule : Rule) (context : RunContext) (stop : Stop) (from n : ℕ) →
+    stop.watched ≡ [] → (stop.each || is_some stop.depth) ≡ false →
+    is_seen rule context stop from n ≡ breaks_at stop (state_at rule context n)
+seen_by_breakpoint rule context stop from n none no_further =
     let there = state_at rule context n in
-    seen-by-place rule context stop from n none
-    ∙ ap (λ b. is_at_breakpoint stop.breakpoints there || b) (not-shallow stop.depth there no_depth)
-    ∙ or-false (is_at_breakpoint stop.breakpoints there)
+    seen_by_place rule context stop from n none
+    ∙ ap (λ b. breaks_at stop there || b) (not_further stop.each stop.depth there no_further)
+    ∙ or-false (breaks_at stop there)
 
 -- and where a bug alone is watched, what it holds is seen
-pub seen-by-bug : (rule : Rule) (context : RunContext) (stop : Stop) (from n bug word : ℕ) →
+pub seen_by_bug : (rule : Rule) (context : RunContext) (stop : Stop) (from n bug word : ℕ) →
     stop.watched ≡ (bug ∷ []) ∷ [] →
     Some word ≡ value_of (state_at rule context from).memory (bug ∷ []) →
     is_seen rule context stop from n
     ≡ (stops_at stop (state_at rule context n)
     || differs (Some word) (value_of (state_at rule context n).memory (bug ∷ [])))
-seen-by-bug rule context stop from n bug word alone held =
+seen_by_bug rule context stop from n bug word alone held =
     let there = state_at rule context n in
     let value = value_of there.memory (bug ∷ []) in
     ap (λ (chains : List (List ℕ)). stops_at stop there
@@ -418,119 +423,127 @@ seen-by-bug rule context stop from n bug word alone held =
     (sym held)
     ∙ ap (λ (b : Bool). stops_at stop there || b) (or-false (differs (Some word) value))
 
--- without breakpoints and depth the chains alone are seen
-none-breakpoint : (breakpoints : List Bool) (statement : ℕ) →
+-- where one stops at no state, the chains alone are seen
+none_breakpoint : (breakpoints : List Bool) (statement : ℕ) →
     list_any (λ breakpoint. breakpoint) breakpoints ≡ false →
     slice_index_or breakpoints statement false ≡ false
-none-breakpoint [] statement none = refl
-none-breakpoint (true ∷ breakpoints) statement none = cc
-none-breakpoint (false ∷ breakpoints) zero none = refl
-none-breakpoint (false ∷ breakpoints) (suc statement) none =
-    none-breakpoint breakpoints statement none
+none_breakpoint [] statement none = refl
+none_breakpoint (true ∷ breakpoints) statement none = cc
+none_breakpoint (false ∷ breakpoints) zero none = refl
+none_breakpoint (false ∷ breakpoints) (suc statement) none =
+    none_breakpoint breakpoints statement none
 
-no-place : (stop : Stop) (state : State) →
-    (list_any (λ breakpoint. breakpoint) stop.breakpoints || is_some stop.depth) ≡ false →
+no_place : (stop : Stop) (state : State) →
+    (list_any (λ breakpoint. breakpoint) stop.breakpoints || (stop.each || is_some stop.depth)) ≡ false →
     stops_at stop state ≡ false
-no-place stop state none =
-    let parts = or_parts (list_any (λ breakpoint. breakpoint) stop.breakpoints) (is_some stop.depth)
-    none in
-    ap (λ b. (state.at.action == 0 && b) || is_shallow stop.depth state)
-    (none-breakpoint stop.breakpoints state.at.statement parts.0)
-    ∙ ap (λ b. b || is_shallow stop.depth state) (and-false (state.at.action == 0))
-    ∙ not-shallow stop.depth state parts.1
+no_place stop state none =
+    let parts = or_parts (list_any (λ breakpoint. breakpoint) stop.breakpoints)
+    (stop.each || is_some stop.depth) none in
+    let further = is_wanted stop.each stop.depth state in
+    ap (λ b. ((state.at.action == 0 && b) && meets stop.tests state) || further)
+    (none_breakpoint stop.breakpoints state.at.statement parts.0)
+    ∙ ap (λ b. (b && meets stop.tests state) || further) (and-false (state.at.action == 0))
+    ∙ not_further stop.each stop.depth state parts.1
 
-pub seen-by-change : (rule : Rule) (context : RunContext) (stop : Stop) (from n : ℕ) →
-    (list_any (λ breakpoint. breakpoint) stop.breakpoints || is_some stop.depth) ≡ false →
+pub seen_by_change : (rule : Rule) (context : RunContext) (stop : Stop) (from n : ℕ) →
+    (list_any (λ breakpoint. breakpoint) stop.breakpoints || (stop.each || is_some stop.depth)) ≡ false →
     is_seen rule context stop from n
     ≡ some_differ (values_of stop.watched (state_at rule context from).memory)
     (values_of stop.watched (state_at rule context n).memory)
-seen-by-change rule context stop from n none =
+seen_by_change rule context stop from n none =
     ap (λ (b : Bool). b
     || some_differ (values_of stop.watched (state_at rule context from).memory)
     (values_of stop.watched (state_at rule context n).memory))
-    (no-place stop (state_at rule context n) none)
+    (no_place stop (state_at rule context n) none)
 
 -- chains that are watched from a state on have not changed there
-pub first-unchanged : (stop : Stop) (watch : ChainWatch) (state : State) → watch.stop ≡ stop →
+pub first_unchanged : (stop : Stop) (watch : ChainWatch) (state : State) → watch.stop ≡ stop →
     watch.values ≡ values_of stop.watched state.memory → chains_changed watch state ≡ false
-first-unchanged stop watch state same read =
+first_unchanged stop watch state same read =
     ap (λ (values : List (Option ℕ)). some_differ values (values_of watch.stop.watched state.memory))
     read
     ∙ ap (λ (s : Stop). some_differ (values_of stop.watched state.memory)
     (values_of s.watched state.memory)) same
-    ∙ same-values (values_of stop.watched state.memory)
+    ∙ same_values (values_of stop.watched state.memory)
 
 -- ---- a stretch
-pub found-back : (rule : Rule) (context there now : RunContext) (stop : Stop)
+pub found_back : (rule : Rule) (context there now : RunContext) (stop : Stop)
     (here begin end n number : ℕ) → there ≡ context → now ≡ there →
     number ≡ number_to rule now n → IsLast (stops_back rule there stop) begin end n → end ≤ here →
     end ≤ last_number rule context → NoneIn (stops_back rule context stop) end here →
     number ≡ previous_stop rule context stop here
-found-back rule context there now stop here begin end n number same same_now is last on within none =
+found_back rule context there now stop here begin end n number same same_now is last on within none =
     let found : IsLast (stops_back rule context stop) begin end n =
     subst (λ (w : RunContext). IsLast (stops_back rule w stop) begin end n) same last in
     let far = ap (last_number rule) (same_now ∙ same) in
     let there_is : number ≡ n = omega (arith, is, far, within, last.ends) in
-    there_is ∙ sym (previous-found rule context stop here begin end n found on none)
+    there_is ∙ sym (previous_found rule context stop here begin end n found on none)
 
-pub none-back : (rule : Rule) (context there : RunContext) (stop : Stop) (begin end here : ℕ) →
+pub none_back : (rule : Rule) (context there : RunContext) (stop : Stop) (begin end here : ℕ) →
     there ≡ context → NoneIn (stops_back rule there stop) begin end →
     NoneIn (stops_back rule context stop) end here → NoneIn (stops_back rule context stop) begin here
-none-back rule context there stop begin end here same none further =
-    none-nearer (stops_back rule context stop) begin end here
+none_back rule context there stop begin end here same none further =
+    none_nearer (stops_back rule context stop) begin end here
     (subst (λ (w : RunContext). NoneIn (stops_back rule w stop) begin end) same none) further
 
 -- ---- nowhere
 -- where there is nothing at which one would stop, one does not stop
-nowhere-parts : (breakpoints : List Bool) (watched : List (List ℕ)) (depth : Option ℕ)
-    (state before after : State) →
-    stops_nowhere (record { breakpoints = breakpoints; watched = watched; depth = depth }) ≡ true →
-    (stops_at (record { breakpoints = breakpoints; watched = watched; depth = depth }) state
-    || changes_between (record { breakpoints = breakpoints; watched = watched; depth = depth }) before
-    after) ≡ false
-nowhere-parts breakpoints [] None state before after is =
+abbrev made : List Bool → List (Option Test) → Bool → List (List ℕ) → Option ℕ → Stop
+made breakpoints tests each watched depth =
+    record { breakpoints = breakpoints; tests = tests; each = each; watched = watched; depth = depth }
+
+nowhere_parts : (breakpoints : List Bool) (tests : List (Option Test)) (each : Bool)
+    (watched : List (List ℕ)) (depth : Option ℕ) (state before after : State) →
+    stops_nowhere (made breakpoints tests each watched depth) ≡ true →
+    (stops_at (made breakpoints tests each watched depth) state
+    || changes_between (made breakpoints tests each watched depth) before after) ≡ false
+nowhere_parts breakpoints tests false [] None state before after is =
     let some = list_any (λ breakpoint. breakpoint) breakpoints in
     let none = not-true some
     (and_parts (not some) true
     (and_parts (not some && true) true is).0).0 in
-    ap (λ b. ((state.at.action == 0 && b) || false) || false)
-    (none-breakpoint breakpoints state.at.statement none)
-    ∙ ap (λ b. (b || false) || false) (and-false (state.at.action == 0))
-nowhere-parts breakpoints [] (Some depth) state before after is =
+    ap (λ b. (((state.at.action == 0 && b) && meets tests state) || false) || false)
+    (none_breakpoint breakpoints state.at.statement none)
+    ∙ ap (λ b. ((b && meets tests state) || false) || false) (and-false (state.at.action == 0))
+nowhere_parts breakpoints tests true [] depth state before after is =
     let none = not (list_any (λ breakpoint. breakpoint) breakpoints) && true in
     let wrong : false ≡ true = (and_parts none false is).1 in
     absurd (cc)
-nowhere-parts breakpoints (chain ∷ chains) depth state before after is =
+nowhere_parts breakpoints tests false [] (Some depth) state before after is =
+    let none = not (list_any (λ breakpoint. breakpoint) breakpoints) && true in
+    let wrong : false ≡ true = (and_parts none false is).1 in
+    absurd (cc)
+nowhere_parts breakpoints tests each (chain ∷ chains) depth state before after is =
     let some = not (list_any (λ breakpoint. breakpoint) breakpoints) in
     let none = length (chain ∷ chains) == 0 in
     let wrong : length (chain ∷ chains) ≡ 0 =
     eqb-true (length (chain ∷ chains)) 0
-    (and_parts some none (and_parts (some && none) (is_none depth) is).0).1 in
+    (and_parts some none (and_parts (some && none) (not each && is_none depth) is).0).1 in
     absurd (omega (arith, wrong))
 
-nowhere-at : (stop : Stop) (state before after : State) → stops_nowhere stop ≡ true →
+nowhere_at : (stop : Stop) (state before after : State) → stops_nowhere stop ≡ true →
     (stops_at stop state || changes_between stop before after) ≡ false
-nowhere-at stop state before after is =
-    nowhere-parts stop.breakpoints stop.watched stop.depth state before after is
+nowhere_at stop state before after is =
+    nowhere_parts stop.breakpoints stop.tests stop.each stop.watched stop.depth state before after is
 
-pub nowhere-forward : (rule : Rule) (context : RunContext) (stop : Stop) (from : ℕ) →
+pub nowhere_forward : (rule : Rule) (context : RunContext) (stop : Stop) (from : ℕ) →
     stops_nowhere stop ≡ true → next_stop rule context stop from ≡ last_number rule context
 unfolding next_stop stops_forward Answers
-nowhere-forward rule context stop from is =
+nowhere_forward rule context stop from is =
     let last = last_number rule context in
     let test : ℕ → Bool = λ n. nat_lt from n && stops_forward rule context stop n in
     let found : least (suc last) test ≡ None =
-    answers-alone (suc last) test (least (suc last) test) None (least-answers (suc last) test)
+    answers_alone (suc last) test (least (suc last) test) None (least_answers (suc last) test)
     (λ k within. ap (λ b. nat_lt from k && b)
-    (nowhere-at stop (state_at rule context k) (state_at rule context (k - 1))
+    (nowhere_at stop (state_at rule context k) (state_at rule context (k - 1))
     (state_at rule context k) is) ∙ and-false (nat_lt from k)) in
     ap (λ answer. unwrap_or answer last) found
 
-pub nowhere-back : (rule : Rule) (context : RunContext) (stop : Stop) (from : ℕ) →
+pub nowhere_back : (rule : Rule) (context : RunContext) (stop : Stop) (from : ℕ) →
     stops_nowhere stop ≡ true → previous_stop rule context stop from ≡ 0
 unfolding previous_stop stops_back
-nowhere-back rule context stop from is =
+nowhere_back rule context stop from is =
     ap (λ answer. unwrap_or answer 0)
-    (greatest-none from (stops_back rule context stop)
-    (λ k from' below. nowhere-at stop (state_at rule context k) (state_at rule context k)
+    (greatest_none from (stops_back rule context stop)
+    (λ k from' below. nowhere_at stop (state_at rule context k) (state_at rule context k)
     (state_at rule context (k + 1)) is))

@@ -1,35 +1,75 @@
 -- Where one stops that goes through a run, forward or back.
-use Rattle.std.specs.Prelude.{ℕ, ◌==◌, nat_le, Bool, false, true, not, ◌&&◌, ◌||◌, List, [], ◌∷◌, length, map, replicate, Option, Some, None, slice_index_or, is_none}
+use Rattle.std.specs.Prelude.{ℕ, ◌==◌, nat_le, Bool, false, true, not, ◌&&◌, ◌||◌, List, [], ◌∷◌, length, map, replicate, Option, Some, None, Result, Ok, Err, slice_index_or, is_none}
 use Rattle.std.specs.List.{list_any}
 use Rattle.std.specs.Result.{result_ok}
+use Rattle.l6_prog.specs.declared.condition.Test.{Test}
 use Rattle.l6_prog.specs.declared.operand.Operand.TheVariants.{Chain}
+use Rattle.l6_steps.specs.Condition.{holds}
 use Rattle.l6_steps.specs.Locus.{read}
 use Rattle.l6_steps.specs.State.{Memory, State}
+use Rattle.l6_steps.specs.declared.trap.Trap.{Trap}
 
--- one stops at the statements that have a breakpoint, where a watched chain reads as another value
--- than in the state from which one comes, and where no more calls wait than this
+-- one stops at the statements that have a breakpoint, where its test holds if it has one; where a watched
+-- chain reads as another value than in the state from which one comes; at each statement; and where no more
+-- calls wait than this, at statements alone if one stops at each
 pub record Stop : Type 0 where
   pub breakpoints : List Bool
+  pub tests : List (Option Test)
+  pub each : Bool
   pub watched : List (List ℕ)
   pub depth : Option ℕ
 
 -- one stops nowhere in a program of so many statements
 abbrev pub nowhere : ℕ → Stop
-nowhere statements = record { breakpoints = replicate statements false; watched = []; depth = None }
+nowhere statements = record {
+  breakpoints = replicate statements false;
+  tests = replicate statements None;
+  each = false;
+  watched = [];
+  depth = None;
+}
 
--- a state is at the condition of a statement that has a breakpoint
+-- a state is at the condition of a statement
+abbrev pub is_at_statement : State → Bool
+is_at_statement state = state.at.action == 0
+
+-- it is one that has a breakpoint
 abbrev pub is_at_breakpoint : List Bool → State → Bool
 is_at_breakpoint breakpoints state =
-    state.at.action == 0 && slice_index_or breakpoints state.at.statement false
+    is_at_statement state && slice_index_or breakpoints state.at.statement false
+
+-- the test of a breakpoint holds, or meets a trap
+abbrev pub passes : Result Bool Trap → Bool
+passes (Ok does_hold) = does_hold
+passes (Err trap) = true
+
+abbrev pub is_met : Memory → Option Test → Bool
+is_met memory None = true
+is_met memory (Some test) = passes (holds test memory)
+
+-- the breakpoint of the statement has no test, or one that is met
+abbrev pub meets : List (Option Test) → State → Bool
+meets tests state = is_met state.memory (slice_index_or tests state.at.statement None)
+
+-- one stops there
+abbrev pub breaks_at : Stop → State → Bool
+breaks_at stop state = is_at_breakpoint stop.breakpoints state && meets stop.tests state
 
 -- no more calls wait than this
 abbrev pub is_shallow : Option ℕ → State → Bool
 is_shallow None state = false
 is_shallow (Some depth) state = nat_le (length state.memory.returns) depth
 
+-- a state is wanted: one at which no more calls wait than this; or where a statement begins, and then, with
+-- such a depth, only if no more calls wait
+abbrev pub is_wanted : Bool → Option ℕ → State → Bool
+is_wanted false depth state = is_shallow depth state
+is_wanted true None state = is_at_statement state
+is_wanted true (Some depth) state = is_at_statement state && is_shallow (Some depth) state
+
 -- one stops at the state, wherever one comes from
 abbrev pub stops_at : Stop → State → Bool
-stops_at stop state = is_at_breakpoint stop.breakpoints state || is_shallow stop.depth state
+stops_at stop state = breaks_at stop state || is_wanted stop.each stop.depth state
 
 -- what a chain reads as, or nothing where it can't be followed
 abbrev pub value_of : Memory → List ℕ → Option ℕ
@@ -60,4 +100,4 @@ changes_between stop before after =
 abbrev pub stops_nowhere : Stop → Bool
 stops_nowhere stop =
     not (list_any (λ breakpoint. breakpoint) stop.breakpoints) && (length stop.watched == 0)
-    && is_none stop.depth
+    && (not stop.each && is_none stop.depth)

@@ -9,6 +9,7 @@ mod ring;
 mod seeking;
 mod snapshot;
 mod stop;
+mod testing;
 mod watches;
 
 pub use history::History;

@@ -10,7 +10,7 @@ ghost use Rattle.l6_history.specs.inner.Seeking.{ComesTo, IsLastIn, later_of};
 use crate::history::History;
 use crate::snapshot::Snapshot;
 use crate::stop::Stop;
-use crate::watches::{BreakpointWatch, BugWatch, ChainWatch, ChangeWatch, PlaceWatch};
+use crate::watches::{BreakpointWatch, BugWatch, ChainWatch, ChangeWatch, StateWatch};
 use l6_machine::Watch;
 use l6_store::Places;
 use std::alloc::Global;
@@ -29,10 +29,10 @@ impl<S: Places> History<S> {
             return;
         }
         if stop.watched().len() == 0 {
-            if !stop.has_depth() {
+            if !stop.looks_further() {
                 return self.to_watched(alloc, &BreakpointWatch::new(stop));
             }
-            return self.to_watched(alloc, &PlaceWatch::new(stop));
+            return self.to_watched(alloc, &StateWatch::new(stop));
         }
         match stop.watched_bug() {
             Some(bug) => {
@@ -41,7 +41,7 @@ impl<S: Places> History<S> {
             }
             None => {
                 let watch = ChainWatch::new(alloc, stop, self.machine());
-                if stop.has_places() {
+                if stop.may_stop() {
                     return self.to_watched(alloc, &watch);
                 }
                 self.to_watched(alloc, &ChangeWatch::new(watch));

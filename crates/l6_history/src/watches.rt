@@ -25,7 +25,7 @@ pub(crate) struct BreakpointWatch<'a> {
 }
 
 impl<'a> BreakpointWatch<'a> {
-    /// By a stop, without its depth and the chains that it watches.
+    /// By a stop, without its other states and the chains that it watches.
     pub(crate) fn new(stop: &'a Stop) -> Self
         ensures { result.stop.now ≡ stop.now }
     {
@@ -35,9 +35,9 @@ impl<'a> BreakpointWatch<'a> {
 
 impl<'a, S: Places> Watch<S> for BreakpointWatch<'a> {
     ghost use Rattle.std.specs.Prelude.{⊤, false};
-    ghost use Rattle.l6_history.specs.Stop.{is_at_breakpoint};
+    ghost use Rattle.l6_history.specs.Stop.{breaks_at};
 
-    ghost stops = { λ w state. is_at_breakpoint w.stop.now.breakpoints state };
+    ghost stops = { λ w state. breaks_at w.stop.now state };
 
     ghost changed = { λ _ _. false };
 
@@ -45,7 +45,7 @@ impl<'a, S: Places> Watch<S> for BreakpointWatch<'a> {
 
     #[inline(always)]
     fn is_at_stop(&self, machine: &Machine<S>) -> bool {
-        self.stop.is_at_breakpoint(machine)
+        self.stop.breaks_at(machine)
     }
 
     #[inline(always)]
@@ -59,22 +59,22 @@ impl<'a, S: Places> Watch<S> for BreakpointWatch<'a> {
     }
 }
 
-/// One watches for breakpoints, and for how many calls wait.
+/// One watches for breakpoints, for statements, and for how many calls wait.
 #[derive(Drop)]
-pub(crate) struct PlaceWatch<'a> {
+pub(crate) struct StateWatch<'a> {
     stop: &'a Stop,
 }
 
-impl<'a> PlaceWatch<'a> {
+impl<'a> StateWatch<'a> {
     /// By a stop, without the chains that it watches.
     pub(crate) fn new(stop: &'a Stop) -> Self
         ensures { result.stop.now ≡ stop.now }
     {
-        PlaceWatch { stop }
+        StateWatch { stop }
     }
 }
 
-impl<'a, S: Places> Watch<S> for PlaceWatch<'a> {
+impl<'a, S: Places> Watch<S> for StateWatch<'a> {
     ghost use Rattle.std.specs.Prelude.{⊤, false};
     ghost use Rattle.l6_history.specs.Stop.{stops_at};
 
@@ -232,7 +232,7 @@ impl<'a, S: Places> Watch<S> for ChainWatch<'a> {
     }
 }
 
-/// One watches what chains read as alone: there are no breakpoints, and no depth.
+/// One watches what chains read as alone: there is no state at which one stops.
 #[derive(Drop)]
 pub(crate) struct ChangeWatch<'a> {
     chains: ChainWatch<'a>,
@@ -247,7 +247,7 @@ impl<'a> Model for ChangeWatch<'a> {
 }
 
 impl<'a> ChangeWatch<'a> {
-    /// The chains of a watch, without the places at which one stops.
+    /// The chains of a watch, without the states at which one stops.
     pub(crate) fn new(chains: ChainWatch<'a>) -> Self
         ensures { result ≡ chains.entry }
     {

@@ -7,11 +7,11 @@ use Rattle.l6_image.specs.inner.decode.Statements.{many, with_front}
 use Rattle.l6_image.specs.inner.decode.Seen.{Fails}
 
 -- one more in front of others
-with_front-more : {A : Type 0} (front : List A) (x : A) (others : Option (List A × List ℕ)) →
+with_front_more : {A : Type 0} (front : List A) (x : A) (others : Option (List A × List ℕ)) →
     with_front front (others >>= (λ found. Some (x ∷ found.0, found.1)))
     ≡ with_front (front ++ x ∷ []) others
-with_front-more front x None = refl
-with_front-more front x (Some found) =
+with_front_more front x None = refl
+with_front_more front x (Some found) =
     ap (λ xs. Some (xs, found.1)) (sym (append_assoc front (x ∷ []) found.0))
 
 module _ {A : Type 0} (at : List ℕ → Option (A × List ℕ)) (front : List A) (count counter : ℕ)
@@ -25,7 +25,7 @@ module _ {A : Type 0} (at : List ℕ → Option (A × List ℕ)) (front : List A
       with_front front (many at (count - counter) rest) ≡ many at count words →
       with_front (front ++ x ∷ []) (many at (count - (counter + 1)) following) ≡ many at count words
   goes_on x following words more read so_far =
-      sym (with_front-more front x (many at (count - (counter + 1)) following))
+      sym (with_front_more front x (many at (count - (counter + 1)) following))
       ∙ sym (ap (λ n. with_front front (many at n rest)) (left more)
       ∙ ap (λ found. with_front front (found >>= (λ first.
       many at (count - (counter + 1)) first.1 >>= (λ others. Some (first.0 ∷ others.0, others.1)))))

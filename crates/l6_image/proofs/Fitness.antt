@@ -23,84 +23,84 @@ use Rattle.l6_image.specs.Image.{header, test_words, operation_words, words_in_s
 use Rattle.l6_image.specs.Version.{magic, most_in}
 use Rattle.l6_image.specs.declared.version.Version.{Version}
 use Rattle.l6_image.specs.declared.version.Version.TheVariants.{One, Two}
-use Rattle.l6_image.proofs.Packing.{packed-below}
+use Rattle.l6_image.proofs.Packing.{packed_below}
 use Rattle.l6_image.proofs.Sixes.{each_name}
-use Rattle.l6_image.proofs.Slots.{item-below, name-small, code-small, text-known, length-sixes}
+use Rattle.l6_image.proofs.Slots.{item_below, name_small, code_small, text_known, length_sixes}
 use Rattle.l6_image.proofs.Found.{Known, head_fields, head_fit}
 use Rattle.l6_image.proofs.Knowing.{Each, KnownStatement, known_program, known_parts, KnownOperation, known_test, known_operation, known_statement}
-use Rattle.l6_image.proofs.Programs.{header_fields, header_fit, most-below}
+use Rattle.l6_image.proofs.Programs.{header_fields, header_fit, most_below}
 
 -- these are words, and at most so many
 pub record Fine (most : ℕ) (these : List ℕ) : Type 0 where
   pub words : list_all is_word these ≡ true
   pub count : length these ≤ most
 
-is_word-below : (n : ℕ) → n < 2 ^ word_bits → is_word n ≡ true
-is_word-below n below = lt-ltb n (2 ^ word_bits) below
+is_word_below : (n : ℕ) → n < 2 ^ word_bits → is_word n ≡ true
+is_word_below n below = lt-ltb n (2 ^ word_bits) below
 
-fine-one : (word : ℕ) → word < 2 ^ word_bits → Fine 1 (word ∷ [])
-fine-one word below =
-    record { words = rw (is_word-below word below) refl; count = omega arith }
+fine_one : (word : ℕ) → word < 2 ^ word_bits → Fine 1 (word ∷ [])
+fine_one word below =
+    record { words = rw (is_word_below word below) refl; count = omega arith }
 
-fine-append : (most more : ℕ) (xs ys : List ℕ) → Fine most xs → Fine more ys →
+fine_append : (most more : ℕ) (xs ys : List ℕ) → Fine most xs → Fine more ys →
     Fine (most + more) (xs ++ ys)
-fine-append most more xs ys one other =
+fine_append most more xs ys one other =
     record {
       words = list_all-append is_word xs ys ∙ rw (one.words, other.words) refl;
       count = omega (arith, length-append xs ys, one.count, other.count);
     }
 
-fine-cons : (most word : ℕ) (xs : List ℕ) → word < 2 ^ word_bits → Fine most xs →
+fine_cons : (most word : ℕ) (xs : List ℕ) → word < 2 ^ word_bits → Fine most xs →
     Fine (1 + most) (word ∷ xs)
-fine-cons most word xs below fine = fine-append 1 most (word ∷ []) xs (fine-one word below) fine
+fine_cons most word xs below fine = fine_append 1 most (word ∷ []) xs (fine_one word below) fine
 
-fine-more : (most more : ℕ) (xs : List ℕ) → most ≤ more → Fine most xs → Fine more xs
-fine-more most more xs less fine =
+fine_more : (most more : ℕ) (xs : List ℕ) → most ≤ more → Fine most xs → Fine more xs
+fine_more most more xs less fine =
     record { words = fine.words; count = omega (arith, fine.count, less) }
 
-fine-flat_map : {A : Type 0} (P : A → Type 0) (f : A → List ℕ) (most : ℕ) →
+fine_flat_map : {A : Type 0} (P : A → Type 0) (f : A → List ℕ) (most : ℕ) →
     ((x : A) → P x → Fine most (f x)) → (xs : List A) → Each P xs →
     Fine (length xs * most) (flat_map f xs)
-fine-flat_map P f most fine [] each = record { words = refl; count = omega arith }
-fine-flat_map P f most fine (x ∷ xs) each =
-    let both = fine-append most (length xs * most) (f x) (flat_map f xs) (fine x each.0)
-    (fine-flat_map P f most fine xs each.1) in
+fine_flat_map P f most fine [] each = record { words = refl; count = omega arith }
+fine_flat_map P f most fine (x ∷ xs) each =
+    let both = fine_append most (length xs * most) (f x) (flat_map f xs) (fine x each.0)
+    (fine_flat_map P f most fine xs each.1) in
     record {
       words = ap (list_all is_word) (flat_map-cons f x xs) ∙ both.words;
       count = omega (arith, ap length (flat_map-cons f x xs), both.count);
     }
 
 -- a word of six items is one
-six-below : (p : ℕ → Bool) → ((n : ℕ) → p n ≡ true → n < 2 ^ 6) → (filling : ℕ) →
+six_below : (p : ℕ → Bool) → ((n : ℕ) → p n ≡ true → n < 2 ^ 6) → (filling : ℕ) →
     filling < 2 ^ 6 → (items : List ℕ) → list_all p items ≡ true →
     six filling items < 2 ^ word_bits
-six-below p small filling below items each =
-    let fits = λ (place : ℕ). item-below p small filling below items place each in
-    packed-below (item filling items 0 ∷ item filling items 1 ∷ item filling items 2
+six_below p small filling below items each =
+    let fits = λ (place : ℕ). item_below p small filling below items place each in
+    packed_below (item filling items 0 ∷ item filling items 1 ∷ item filling items 2
     ∷ item filling items 3 ∷ item filling items 4 ∷ item filling items 5 ∷ [])
     (fits 0, (fits 1, (fits 2, (fits 3, (fits 4, (fits 5, tt))))))
 
-codes-below : (codes : List ℕ) → list_all may_print codes ≡ true → six 0 codes < 2 ^ word_bits
-codes-below codes each = six-below may_print code-small 0 (omega arith) codes each
+codes_below : (codes : List ℕ) → list_all may_print codes ≡ true → six 0 codes < 2 ^ word_bits
+codes_below codes each = six_below may_print code_small 0 (omega arith) codes each
 
 -- the words of codes are words
-sixes-words : (codes : List ℕ) → list_all may_print codes ≡ true →
+sixes_words : (codes : List ℕ) → list_all may_print codes ≡ true →
     list_all is_word (sixes codes) ≡ true
-sixes-words [] each = refl
-sixes-words (a ∷ []) each = (fine-one (six 0 (a ∷ [])) (codes-below (a ∷ []) each)).words
-sixes-words (a ∷ b ∷ []) each =
-    (fine-one (six 0 (a ∷ b ∷ [])) (codes-below (a ∷ b ∷ []) each)).words
-sixes-words (a ∷ b ∷ c ∷ []) each =
-    (fine-one (six 0 (a ∷ b ∷ c ∷ [])) (codes-below (a ∷ b ∷ c ∷ []) each)).words
-sixes-words (a ∷ b ∷ c ∷ d ∷ []) each =
-    (fine-one (six 0 (a ∷ b ∷ c ∷ d ∷ [])) (codes-below (a ∷ b ∷ c ∷ d ∷ []) each)).words
-sixes-words (a ∷ b ∷ c ∷ d ∷ e ∷ []) each =
-    (fine-one (six 0 (a ∷ b ∷ c ∷ d ∷ e ∷ [])) (codes-below (a ∷ b ∷ c ∷ d ∷ e ∷ []) each)).words
-sixes-words (a ∷ b ∷ c ∷ d ∷ e ∷ f ∷ codes) each =
+sixes_words [] each = refl
+sixes_words (a ∷ []) each = (fine_one (six 0 (a ∷ [])) (codes_below (a ∷ []) each)).words
+sixes_words (a ∷ b ∷ []) each =
+    (fine_one (six 0 (a ∷ b ∷ [])) (codes_below (a ∷ b ∷ []) each)).words
+sixes_words (a ∷ b ∷ c ∷ []) each =
+    (fine_one (six 0 (a ∷ b ∷ c ∷ [])) (codes_below (a ∷ b ∷ c ∷ []) each)).words
+sixes_words (a ∷ b ∷ c ∷ d ∷ []) each =
+    (fine_one (six 0 (a ∷ b ∷ c ∷ d ∷ [])) (codes_below (a ∷ b ∷ c ∷ d ∷ []) each)).words
+sixes_words (a ∷ b ∷ c ∷ d ∷ e ∷ []) each =
+    (fine_one (six 0 (a ∷ b ∷ c ∷ d ∷ e ∷ [])) (codes_below (a ∷ b ∷ c ∷ d ∷ e ∷ []) each)).words
+sixes_words (a ∷ b ∷ c ∷ d ∷ e ∷ f ∷ codes) each =
     let front : List ℕ = a ∷ b ∷ c ∷ d ∷ e ∷ f ∷ [] in
     let parts = and_parts (list_all may_print front) (list_all may_print codes)
     (sym (list_all-append may_print front codes) ∙ each) in
-    rw (is_word-below (six 0 front) (codes-below front parts.0), sixes-words codes parts.1) refl
+    rw (is_word_below (six 0 front) (codes_below front parts.0), sixes_words codes parts.1) refl
 
 -- the most words that an operand, a row and a statement have
 abbrev pub most_of_slot : ℕ
@@ -112,21 +112,21 @@ most_of_row = 1 + (most_of_slot + most_of_slot + most_of_slot)
 abbrev pub most_of_statement : ℕ
 most_of_statement = 5000
 
-fine-slot : (slot : Slot) → is_slot slot ≡ true → Fine most_of_slot (slot_words slot)
-fine-slot absent known = record { words = refl; count = omega arith }
-fine-slot (chain names) known =
-    fine-more 1 most_of_slot (six no_name names ∷ []) (omega arith)
-    (fine-one (six no_name names)
-    (six-below is_name name-small no_name (omega arith) names (each_name names known)))
-fine-slot (number n) known =
-    fine-more 1 most_of_slot (n ∷ []) (omega arith)
-    (fine-one n (ltb-true n (2 ^ word_bits) known))
-fine-slot (text codes) known =
-    let is = text-known codes known in
-    fine-cons 10 (length codes) (sixes codes) (omega (arith, is.few))
+fine_slot : (slot : Slot) → is_slot slot ≡ true → Fine most_of_slot (slot_words slot)
+fine_slot absent known = record { words = refl; count = omega arith }
+fine_slot (chain names) known =
+    fine_more 1 most_of_slot (six no_name names ∷ []) (omega arith)
+    (fine_one (six no_name names)
+    (six_below is_name name_small no_name (omega arith) names (each_name names known)))
+fine_slot (number n) known =
+    fine_more 1 most_of_slot (n ∷ []) (omega arith)
+    (fine_one n (ltb-true n (2 ^ word_bits) known))
+fine_slot (text codes) known =
+    let is = text_known codes known in
+    fine_cons 10 (length codes) (sixes codes) (omega (arith, is.few))
     (record {
-      words = sixes-words codes is.each;
-      count = omega (arith, length-sixes codes, is.few);
+      words = sixes_words codes is.each;
+      count = omega (arith, length_sixes codes, is.few);
     })
 
 magic_words : (version : Version) → is_word (magic version) ≡ true
@@ -139,12 +139,12 @@ module _ (version : Version) where
       let a = slot_words row.first in
       let b = slot_words row.second in
       let c = slot_words row.third in
-      fine-cons (most_of_slot + most_of_slot + most_of_slot) (row_head version row) (a ++ b ++ c)
-      (packed-below (head_fields version row) (head_fit version row known))
-      (fine-append (most_of_slot + most_of_slot) most_of_slot (a ++ b) c
-      (fine-append most_of_slot most_of_slot a b (fine-slot row.first known.first)
-      (fine-slot row.second known.second))
-      (fine-slot row.third known.third))
+      fine_cons (most_of_slot + most_of_slot + most_of_slot) (row_head version row) (a ++ b ++ c)
+      (packed_below (head_fields version row) (head_fit version row known))
+      (fine_append (most_of_slot + most_of_slot) most_of_slot (a ++ b) c
+      (fine_append most_of_slot most_of_slot a b (fine_slot row.first known.first)
+      (fine_slot row.second known.second))
+      (fine_slot row.third known.third))
 
   fine-test : (test : Test) → is_row (row_of_test test) ≡ true →
       Fine most_of_row (test_words version test)
@@ -159,19 +159,19 @@ module _ (version : Version) where
       Fine most_of_statement (words_in_statement version s)
   fine-statement s known =
       let parts = known_parts version s known in
-      let tests = fine-flat_map (λ test. is_row (row_of_test test) ≡ true)
+      let tests = fine_flat_map (λ test. is_row (row_of_test test) ≡ true)
       (test_words version) most_of_row
       fine-test s.tests parts.tests in
-      let operations = fine-flat_map (KnownOperation version)
+      let operations = fine_flat_map (KnownOperation version)
       (operation_words version) most_of_row fine-operation
       s.operations parts.operations in
       let all = flat_map (test_words version) s.tests
       ++ flat_map (operation_words version) s.operations in
-      fine-more (1 + (length s.tests * most_of_row + length s.operations * most_of_row))
+      fine_more (1 + (length s.tests * most_of_row + length s.operations * most_of_row))
       most_of_statement (header s ∷ all) (omega (arith, known.tests, known.operations))
-      (fine-cons (length s.tests * most_of_row + length s.operations * most_of_row) (header s) all
-      (packed-below (header_fields s) (header_fit version s known))
-      (fine-append (length s.tests * most_of_row) (length s.operations * most_of_row)
+      (fine_cons (length s.tests * most_of_row + length s.operations * most_of_row) (header s) all
+      (packed_below (header_fields s) (header_fit version s known))
+      (fine_append (length s.tests * most_of_row) (length s.operations * most_of_row)
       (flat_map (test_words version) s.tests)
       (flat_map (operation_words version) s.operations) tests operations))
 
@@ -185,14 +185,14 @@ module _ (version : Version) where
   unfolding words_in
   words_in-words program has =
       let known = known_program version program has in
-      let fine = fine-flat_map (KnownStatement version)
+      let fine = fine_flat_map (KnownStatement version)
       (words_in_statement version) most_of_statement fine-statement
       program known.each in
       rw (
         magic-word,
-        is_word-below (length program) (omega (arith, known.count, most-below version)),
-        is_word-below (length (body version program))
-            (omega (arith, known.count, fine.count, most-below version)),
+        is_word_below (length program) (omega (arith, known.count, most_below version)),
+        is_word_below (length (body version program))
+            (omega (arith, known.count, fine.count, most_below version)),
         fine.words,
       ) refl
 

@@ -23,8 +23,8 @@ use Rattle.l6_image.specs.Table.{operand, operand_if_given, chain_if_given, code
 use Rattle.l6_image.specs.inner.decode.Fields.{name_if, label_in}
 use Rattle.l6_image.specs.inner.decode.Reading.{row_at}
 use Rattle.l6_image.specs.inner.decode.Back.{comparison_of, chain_in, operand_in, chain_if_given_in, operand_if_given_in, statement_in, text_in, of_two, of_one, test_of, operation_of}
-use Rattle.l6_image.proofs.Packing.{AllFit, unpacked, unpacked-packed, values}
-use Rattle.l6_image.proofs.Slots.{slot-again}
+use Rattle.l6_image.proofs.Packing.{AllFit, unpacked, unpacked_packed, values}
+use Rattle.l6_image.proofs.Slots.{slot_again}
 
 -- what is known of a row of a program
 pub record Known (version : Version) (row : Row) : Type 0 where
@@ -67,22 +67,22 @@ known_row version row code label known =
     }
 
 -- the number of a kind has two bits, that of a name six
-pub kind-below : (slot : Slot) → kind slot < 2 ^ 2
-kind-below absent = omega arith
-kind-below (chain names) = omega arith
-kind-below (number n) = omega arith
-kind-below (text codes) = omega arith
+pub kind_below : (slot : Slot) → kind slot < 2 ^ 2
+kind_below absent = omega arith
+kind_below (chain names) = omega arith
+kind_below (number n) = omega arith
+kind_below (text codes) = omega arith
 
-pub field-below : (field : Option ℕ) → is_field field ≡ true → unwrap_or field no_name < 2 ^ 6
-field-below None known = omega arith
-field-below (Some name) known = omega (arith, ltb-true name name_count known)
+pub field_below : (field : Option ℕ) → is_field field ≡ true → unwrap_or field no_name < 2 ^ 6
+field_below None known = omega arith
+field_below (Some name) known = omega (arith, ltb-true name name_count known)
 
 -- and that of a label eighteen
-pub label-below : (version : Version) (label : Option ℕ) → unwrap_or label 0 < most_in version →
+pub label_below : (version : Version) (label : Option ℕ) → unwrap_or label 0 < most_in version →
     label_number version label < 2 ^ 18
-label-below version None below = omega arith
-label-below One (Some label) below = omega (arith, below)
-label-below Two (Some label) below = omega (arith, below)
+label_below version None below = omega arith
+label_below One (Some label) below = omega (arith, below)
+label_below Two (Some label) below = omega (arith, below)
 
 -- the fields of a row's first word, which have room for what they hold
 abbrev pub head_fields : Version → Row → List BitField
@@ -96,14 +96,14 @@ pub head_fit : (version : Version) (row : Row) → Known version row →
 head_fit version row known = (
   known.code,
   (
-    kind-below row.first,
+    kind_below row.first,
     (
-      kind-below row.second,
+      kind_below row.second,
       (
-        kind-below row.third,
+        kind_below row.third,
         (
-          field-below row.field known.field,
-          (label-below version row.label known.label, tt),
+          field_below row.field known.field,
+          (label_below version row.label known.label, tt),
         ),
       ),
     ),
@@ -111,26 +111,26 @@ head_fit version row known = (
 )
 
 -- a name is found again in its field
-name_if-again : (field : Option ℕ) → is_field field ≡ true →
+name_if_again : (field : Option ℕ) → is_field field ≡ true →
     name_if (unwrap_or field no_name) ≡ field
-name_if-again None known = refl
-name_if-again (Some name) known = rw known refl
+name_if_again None known = refl
+name_if_again (Some name) known = rw known refl
 
 -- a label is found again in its bits
-label_in-again : (version : Version) (word : ℕ) (label : Option ℕ) →
+label_in_again : (version : Version) (word : ℕ) (label : Option ℕ) →
     unwrap_or label 0 < most_in version → word % 2 ^ 18 ≡ label_number version label →
     label_in version word ≡ label
-label_in-again One word None below is =
+label_in_again One word None below is =
     let flagged : word / 2 ^ 12 % 2 ≡ 0 = omega (arith, is) in
     rw flagged refl
-label_in-again One word (Some label) below is =
+label_in_again One word (Some label) below is =
     let flagged : word / 2 ^ 12 % 2 ≡ 1 = omega (arith, is, below) in
     let determined : word % 2 ^ 12 ≡ label = omega (arith, is, below) in
     rw (flagged, determined) refl
-label_in-again Two word None below is =
+label_in_again Two word None below is =
     let determined : word % 2 ^ 16 ≡ 0 = omega (arith, is) in
     rw determined refl
-label_in-again Two word (Some label) below is =
+label_in_again Two word (Some label) below is =
     let determined : word % 2 ^ 16 ≡ suc label = omega (arith, is, below) in
     let some : nat_eq (word % 2 ^ 16) 0 ≡ false =
     ne_eqb (word % 2 ^ 16) 0 (λ none. absurd (omega (arith, determined, none))) in
@@ -138,14 +138,14 @@ label_in-again Two word (Some label) below is =
     rw (some, less) refl
 
 -- a row is found again in words that begin with one that has its fields
-row_at-again : (version : Version) (row : Row) (head : ℕ) (rest : List ℕ) →
+row_at_again : (version : Version) (row : Row) (head : ℕ) (rest : List ℕ) →
     Known version row →
     unpacked (6 ∷ 2 ∷ 2 ∷ 2 ∷ 6 ∷ 18 ∷ []) head ≡ values (head_fields version row) →
     row_at version (head ∷ slot_words row.first
     ++ (slot_words row.second ++ (slot_words row.third ++ rest)))
     ≡ Some (row, rest)
 unfolding row_at
-row_at-again version row head rest known is =
+row_at_again version row head rest known is =
     let at = λ (place : ℕ). ap (λ (xs : List ℕ). get_or xs place 0) is in
     let code : head / 2 ^ 30 % 64 ≡ row.code = at 0 in
     let first : head / 2 ^ 28 % 4 ≡ kind row.first = at 1 in
@@ -157,89 +157,89 @@ row_at-again version row head rest known is =
     ap (λ n. n % 2 ^ 18) whole ∙ at 5 in
     rw (
       first,
-      slot-again row.first (slot_words row.second ++ (slot_words row.third ++ rest))
+      slot_again row.first (slot_words row.second ++ (slot_words row.third ++ rest))
           known.first,
       second,
-      slot-again row.second (slot_words row.third ++ rest) known.second,
+      slot_again row.second (slot_words row.third ++ rest) known.second,
       third,
-      slot-again row.third rest known.third,
+      slot_again row.third rest known.third,
       code,
       field,
-      name_if-again row.field known.field,
-      label_in-again version head row.label known.label labelled,
+      name_if_again row.field known.field,
+      label_in_again version head row.label known.label labelled,
     ) refl
 
 -- a row is found again in its words, and what follows them
-pub row-again : (version : Version) (row : Row) (rest : List ℕ) → Known version row →
+pub row_again : (version : Version) (row : Row) (rest : List ℕ) → Known version row →
     row_at version (row_words version row ++ rest) ≡ Some (row, rest)
-row-again version row rest known =
+row_again version row rest known =
     let a = slot_words row.first in
     let b = slot_words row.second in
     let c = slot_words row.third in
     let regrouped : (a ++ b ++ c) ++ rest ≡ a ++ (b ++ (c ++ rest)) =
     append_assoc (a ++ b) c rest ∙ append_assoc a b (c ++ rest) in
     ap (λ xs. row_at version (row_head version row ∷ xs)) regrouped
-    ∙ row_at-again version row (row_head version row) rest known
-    (unpacked-packed (head_fields version row) (head_fit version row known))
+    ∙ row_at_again version row (row_head version row) rest known
+    (unpacked_packed (head_fields version row) (head_fit version row known))
 
 -- operands are found again in their slots
-chain-again : (names : List ℕ) → is_slot (chain names) ≡ true → chain_in (chain names) ≡ Some names
+chain_again : (names : List ℕ) → is_slot (chain names) ≡ true → chain_in (chain names) ≡ Some names
 unfolding chain_in
-chain-again names known = rw known refl
+chain_again names known = rw known refl
 
-operand-again : (v : Operand) → is_slot (operand v) ≡ true → operand_in (operand v) ≡ Some v
+operand_again : (v : Operand) → is_slot (operand v) ≡ true → operand_in (operand v) ≡ Some v
 unfolding operand_in
-operand-again (Chain names) known = rw known refl
-operand-again (Number n) known = rw known refl
+operand_again (Chain names) known = rw known refl
+operand_again (Number n) known = rw known refl
 
-chain_if_given-again : (d : Option (List ℕ)) → is_slot (chain_if_given d) ≡ true →
+chain_if_given_again : (d : Option (List ℕ)) → is_slot (chain_if_given d) ≡ true →
     chain_if_given_in (chain_if_given d) ≡ Some d
 unfolding chain_if_given_in
-chain_if_given-again None known = refl
-chain_if_given-again (Some names) known = rw known refl
+chain_if_given_again None known = refl
+chain_if_given_again (Some names) known = rw known refl
 
-operand_if_given-again : (v : Option Operand) → is_slot (operand_if_given v) ≡ true →
+operand_if_given_again : (v : Option Operand) → is_slot (operand_if_given v) ≡ true →
     operand_if_given_in (operand_if_given v) ≡ Some v
 unfolding operand_if_given_in operand_in
-operand_if_given-again None known = refl
-operand_if_given-again (Some (Chain names)) known = rw known refl
-operand_if_given-again (Some (Number n)) known = rw known refl
+operand_if_given_again None known = refl
+operand_if_given_again (Some (Chain names)) known = rw known refl
+operand_if_given_again (Some (Number n)) known = rw known refl
 
-statement-again : (n : ℕ) → n < 2 ^ 16 → statement_in (number n) ≡ Some n
+statement_again : (n : ℕ) → n < 2 ^ 16 → statement_in (number n) ≡ Some n
 unfolding statement_in
-statement-again n below = rw (lt-ltb n (2 ^ 16) below) refl
+statement_again n below = rw (lt-ltb n (2 ^ 16) below) refl
 
-text-again : (codes : List ℕ) → is_slot (text codes) ≡ true → text_in (text codes) ≡ Some codes
+text_again : (codes : List ℕ) → is_slot (text codes) ≡ true → text_in (text codes) ≡ Some codes
 unfolding text_in
-text-again codes known = rw known refl
+text_again codes known = rw known refl
 
 -- what has a chain and an operand is found again
-two-again : {A : Type 0} (make : List ℕ → Operand → A) (code : ℕ) (c : List ℕ) (v : Operand)
+two_again : {A : Type 0} (make : List ℕ → Operand → A) (code : ℕ) (c : List ℕ) (v : Operand)
     (third : Slot) (field label : Option ℕ) →
     is_row (row code (chain c) (operand v) third field label) ≡ true →
     of_two make (row code (chain c) (operand v) third field label) ≡ Some (make c v)
-two-again make code c v third field label known =
+two_again make code c v third field label known =
     let is = parts_of (row code (chain c) (operand v) third field label) known in
-    rw (chain-again c is.first, operand-again v is.second) refl
+    rw (chain_again c is.first, operand_again v is.second) refl
 
 -- what has a chain
-one-again : {A : Type 0} (make : List ℕ → A) (code : ℕ) (c : List ℕ)
+one_again : {A : Type 0} (make : List ℕ → A) (code : ℕ) (c : List ℕ)
     (second third : Slot) (field label : Option ℕ) →
     is_row (row code (chain c) second third field label) ≡ true →
     of_one make (row code (chain c) second third field label) ≡ Some (make c)
-one-again make code c second third field label known =
+one_again make code c second third field label known =
     let is = parts_of (row code (chain c) second third field label) known in
-    rw (chain-again c is.first) refl
+    rw (chain_again c is.first) refl
 
 -- a comparison is found again in its code
-comparison-again : (comparison : Comparison) →
+comparison_again : (comparison : Comparison) →
     comparison_of (code_of_comparison comparison) ≡ Some comparison
-comparison-again Equal = refl
-comparison-again NotEqual = refl
-comparison-again Greater = refl
-comparison-again Less = refl
-comparison-again AllOnes = refl
-comparison-again AllZeros = refl
+comparison_again Equal = refl
+comparison_again NotEqual = refl
+comparison_again Greater = refl
+comparison_again Less = refl
+comparison_again AllOnes = refl
+comparison_again AllZeros = refl
 
 -- a test is found again in its row
 pub test_again : (test : Test) → is_row (row_of_test test) ≡ true →
@@ -247,56 +247,56 @@ pub test_again : (test : Test) → is_row (row_of_test test) ≡ true →
 unfolding test_of
 test_again test known =
     let is = parts_of (row_of_test test) known in
-    let found = comparison-again test.comparison in
-    rw (found, chain-again test.chain is.first, operand-again test.operand is.second) refl
+    let found = comparison_again test.comparison in
+    rw (found, chain_again test.chain is.first, operand_again test.operand is.second) refl
 
 -- an operation is found again in its row
 pub operation_again : (operation : Op ℕ) → is_row (row_of operation) ≡ true →
     list_all (is_below (2 ^ 16)) (targets_of_operation operation) ≡ true →
     operation_of (row_of operation) ≡ Some operation
 unfolding operation_of
-operation_again (Set c v) known _ = two-again Set 1 c v absent None None known
-operation_again (Add c v) known _ = two-again Add 2 c v absent None None known
-operation_again (Subtract c v) known _ = two-again Subtract 3 c v absent None None known
-operation_again (Multiply c v) known _ = two-again Multiply 4 c v absent None None known
-operation_again (Divide c v) known _ = two-again Divide 5 c v absent None None known
-operation_again (Remainder c v) known _ = two-again Remainder 6 c v absent None None known
-operation_again (And c v) known _ = two-again And 7 c v absent None None known
-operation_again (Or c v) known _ = two-again Or 8 c v absent None None known
-operation_again (ExclusiveOr c v) known _ = two-again ExclusiveOr 9 c v absent None None known
-operation_again (Complement c v) known _ = two-again Complement 10 c v absent None None known
-operation_again (ShiftLeft c v) known _ = two-again ShiftLeft 11 c v absent None None known
-operation_again (ShiftRight c v) known _ = two-again ShiftRight 12 c v absent None None known
+operation_again (Set c v) known _ = two_again Set 1 c v absent None None known
+operation_again (Add c v) known _ = two_again Add 2 c v absent None None known
+operation_again (Subtract c v) known _ = two_again Subtract 3 c v absent None None known
+operation_again (Multiply c v) known _ = two_again Multiply 4 c v absent None None known
+operation_again (Divide c v) known _ = two_again Divide 5 c v absent None None known
+operation_again (Remainder c v) known _ = two_again Remainder 6 c v absent None None known
+operation_again (And c v) known _ = two_again And 7 c v absent None None known
+operation_again (Or c v) known _ = two_again Or 8 c v absent None None known
+operation_again (ExclusiveOr c v) known _ = two_again ExclusiveOr 9 c v absent None None known
+operation_again (Complement c v) known _ = two_again Complement 10 c v absent None None known
+operation_again (ShiftLeft c v) known _ = two_again ShiftLeft 11 c v absent None None known
+operation_again (ShiftRight c v) known _ = two_again ShiftRight 12 c v absent None None known
 operation_again (Exchange c d) known _ =
     let is = parts_of (row_of (Exchange c d)) known in
-    rw (chain-again c is.first, chain-again d is.second) refl
+    rw (chain_again c is.first, chain_again d is.second) refl
 operation_again (Define f w a z) known _ =
     let is = parts_of (row_of (Define f w a z)) known in
-    rw (operand-again w is.first, operand-again a is.second, operand-again z is.third) refl
-operation_again (SaveContent c) known _ = one-again SaveContent 15 c absent absent None None known
+    rw (operand_again w is.first, operand_again a is.second, operand_again z is.third) refl
+operation_again (SaveContent c) known _ = one_again SaveContent 15 c absent absent None None known
 operation_again (RestoreContent c) known _ =
-    one-again RestoreContent 16 c absent absent None None known
+    one_again RestoreContent 16 c absent absent None None known
 operation_again (SaveDefinition f) known _ = refl
 operation_again (RestoreDefinition f) known _ = refl
 operation_again (Get c v d label) known _ =
     let is = parts_of (row_of (Get c v d label)) known in
-    rw (chain-again c is.first, operand-again v is.second, chain_if_given-again d is.third) refl
+    rw (chain_again c is.first, operand_again v is.second, chain_if_given_again d is.third) refl
 operation_again (Duplicate c v label) known _ =
-    two-again (λ c v. Duplicate c v label) 20 c v absent None label known
+    two_again (λ c v. Duplicate c v label) 20 c v absent None label known
 operation_again (Free c v) known _ =
     let is = parts_of (row_of (Free c v)) known in
-    rw (chain-again c is.first, operand_if_given-again v is.second) refl
+    rw (chain_again c is.first, operand_if_given_again v is.second) refl
 operation_again (Call called fail) known below =
     let first = and_parts (is_below (2 ^ 16) called)
     (list_all (is_below (2 ^ 16)) (option_to_list fail)) below in
-    rw (statement-again called (ltb-true called (2 ^ 16) first.0)) refl
+    rw (statement_again called (ltb-true called (2 ^ 16) first.0)) refl
 operation_again (Input c v label) known _ =
-    two-again (λ c v. Input c v label) 23 c v absent None label known
+    two_again (λ c v. Input c v label) 23 c v absent None label known
 operation_again (PrintCharacters c v) known _ =
-    two-again PrintCharacters 24 c v absent None None known
-operation_again (PrintDecimal c) known _ = one-again PrintDecimal 25 c absent absent None None known
-operation_again (PrintOctal c) known _ = one-again PrintOctal 26 c absent absent None None known
+    two_again PrintCharacters 24 c v absent None None known
+operation_again (PrintDecimal c) known _ = one_again PrintDecimal 25 c absent absent None None known
+operation_again (PrintOctal c) known _ = one_again PrintOctal 26 c absent absent None None known
 operation_again (PrintText codes) known _ =
     let is = parts_of (row_of (PrintText codes)) known in
-    rw (text-again codes is.first) refl
+    rw (text_again codes is.first) refl
 operation_again PrintLine known _ = refl

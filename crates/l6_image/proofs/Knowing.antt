@@ -40,22 +40,22 @@ each_of p P passes (x ∷ xs) each =
     (passes x parts.0, each_of p P passes xs parts.1)
 
 -- targets below an end are below a later one
-pub below-more : (end later : ℕ) (targets : List ℕ) → end ≤ later →
+pub below_more : (end later : ℕ) (targets : List ℕ) → end ≤ later →
     list_all (is_below end) targets ≡ true → list_all (is_below later) targets ≡ true
-below-more end later [] more each = refl
-below-more end later (target ∷ targets) more each =
+below_more end later [] more each = refl
+below_more end later (target ∷ targets) more each =
     let parts = and_parts (is_below end target) (list_all (is_below end) targets) each in
     let below : target < later = omega (arith, ltb-true target end parts.0, more) in
-    rw (lt-ltb target later below, below-more end later targets more parts.1) refl
+    rw (lt-ltb target later below, below_more end later targets more parts.1) refl
 
 -- a program of each version may have a statement
-some-most : (version : Version) → 0 < most_in version
-some-most One = omega arith
-some-most Two = omega arith
+some_most : (version : Version) → 0 < most_in version
+some_most One = omega arith
+some_most Two = omega arith
 
-most-word : (version : Version) → most_in version < 2 ^ word_bits
-most-word One = omega arith
-most-word Two = omega arith
+most_word : (version : Version) → most_in version < 2 ^ word_bits
+most_word One = omega arith
+most_word Two = omega arith
 
 module _ (version : Version) where
   -- what is known of a statement of a program
@@ -101,7 +101,7 @@ module _ (version : Version) where
       let few = nat_le (length program) most_statements in
       let parts = and_parts few (list_all fits program) is.limits in
       let below : list_all (is_below (most_in version)) (flat_map targets_of program) ≡ true =
-      below-more (length program) (most_in version) (flat_map targets_of program)
+      below_more (length program) (most_in version) (flat_map targets_of program)
       has.few is.targets in
       record {
         count = has.few;
@@ -110,11 +110,11 @@ module _ (version : Version) where
       }
 
   -- a label is below an end, or there is none
-  label-below : (label : Option ℕ) →
+  label_below : (label : Option ℕ) →
       list_all (is_below (most_in version)) (option_to_list label) ≡ true →
       unwrap_or label 0 < (most_in version)
-  label-below None each = some-most version
-  label-below (Some label) each =
+  label_below None each = some_most version
+  label_below (Some label) each =
       ltb-true label (most_in version) (and_parts (is_below (most_in version) label) true each).0
 
   -- the code of a test has six bits
@@ -129,70 +129,70 @@ module _ (version : Version) where
   -- the row of a test is known
   pub known_test : (test : Test) → is_row (row_of_test test) ≡ true → Known version (row_of_test test)
   known_test test known =
-      known_row version (row_of_test test) (code-below test.comparison) (some-most version) known
+      known_row version (row_of_test test) (code-below test.comparison) (some_most version) known
 
   -- so is that of an operation
   pub known_operation : (operation : Op ℕ) → is_row (row_of operation) ≡ true →
       list_all (is_below (most_in version)) (targets_of_operation operation) ≡ true →
       Known version (row_of operation)
   known_operation (Set c v) known _ =
-      known_row version (row_of (Set c v)) (omega arith) (some-most version) known
+      known_row version (row_of (Set c v)) (omega arith) (some_most version) known
   known_operation (Add c v) known _ =
-      known_row version (row_of (Add c v)) (omega arith) (some-most version) known
+      known_row version (row_of (Add c v)) (omega arith) (some_most version) known
   known_operation (Subtract c v) known _ =
-      known_row version (row_of (Subtract c v)) (omega arith) (some-most version) known
+      known_row version (row_of (Subtract c v)) (omega arith) (some_most version) known
   known_operation (Multiply c v) known _ =
-      known_row version (row_of (Multiply c v)) (omega arith) (some-most version) known
+      known_row version (row_of (Multiply c v)) (omega arith) (some_most version) known
   known_operation (Divide c v) known _ =
-      known_row version (row_of (Divide c v)) (omega arith) (some-most version) known
+      known_row version (row_of (Divide c v)) (omega arith) (some_most version) known
   known_operation (Remainder c v) known _ =
-      known_row version (row_of (Remainder c v)) (omega arith) (some-most version) known
+      known_row version (row_of (Remainder c v)) (omega arith) (some_most version) known
   known_operation (And c v) known _ =
-      known_row version (row_of (And c v)) (omega arith) (some-most version) known
+      known_row version (row_of (And c v)) (omega arith) (some_most version) known
   known_operation (Or c v) known _ =
-      known_row version (row_of (Or c v)) (omega arith) (some-most version) known
+      known_row version (row_of (Or c v)) (omega arith) (some_most version) known
   known_operation (ExclusiveOr c v) known _ =
-      known_row version (row_of (ExclusiveOr c v)) (omega arith) (some-most version) known
+      known_row version (row_of (ExclusiveOr c v)) (omega arith) (some_most version) known
   known_operation (Complement c v) known _ =
-      known_row version (row_of (Complement c v)) (omega arith) (some-most version) known
+      known_row version (row_of (Complement c v)) (omega arith) (some_most version) known
   known_operation (ShiftLeft c v) known _ =
-      known_row version (row_of (ShiftLeft c v)) (omega arith) (some-most version) known
+      known_row version (row_of (ShiftLeft c v)) (omega arith) (some_most version) known
   known_operation (ShiftRight c v) known _ =
-      known_row version (row_of (ShiftRight c v)) (omega arith) (some-most version) known
+      known_row version (row_of (ShiftRight c v)) (omega arith) (some_most version) known
   known_operation (Exchange c d) known _ =
-      known_row version (row_of (Exchange c d)) (omega arith) (some-most version) known
+      known_row version (row_of (Exchange c d)) (omega arith) (some_most version) known
   known_operation (Define f w a z) known _ =
-      known_row version (row_of (Define f w a z)) (omega arith) (some-most version) known
+      known_row version (row_of (Define f w a z)) (omega arith) (some_most version) known
   known_operation (SaveContent c) known _ =
-      known_row version (row_of (SaveContent c)) (omega arith) (some-most version) known
+      known_row version (row_of (SaveContent c)) (omega arith) (some_most version) known
   known_operation (RestoreContent c) known _ =
-      known_row version (row_of (RestoreContent c)) (omega arith) (some-most version) known
+      known_row version (row_of (RestoreContent c)) (omega arith) (some_most version) known
   known_operation (SaveDefinition f) known _ =
-      known_row version (row_of (SaveDefinition f)) (omega arith) (some-most version) known
+      known_row version (row_of (SaveDefinition f)) (omega arith) (some_most version) known
   known_operation (RestoreDefinition f) known _ =
-      known_row version (row_of (RestoreDefinition f)) (omega arith) (some-most version) known
+      known_row version (row_of (RestoreDefinition f)) (omega arith) (some_most version) known
   known_operation (Get c v d label) known below =
-      known_row version (row_of (Get c v d label)) (omega arith) (label-below label below) known
+      known_row version (row_of (Get c v d label)) (omega arith) (label_below label below) known
   known_operation (Duplicate c v label) known below =
-      known_row version (row_of (Duplicate c v label)) (omega arith) (label-below label below) known
+      known_row version (row_of (Duplicate c v label)) (omega arith) (label_below label below) known
   known_operation (Free c v) known _ =
-      known_row version (row_of (Free c v)) (omega arith) (some-most version) known
+      known_row version (row_of (Free c v)) (omega arith) (some_most version) known
   known_operation (Call called fail) known below =
       let others = (and_parts (is_below (most_in version) called)
       (list_all (is_below (most_in version)) (option_to_list fail)) below).1 in
-      known_row version (row_of (Call called fail)) (omega arith) (label-below fail others) known
+      known_row version (row_of (Call called fail)) (omega arith) (label_below fail others) known
   known_operation (Input c v label) known below =
-      known_row version (row_of (Input c v label)) (omega arith) (label-below label below) known
+      known_row version (row_of (Input c v label)) (omega arith) (label_below label below) known
   known_operation (PrintCharacters c v) known _ =
-      known_row version (row_of (PrintCharacters c v)) (omega arith) (some-most version) known
+      known_row version (row_of (PrintCharacters c v)) (omega arith) (some_most version) known
   known_operation (PrintDecimal c) known _ =
-      known_row version (row_of (PrintDecimal c)) (omega arith) (some-most version) known
+      known_row version (row_of (PrintDecimal c)) (omega arith) (some_most version) known
   known_operation (PrintOctal c) known _ =
-      known_row version (row_of (PrintOctal c)) (omega arith) (some-most version) known
+      known_row version (row_of (PrintOctal c)) (omega arith) (some_most version) known
   known_operation (PrintText codes) known _ =
-      known_row version (row_of (PrintText codes)) (omega arith) (some-most version) known
+      known_row version (row_of (PrintText codes)) (omega arith) (some_most version) known
   known_operation PrintLine known _ =
-      known_row version (row_of PrintLine) (omega arith) (some-most version) known
+      known_row version (row_of PrintLine) (omega arith) (some_most version) known
 
   -- what is known of an operation of a program
   pub record KnownOperation (operation : Op ℕ) : Type 0 where
@@ -209,7 +209,7 @@ module _ (version : Version) where
       let a = and_parts (is_operation operation) (list_all is_operation operations) values in
       let b = and_parts (q operation) (list_all q operations) targets in (
         record {
-          values = operation_row (most_in version) operation (most-word version) a.0 b.0;
+          values = operation_row (most_in version) operation (most_word version) a.0 b.0;
           targets = b.0;
         },
         known_operations operations a.1 b.1,
@@ -221,14 +221,14 @@ module _ (version : Version) where
     pub operations : Each KnownOperation s.operations
     pub target : unwrap_or (exit_target s.exit) 0 < (most_in version)
 
-  exit-below : (leaving : Exit ℕ) →
+  exit_below : (leaving : Exit ℕ) →
       list_all (is_below (most_in version)) (targets_of_exit leaving) ≡ true →
       unwrap_or (exit_target leaving) 0 < (most_in version)
-  exit-below Next each = some-most version
-  exit-below (Label target) each =
+  exit_below Next each = some_most version
+  exit_below (Label target) each =
       ltb-true target (most_in version) (and_parts (is_below (most_in version) target) true each).0
-  exit-below Done each = some-most version
-  exit-below Fail each = some-most version
+  exit_below Done each = some_most version
+  exit_below Fail each = some_most version
 
   pub known_parts : (s : Parts) → KnownStatement s → KnownParts s
   known_parts s known =
@@ -241,5 +241,5 @@ module _ (version : Version) where
         tests = each_of is_test (λ test. is_row (row_of_test test) ≡ true) test_row s.tests a.0;
         operations = known_operations s.operations a.1
             (sym (all_of_pieces below targets_of_operation s.operations) ∙ b.0);
-        target = exit-below s.exit b.1;
+        target = exit_below s.exit b.1;
       }

@@ -16,22 +16,22 @@ use Rattle.l6_image.specs.inner.decode.Loading.{program_in}
 use Rattle.l6_image.specs.inner.decode.Seen.{Fails}
 use Rattle.l6_image.specs.inner.TextFault.{TextHasLineFault}
 use Rattle.l6_image.proofs.Fitness.{words_in-words}
-use Rattle.l6_image.proofs.Lines.{first_other-none}
-use Rattle.l6_image.proofs.Texts.{words-are, program_in-words, same_found}
+use Rattle.l6_image.proofs.Lines.{first_other_none}
+use Rattle.l6_image.proofs.Texts.{words_are, program_in_words, same_found}
 
 -- each line of an image is one of a word
-lines-none : (text : List ℕ) (program : List Parts) → IsImageOf text program →
+lines_none : (text : List ℕ) (program : List Parts) → IsImageOf text program →
     first_other 1 (whole_lines text) ≡ None
 unfolding text_in
-lines-none text program is =
+lines_none text program is =
     ap (λ t. first_other 1 (whole_lines t)) is.2
-    ∙ first_other-none (words_in is.0 program) 1 (words_in-words is.0 program is.1)
+    ∙ first_other_none (words_in is.0 program) 1 (words_in-words is.0 program is.1)
 
 -- a text with another line is no image
 pub line_loads : (text : List ℕ) (fault : LoadFault) (program : List Parts) →
     TextHasLineFault text fault → IsImageOf text program → Loads program (Err fault)
 line_loads text (NotWords line) program determines is =
-    let none = lines-none text program is in absurd (cc)
+    let none = lines_none text program is in absurd (cc)
 line_loads text NotAnImage program determines is = absurd determines
 line_loads text NoMemory program determines is = tt
 
@@ -40,7 +40,7 @@ module _ (text words : List ℕ) (each : list_all is_word words ≡ true)
   -- the words tell the program of which the text is
   found_in : (program : List Parts) (is : IsImageOf text program) →
       program_in words ≡ Some (is.0, program)
-  found_in program is = program_in-words text words is.0 program each is.1 lines is.2
+  found_in program is = program_in_words text words is.0 program each is.1 lines is.2
 
   -- words that tell no program
   pub words_load : (fault : ReadFault) (program : List Parts) → Fails fault (program_in words) →
@@ -51,7 +51,7 @@ module _ (text words : List ℕ) (each : list_all is_word words ≡ true)
 
   -- each line is one of a word
   no_other : first_other 1 (whole_lines text) ≡ None
-  no_other = ap (λ t. first_other 1 (whole_lines t)) lines ∙ first_other-none words 1 each
+  no_other = ap (λ t. first_other 1 (whole_lines t)) lines ∙ first_other_none words 1 each
 
   pub words_show : (fault : ReadFault) → Fails fault (program_in words) →
       TextHasFault text (load_fault fault)
@@ -77,7 +77,7 @@ module _ (text words : List ℕ) (each : list_all is_word words ≡ true)
   others_load found program found_there differ is =
       differ (ap (λ (p : Version × List Parts). words_in p.0 p.1)
       (both_found found program found_there is)
-      ∙ sym (words-are text words is.0 program each is.1 lines is.2))
+      ∙ sym (words_are text words is.0 program each is.1 lines is.2))
 
   pub others_show : (found : Version × List Parts) → program_in words ≡ Some found →
       (words_in found.0 found.1 ≡ words → ⊥) → TextHasFault text NotAnImage

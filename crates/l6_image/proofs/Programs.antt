@@ -23,59 +23,59 @@ use Rattle.l6_image.specs.Image.{condition_code, exit_code, exit_target, header,
 use Rattle.l6_image.specs.inner.decode.Fields.{target_in, version_of}
 use Rattle.l6_image.specs.inner.decode.Statements.{many, test_at, operation_at, condition_in, exit_in, statement_at, statements_of}
 use Rattle.l6_image.specs.inner.decode.Loading.{program_in}
-use Rattle.l6_image.proofs.Packing.{AllFit, unpacked, unpacked-packed, values}
-use Rattle.l6_image.proofs.Found.{row-again, test_again, operation_again}
-use Rattle.l6_image.proofs.Knowing.{Each, below-more, KnownStatement, KnownProgram, known_program, known_parts, KnownOperation, known_test, known_operation}
+use Rattle.l6_image.proofs.Packing.{AllFit, unpacked, unpacked_packed, values}
+use Rattle.l6_image.proofs.Found.{row_again, test_again, operation_again}
+use Rattle.l6_image.proofs.Knowing.{Each, below_more, KnownStatement, KnownProgram, known_program, known_parts, KnownOperation, known_test, known_operation}
 
 -- one is found again in its words, and what follows them
 abbrev pub Again : {A : Type 0} → (A → List ℕ) → (List ℕ → Option (A × List ℕ)) → A → Type 0
 Again spell at x = (rest : List ℕ) → at (spell x ++ rest) ≡ Some (x, rest)
 
-each-again : {A : Type 0} (spell : A → List ℕ) (at : List ℕ → Option (A × List ℕ))
+each_again : {A : Type 0} (spell : A → List ℕ) (at : List ℕ → Option (A × List ℕ))
     (P : A → Type 0) → ((x : A) → P x → Again spell at x) → (xs : List A) → Each P xs →
     (rest : List ℕ) → many at (length xs) (flat_map spell xs ++ rest) ≡ Some (xs, rest)
-each-again spell at P again [] each rest = refl
-each-again spell at P again (x ∷ xs) each rest =
+each_again spell at P again [] each rest = refl
+each_again spell at P again (x ∷ xs) each rest =
     let words : flat_map spell (x ∷ xs) ++ rest ≡ spell x ++ (flat_map spell xs ++ rest) =
     ap (λ ws. ws ++ rest) (flat_map-cons spell x xs)
     ∙ append_assoc (spell x) (flat_map spell xs) rest in
     ap (many at (suc (length xs))) words
     ∙ rw (
       again x each.0 (flat_map spell xs ++ rest),
-      each-again spell at P again xs each.1 rest,
+      each_again spell at P again xs each.1 rest,
     ) refl
 
 -- condition and exit
-condition-again : (condition : Cond) → condition_in (condition_code condition) ≡ condition
-condition-again Always = refl
-condition-again If = refl
-condition-again Not = refl
-condition-again IfAll = refl
-condition-again IfAny = refl
-condition-again IfNone = refl
-condition-again IfNotAll = refl
+condition_again : (condition : Cond) → condition_in (condition_code condition) ≡ condition
+condition_again Always = refl
+condition_again If = refl
+condition_again Not = refl
+condition_again IfAll = refl
+condition_again IfAny = refl
+condition_again IfNone = refl
+condition_again IfNotAll = refl
 
-exit-again : (leaving : Exit ℕ) →
+exit_again : (leaving : Exit ℕ) →
     exit_in (exit_code leaving) (unwrap_or (exit_target leaving) 0) ≡ leaving
-exit-again Next = refl
-exit-again (Label target) = refl
-exit-again Done = refl
-exit-again Fail = refl
+exit_again Next = refl
+exit_again (Label target) = refl
+exit_again Done = refl
+exit_again Fail = refl
 
-condition-below : (condition : Cond) → condition_code condition < 2 ^ 3
-condition-below Always = omega arith
-condition-below If = omega arith
-condition-below Not = omega arith
-condition-below IfAll = omega arith
-condition-below IfAny = omega arith
-condition-below IfNone = omega arith
-condition-below IfNotAll = omega arith
+condition_below : (condition : Cond) → condition_code condition < 2 ^ 3
+condition_below Always = omega arith
+condition_below If = omega arith
+condition_below Not = omega arith
+condition_below IfAll = omega arith
+condition_below IfAny = omega arith
+condition_below IfNone = omega arith
+condition_below IfNotAll = omega arith
 
-exit-below : (leaving : Exit ℕ) → exit_code leaving < 2 ^ 3
-exit-below Next = omega arith
-exit-below (Label target) = omega arith
-exit-below Done = omega arith
-exit-below Fail = omega arith
+exit_below : (leaving : Exit ℕ) → exit_code leaving < 2 ^ 3
+exit_below Next = omega arith
+exit_below (Label target) = omega arith
+exit_below Done = omega arith
+exit_below Fail = omega arith
 
 -- the fields of a header, which have room for what they hold
 abbrev pub header_fields : Parts → List BitField
@@ -85,9 +85,9 @@ header_fields s =
     ∷ bits 18 (unwrap_or (exit_target s.exit) 0) ∷ []
 
 -- a number of statements of either version has sixteen bits
-pub most-below : (version : Version) → most_in version < 2 ^ 16
-most-below One = omega arith
-most-below Two = omega arith
+pub most_below : (version : Version) → most_in version < 2 ^ 16
+most_below One = omega arith
+most_below Two = omega arith
 
 module _ (version : Version) where
   -- a test, and an operation
@@ -96,7 +96,7 @@ module _ (version : Version) where
   unfolding test_at
   test_at-again test known rest =
       rw (
-        row-again version (row_of_test test) rest
+        row_again version (row_of_test test) rest
             (known_test version test known),
         test_again test known,
       ) refl
@@ -106,24 +106,24 @@ module _ (version : Version) where
   unfolding operation_at
   operation_at-again operation known rest =
       rw (
-        row-again version (row_of operation) rest
+        row_again version (row_of operation) rest
             (known_operation version operation known.values known.targets),
         operation_again operation known.values
-            (below-more (most_in version) (2 ^ 16) (targets_of_operation operation)
-            (omega (arith, most-below version))
+            (below_more (most_in version) (2 ^ 16) (targets_of_operation operation)
+            (omega (arith, most_below version))
             known.targets),
       ) refl
 
   pub header_fit : (s : Parts) → KnownStatement version s → AllFit (header_fields s)
   header_fit s known = (
-    condition-below s.condition,
+    condition_below s.condition,
     (
       omega (arith, known.tests),
       (
         omega (arith, known.operations),
         (
-          exit-below s.exit,
-          (omega (arith, (known_parts version s known).target, most-below version), tt),
+          exit_below s.exit,
+          (omega (arith, (known_parts version s known).target, most_below version), tt),
         ),
       ),
     ),
@@ -146,20 +146,20 @@ module _ (version : Version) where
       let last : head % 2 ^ 18 ≡ unwrap_or (exit_target s.exit) 0 =
       ap (λ n. n % 2 ^ 18) whole ∙ at 4 in
       let target : target_in head ≡ unwrap_or (exit_target s.exit) 0 =
-      omega (arith, last, parts.target, most-below version) in
+      omega (arith, last, parts.target, most_below version) in
       rw (
         tests,
-        each-again (test_words version) (test_at version) (λ test. is_row (row_of_test test) ≡ true)
+        each_again (test_words version) (test_at version) (λ test. is_row (row_of_test test) ≡ true)
             test_at-again s.tests parts.tests (flat_map (operation_words version) s.operations ++ rest),
         operations,
-        each-again (operation_words version) (operation_at version)
+        each_again (operation_words version) (operation_at version)
             (KnownOperation version) operation_at-again
             s.operations parts.operations rest,
         condition,
-        condition-again s.condition,
+        condition_again s.condition,
         leaving,
         target,
-        exit-again s.exit,
+        exit_again s.exit,
       ) refl
 
   statement_at-again : (s : Parts) → KnownStatement version s →
@@ -169,7 +169,7 @@ module _ (version : Version) where
       (append_assoc (flat_map (test_words version) s.tests)
       (flat_map (operation_words version) s.operations) rest)
       ∙ statement_at-found s (header s) rest known
-      (unpacked-packed (header_fields s) (header_fit s known))
+      (unpacked_packed (header_fields s) (header_fit s known))
 
   -- a program is found again in its words
   statements_of-again : (program : List Parts) → KnownProgram version program →
@@ -180,20 +180,20 @@ module _ (version : Version) where
       let words : body version program ≡ body version program ++ [] =
       sym (append-nil (body version program)) in
       ap (λ ws. statements_of version (length program ∷ length (body version program) ∷ ws)) words
-      ∙ rw (each-again (words_in_statement version) (statement_at version) (KnownStatement version)
+      ∙ rw (each_again (words_in_statement version) (statement_at version) (KnownStatement version)
       statement_at-again program known.each []) refl
 
 -- the version is found again in its magic word
-version_of-again : (version : Version) → version_of (magic version) ≡ Some version
-version_of-again One = refl
-version_of-again Two = refl
+version_of_again : (version : Version) → version_of (magic version) ≡ Some version
+version_of_again One = refl
+version_of_again Two = refl
 
-pub program_in-again : (version : Version) (program : List Parts) → HasImage version program →
+pub program_in_again : (version : Version) (program : List Parts) → HasImage version program →
     program_in (words_in version program) ≡ Some (version, program)
 unfolding words_in program_in
-program_in-again version program has =
+program_in_again version program has =
     rw (
-      version_of-again version,
+      version_of_again version,
       statements_of-again version program (known_program version program has),
       taken program has.is,
       le-ltb (most_in version) (length program) has.few,

@@ -10,15 +10,15 @@ use Rattle.l6_image.specs.Bits.{six}
 use Rattle.l6_image.specs.Row.{sixes}
 
 -- the first of some codes are in one word, and the others after it
-sixes-step : (codes : List ℕ) → eqb (length codes) 0 ≡ false →
+sixes_step : (codes : List ℕ) → eqb (length codes) 0 ≡ false →
     sixes codes ≡ six 0 codes ∷ sixes (drop 6 codes)
-sixes-step [] some = absurd (cc)
-sixes-step (a ∷ []) some = refl
-sixes-step (a ∷ b ∷ []) some = refl
-sixes-step (a ∷ b ∷ c ∷ []) some = refl
-sixes-step (a ∷ b ∷ c ∷ d ∷ []) some = refl
-sixes-step (a ∷ b ∷ c ∷ d ∷ e ∷ []) some = refl
-sixes-step (a ∷ b ∷ c ∷ d ∷ e ∷ f ∷ codes) some = refl
+sixes_step [] some = absurd (cc)
+sixes_step (a ∷ []) some = refl
+sixes_step (a ∷ b ∷ []) some = refl
+sixes_step (a ∷ b ∷ c ∷ []) some = refl
+sixes_step (a ∷ b ∷ c ∷ d ∷ []) some = refl
+sixes_step (a ∷ b ∷ c ∷ d ∷ e ∷ []) some = refl
+sixes_step (a ∷ b ∷ c ∷ d ∷ e ∷ f ∷ codes) some = refl
 
 -- there is no name, or not too many
 pub few_names : (names : List ℕ) → is_chain names ≡ true → length names ≤ most_names
@@ -37,12 +37,12 @@ each_name (bug ∷ fields) chained =
     (list_all is_name (bug ∷ fields)) chained).1
 
 -- the codes in front are written, and those after are left
-pub sixes-more : (words more codes following : List ℕ) (room : ℕ) → eqb (length codes) 0 ≡ false →
+pub sixes_more : (words more codes following : List ℕ) (room : ℕ) → eqb (length codes) 0 ≡ false →
     room ≡ min 6 (length codes) → following ≡ drop room codes → more ≡ words ++ six 0 codes ∷ [] →
     more ++ sixes following ≡ words ++ sixes codes
-sixes-more words more codes following room some is left written =
+sixes_more words more codes following room some is left written =
     let rest : following ≡ drop 6 codes =
     left ∙ ap (λ n. drop n codes) is ∙ drop_min 6 codes in
     ap (λ ws. ws ++ sixes following) written ∙ ap (λ cs. (words ++ six 0 codes ∷ []) ++ sixes cs) rest
     ∙ append_assoc words (six 0 codes ∷ []) (sixes (drop 6 codes))
-    ∙ ap (λ ws. words ++ ws) (sym (sixes-step codes some))
+    ∙ ap (λ ws. words ++ ws) (sym (sixes_step codes some))

@@ -8,10 +8,10 @@ use Rattle.l6_raw.specs.Numerals.{word_bits}
 use Rattle.l6_raw.specs.Words.{AreWords, overwritten}
 
 -- they are as many
-pub length-overwritten : (words : List ℕ) (place : ℕ) (others : List ℕ)
+pub length_overwritten : (words : List ℕ) (place : ℕ) (others : List ℕ)
     → place + length others ≤ length words
     → length (overwritten words place others) ≡ length words
-length-overwritten words place others within =
+length_overwritten words place others within =
     omega (
       arith,
       length-append (take place words) (others ++ drop (place + length others) words),
@@ -21,9 +21,9 @@ length-overwritten words place others within =
     )
 
 -- and words
-pub are_words-overwritten : (words : List ℕ) (place : ℕ) (others : List ℕ) → AreWords words
+pub are_words_overwritten : (words : List ℕ) (place : ℕ) (others : List ℕ) → AreWords words
     → AreWords others → AreWords (overwritten words place others)
-are_words-overwritten words place others were are =
+are_words_overwritten words place others were are =
     let P : ℕ → Type 0 = λ word. word < 2 ^ word_bits in
     All-append P (take place words) (others ++ drop (place + length others) words)
     (All-take P place words were)
@@ -31,34 +31,34 @@ are_words-overwritten words place others were are =
     (All-drop P (place + length others) words were))
 
 -- zeros are words
-pub are_words-zeros : (count : ℕ) → AreWords (replicate count 0)
-are_words-zeros count =
+pub are_words_zeros : (count : ℕ) → AreWords (replicate count 0)
+are_words_zeros count =
     All-replicate (λ (word : ℕ). word < 2 ^ word_bits) count 0 (pow_pos word_bits)
 
 -- before and after those that were overwritten each word is as it was, ..
-pub get_or-overwritten_before : (words : List ℕ) (place : ℕ) (others : List ℕ) (at : ℕ)
+pub get_or_overwritten_before : (words : List ℕ) (place : ℕ) (others : List ℕ) (at : ℕ)
     → place ≤ length words → at < place
     → get_or (overwritten words place others) at 0 ≡ get_or words at 0
-get_or-overwritten_before words place others at within before =
+get_or_overwritten_before words place others at within before =
     get_or_append_left (take place words) (others ++ drop (place + length others) words) 0 at
     (omega (arith, length-take-le place words within))
     ∙ get_or-take place words at 0 before
 
 -- .. and those are the others
-pub get_or-overwritten_in : (words : List ℕ) (place : ℕ) (others : List ℕ) (index : ℕ)
+pub get_or_overwritten_in : (words : List ℕ) (place : ℕ) (others : List ℕ) (index : ℕ)
     → place ≤ length words → index < length others
     → get_or (overwritten words place others) (place + index) 0 ≡ get_or others index 0
-get_or-overwritten_in words place others index within below =
+get_or_overwritten_in words place others index within below =
     let back : place + index - place ≡ index = omega arith in
     get_or-append_right (take place words) (others ++ drop (place + length others) words) place
     (place + index) 0 (length-take-le place words within) (omega arith)
     ∙ ap (λ (i : ℕ). get_or (others ++ drop (place + length others) words) i 0) back
     ∙ get_or_append_left others (drop (place + length others) words) 0 index below
 
-pub get_or-overwritten_following : (words : List ℕ) (place : ℕ) (others : List ℕ) (at : ℕ)
+pub get_or_overwritten_following : (words : List ℕ) (place : ℕ) (others : List ℕ) (at : ℕ)
     → place ≤ length words → place + length others ≤ at
     → get_or (overwritten words place others) at 0 ≡ get_or words at 0
-get_or-overwritten_following words place others at within past =
+get_or_overwritten_following words place others at within past =
     let rest : List ℕ = drop (place + length others) words in
     let sum : place + length others + (at - place - length others) ≡ at = omega arith in
     get_or-append_right (take place words) (others ++ rest) place at 0
@@ -99,9 +99,9 @@ range_is words place count =
     let size : place + count - place ≡ count = omega arith in
     ap (λ (n : ℕ). take n (drop place words)) size
 
-pub length-range : (words : List ℕ) (place count : ℕ) → place + count ≤ length words
+pub length_range : (words : List ℕ) (place count : ℕ) → place + count ≤ length words
     → length (slice_range words place (place + count)) ≡ count
-length-range words place count within =
+length_range words place count within =
     ap (λ (range : List ℕ). length range) (range_is words place count)
     ∙ length-take-le count (drop place words) (omega (arith, length-drop place words))
 
@@ -125,15 +125,15 @@ pub copied_more : (words : List ℕ) (from to count done : ℕ) → from + count
     ≡ overwritten words to (slice_range words from (from + (done + 1)))
 copied_more words from to count done source target apart below =
     let others : List ℕ = slice_range words from (from + done) in
-    let size = length-range words from done (omega arith) in
+    let size = length_range words from done (omega arith) in
     let word = get_or words (from + done) 0 in
     let as_it_was : get_or (overwritten words to others) (from + done) 0 ≡ word =
     elim apart as (λ _. get_or (overwritten words to others) (from + done) 0 ≡ word) [
       | inl before ↦
-          get_or-overwritten_before words to others (from + done) (omega arith)
+          get_or_overwritten_before words to others (from + done) (omega arith)
           (omega (arith, before))
       | inr following ↦
-          get_or-overwritten_following words to others (from + done) (omega arith)
+          get_or_overwritten_following words to others (from + done) (omega arith)
           (omega (arith, following, size))
     ] in
     let place : to + done ≡ to + length others = omega (arith, size) in

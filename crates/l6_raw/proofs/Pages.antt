@@ -4,7 +4,7 @@ use Rattle.std.proofs.lemmas.Bool.{cases_eq, cases_lt}
 use Rattle.std.proofs.lemmas.List.{get_or-replicate, get_or-set_other, get_or-set_same, length-set, get_or_past, get_or-take, get_or-drop, ext_get_or}
 use Rattle.l6_raw.specs.Words.{overwritten}
 use Rattle.l6_raw.specs.Pages.{AreUnused}
-use Rattle.l6_raw.proofs.Overwriting.{get_or-overwritten_before, get_or-overwritten_in, get_or-overwritten_following, length-overwritten, length-range}
+use Rattle.l6_raw.proofs.Overwriting.{get_or_overwritten_before, get_or_overwritten_in, get_or_overwritten_following, length_overwritten, length_range}
 
 -- a word of so many from a place on
 in_range : (words : List ℕ) (place count k : ℕ) → k < count →
@@ -34,34 +34,34 @@ pub taken_more : (was words now : List ℕ) (first count next : ℕ) → AreTake
     AreTaken was words (overwritten now first (slice_range words first (first + count))) next
 taken_more was words now first count next taken begun within past same =
     let others : List ℕ = slice_range words first (first + count) in
-    let size = length-range words first count within in
+    let size = length_range words first count within in
     let place : first ≤ length now = omega (arith, begun, taken.long) in
     record {
-      long = length-overwritten now first others (omega (arith, size, within, taken.long))
+      long = length_overwritten now first others (omega (arith, size, within, taken.long))
           ∙ taken.long;
       taken = λ at below.
           elim (cases_lt at first)
           as (λ _. get_or (overwritten now first others) at 0 ≡ get_or words at 0) [
             | inl before ↦
-                get_or-overwritten_before now first others at place before
+                get_or_overwritten_before now first others at place before
                 ∙ taken.taken at before
             | inr from ↦ elim (cases_lt at (first + count))
                 as (λ _. get_or (overwritten now first others) at 0 ≡ get_or words at 0) [
                   | inl inside ↦
                       let there : first + (at - first) ≡ at = omega (arith, from) in
                       ap (λ (i : ℕ). get_or (overwritten now first others) i 0) (sym there)
-                      ∙ get_or-overwritten_in now first others (at - first) place
+                      ∙ get_or_overwritten_in now first others (at - first) place
                       (omega (arith, size, inside, from))
                       ∙ in_range words first count (at - first) (omega (arith, inside, from))
                       ∙ ap (λ (i : ℕ). get_or words i 0) there
                   | inr following ↦
-                      get_or-overwritten_following now first others at place
+                      get_or_overwritten_following now first others at place
                       (omega (arith, size, following))
                       ∙ taken.rest at from ∙ same at following below
                 ]
           ];
       rest = λ at after.
-          get_or-overwritten_following now first others at place (omega (arith, size, after, past))
+          get_or_overwritten_following now first others at place (omega (arith, size, after, past))
           ∙ taken.rest at (omega (arith, after, past));
     }
 

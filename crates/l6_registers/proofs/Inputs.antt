@@ -24,26 +24,26 @@ unfolding input_width
 width_is = refl
 
 -- a code that is no end is the character
-pub spread-code : (width column code : ℕ) (codes : List ℕ) → (code ≡ line_end → ⊥) →
+pub spread_code : (width column code : ℕ) (codes : List ℕ) → (code ≡ line_end → ⊥) →
     spread width column (code ∷ codes) ≡ code ∷ spread width (column + 1) codes
-spread-code width column code codes other =
+spread_code width column code codes other =
     ap (λ b. if b then replicate (width - column) blank ++ spread width 0 codes
     else code ∷ spread width (column + 1) codes)
     (ne_eqb code line_end other)
 
 -- at an end a blank fills the line ..
-pub spread-blank : (width column code : ℕ) (codes : List ℕ) → code ≡ line_end → column < width →
+pub spread_blank : (width column code : ℕ) (codes : List ℕ) → code ≡ line_end → column < width →
     spread width column (code ∷ codes) ≡ blank ∷ spread width (column + 1) (code ∷ codes)
-spread-blank width column code codes is below =
+spread_blank width column code codes is below =
     let more : width - column ≡ suc (width - (column + 1)) = omega (arith, below) in
     ap (λ c. spread width column (c ∷ codes)) is
     ∙ ap (λ n. replicate n blank ++ spread width 0 codes) more
     ∙ ap (λ c. blank ∷ spread width (column + 1) (c ∷ codes)) (sym is)
 
 -- .. until it has its width
-pub spread-over : (width column code : ℕ) (codes : List ℕ) → code ≡ line_end → width ≤ column →
+pub spread_over : (width column code : ℕ) (codes : List ℕ) → code ≡ line_end → width ≤ column →
     spread width column (code ∷ codes) ≡ spread width 0 codes
-spread-over width column code codes is over =
+spread_over width column code codes is over =
     let none : width - column ≡ 0 = omega (arith, over) in
     ap (λ c. spread width column (c ∷ codes)) is
     ∙ ap (λ n. replicate n blank ++ spread width 0 codes) none
@@ -69,7 +69,7 @@ pub blank_at : (width column place : ℕ) (codes : List ℕ) → place < length 
 blank_at width column place codes within is below =
     let here = drop_more codes place 0 within in
     ap (spread width column) here
-    ∙ spread-blank width column (get_or codes place 0) (drop (place + 1) codes) is below
+    ∙ spread_blank width column (get_or codes place 0) (drop (place + 1) codes) is below
     ∙ ap (λ cs. blank ∷ spread width (column + 1) cs) (sym here)
 
 -- at the end of a line that has its width the next one follows
@@ -78,7 +78,7 @@ pub over_at : (width column place : ℕ) (codes : List ℕ) → place < length c
     spread width column (drop place codes) ≡ spread width 0 (drop (place + 1) codes)
 over_at width column place codes within is over =
     ap (spread width column) (drop_more codes place 0 within)
-    ∙ spread-over width column (get_or codes place 0) (drop (place + 1) codes) is over
+    ∙ spread_over width column (get_or codes place 0) (drop (place + 1) codes) is over
 
 -- so there is a further line
 pub inside_next : (width column place : ℕ) (codes : List ℕ) →
@@ -114,124 +114,124 @@ in_range_code given true is =
     omega (arith, most)
 in_range_code given false is = omega arith
 
-pub input_code-below : (given : ℕ) → input_code given < code_count
-input_code-below given =
+pub input_code_below : (given : ℕ) → input_code given < code_count
+input_code_below given =
     in_range_code given (is_in_range (byte " ") (byte "_") (character_of given)) refl
 
 not_end : (given : ℕ) → input_code given ≡ line_end → ⊥
-not_end given is = omega (arith, is, input_code-below given)
+not_end given is = omega (arith, is, input_code_below given)
 
 -- ---- lines
 -- a line spread from a column on
-spread-line : (width column : ℕ) (line rest : List ℕ) →
+spread_line : (width column : ℕ) (line rest : List ℕ) →
     spread width column (map input_code line ++ line_end ∷ rest)
     ≡ map input_code line ++ replicate (width - (column + length line)) blank
     ++ spread width 0 rest
-spread-line width column [] rest =
+spread_line width column [] rest =
     ap (λ n. replicate (width - n) blank ++ spread width 0 rest) (omega arith)
-spread-line width column (first ∷ line) rest =
-    spread-code width column (input_code first) (map input_code line ++ line_end ∷ rest)
+spread_line width column (first ∷ line) rest =
+    spread_code width column (input_code first) (map input_code line ++ line_end ∷ rest)
     (not_end first)
-    ∙ ap (λ cs. input_code first ∷ cs) (spread-line width (column + 1) line rest)
+    ∙ ap (λ cs. input_code first ∷ cs) (spread_line width (column + 1) line rest)
     ∙ ap (λ n. input_code first ∷ (map input_code line ++ replicate (width - n) blank
     ++ spread width 0 rest)) (omega arith)
 
 -- the first of some blanks
-take-blanks : (n m : ℕ) → n ≤ m → take n (replicate m blank) ≡ replicate n blank
-take-blanks zero m few = refl
-take-blanks (suc n) zero few = absurd (omega (arith, few))
-take-blanks (suc n) (suc m) few =
-    ap (λ cs. blank ∷ cs) (take-blanks n m (omega (arith, few)))
+take_blanks : (n m : ℕ) → n ≤ m → take n (replicate m blank) ≡ replicate n blank
+take_blanks zero m few = refl
+take_blanks (suc n) zero few = absurd (omega (arith, few))
+take_blanks (suc n) (suc m) few =
+    ap (λ cs. blank ∷ cs) (take_blanks n m (omega (arith, few)))
 
 -- a line cut or filled, in parts
-filled-by : (n width : ℕ) (line : List ℕ) → n ≤ width →
+filled_by : (n width : ℕ) (line : List ℕ) → n ≤ width →
     take n (map input_code line ++ replicate width blank)
     ≡ map input_code (take n line) ++ replicate (n - length (take n line)) blank
-filled-by zero width line few = refl
-filled-by (suc n) width [] few =
+filled_by zero width line few = refl
+filled_by (suc n) width [] few =
     let all : suc n ≡ suc n - 0 = omega arith in
-    take-blanks (suc n) width few ∙ ap (λ k. replicate k blank) all
-filled-by (suc n) width (first ∷ line) few =
+    take_blanks (suc n) width few ∙ ap (λ k. replicate k blank) all
+filled_by (suc n) width (first ∷ line) few =
     let less : suc n - suc (length (take n line)) ≡ n - length (take n line) = omega arith in
-    ap (λ cs. input_code first ∷ cs) (filled-by n width line (omega (arith, few)))
+    ap (λ cs. input_code first ∷ cs) (filled_by n width line (omega (arith, few)))
     ∙ ap (λ k. input_code first ∷ (map input_code (take n line) ++ replicate k blank)) (sym less)
 
 -- a kept line is spread to the line itself
-spread-kept : (width : ℕ) (line rest : List ℕ) →
+spread_kept : (width : ℕ) (line rest : List ℕ) →
     spread width 0 (kept_line width line ++ rest) ≡ filled width line ++ spread width 0 rest
-spread-kept width line rest =
+spread_kept width line rest =
     let cut = take width line in
     let none : 0 + length cut ≡ length cut = omega arith in
     ap (spread width 0) (append_assoc (map input_code cut) (line_end ∷ []) rest)
-    ∙ spread-line width 0 cut rest
+    ∙ spread_line width 0 cut rest
     ∙ ap (λ n. map input_code cut ++ replicate (width - n) blank ++ spread width 0 rest) none
-    ∙ ap (λ cs. cs ++ spread width 0 rest) (sym (filled-by width width line (omega arith)))
+    ∙ ap (λ cs. cs ++ spread width 0 rest) (sym (filled_by width width line (omega arith)))
 
 -- and so are all lines
-pub spread-lines : (width : ℕ) (lines : List (List ℕ)) →
+pub spread_lines : (width : ℕ) (lines : List (List ℕ)) →
     spread width 0 (flat_map (kept_line width) lines) ≡ flat_map (filled width) lines
-spread-lines width [] = refl
-spread-lines width (line ∷ lines) =
+spread_lines width [] = refl
+spread_lines width (line ∷ lines) =
     ap (spread width 0) (flat_map-cons (kept_line width) line lines)
-    ∙ spread-kept width line (flat_map (kept_line width) lines)
-    ∙ ap (λ cs. filled width line ++ cs) (spread-lines width lines)
+    ∙ spread_kept width line (flat_map (kept_line width) lines)
+    ∙ ap (λ cs. filled width line ++ cs) (spread_lines width lines)
     ∙ sym (flat_map-cons (filled width) line lines)
 
 -- a line that is cut or filled has its width
-length-filled : (width : ℕ) (line : List ℕ) → length (filled width line) ≡ width
-length-filled width line =
+length_filled : (width : ℕ) (line : List ℕ) → length (filled width line) ≡ width
+length_filled width line =
     length-take width (map input_code line ++ replicate width blank)
     ∙ ap (λ n. min width n)
     (length-append (map input_code line) (replicate width blank)
     ∙ ap (λ n. length (map input_code line) + n) (length-replicate width blank))
     ∙ omega arith
 
-length-lines : (width : ℕ) (lines : List (List ℕ)) →
+length_lines : (width : ℕ) (lines : List (List ℕ)) →
     length (flat_map (filled width) lines) ≡ length lines * width
-length-lines width [] = omega arith
-length-lines width (line ∷ lines) =
-    let one = length-filled width line in
-    let others = length-lines width lines in
+length_lines width [] = omega arith
+length_lines width (line ∷ lines) =
+    let one = length_filled width line in
+    let others = length_lines width lines in
     ap (λ cs. length cs) (flat_map-cons (filled width) line lines)
     ∙ length-append (filled width line) (flat_map (filled width) lines)
     ∙ omega (arith, one, others, suc-mul (length lines) width)
 
 -- ---- all characters have codes
-below-append : (xs ys : List ℕ) → AllBelowBase code_count xs → AllBelowBase code_count ys →
+below_append : (xs ys : List ℕ) → AllBelowBase code_count xs → AllBelowBase code_count ys →
     AllBelowBase code_count (xs ++ ys)
-below-append [] ys one other = other
-below-append (x ∷ xs) ys one other = (one.0, below-append xs ys one.1 other)
+below_append [] ys one other = other
+below_append (x ∷ xs) ys one other = (one.0, below_append xs ys one.1 other)
 
-below-drop : (n : ℕ) (xs : List ℕ) → AllBelowBase code_count xs →
+below_drop : (n : ℕ) (xs : List ℕ) → AllBelowBase code_count xs →
     AllBelowBase code_count (drop n xs)
-below-drop zero xs all = all
-below-drop (suc n) [] all = tt
-below-drop (suc n) (x ∷ xs) all = below-drop n xs all.1
+below_drop zero xs all = all
+below_drop (suc n) [] all = tt
+below_drop (suc n) (x ∷ xs) all = below_drop n xs all.1
 
-below-take : (n : ℕ) (xs : List ℕ) → AllBelowBase code_count xs →
+below_take : (n : ℕ) (xs : List ℕ) → AllBelowBase code_count xs →
     AllBelowBase code_count (take n xs)
-below-take zero xs all = tt
-below-take (suc n) [] all = tt
-below-take (suc n) (x ∷ xs) all = (all.0, below-take n xs all.1)
+below_take zero xs all = tt
+below_take (suc n) [] all = tt
+below_take (suc n) (x ∷ xs) all = (all.0, below_take n xs all.1)
 
-below-codes : (line : List ℕ) → AllBelowBase code_count (map input_code line)
-below-codes [] = tt
-below-codes (first ∷ line) = (input_code-below first, below-codes line)
+below_codes : (line : List ℕ) → AllBelowBase code_count (map input_code line)
+below_codes [] = tt
+below_codes (first ∷ line) = (input_code_below first, below_codes line)
 
-below-blanks : (n : ℕ) → AllBelowBase code_count (replicate n blank)
-below-blanks zero = tt
-below-blanks (suc n) = (omega arith, below-blanks n)
+below_blanks : (n : ℕ) → AllBelowBase code_count (replicate n blank)
+below_blanks zero = tt
+below_blanks (suc n) = (omega arith, below_blanks n)
 
-below-lines : (width : ℕ) (lines : List (List ℕ)) →
+below_lines : (width : ℕ) (lines : List (List ℕ)) →
     AllBelowBase code_count (flat_map (filled width) lines)
-below-lines width [] = tt
-below-lines width (line ∷ lines) =
+below_lines width [] = tt
+below_lines width (line ∷ lines) =
     subst (AllBelowBase code_count) (sym (flat_map-cons (filled width) line lines))
-    (below-append (filled width line) (flat_map (filled width) lines)
-    (below-take width (map input_code line ++ replicate width blank)
-    (below-append (map input_code line) (replicate width blank) (below-codes line)
-    (below-blanks width)))
-    (below-lines width lines))
+    (below_append (filled width line) (flat_map (filled width) lines)
+    (below_take width (map input_code line ++ replicate width blank)
+    (below_append (map input_code line) (replicate width blank) (below_codes line)
+    (below_blanks width)))
+    (below_lines width lines))
 
 -- ---- keeping lines
 -- nothing is kept yet
@@ -286,7 +286,7 @@ pub all_kept : (text codes rest : List ℕ) (count : ℕ) → KeepsLines text co
 all_kept text codes rest count keeps none =
     let f : List ℕ → List ℕ = λ l. filled input_width (without_return l) in
     ap characters_in keeps.kept
-    ∙ spread-lines input_width keeps.lines
+    ∙ spread_lines input_width keeps.lines
     ∙ sym (append-nil (flat_map (filled input_width) keeps.lines))
     ∙ ap (λ ls. flat_map (filled input_width) keeps.lines ++ flat_map f ls) (sym none)
     ∙ keeps.are
@@ -295,13 +295,13 @@ pub fed_first : (text codes rest : List ℕ) (count : ℕ) → KeepsLines text c
     IsFed codes count 0 0 0
 fed_first text codes rest count keeps =
     let are : characters_in codes ≡ flat_map (filled input_width) keeps.lines =
-    ap characters_in keeps.kept ∙ spread-lines input_width keeps.lines in
+    ap characters_in keeps.kept ∙ spread_lines input_width keeps.lines in
     record {
-      counted = keeps.counted ∙ sym (length-lines input_width keeps.lines)
+      counted = keeps.counted ∙ sym (length_lines input_width keeps.lines)
           ∙ ap (λ cs. length cs) (sym are);
       within = omega arith;
       left = refl;
-      below = subst (AllBelowBase code_count) (sym are) (below-lines input_width keeps.lines);
+      below = subst (AllBelowBase code_count) (sym are) (below_lines input_width keeps.lines);
       near = omega arith;
       inside = omega arith;
     }

@@ -8,7 +8,7 @@ use Rattle.l6_card.specs.Numerals.{most_deck_bytes}
 use Rattle.l6_asm.specs.Assembled.{Assembled}
 use Rattle.l6_asm.specs.Listing.{cards_listed, end_listed, listing_of}
 use Rattle.l6_asm.specs.Spells.{Spells}
-use Rattle.l6_asm.proofs.ListingLengths.{cards-counted}
+use Rattle.l6_asm.proofs.ListingLengths.{cards_counted}
 use Rattle.l6_device.specs.Numerals.{most_counted}
 use Rattle.l6_device.specs.Transfer.{EndsWriting}
 use Rattle.l6_device.specs.declared.fault.RunFault.{RunFault}
@@ -67,5 +67,5 @@ module _ (deck cards end : List ℕ) (assembly : Assembled) (fits : length deck 
         small,
         length-append cards end,
         ap length are,
-        cards-counted deck assembly fits spells,
+        cards_counted deck assembly fits spells,
       )

@@ -16,8 +16,8 @@ use Rattle.l6_asm.specs.Spells.{SpellsInOneWay}
 use Rattle.l6_run.specs.Laws.{DecksPrintAsImages, ImagesPrintAsDecks, PrintsInOneWay, PrintsLoadedInOneWay, WrittenImagesPrintAsDecks}
 use Rattle.l6_run.specs.Prints.{Prints, PrintsLoaded, RunPrints}
 
-pub prints-one : SpellsInOneWay → EndsInOneState → PrintsInOneWay
-prints-one one_way one_end options deck input ending ending' text text' prints prints' =
+pub prints_one : SpellsInOneWay → EndsInOneState → PrintsInOneWay
+prints_one one_way one_end options deck input ending ending' text text' prints prints' =
     let same : prints'.assembly ≡ prints.assembly =
     one_way deck prints.assembly prints'.assembly prints.spelled prints'.spelled in
     let context = context_under options input prints.assembly.program in
@@ -39,8 +39,8 @@ printed_by options input ending text one other same prints =
     subst (λ (program : List Parts).
     RunPrints store_rule (context_under options input program) ending text) same prints
 
-pub prints-loaded_one : ImagesAreOfOneProgram → EndsInOneState → PrintsLoadedInOneWay
-prints-loaded_one one_program one_end options image input ending ending' text text' prints prints' =
+pub prints_loaded_one : ImagesAreOfOneProgram → EndsInOneState → PrintsLoadedInOneWay
+prints_loaded_one one_program one_end options image input ending ending' text text' prints prints' =
     let program : prints'.program ≡ prints.program =
     one_program image prints'.program prints.program prints'.loaded prints.loaded in
     let run = printed_by options input ending' text' prints'.program prints.program program
@@ -52,8 +52,8 @@ prints-loaded_one one_program one_end options image input ending ending' text te
       prints.run.printed ∙ ap printout finals ∙ sym run.printed,
     )
 
-pub prints-as_deck : SpellsInOneWay → ImagesAreOfOneProgram → ImagesOfDecksFit → ImagesPrintAsDecks
-prints-as_deck one_way one_program images_fit options deck image input assembly ending text fits
+pub prints_as_deck : SpellsInOneWay → ImagesAreOfOneProgram → ImagesOfDecksFit → ImagesPrintAsDecks
+prints_as_deck one_way one_program images_fit options deck image input assembly ending text fits
     spelled is_image = (
       λ (prints : Prints options deck input ending text). record {
         fits = images_fit deck image assembly fits spelled is_image;
@@ -74,15 +74,15 @@ prints-as_deck one_way one_program images_fit options deck image input assembly 
       },
     )
 
-pub written-prints_as_deck : SpellsInOneWay → ImagesAreOfOneProgram → ImagesOfDecksFit →
+pub written_prints_as_deck : SpellsInOneWay → ImagesAreOfOneProgram → ImagesOfDecksFit →
     WrittenImagesPrintAsDecks
-written-prints_as_deck one_way one_program images_fit options deck image input ending text written =
-    prints-as_deck one_way one_program images_fit options deck image input written.assembly ending text
+written_prints_as_deck one_way one_program images_fit options deck image input ending text written =
+    prints_as_deck one_way one_program images_fit options deck image input written.assembly ending text
     written.fits written.spelled (Two, written.known, written.written)
 
-pub prints-as_image : SpellsInOneWay → ImagesAreOfOneProgram → ImagesOfDecksFit → DecksHaveImages →
+pub prints_as_image : SpellsInOneWay → ImagesAreOfOneProgram → ImagesOfDecksFit → DecksHaveImages →
     DecksPrintAsImages
-prints-as_image one_way one_program images_fit have options deck input assembly ending text fits
+prints_as_image one_way one_program images_fit have options deck input assembly ending text fits
     spelled =
-    prints-as_deck one_way one_program images_fit options deck (text_of assembly.program) input
+    prints_as_deck one_way one_program images_fit options deck (text_of assembly.program) input
     assembly ending text fits spelled (Two, have deck assembly spelled, refl)

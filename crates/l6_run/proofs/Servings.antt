@@ -40,15 +40,15 @@ text_served Answers Refuses text old new (Err fault) few answers ok err =
     front_served (Unit {0}) Answers Refuses tt text old new fault few answers err
 
 -- what serves a text reports no trouble of a reader
-pub unreported-reader : {Outcome : Type 0} (Answers : Outcome → List ℕ → Type 0)
+pub unreported_reader : {Outcome : Type 0} (Answers : Outcome → List ℕ → Type 0)
     (Refuses : RunFault → Type 0) (part : Part) (old new : Option (List ℕ))
     (result : Result Outcome RunFault) → ((which : Part) → Refuses (Read which) → ⊥) →
     Serves Answers Refuses old new result → reported_by (reports_read part) result ≡ false
-unreported-reader Answers Refuses part old new (Ok _) never served = refl
-unreported-reader Answers Refuses part old new (Err (TooLong _)) never served = refl
-unreported-reader Answers Refuses part old new (Err (Asm _)) never served = refl
-unreported-reader Answers Refuses part old new (Err (Load _)) never served = refl
-unreported-reader Answers Refuses part old new (Err (Read which)) never served =
+unreported_reader Answers Refuses part old new (Ok _) never served = refl
+unreported_reader Answers Refuses part old new (Err (TooLong _)) never served = refl
+unreported_reader Answers Refuses part old new (Err (Asm _)) never served = refl
+unreported_reader Answers Refuses part old new (Err (Load _)) never served = refl
+unreported_reader Answers Refuses part old new (Err (Read which)) never served =
     absurd (never which served)
-unreported-reader Answers Refuses part old new (Err (Write _)) never served = refl
-unreported-reader Answers Refuses part old new (Err NoMemory) never served = refl
+unreported_reader Answers Refuses part old new (Err (Write _)) never served = refl
+unreported_reader Answers Refuses part old new (Err NoMemory) never served = refl

@@ -14,7 +14,7 @@ use Rattle.l6_image.specs.Text.{text_of}
 use Rattle.l6_image.specs.Version.{magic}
 use Rattle.l6_image.specs.declared.version.Version.TheVariants.{Two}
 use Rattle.l6_image.proofs.Fitness.{words_in-words}
-use Rattle.l6_asm.proofs.ImageLengths.{image-length}
+use Rattle.l6_asm.proofs.ImageLengths.{image_length}
 use Rattle.l6_device.specs.Numerals.{most_counted}
 use Rattle.l6_device.specs.Transfer.{EndsWriting}
 use Rattle.l6_device.specs.declared.fault.RunFault.{RunFault}
@@ -101,21 +101,21 @@ written_count text left before old new none so_far =
     (sym (so_far.are ∙ ap (λ more. so_far.front ++ more) none ∙ append-nil so_far.front))
 
 -- an image says how many words follow, and in a word, so the bytes of its text can be counted
-text-counted : (program : List Parts) → HasImage Two program →
+text_counted : (program : List Parts) → HasImage Two program →
     length (text_of program) ≤ most_counted
 unfolding words_in
-text-counted program has =
+text_counted program has =
     let count = length (body Two program) in
     let from_first = words_in-words Two program has in
     let from_second = (and_parts (is_word (magic Two)) _ from_first).1 in
     let from_third = (and_parts (is_word (length program)) _ from_second).1 in
     let few = ltb-true count (2 ^ word_bits) (and_parts (is_word count) _ from_third).0 in
-    omega (arith, few, image-length Two program)
+    omega (arith, few, image_length Two program)
 
-pub image-counted : (deck text : List ℕ) → WritesImage deck text → length text ≤ most_counted
-image-counted deck text writes =
-    omega (arith, ap length writes.written, text-counted writes.assembly.program writes.known)
+pub image_counted : (deck text : List ℕ) → WritesImage deck text → length text ≤ most_counted
+image_counted deck text writes =
+    omega (arith, ap length writes.written, text_counted writes.assembly.program writes.known)
 
-pub renewed-counted : (image text : List ℕ) → RewritesImage image text → length text ≤ most_counted
-renewed-counted image text rewrites =
-    omega (arith, ap length rewrites.written, text-counted rewrites.program rewrites.known)
+pub renewed_counted : (image text : List ℕ) → RewritesImage image text → length text ≤ most_counted
+renewed_counted image text rewrites =
+    omega (arith, ap length rewrites.written, text_counted rewrites.program rewrites.known)

@@ -4,25 +4,25 @@ use Rattle.std.proofs.lemmas.List.{append-nil}
 use Rattle.l6_session.specs.Dialogue.{Event, Exchange, GoesOn, Lead, Talked, asked, events_of, given, shown}
 
 -- ---- events
-pub goes-nowhere : (before : Option (List Event)) → GoesOn before before []
-goes-nowhere None = tt
-goes-nowhere (Some events) = sym (append-nil events)
+pub goes_nowhere : (before : Option (List Event)) → GoesOn before before []
+goes_nowhere None = tt
+goes_nowhere (Some events) = sym (append-nil events)
 
-pub goes-on : (before between passed : Option (List Event)) (one other : List Event) →
+pub goes_on_there : (before between passed : Option (List Event)) (one other : List Event) →
     GoesOn before between one → GoesOn between passed other → GoesOn before passed (one ++ other)
-goes-on None between passed one other first second = tt
-goes-on (Some before) None passed one other first second = absurd first
-goes-on (Some before) (Some between) None one other first second = absurd second
-goes-on (Some before) (Some between) (Some passed) one other first second =
+goes_on_there None between passed one other first second = tt
+goes_on_there (Some before) None passed one other first second = absurd first
+goes_on_there (Some before) (Some between) None one other first second = absurd second
+goes_on_there (Some before) (Some between) (Some passed) one other first second =
     second ∙ ap (λ events. events ++ other) first ∙ append_assoc before one other
 
-events-more : (prompt : List ℕ) (exchanges : List Exchange) (line text : List ℕ) →
+events_more : (prompt : List ℕ) (exchanges : List Exchange) (line text : List ℕ) →
     events_of prompt (exchanges ++ (line, text) ∷ [])
     ≡ events_of prompt exchanges ++ shown prompt ∷ given line ∷ shown text ∷ []
-events-more prompt [] line text = refl
-events-more prompt ((first, answer) ∷ others) line text =
+events_more prompt [] line text = refl
+events_more prompt ((first, answer) ∷ others) line text =
     ap (λ events. shown prompt ∷ given first ∷ shown answer ∷ events)
-    (events-more prompt others line text)
+    (events_more prompt others line text)
 
 -- ---- conversations
 module _ {State : Type 0} (Answers : State → List ℕ → List ℕ → Type 0) (after : State → List ℕ → State)
@@ -53,7 +53,7 @@ module _ {State : Type 0} (Answers : State → List ℕ → List ℕ → Type 0)
   pub talked-not-yet : (prompt : List ℕ) (state : State) (last : List ℕ) (before : Option (List Event)) →
       Talked Answers after ends prompt state state last last before before
   talked-not-yet prompt state last before =
-      record { exchanges = []; lead = (refl, refl); events = goes-nowhere before }
+      record { exchanges = []; lead = (refl, refl); events = goes_nowhere before }
 
   -- a line more that was answered
   pub talked-more : (prompt : List ℕ) (old now new : State) (last newest : List ℕ)
@@ -69,28 +69,28 @@ module _ {State : Type 0} (Answers : State → List ℕ → List ℕ → Type 0)
         exchanges = talked.exchanges ++ (line, text) ∷ [];
         lead = lead-more old now new last newest talked.exchanges line text talked.lead goes_on answers
             leads;
-        events = subst (GoesOn before passed) (sym (events-more prompt talked.exchanges line text))
-            (goes-on before between passed (events_of prompt talked.exchanges)
+        events = subst (GoesOn before passed) (sym (events_more prompt talked.exchanges line text))
+            (goes_on_there before between passed (events_of prompt talked.exchanges)
             (shown prompt ∷ given line ∷ shown text ∷ []) talked.events goes);
       }
 
 -- ---- what passes at a console
-pub read-one : (before between : Option (List Event)) (line : List ℕ) (is_one : Bool) →
+pub read_one : (before between : Option (List Event)) (line : List ℕ) (is_one : Bool) →
     is_one ≡ true → GoesOn before between (if is_one then given line ∷ [] else []) →
     GoesOn before between (given line ∷ [])
-read-one before between line is_one one read =
+read_one before between line is_one one read =
     subst (λ (b : Bool). GoesOn before between (if b then given line ∷ [] else [])) one read
 
 -- a prompt, and then a line
-pub asked-for : (before between passed : Option (List Event)) (prompt line : List ℕ) →
+pub asked_for : (before between passed : Option (List Event)) (prompt line : List ℕ) →
     GoesOn before between (shown prompt ∷ []) → GoesOn between passed (given line ∷ []) →
     GoesOn before passed (shown prompt ∷ given line ∷ [])
-asked-for before between passed prompt line prompted read =
-    goes-on before between passed (shown prompt ∷ []) (given line ∷ []) prompted read
+asked_for before between passed prompt line prompted read =
+    goes_on_there before between passed (shown prompt ∷ []) (given line ∷ []) prompted read
 
 -- and then a text
-pub answered-to : (before between passed : Option (List Event)) (prompt line text : List ℕ) →
+pub answered_to : (before between passed : Option (List Event)) (prompt line text : List ℕ) →
     GoesOn before between (shown prompt ∷ given line ∷ []) → GoesOn between passed (shown text ∷ []) →
     GoesOn before passed (shown prompt ∷ given line ∷ shown text ∷ [])
-answered-to before between passed prompt line text read answered =
-    goes-on before between passed (shown prompt ∷ given line ∷ []) (shown text ∷ []) read answered
+answered_to before between passed prompt line text read answered =
+    goes_on_there before between passed (shown prompt ∷ given line ∷ []) (shown text ∷ []) read answered

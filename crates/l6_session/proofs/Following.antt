@@ -61,13 +61,13 @@ outside memory field pointer window words is found none =
     ∙ ap (λ b. (if b then Ok (Field pointer window) else Err WordOutsideBlock)
     >>= λ at. Ok (content memory at)) (le-ltb window.word (length words) past)
 
-there-by : (memory : Memory) (field pointer word : ℕ) (window : windows.Window) (found : Option (List ℕ)) →
+there_by : (memory : Memory) (field pointer word : ℕ) (window : windows.Window) (found : Option (List ℕ)) →
     map.get memory.blocks pointer ≡ found →
     slice_get (unwrap_or found []) window.word ≡ Some word →
     by memory pointer (Some window) found ≡ Ok (content memory (Field pointer window))
-there-by memory field pointer word window None is shows =
+there_by memory field pointer word window None is shows =
     absurd (none-some word shows)
-there-by memory field pointer word window (Some words) is shows =
+there_by memory field pointer word window (Some words) is shows =
     ap (λ b. (if b then Ok (Field pointer window) else Err WordOutsideBlock)
     >>= λ at. Ok (content memory at))
     (lt-ltb window.word (length words) (slice_get_within words window.word word shows))
@@ -78,6 +78,6 @@ pub there : (memory : Memory) (field pointer word : ℕ) (window : windows.Windo
     followed memory field pointer ≡ Ok (windows.take window word)
 there memory field pointer word window is shows =
     ap (λ definition. by memory pointer definition (map.get memory.blocks pointer)) is
-    ∙ there-by memory field pointer word window (map.get memory.blocks pointer) refl shows
+    ∙ there_by memory field pointer word window (map.get memory.blocks pointer) refl shows
     ∙ ap (λ w. Ok (windows.take window w))
     (get_or_from_slice_get (block_at memory.blocks pointer) window.word word 0 shows)

@@ -3,3 +3,6 @@ pub mod Repeats
 pub mod Slashes
 pub mod Pushing
 pub mod Following
+pub mod Kept
+pub mod LeadingBack
+pub mod Latest

@@ -21,9 +21,9 @@ when_ok added kept (Ok value) is = is
 when_ok added kept (Err error) is = tt
 
 -- what was added is as long as the text has become longer
-pub added-length : (old added : List ℕ) {new : List ℕ} → new ≡ old ++ added →
+pub added_length : (old added : List ℕ) {new : List ℕ} → new ≡ old ++ added →
     length new - length old ≡ length added
-added-length old added is =
+added_length old added is =
     ap (λ text. length text - length old) is ∙ ap (λ n. n - length old) (length-append old added)
     ∙ add-sub (length old) (length added)
   where
@@ -31,8 +31,8 @@ added-length old added is =
     add-sub m n = omega arith
 
 -- nothing was added if the text is no longer
-pub none-added : (old added : List ℕ) {new : List ℕ} → new ≡ old ++ added → length new ≡ length old →
+pub none_added : (old added : List ℕ) {new : List ℕ} → new ≡ old ++ added → length new ≡ length old →
     added ≡ []
-none-added old [] is same = refl
-none-added old (first ∷ others) is same =
+none_added old [] is same = refl
+none_added old (first ∷ others) is same =
     absurd (omega (arith, ap length is ∙ length-append old (first ∷ others), same))

@@ -5,15 +5,15 @@ use Rattle.std.proofs.lemmas.List.{set-get_or, set-set}
 use Rattle.l6_steps.specs.State.{RunContext}
 use Rattle.l6_session.specs.SessionState.{SessionState, repeated}
 
-repeated-more : (n : ℕ) (leads : SessionState → SessionState) (old : SessionState) →
+repeated_more : (n : ℕ) (leads : SessionState → SessionState) (old : SessionState) →
     repeated (suc n) leads old ≡ leads (repeated n leads old)
 unfolding repeated
-repeated-more n leads old = refl
+repeated_more n leads old = refl
 
-pub repeated-none : (leads : SessionState → SessionState) (old : SessionState) →
+pub repeated_none : (leads : SessionState → SessionState) (old : SessionState) →
     repeated 0 leads old ≡ old
 unfolding repeated
-repeated-none leads old = refl
+repeated_none leads old = refl
 
 -- once more
 pub repeats : (leads : RunContext → SessionState → SessionState) (now context : RunContext)
@@ -22,14 +22,14 @@ pub repeats : (leads : RunContext → SessionState → SessionState) (now contex
 repeats leads now context new state old n same is before =
     let next : suc n ≡ n + 1 = omega arith in
     is ∙ ap (λ c. leads c state) same ∙ ap (leads context) before
-    ∙ sym (repeated-more n (leads context) old)
+    ∙ sym (repeated_more n (leads context) old)
     ∙ ap (λ k. repeated k (leads context) old) next
 
--- a breakpoint that is set for a while, and then is as it was
-pub restored : (breakpoints : List Bool) (statement : ℕ) (was : Bool) →
-    was ≡ slice_index_or breakpoints statement false →
-    slice_set (slice_set breakpoints statement true) statement was ≡ breakpoints
-restored breakpoints statement was is =
-    ap (λ b. slice_set (slice_set breakpoints statement true) statement b) is
-    ∙ set-set breakpoints statement true (slice_index_or breakpoints statement false)
-    ∙ set-get_or breakpoints statement false
+-- what is set for a while, and then is as it was
+pub restored : {A : Type 0} (list : List A) (statement : ℕ) (given was other : A) →
+    was ≡ slice_index_or list statement other →
+    slice_set (slice_set list statement given) statement was ≡ list
+restored list statement given was other is =
+    ap (λ b. slice_set (slice_set list statement given) statement b) is
+    ∙ set-set list statement given (slice_index_or list statement other)
+    ∙ set-get_or list statement other

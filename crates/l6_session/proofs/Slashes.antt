@@ -16,19 +16,19 @@ begins word index first within is =
     ap before_slash (drop_more word index first within)
     ∙ ap (λ f. if f == byte "/" then [] else f ∷ before_slash (drop (index + 1) word)) (sym is)
 
-pub slash-here : (word : List ℕ) (index first : ℕ) → index < length word →
+pub slash_here : (word : List ℕ) (index first : ℕ) → index < length word →
     first ≡ get_or word index first → (first == byte "/") ≡ true → Before word index →
     take index word ≡ before_slash word
-slash-here word index first within is here before =
+slash_here word index first within is here before =
     sym (before
     ∙ ap (λ rest. take index word ++ rest) (begins word index first within is
     ∙ ap (λ b. if b then [] else first ∷ before_slash (drop (index + 1) word)) here)
     ∙ append-nil (take index word))
 
-pub slash-later : (word : List ℕ) (index first : ℕ) → index < length word →
+pub slash_later : (word : List ℕ) (index first : ℕ) → index < length word →
     first ≡ get_or word index first → (first == byte "/") ≡ false → Before word index →
     Before word (index + 1)
-slash-later word index first within is later before =
+slash_later word index first within is later before =
     before
     ∙ ap (λ rest. take index word ++ rest) (begins word index first within is
     ∙ ap (λ b. if b then [] else first ∷ before_slash (drop (index + 1) word)) later)
@@ -36,8 +36,8 @@ slash-later word index first within is later before =
     ∙ ap (λ front. front ++ before_slash (drop (index + 1) word))
     (ap (λ f. take index word ++ f ∷ []) is ∙ sym (take_more word index first within))
 
-pub slash-none : (word : List ℕ) (index : ℕ) → length word ≤ index → Before word index →
+pub slash_none : (word : List ℕ) (index : ℕ) → length word ≤ index → Before word index →
     word ≡ before_slash word
-slash-none word index past before =
+slash_none word index past before =
     sym (before ∙ ap (λ rest. take index word ++ before_slash rest) (drop_all index word past)
     ∙ append-nil (take index word) ∙ take_all index word past)

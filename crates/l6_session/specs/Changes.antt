@@ -1,20 +1,25 @@
 -- What was seen where a session was before a command, and what has changed since.
-use Rattle.std.specs.Prelude.{ℕ, ◌+◌, ◌-◌, ◌==◌, ◌&&◌, nat_lt, Bool, true, false, List, [], ◌∷◌, ◌++◌, codes, decimal, Option, Some, None, if◌then◌else◌}
+use Rattle.std.specs.Prelude.{ℕ, ◌+◌, ◌-◌, ◌==◌, ◌&&◌, nat_lt, Bool, true, false, List, [], ◌∷◌, ◌++◌, length, drop, codes, decimal, Option, Some, None, if◌then◌else◌}
 use Rattle.l6_prog.specs.Numerals.{first_letter}
+use Rattle.std.specs.List.{flat_map}
+use Rattle.l6_word.specs.Lines.{lines_of}
 use Rattle.l6_word.specs.Window.{Window}
 use Rattle.l6_steps.specs.State.{Memory}
 use Rattle.l6_history.specs.Stop.{differs, value_of, values_of}
-use Rattle.l6_session.specs.Numerals.{most_changes}
+use Rattle.l6_session.specs.Numerals.{most_changes, most_printed}
 use Rattle.l6_session.specs.Texts.{chain_text, name_text, window_text}
 
--- what bugs held, what fields were defined as, and what watched chains read as
+-- how many characters had been printed, what bugs held, what fields were defined as, and what watched
+-- chains read as
 pub record Seen : Type 0 where
+  pub printed : ℕ
   pub bugs : List ℕ
   pub definitions : List (Option Window)
   pub watched : List (Option ℕ)
 
 abbrev pub seen_of : Memory → List (List ℕ) → Seen
 seen_of memory chains = record {
+  printed = length memory.output;
   bugs = memory.bugs;
   definitions = memory.definitions;
   watched = values_of chains memory;
@@ -94,8 +99,31 @@ abbrev pub lines_text : List ℕ → List ℕ → List (Option Window) → List 
 lines_text bugs bugs_now definitions definitions_now =
     limited 0 (bug_lines first_letter bugs bugs_now ++ field_lines 0 definitions definitions_now)
 
--- what has changed: of watched chains, and of bugs and fields
+-- a line that has been printed
+abbrev pub shown_line : List ℕ → List ℕ
+shown_line line = codes "      printed " ++ line ++ codes "\n"
+
+abbrev pub printed_line : List ℕ → List ℕ
+printed_line [] = codes "      printed a line feed\n"
+printed_line (first ∷ others) = shown_line (first ∷ others)
+
+abbrev pub more_text : ℕ → List ℕ
+more_text count = codes "      printed " ++ decimal count ++ codes " more, see out\n"
+
+-- how many more characters were printed, before those that are shown, if some were
+abbrev pub earlier_text : ℕ → List ℕ
+earlier_text count =
+    if count == 0 then [] else more_text count
+
+-- what is shown of characters that have been printed: the last ones, line by line
+abbrev pub printed_lines : List ℕ → List ℕ
+printed_lines characters =
+    earlier_text (length characters - most_printed)
+    ++ flat_map printed_line (lines_of (drop (length characters - most_printed) characters))
+
+-- what has changed: what has been printed, watched chains, and bugs and fields
 abbrev pub changes_text : Seen → Memory → List (List ℕ) → List ℕ
 changes_text seen memory chains =
-    watch_lines memory seen.watched chains
+    printed_lines (drop seen.printed memory.output)
+    ++ watch_lines memory seen.watched chains
     ++ lines_text seen.bugs memory.bugs seen.definitions memory.definitions

@@ -15,7 +15,7 @@ use Rattle.l6_session.specs.declared.command.View.TheVariants as views
 use Rattle.l6_session.specs.declared.command.Reading.{Reading}
 use Rattle.l6_session.specs.declared.command.Reading.TheVariants as reading
 use Rattle.l6_session.specs.declared.command.Verb.{Verb}
-use Rattle.l6_session.specs.declared.command.Verb.TheVariants.{Step, Back, Next, ReverseNext, Finish, ReverseFinish, Continue, ReverseContinue, Until, Run, Goto, Start, End, List as ListCards, Break, TemporaryBreak, Enable, Disable, Delete, Info, Watch, Unwatch, Display, Undisplay, Print, Block, Where, Stack, Show, Fields, Draw, Store, Lists, Stats, Out, Checkpoints, Help, Quit, Set, Ignore, Condition}
+use Rattle.l6_session.specs.declared.command.Verb.TheVariants.{Step, Back, StepState, BackState, Next, ReverseNext, NextState, ReverseNextState, Finish, ReverseFinish, Continue, ReverseContinue, Until, Run, Goto, Start, End, List as ListCards, Break, TemporaryBreak, Enable, Disable, Delete, Condition, Info, Watch, Unwatch, Display, Undisplay, Print, Block, Where, Stack, Show, Fields, Draw, Store, Lists, Stats, Out, Checkpoints, Save, Source, Help, Quit, Set, Ignore, Commands}
 
 -- the words of a command, between blanks; how it is written, with what follows it; what it does in a
 -- few words; and what it does in a sentence without its stop
@@ -36,17 +36,29 @@ row words usage line sentence = record {
 -- the list of commands: the names of gdb and those of the debugger of jobs, and what stands for them
 abbrev pub row_of : Verb → Row
 row_of Step =
-    row "STEP S STEPI SI" "step|s [N]" "N steps on"
-    "goes N states on, 1 without N, at most to the last one"
+    row "STEP S" "step|s [N]" "on, a statement"
+    "goes on to where a statement begins, also in a DO, or to where one stops before; N times"
 row_of Back =
-    row "BACK REVERSE-STEP RS" "back|rs [N]" "N states back"
+    row "BACK REVERSE-STEP RS" "back|rs [N]" "back, a statement"
+    "goes back to where a statement begins, also in a DO, or to where one stops after it; N times"
+row_of StepState =
+    row "STEPI SI" "stepi|si [N]" "N states on"
+    "goes N states on, 1 without N, at most to the last one. An action leads from one state to the next"
+row_of BackState =
+    row "BACKI REVERSE-STEPI RSI" "backi|rsi [N]" "N states back"
     "goes N states back, 1 without N, at most to the start"
 row_of Next =
-    row "NEXT N NEXTI NI" "next|n [N]" "on, over a DO"
-    "goes on to the next state at which no more calls wait than here, so over a DO, or to where one stops before; N times"
+    row "NEXT N" "next|n [N]" "on, over a DO"
+    "goes on to where a statement begins and no more calls wait than here, so over a DO, or to where one stops before; N times"
 row_of ReverseNext =
     row "REVERSE-NEXT RN" "reverse-next|rn [N]" "back, over a DO"
-    "goes back to the latest state at which no more calls wait than here, or to where one stops after it; N times"
+    "goes back to where a statement begins and no more calls wait than here, or to where one stops after it; N times"
+row_of NextState =
+    row "NEXTI NI" "nexti|ni [N]" "a state on, so"
+    "goes on to the next state at which no more calls wait than here, or to where one stops before; N times"
+row_of ReverseNextState =
+    row "REVERSE-NEXTI RNI" "reverse-nexti|rni" "a state back, so"
+    "goes back to the latest state at which no more calls wait than here, or to where one stops after it; rni N does it N times"
 row_of Finish =
     row "FINISH FIN" "finish|fin" "on, out of a DO"
     "goes on to where the latest call has returned, or to where one stops before"
@@ -75,11 +87,11 @@ row_of End =
     row "END" "end" "to the last"
     "goes to the last state"
 row_of ListCards =
-    row "LIST L LL" "list|l [PLACE]" "cards near it"
-    "shows the cards near the state, or near a statement"
+    row "LIST L LL" "list|l [PLACE|A,B|-]" "cards near it"
+    "shows the cards near the state, and then those that follow; or those near a statement, from one number to another, or before the last ones"
 row_of Break =
     row "BREAK B" "break|b PLACE" "stop there"
-    "stops wherever the run comes to the statement. PLACE is a label, the number of a statement, or : and the number of a card"
+    "stops wherever the run comes to the statement. PLACE is a label, also with + and how many statements after it, the number of a statement, or : and the number of a card. With if and TEST after it, as (A,G,5), it stops where the test holds, or meets a trap"
 row_of TemporaryBreak =
     row "TBREAK TB" "tbreak|tb PLACE" "stop there once"
     "like break, but the breakpoint is removed where the run first comes to it"
@@ -99,23 +111,23 @@ row_of Watch =
     row "WATCH" "watch CHAIN" "stop at a change"
     "stops where the chain reads as another value, or can be followed no longer; up to 8 chains"
 row_of Unwatch =
-    row "UNWATCH" "unwatch N" "watch no longer"
-    "watches a chain no longer; N is its number in info"
+    row "UNWATCH" "unwatch CHAIN|N" "watch no longer"
+    "watches a chain no longer; N is the number that it has in info"
 row_of Display =
     row "DISPLAY" "display CHAIN" "print at stops"
     "prints the chain at each stop; up to 8 chains"
 row_of Undisplay =
-    row "UNDISPLAY" "undisplay N" "print no longer"
-    "displays a chain no longer; N is its number in info"
+    row "UNDISPLAY" "undisplay CHAIN|N" "print no longer"
+    "displays a chain no longer; N is the number that it has in info"
 row_of Print =
     row "PRINT P PP WHATIS" "print|p CHAIN|NUMBER" "what it reads as"
-    "shows what it reads as, in decimal, in octal and as characters, and the block to which it leads; or at which field it can't be followed, and why"
+    "shows what it reads as, in decimal, in octal and as characters, and the block to which it leads; or at which field it can't be followed, and why. Of a label it shows the statement"
 row_of Block =
     row "BLOCK X" "block|x CHAIN|NUMBER" "its block"
     "shows the words of the block to which it leads, and what the fields that are defined now show of it"
 row_of Where =
-    row "WHERE W BT BACKTRACE FRAME F UP DOWN" "where|bt" "calls that wait"
-    "shows where the run is, and where the calls that wait go on, the latest first"
+    row "WHERE W BT BACKTRACE FRAME F UP DOWN" "where|bt [N]" "calls that wait"
+    "shows where the run is, and where the calls that wait go on, the latest first; with N no more than N lines"
 row_of Stack =
     row "STACK" "stack" "what is saved"
     "shows the contents and the definitions that are saved, the latest first"
@@ -143,6 +155,12 @@ row_of Out =
 row_of Checkpoints =
     row "CHECKPOINTS" "checkpoints" "states kept"
     "shows at which states copies are kept, to go back from"
+row_of Save =
+    row "SAVE" "save [FILE]" "as commands"
+    "shows the commands that lead a new session to where this one is, with its stops and what it displays, or writes them into a file"
+row_of Source =
+    row "SOURCE" "source FILE" "lines of a file"
+    "obeys the lines of a file, and then those that follow"
 row_of Help =
     row "HELP H ?" "help|h [COMMAND]" "this, or more"
     "shows the commands, or what one of them does"
@@ -156,17 +174,20 @@ row_of Ignore =
     row "IGNORE" "ignore" "see continue"
     "changes nothing: continue N passes over the stops before the Nth"
 row_of Condition =
-    row "CONDITION COMMANDS" "condition" "see watch"
-    "changes nothing: a breakpoint has no condition, and watch stops where a value changes"
+    row "CONDITION" "condition PLACE [TEST]" "stop there if so"
+    "stops at the breakpoint where the test holds, or meets a trap; without TEST always. TEST is a group of a card, as (A,G,5)"
+row_of Commands =
+    row "COMMANDS" "commands" "see display"
+    "changes nothing: display prints a chain at each stop, and source obeys the lines of a file"
 
 -- the commands, in the order in which help has them
 unfoldable pub verbs : List Verb
 verbs =
-    Step ∷ Back ∷ Next ∷ ReverseNext ∷ Finish ∷ ReverseFinish ∷ Continue ∷ ReverseContinue ∷
-    Until ∷ Run ∷ Goto ∷ Start ∷ End ∷ ListCards ∷ Break ∷ TemporaryBreak ∷ Enable ∷ Disable ∷
-    Delete ∷ Info ∷ Watch ∷ Unwatch ∷ Display ∷ Undisplay ∷ Print ∷ Block ∷ Where ∷ Stack ∷
-    Show ∷ Fields ∷ Draw ∷ Store ∷ Lists ∷ Stats ∷ Out ∷ Checkpoints ∷ Help ∷ Quit ∷ Set ∷
-    Ignore ∷ Condition ∷ []
+    Step ∷ Back ∷ StepState ∷ BackState ∷ Next ∷ ReverseNext ∷ NextState ∷ ReverseNextState ∷
+    Finish ∷ ReverseFinish ∷ Continue ∷ ReverseContinue ∷ Until ∷ Run ∷ Goto ∷ Start ∷ End ∷
+    ListCards ∷ Break ∷ TemporaryBreak ∷ Enable ∷ Disable ∷ Delete ∷ Condition ∷ Info ∷ Watch ∷
+    Unwatch ∷ Display ∷ Undisplay ∷ Print ∷ Block ∷ Where ∷ Stack ∷ Show ∷ Fields ∷ Draw ∷ Store ∷
+    Lists ∷ Stats ∷ Out ∷ Checkpoints ∷ Save ∷ Source ∷ Help ∷ Quit ∷ Set ∷ Ignore ∷ Commands ∷ []
 
 abbrev pub moved : Move → Reading
 moved to = reading.Asked (command.Move to)
@@ -177,10 +198,14 @@ shown view = reading.Asked (command.View view)
 -- what a command asks for that no word follows: one goes to another state, or something is shown, or more
 -- is missing
 abbrev pub alone : Verb → Reading
-alone Step = moved (moves.Step 1)
-alone Back = moved (moves.Back 1)
-alone Next = moved (moves.Next 1)
-alone ReverseNext = moved (moves.ReverseNext 1)
+alone Step = moved (moves.StepStatement 1)
+alone Back = moved (moves.BackStatement 1)
+alone StepState = moved (moves.Step 1)
+alone BackState = moved (moves.Back 1)
+alone Next = moved (moves.NextStatement 1)
+alone ReverseNext = moved (moves.ReverseNextStatement 1)
+alone NextState = moved (moves.Next 1)
+alone ReverseNextState = moved (moves.ReverseNext 1)
 alone Finish = moved moves.Finish
 alone ReverseFinish = moved moves.ReverseFinish
 alone Continue = moved (moves.Continue 1)
@@ -217,7 +242,10 @@ alone Help = shown views.Help
 alone Quit = reading.Quit
 alone Set = shown views.Set
 alone Ignore = shown views.Ignore
-alone Condition = shown views.Condition
+alone Condition = reading.Missing Condition
+alone Commands = shown views.Commands
+alone Save = shown views.Save
+alone Source = reading.Missing Source
 
 -- the word is one of the command's
 abbrev pub is_word_of : Verb → List ℕ → Bool

@@ -1,4 +1,5 @@
 pub mod Numerals
+pub mod Parted
 pub mod Names
 pub mod Near
 pub mod Command
@@ -9,6 +10,8 @@ pub mod Dialogue
 pub mod Texts
 pub mod Changes
 pub mod Reports
+pub mod Listing
+pub mod Saved
 pub mod Blocks
 pub mod Stops
 pub mod Help

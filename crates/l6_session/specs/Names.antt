@@ -1,6 +1,6 @@
--- How commands name the statements of a deck: by their number, by their label, and by a card of
--- theirs, whose number follows a colon.
-use Rattle.std.specs.Prelude.{ℕ, ◌+◌, ◌-◌, ◌==◌, nat_lt, List, [], ◌∷◌, Option, Some, None, if◌then◌else◌}
+-- How commands name the statements of a deck: by their number, by their label, by how many statements they
+-- are after a label, and by a card of theirs, whose number follows a colon.
+use Rattle.std.specs.Prelude.{ℕ, ◌+◌, ◌-◌, ◌==◌, nat_lt, ◌&&◌, Bool, List, [], ◌∷◌, Option, Some, None, if◌then◌else◌}
 use Rattle.std.specs.Option.{option_or}
 use Rattle.std.specs.Str.{byte}
 use Rattle.l6_group.specs.declared.label.Label.{Label}
@@ -12,6 +12,7 @@ use Rattle.l6_card.specs.declared.role.Role.{Role}
 use Rattle.l6_card.specs.declared.role.Role.TheVariants.{First, Further}
 use Rattle.l6_asm.specs.Labels as labels
 use Rattle.l6_debug.specs.Command.{number_of}
+use Rattle.l6_session.specs.Parted.{parted}
 
 -- the labels of a deck with the numbers of their statements, its text, and how many statements its
 -- program has
@@ -53,7 +54,25 @@ statement_of_label names word = label_of word >>= labels.number_of names.labels
 abbrev pub if_statement : Names → ℕ → Option ℕ
 if_statement names number = if nat_lt number names.statements then Some number else None
 
-abbrev pub statement_of : Names → List ℕ → Option ℕ
-statement_of names word =
+-- the statement that is so many statements after a label
+abbrev pub statement_after : Names → List ℕ → List ℕ → Option ℕ
+statement_after names label digits =
+    statement_of_label names label
+    >>= (λ from. number_of digits >>= (λ further. if_statement names (from + further)))
+
+abbrev pub statement_of_whole : Names → List ℕ → Option ℕ
+statement_of_whole names word =
     option_or (number_of word) (option_or (statement_of_card names word) (statement_of_label names word))
     >>= if_statement names
+
+-- with a plus sign, a word names what is after a label
+abbrev pub statement_by : Names → List ℕ → Option (List ℕ × List ℕ) → Option ℕ
+statement_by names word None = statement_of_whole names word
+statement_by names word (Some (label, digits)) = statement_after names label digits
+
+abbrev pub statement_of : Names → List ℕ → Option ℕ
+statement_of names word = statement_by names word (parted (byte "+") word)
+
+-- the last statement is added to each deck
+abbrev pub is_added : Names → ℕ → Bool
+is_added names statement = nat_lt 0 names.statements && (names.statements - 1 == statement)

@@ -28,6 +28,10 @@ cell_places = 40
 abbrev pub most_changes : ℕ
 most_changes = 8
 
+-- how many characters are shown at a stop of what has been printed since the one before
+abbrev pub most_printed : ℕ
+most_printed = 400
+
 -- in how many columns the number of a card is, and how many statements are listed before and after the one
 -- that is asked for
 abbrev pub card_places : ℕ
@@ -35,3 +39,7 @@ card_places = 5
 
 abbrev pub near_statements : ℕ
 near_statements = 4
+
+-- how many cards are listed that follow the ones before, or that are before them
+abbrev pub listed_cards : ℕ
+listed_cards = 10

@@ -1,29 +1,31 @@
 -- What a session says of itself: where one stops, what is displayed, which states are kept, and cards.
-use Rattle.std.specs.Prelude.{ℕ, ◌+◌, ◌-◌, ◌&&◌, nat_le, nat_lt, Bool, false, List, [], ◌∷◌, ◌++◌, length, replicate, codes, decimal, slice_index_or, if◌then◌else◌}
+use Rattle.std.specs.Prelude.{ℕ, ◌+◌, ◌-◌, ◌&&◌, nat_le, nat_lt, Bool, false, List, [], ◌∷◌, ◌++◌, length, replicate, codes, decimal, slice_index_or, Option, None, if◌then◌else◌}
 use Rattle.std.specs.List.{enumerate_from, flat_map}
 use Rattle.std.specs.Str.{byte}
 use Rattle.l6_group.specs.declared.label.Label.{Label}
 use Rattle.l6_card.specs.Role.{role_of}
 use Rattle.l6_word.specs.Lines.{lines_of, without_return}
+use Rattle.l6_prog.specs.declared.condition.Test.{Test}
 use Rattle.l6_steps.specs.State.{Memory}
 use Rattle.l6_session.specs.Names.{begun_with}
 use Rattle.l6_session.specs.Numerals.{card_places, near_statements}
 use Rattle.l6_session.specs.SessionState.{SessionState}
-use Rattle.l6_session.specs.Texts.{chain_line, numbered_line, statement_line}
+use Rattle.l6_session.specs.Texts.{breakpoint_line, chain_line, numbered_line}
 
 -- the line of a statement that has a breakpoint, which may be a temporary one
 abbrev pub said_of : Bool → List ℕ
 said_of is_temporary = if is_temporary then codes "tbreak " else codes "break "
 
-abbrev pub breakpoint_line : List (Label × ℕ) → List Bool → ℕ × Bool → List ℕ
-breakpoint_line labels temporary breakpoint =
+abbrev pub break_line : List (Label × ℕ) → List Bool → List (Option Test) → ℕ × Bool → List ℕ
+break_line labels temporary tests breakpoint =
     if breakpoint.1
-    then statement_line (said_of (slice_index_or temporary breakpoint.0 false)) labels breakpoint.0
+    then breakpoint_line (said_of (slice_index_or temporary breakpoint.0 false)) labels breakpoint.0
+    (slice_index_or tests breakpoint.0 None)
     else []
 
-abbrev pub breakpoint_lines : List (Label × ℕ) → List Bool → List Bool → List ℕ
-breakpoint_lines labels temporary breakpoints =
-    flat_map (breakpoint_line labels temporary) (enumerate_from 0 breakpoints)
+abbrev pub break_lines : List (Label × ℕ) → List Bool → List (Option Test) → List Bool → List ℕ
+break_lines labels temporary tests breakpoints =
+    flat_map (break_line labels temporary tests) (enumerate_from 0 breakpoints)
 
 -- the lines of chains, numbered from 1 on, with what they read as
 abbrev pub chain_lines : Memory → List ℕ → List (List ℕ) → List ℕ
@@ -33,7 +35,7 @@ chain_lines memory verb chains =
 -- where one stops, and what is displayed
 abbrev pub stops_lines : List (Label × ℕ) → Memory → SessionState → List ℕ
 stops_lines labels memory state =
-    breakpoint_lines labels state.temporary state.stop.breakpoints
+    break_lines labels state.temporary state.stop.tests state.stop.breakpoints
     ++ chain_lines memory (codes "watch ") state.stop.watched
     ++ chain_lines memory (codes "display ") state.displayed
 

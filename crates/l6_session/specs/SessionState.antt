@@ -1,20 +1,21 @@
 -- Sessions: at which state of a run one is, where one stops, what is displayed, and where commands lead.
-use Rattle.std.specs.Prelude.{ℕ, zero, suc, ◌+◌, ◌-◌, ◌==◌, min, nat_lt, Bool, true, false, List, [], ◌∷◌, ◌++◌, length, replicate, slice_set, Some, if◌then◌else◌}
+use Rattle.std.specs.Prelude.{ℕ, zero, suc, ◌+◌, ◌-◌, ◌==◌, min, nat_lt, Bool, true, false, List, [], ◌∷◌, ◌++◌, length, replicate, slice_index_or, slice_set, Option, None, Some, ◌&&◌, if◌then◌else◌}
 use Rattle.std.specs.List.{remove}
 use Rattle.l6_store.specs.Rule.{Rule}
 use Rattle.l6_steps.specs.Configuration.{state_at}
 use Rattle.l6_steps.specs.Numbering.{last_number}
 use Rattle.l6_steps.specs.State.{RunContext}
+use Rattle.l6_prog.specs.declared.condition.Test.{Test}
 use Rattle.l6_history.specs.Numerals.{most_watched}
 use Rattle.l6_history.specs.Seeking.{next_stop, previous_stop}
-use Rattle.l6_history.specs.Stop.{Stop, is_at_breakpoint, nowhere}
+use Rattle.l6_history.specs.Stop.{Stop, is_at_breakpoint, meets, nowhere}
 use Rattle.l6_session.specs.Numerals.{most_displayed, most_repeats}
 use Rattle.l6_session.specs.declared.command.Command.{Command}
 use Rattle.l6_session.specs.declared.command.Command.TheVariants as command
 use Rattle.l6_session.specs.declared.command.Move.{Move}
-use Rattle.l6_session.specs.declared.command.Move.TheVariants.{Step, Back, Goto, End, Next, ReverseNext, Finish, ReverseFinish, Continue, ReverseContinue, Run, Until, UntilNext}
+use Rattle.l6_session.specs.declared.command.Move.TheVariants.{Step, Back, StepStatement, BackStatement, Goto, End, Next, ReverseNext, NextStatement, ReverseNextStatement, Finish, ReverseFinish, Continue, ReverseContinue, Run, Until, UntilNext}
 use Rattle.l6_session.specs.declared.command.Setting.{Setting}
-use Rattle.l6_session.specs.declared.command.Setting.TheVariants.{Break, TemporaryBreak, Delete, DeleteAll, Watch, Unwatch, Display, Undisplay}
+use Rattle.l6_session.specs.declared.command.Setting.TheVariants.{Break, BreakIf, TemporaryBreak, Condition, Delete, DeleteAll, Watch, Unwatch, UnwatchChain, Display, Undisplay, UndisplayChain}
 
 -- the number of the state at which one is; where one stops; for each statement, whether its breakpoint
 -- is removed where it is reached; and the chains that are displayed
@@ -41,20 +42,58 @@ depth_at rule context number = length (state_at rule context number).memory.retu
 abbrev pub to_depth : ℕ → Stop → Stop
 to_depth depth stop = record stop { depth = Some depth }
 
--- the breakpoint of a statement is set, or is removed; it is temporary or not
-abbrev pub with_breakpoint : ℕ → Bool → Bool → SessionState → SessionState
-with_breakpoint statement is temporary old = record old {
-  stop = record old.stop { breakpoints = slice_set old.stop.breakpoints statement is };
+-- one stops where statements begin, at each, or where no more calls wait than this
+abbrev pub at_statements : Stop → Stop
+at_statements stop = record stop { each = true }
+
+abbrev pub to_statement : ℕ → Stop → Stop
+to_statement depth stop = record stop { each = true; depth = Some depth }
+
+-- the breakpoint of a statement is set, or is removed; it is temporary or not, and may have a test
+abbrev pub with_breakpoint : ℕ → Bool → Bool → Option Test → SessionState → SessionState
+with_breakpoint statement is temporary test old = record old {
+  stop = record old.stop {
+    breakpoints = slice_set old.stop.breakpoints statement is;
+    tests = slice_set old.stop.tests statement test;
+  };
   temporary = slice_set old.temporary statement temporary;
 }
 
--- the session has come to the state of a number: if it has a temporary breakpoint, that is removed
+-- the breakpoint of a statement is given a test, or none, if it has a breakpoint
+abbrev pub with_test : ℕ → Option Test → SessionState → SessionState
+with_test statement test old =
+    if slice_index_or old.stop.breakpoints statement false
+    then record old { stop = record old.stop { tests = slice_set old.stop.tests statement test } }
+    else old
+
+-- the session has come to the state of a number: if one stops there at a temporary breakpoint, that is
+-- removed
 abbrev pub come_to : Rule → RunContext → SessionState → ℕ → SessionState
 come_to rule context old number =
     let state = state_at rule context number in
-    if is_at_breakpoint old.temporary state
-    then with_breakpoint state.at.statement false false (record old { number = number })
+    if is_at_breakpoint old.temporary state && meets old.stop.tests state
+    then with_breakpoint state.at.statement false false None (record old { number = number })
     else record old { number = number }
+
+-- one goes on or back to where a statement begins
+abbrev pub on_statement : Rule → RunContext → SessionState → SessionState
+on_statement rule context old =
+    come_to rule context old (next_stop rule context (at_statements old.stop) old.number)
+
+abbrev pub back_statement : Rule → RunContext → SessionState → SessionState
+back_statement rule context old =
+    come_to rule context old (previous_stop rule context (at_statements old.stop) old.number)
+
+-- the same where no more calls wait than here
+abbrev pub over_statement : Rule → RunContext → SessionState → SessionState
+over_statement rule context old =
+    come_to rule context old
+    (next_stop rule context (to_statement (depth_at rule context old.number) old.stop) old.number)
+
+abbrev pub back_over_statement : Rule → RunContext → SessionState → SessionState
+back_over_statement rule context old =
+    come_to rule context old
+    (previous_stop rule context (to_statement (depth_at rule context old.number) old.stop) old.number)
 
 -- one goes on or back to where no more calls wait than this
 abbrev pub on_to : Rule → RunContext → SessionState → ℕ → SessionState
@@ -79,10 +118,13 @@ over rule context old = on_to rule context old (depth_at rule context old.number
 abbrev pub back_over : Rule → RunContext → SessionState → SessionState
 back_over rule context old = back_to rule context old (depth_at rule context old.number)
 
--- one goes on to a statement, or to where one stops before
+-- one goes on to a statement, whatever test its breakpoint has, or to where one stops before
 abbrev pub on_until : Rule → RunContext → SessionState → ℕ → SessionState
 on_until rule context old statement =
-    let stop = record old.stop { breakpoints = slice_set old.stop.breakpoints statement true } in
+    let stop = record old.stop {
+      breakpoints = slice_set old.stop.breakpoints statement true;
+      tests = slice_set old.stop.tests statement None;
+    } in
     come_to rule context old (next_stop rule context stop old.number)
 
 -- so many times what leads from one session to the next
@@ -103,12 +145,27 @@ abbrev pub one_less : List (List ℕ) → ℕ → List (List ℕ)
 one_less chains number =
     if nat_lt (number - 1) (length chains) then remove chains (number - 1) else chains
 
+-- two chains have the same names
+abbrev pub is_same : List ℕ → List ℕ → Bool
+is_same [] [] = true
+is_same (a ∷ one) (b ∷ other) = if a == b then is_same one other else false
+is_same one other = false
+
+-- the number of a chain among some, counted from 1 on, or a number that none of them has
+abbrev pub number_in : List (List ℕ) → List ℕ → ℕ
+number_in [] chain = 1
+number_in (first ∷ others) chain = if is_same first chain then 1 else number_in others chain + 1
+
 -- the session after one goes to another state. It is at no state beyond the last, and back at none before
 -- the start. Where no call waits, there is none that could return.
 abbrev pub moved : Rule → RunContext → SessionState → Move → SessionState
 moved rule context old (Step n) =
     come_to rule context old (min (old.number + n) (last_number rule context))
 moved rule context old (Back n) = come_to rule context old (old.number - n)
+moved rule context old (StepStatement n) = times n (on_statement rule context) old
+moved rule context old (BackStatement n) = times n (back_statement rule context) old
+moved rule context old (NextStatement n) = times n (over_statement rule context) old
+moved rule context old (ReverseNextStatement n) = times n (back_over_statement rule context) old
 moved rule context old (Goto n) = come_to rule context old (min n (last_number rule context))
 moved rule context old End = come_to rule context old (last_number rule context)
 moved rule context old (Next n) = times n (over rule context) old
@@ -128,9 +185,11 @@ moved rule context old UntilNext =
 
 -- the session after one changes where one stops, or what is displayed
 abbrev pub changed : SessionState → Setting → SessionState
-changed old (Break s) = with_breakpoint s true false old
-changed old (TemporaryBreak s) = with_breakpoint s true true old
-changed old (Delete s) = with_breakpoint s false false old
+changed old (Break s) = with_breakpoint s true false None old
+changed old (BreakIf s test) = with_breakpoint s true false (Some test) old
+changed old (TemporaryBreak s) = with_breakpoint s true true None old
+changed old (Condition s test) = with_test s test old
+changed old (Delete s) = with_breakpoint s false false None old
 changed old DeleteAll = record old {
   stop = nowhere (length old.stop.breakpoints);
   temporary = replicate (length old.temporary) false;
@@ -139,9 +198,17 @@ changed old (Watch chain) =
     record old { stop = record old.stop { watched = one_more most_watched old.stop.watched chain } }
 changed old (Unwatch n) =
     record old { stop = record old.stop { watched = one_less old.stop.watched n } }
+changed old (UnwatchChain chain) =
+    record old {
+      stop = record old.stop {
+        watched = one_less old.stop.watched (number_in old.stop.watched chain);
+      };
+    }
 changed old (Display chain) =
     record old { displayed = one_more most_displayed old.displayed chain }
 changed old (Undisplay n) = record old { displayed = one_less old.displayed n }
+changed old (UndisplayChain chain) =
+    record old { displayed = one_less old.displayed (number_in old.displayed chain) }
 
 -- the session after a command
 abbrev pub after : Rule → RunContext → SessionState → Command → SessionState

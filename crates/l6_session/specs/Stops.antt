@@ -1,7 +1,11 @@
 -- What a session answers where it stops.
-use Rattle.std.specs.Prelude.{ℕ, ◌==◌, List, [], ◌++◌, codes, decimal, Option, Some, if◌then◌else◌}
+use Rattle.std.specs.Prelude.{ℕ, ◌==◌, Bool, List, [], ◌++◌, codes, decimal, slice_index_or, Option, None, Some, Result, Ok, Err, if◌then◌else◌}
 use Rattle.l6_group.specs.declared.label.Label.{Label}
-use Rattle.l6_steps.specs.State.{RunContext, State, is_last}
+use Rattle.l6_history.specs.Stop.{is_at_statement}
+use Rattle.l6_prog.specs.declared.condition.Test.{Test}
+use Rattle.l6_steps.specs.Condition.{holds}
+use Rattle.l6_steps.specs.State.{Memory, RunContext, State, is_last}
+use Rattle.l6_steps.specs.declared.trap.Trap.{Trap}
 use Rattle.l6_steps.specs.declared.halt.Halt.{Halt}
 use Rattle.l6_steps.specs.declared.halt.Halt.TheVariants.{Done, Fail}
 use Rattle.l6_steps.specs.declared.position.Position.{Position}
@@ -9,7 +13,7 @@ use Rattle.l6_machine.specs.Printout.{ending_line}
 use Rattle.l6_session.specs.Changes.{Seen, changes_text}
 use Rattle.l6_session.specs.Reports.{displayed_text}
 use Rattle.l6_session.specs.SessionState.{SessionState}
-use Rattle.l6_session.specs.Texts.{label_text}
+use Rattle.l6_session.specs.Texts.{label_text, test_text}
 
 -- where a state is and after how many steps, or how the run has ended, as the debugger of jobs says it
 abbrev pub at_text : Position → List ℕ
@@ -42,11 +46,31 @@ stay_text before now =
     else codes "      The session stays here\n")
     else []
 
--- where a session has stopped that was at the state of a number before; what has changed since; and
+-- the test of the breakpoint there meets a trap
+abbrev pub met_text : Test → List ℕ
+met_text test = codes "      the test " ++ test_text test ++ codes " meets a trap\n"
+
+abbrev pub trapped_text : Test → Result Bool Trap → List ℕ
+trapped_text test (Ok does_hold) = []
+trapped_text test (Err trap) = met_text test
+
+abbrev pub tested_text : Memory → Option Test → List ℕ
+tested_text memory None = []
+tested_text memory (Some test) = trapped_text test (holds test memory)
+
+abbrev pub test_at_text : List (Option Test) → State → List ℕ
+test_at_text tests state =
+    if is_at_statement state
+    then tested_text state.memory (slice_index_or tests state.at.statement None)
+    else []
+
+-- where a session has stopped that was at the state of a number before, and whether the test of a breakpoint
+-- there meets a trap; what has changed since; and
 -- what is displayed
 abbrev pub stop_text : List (Label × ℕ) → RunContext → State → SessionState → ℕ → Seen → List ℕ → List ℕ
 stop_text labels context state session before seen details =
     place_text labels context state details
+    ++ test_at_text session.stop.tests state
     ++ stay_text before session.number
     ++ changes_text seen state.memory session.stop.watched
     ++ displayed_text state.memory session.displayed

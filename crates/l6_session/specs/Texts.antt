@@ -1,5 +1,5 @@
 -- What a session shows of a state: values, statements by their labels, and what waits and is saved.
-use Rattle.std.specs.Prelude.{ℕ, ◌-◌, ◌/◌, ◌%◌, ◌^◌, ◌==◌, nat_le, nat_lt, List, [], ◌∷◌, ◌++◌, length, map, codes, decimal, Option, Some, None, Result, Ok, Err, if◌then◌else◌}
+use Rattle.std.specs.Prelude.{ℕ, ◌-◌, ◌/◌, ◌%◌, ◌^◌, ◌==◌, nat_le, nat_lt, List, [], ◌∷◌, ◌++◌, length, take, map, codes, decimal, Option, Some, None, Result, Ok, Err, if◌then◌else◌}
 use Rattle.std.specs.Option.{option_map}
 use Rattle.std.specs.FinMap as places
 use Rattle.std.specs.List.{enumerate_from, flat_map}
@@ -10,6 +10,9 @@ use Rattle.l6_word.specs.Trying.{◌>>=◌}
 use Rattle.l6_word.specs.Window.{Window}
 use Rattle.l6_group.specs.declared.label.Label.{Label}
 use Rattle.l6_prog.specs.Numerals.{name_count}
+use Rattle.l6_prog.specs.declared.condition.Comparison.{Comparison}
+use Rattle.l6_prog.specs.declared.condition.Comparison.TheVariants.{Equal, NotEqual, Greater, Less, AllOnes, AllZeros}
+use Rattle.l6_prog.specs.declared.condition.Test.{Test}
 use Rattle.l6_prog.specs.declared.operand.Operand.{Operand}
 use Rattle.l6_prog.specs.declared.operand.Operand.TheVariants.{Chain, Number}
 use Rattle.l6_steps.specs.Locus.{content, field_at, read}
@@ -84,6 +87,34 @@ abbrev pub statement_line : List ℕ → List (Label × ℕ) → ℕ → List �
 statement_line said labels statement =
     said ++ decimal statement ++ label_text labels statement ++ codes "\n"
 
+-- a test, as a card has it
+abbrev pub comparison_text : Comparison → List ℕ
+comparison_text Equal = codes "E"
+comparison_text NotEqual = codes "N"
+comparison_text Greater = codes "G"
+comparison_text Less = codes "L"
+comparison_text AllOnes = codes "O"
+comparison_text AllZeros = codes "Z"
+
+abbrev pub compared_text : Operand → List ℕ
+compared_text (Number word) = decimal word
+compared_text (Chain chain) = chain_text chain
+
+abbrev pub test_text : Test → List ℕ
+test_text test =
+    codes "(" ++ chain_text test.chain ++ codes "," ++ comparison_text test.comparison ++ codes ","
+    ++ compared_text test.operand ++ codes ")"
+
+-- the test of a breakpoint, if it has one
+abbrev pub if_text : Option Test → List ℕ
+if_text None = []
+if_text (Some test) = codes " if " ++ test_text test
+
+-- what is said of a statement's breakpoint
+abbrev pub breakpoint_line : List ℕ → List (Label × ℕ) → ℕ → Option Test → List ℕ
+breakpoint_line said labels statement test =
+    said ++ decimal statement ++ label_text labels statement ++ if_text test ++ codes "\n"
+
 -- a definition: its word, its first bit and its last
 abbrev pub window_text : Option Window → List ℕ
 window_text None = codes "not defined"
@@ -121,10 +152,23 @@ return_line labels call =
     ++ fail_text labels call.1.fail ++ codes "\n"
 
 -- where a state is, and the calls that wait, the latest first, numbered from 1 on
+abbrev pub here_line : List (Label × ℕ) → State → List ℕ
+here_line labels state = codes "#0 at " ++ position_text labels state.at ++ codes "\n"
+
 abbrev pub waiting_text : List (Label × ℕ) → State → List ℕ
 waiting_text labels state =
-    codes "#0 at " ++ position_text labels state.at ++ codes "\n"
-    ++ flat_map (return_line labels) (enumerate_from 1 state.memory.returns)
+    here_line labels state ++ flat_map (return_line labels) (enumerate_from 1 state.memory.returns)
+
+-- no more than so many lines of this, and how many more calls wait
+abbrev pub more_text : ℕ → List ℕ
+more_text further =
+    if further == 0 then [] else codes "and " ++ decimal further ++ codes " more\n"
+
+abbrev pub few_text : ℕ → List (Label × ℕ) → State → List ℕ
+few_text lines labels state =
+    here_line labels state
+    ++ flat_map (return_line labels) (enumerate_from 1 (take (lines - 1) state.memory.returns))
+    ++ more_text (length state.memory.returns - (lines - 1))
 
 -- what a field shows of the block at a pointer, if it can be followed
 abbrev pub followed : Memory → ℕ → ℕ → Result ℕ Trap

@@ -1,16 +1,17 @@
 //! A session with the run of a deck, which answers lines.
 
-ghost use Rattle.std.specs.Prelude.{◌≡◌, IfOk};
+ghost use Rattle.std.specs.Prelude.{◌≡◌, IfOk, None, false};
 ghost use Rattle.l6_steps.specs.Configuration.{first_configuration};
-ghost use Rattle.l6_session.specs.DeckSession.{AnswersCommand, AnswersReading, ShowsPlace, moved};
+ghost use Rattle.l6_session.specs.DeckSession.{AnswersCommand, AnswersReading, ShowsPlace, after_reading, refuses, refuses_setting};
 ghost use Rattle.l6_session.specs.SessionState.{after, first_session_state};
 
 use crate::answers::answer_of;
 use crate::before::Before;
-use crate::command::{Command, Reading};
+use crate::command::{Cards, Command, Reading, Setting};
 use crate::conversation::Answerer;
 use crate::free_lists::FreeLists;
 use crate::help::sentence_after;
+use crate::listing::listed_after;
 use crate::names::Names;
 use crate::reading::reading_of;
 use crate::seen::Seen;
@@ -32,6 +33,13 @@ const NO_STATEMENT: &[u8] =
 const NO_CHAIN: &[u8] =
     b"No such chain: a bug, A to Z, and up to five fields after it, as in QNC\n";
 
+/// What is answered where there is no test that is to be one.
+const NO_TEST: &[u8] =
+    b"No such test: a group as on a card, with E, N, G, L, O or Z, as in (A,G,5)\n";
+
+/// What is answered where a file is named that the console has not opened.
+const NO_FILE: &[u8] = b"No such file, or it can't be opened\n";
+
 /// What is answered to a word that is nearly a command's, before what that command does.
 const NEARLY: &[u8] = b"Not a command. Did you mean this one? ";
 
@@ -47,6 +55,9 @@ pub struct DeckSession<S: Places> {
     session: Session<S>,
     names: Names,
     seen: Seen,
+    /// The cards that were listed last, if any were where the session is.
+    listed: Option<Cards>,
+    is_refused: bool,
 }
 
 impl<S: Places> Model for DeckSession<S> {
@@ -64,6 +75,8 @@ impl<S: Places> Model for DeckSession<S> {
       names = s.names;
       context = s.session.context;
       state = s.session.state;
+      listed = s.listed;
+      refused = s.is_refused;
     } };
 
     ghost invariant = { λ s. s.seen ≡ seen_of
@@ -86,6 +99,8 @@ impl<S: FreeLists> DeckSession<S> {
           names = names;
           context = machine.context;
           state = first_session_state machine.context;
+          listed = None;
+          refused = false;
         }) }
     {
         let seen = Seen::of(&machine);
@@ -93,7 +108,16 @@ impl<S: FreeLists> DeckSession<S> {
             session: Session::new(alloc, machine)?,
             names,
             seen,
+            listed: None,
+            is_refused: false,
         })
+    }
+
+    /// Whether a line was refused: it was no command, named nothing that is there, or could not be obeyed.
+    pub fn is_refused(&self) -> bool
+        ensures { result ≡ self.now.refused }
+    {
+        self.is_refused
     }
 
     /// Where the session is, as at a stop.
@@ -115,12 +139,11 @@ impl<S: FreeLists> DeckSession<S> {
     fn answer_reading(&mut self, alloc: Global, reading: &Reading) -> Result<Vec<u8>, AllocError>
     where
         S: Drop,
-        ensures after { self.new ≡ record self.old {
-          state = moved S.rule self.old.context self.old.state reading.now;
-        } }
-        ensures text { IfOk result (λ text.
-            AnswersReading S.rule self.old.names self.old.context self.old.state reading.now text.items) }
+        ensures after { self.new ≡ after_reading S.rule self.old reading.now }
+        ensures text { IfOk result (λ text. AnswersReading S.rule self.old.names self.old.listed
+            self.old.context self.old.state reading.now text.items) }
     {
+        self.is_refused |= reading.is_wrong();
         match reading {
             Reading::Skipped | Reading::Quit => Ok(Vec::new(alloc)),
             Reading::Wrong => text_of(alloc, WRONG),
@@ -129,6 +152,8 @@ impl<S: FreeLists> DeckSession<S> {
             Reading::Unfit(verb) => sentence_after(alloc, UNFIT, *verb),
             Reading::NoStatement => text_of(alloc, NO_STATEMENT),
             Reading::NoChain => text_of(alloc, NO_CHAIN),
+            Reading::NoFile => text_of(alloc, NO_FILE),
+            Reading::NoTest => text_of(alloc, NO_TEST),
             Reading::HelpOn(verb) => sentence_after(alloc, b"", *verb),
             Reading::Asked(command) => self.obey(alloc, command),
         }
@@ -138,25 +163,56 @@ impl<S: FreeLists> DeckSession<S> {
     fn obey(&mut self, alloc: Global, command: &Command) -> Result<Vec<u8>, AllocError>
     where
         S: Drop,
-        ensures after { self.new ≡ record self.old {
-          state = after S.rule self.old.context self.old.state command.now;
-        } }
-        ensures text { IfOk result (λ text. AnswersCommand S.rule self.old.names self.old.context
-            self.old.state self.new.state command.now text.items) }
+        ensures after { self.new ≡ after_reading S.rule self.old (Reading.Asked command.now) }
+        ensures text { IfOk result (λ text. AnswersCommand S.rule self.old.names self.old.listed
+            self.old.context self.old.state self.new.state command.now text.items) }
     {
         let before = Before::of(&self.session);
+        let listed = self.listed;
+        let statement = u64::from(self.session.machine().at().statement);
+        self.listed = listed_after(self.names.deck(), statement, listed, command);
         self.session.obey(alloc, command);
+        self.is_refused |= is_refused(before, &self.session, command);
         let text = answer_of(
             alloc,
             &self.session,
             &self.names,
             &self.seen,
+            listed,
             before,
             command,
         );
         let watched = self.session.stop().watched();
         self.seen.look(self.session.machine(), watched);
         text
+    }
+}
+
+/// Whether a command was refused that the session has obeyed, by what it was like before.
+fn is_refused<S: Places>(before: Before, session: &Session<S>, command: &Command) -> bool
+    ensures { result ≡ refuses before session.now.state command.now }
+{
+    match command {
+        Command::Move(to) => before.depth == 0 && to.is_finish(),
+        Command::Setting(setting) => is_refused_setting(before, session, setting),
+        Command::View(_) => false,
+    }
+}
+
+/// Whether a list had no room for a chain, or did not have the one that was to be taken off it; or no
+/// breakpoint was there that could be given a test.
+fn is_refused_setting<S: Places>(before: Before, session: &Session<S>, setting: &Setting) -> bool
+    ensures { result ≡ refuses_setting before session.now.state setting.now }
+{
+    match setting {
+        Setting::Watch(_) | Setting::Unwatch(_) | Setting::UnwatchChain(_) => {
+            before.watched == session.stop().watched().len()
+        }
+        Setting::Display(_) | Setting::Undisplay(_) | Setting::UndisplayChain(_) => {
+            before.displayed == session.displayed().len()
+        }
+        Setting::Condition(statement, _) => !session.has_breakpoint(*statement),
+        _ => false,
     }
 }
 
@@ -174,7 +230,8 @@ impl<S: FreeLists + Drop> Answerer for DeckSession<S> {
     ghost use Rattle.l6_session.specs.DeckSession.{AnswersReading, after_line, is_quit};
 
     ghost Answers = { λ old line text.
-        AnswersReading S.rule old.names old.context old.state (reading_of old.names line) text };
+        AnswersReading S.rule old.names old.listed old.context old.state
+        (reading_of old.names line) text };
 
     ghost after = { after_line S.rule };
 

@@ -1,22 +1,31 @@
 //! What is answered to a command that the session has obeyed.
 
 ghost use Rattle.std.specs.Prelude.{◌≡◌, ◌++◌, IfOk, OnOk};
+ghost use Rattle.std.specs.Option.{option_map};
 ghost use Rattle.l6_session.specs.Answers as spec;
+ghost use Rattle.l6_session.specs.Listing as listing;
+ghost use Rattle.l6_session.specs.Listing.{here_text, listed_text};
 
 use crate::before::Before;
 use crate::blocks::{push_block, push_drawing};
-use crate::calls::{push_saved, push_waiting};
+use crate::calls::{push_few, push_saved, push_waiting};
 use crate::cards::push_near;
-use crate::command::{Command, Move, Setting, View};
+use crate::command::{Cards, Command, Move, Setting, View};
 use crate::free_lists::{FreeLists, push_lists};
 use crate::help::push_help;
+use crate::listing::{cards_back, cards_here, push_listed, push_own};
 use crate::names::Names;
-use crate::reports::{push_checkpoints, push_info, push_numbered, push_statement, push_stats};
+use crate::reports::{
+    push_break, push_checkpoints, push_info, push_numbered, push_statement, push_stats,
+};
+use crate::saved::push_commands;
 use crate::seen::Seen;
 use crate::session::Session;
 use crate::stops::{details_of, push_stop};
 use crate::values::push_value;
 use l6_debug::{Command as Batch, push_answer};
+use l6_machine::Machine;
+use l6_prog::{Operand, Test};
 use l6_store::Places;
 use std::alloc::{AllocError, Global};
 
@@ -47,6 +56,15 @@ const NOT_WATCHED: &[u8] = b"No chain that is watched has this number: see info\
 /// What is answered where no chain that is displayed has the number.
 const NOT_DISPLAYED: &[u8] = b"No chain that is displayed has this number: see info\n";
 
+/// What is answered where a chain is not watched.
+const NO_WATCH: &[u8] = b"This chain is not watched: see info\n";
+
+/// What is answered where a chain is not displayed.
+const NO_DISPLAY: &[u8] = b"This chain is not displayed: see info\n";
+
+/// What is said of the statement of a label.
+const LABEL: &[u8] = b"A label, of statement ";
+
 /// What is answered where a chain is watched or displayed no longer.
 const TAKEN_OFF: &[u8] = b"It is taken off the list: see info\n";
 
@@ -56,9 +74,12 @@ const UNCHANGED: &[u8] = b"A run is never changed: change the deck, and debug th
 /// What is answered to the word by which gdb passes over stops.
 const IGNORE: &[u8] = b"continue N goes on to the Nth stop, and passes over those before\n";
 
-/// What is answered to the words by which gdb gives a breakpoint a condition.
-const CONDITION: &[u8] =
-    b"A breakpoint has no condition: watch CHAIN stops where a value changes\n";
+/// What is answered to the word by which gdb gives a breakpoint commands.
+const COMMANDS: &[u8] =
+    b"A breakpoint has no commands: display CHAIN prints a chain at each stop\n";
+
+/// What is answered where a statement without a breakpoint is to have a test.
+const NOT_THERE: &[u8] = b"No breakpoint is there: break PLACE if TEST sets one\n";
 
 /// What is answered to a command that the session has obeyed.
 ///
@@ -70,16 +91,17 @@ pub(crate) fn answer_of<S: FreeLists>(
     session: &Session<S>,
     names: &Names,
     seen: &Seen,
+    listed: Option<Cards>,
     before: Before,
     command: &Command,
 ) -> Result<Vec<u8>, AllocError>
-    ensures { IfOk result (λ text. spec.AnswersObeyed S.rule names.now session.now.context before
-        seen.now session.now.state command.now text.items) }
+    ensures { IfOk result (λ text. spec.AnswersObeyed S.rule names.now listed session.now.context
+        before seen.now session.now.state command.now text.items) }
 {
     match command {
         Command::Move(to) => move_answer(alloc, session, names, seen, before, *to),
         Command::Setting(setting) => setting_answer(alloc, session, names, before, setting),
-        Command::View(view) => view_answer(alloc, session, names, view),
+        Command::View(view) => view_answer(alloc, session, names, listed, view),
     }
 }
 
@@ -95,11 +117,26 @@ fn move_answer<S: Places>(
     ensures { IfOk result (λ text. spec.AnswersMove S.rule names.now session.now.context before
         seen.now session.now.state to text.items) }
 {
-    let mut text = Vec::new(alloc);
     if before.depth == 0 && to.is_finish() {
+        let mut text = Vec::new(alloc);
         text.extend_from_slice(NO_CALL)?;
         return Ok(text);
     }
+    stop_answer(alloc, session, names, seen, before)
+}
+
+/// What is answered where one has stopped.
+fn stop_answer<S: Places>(
+    alloc: Global,
+    session: &Session<S>,
+    names: &Names,
+    seen: &Seen,
+    before: Before,
+) -> Result<Vec<u8>, AllocError>
+    ensures { IfOk result (λ text. spec.IsStop S.rule names.now session.now.context before seen.now
+        session.now.state text.items) }
+{
+    let mut text = Vec::new(alloc);
     let details = details_of(alloc, session.machine(), names)?;
     push_stop(
         alloc,
@@ -144,8 +181,10 @@ fn push_setting<S: Places>(
     let displayed = session.displayed().len();
     let machine = session.machine();
     match setting {
-        Setting::Break(s) => push_statement(text, BREAK, names, *s),
-        Setting::TemporaryBreak(s) => push_statement(text, ONCE, names, *s),
+        Setting::Break(s) => push_with_cards(text, BREAK, names, *s),
+        Setting::TemporaryBreak(s) => push_with_cards(text, ONCE, names, *s),
+        Setting::BreakIf(s, test) => push_tested(text, names, *s, Some(test)),
+        Setting::Condition(s, test) => push_condition(text, session, names, *s, test),
         Setting::Delete(s) => push_statement(text, DELETED, names, *s),
         Setting::DeleteAll => text.extend_from_slice(NONE_LEFT),
         Setting::Watch(chain) => {
@@ -156,6 +195,7 @@ fn push_setting<S: Places>(
             }
         }
         Setting::Unwatch(_) => push_removed(text, before.watched, watched, NOT_WATCHED),
+        Setting::UnwatchChain(_) => push_removed(text, before.watched, watched, NO_WATCH),
         Setting::Display(chain) => {
             if before.displayed < displayed {
                 push_numbered(text, b"display ", displayed, machine, chain)
@@ -164,7 +204,55 @@ fn push_setting<S: Places>(
             }
         }
         Setting::Undisplay(_) => push_removed(text, before.displayed, displayed, NOT_DISPLAYED),
+        Setting::UndisplayChain(_) => push_removed(text, before.displayed, displayed, NO_DISPLAY),
     }
+}
+
+/// Adds what is said of a statement, and its cards.
+fn push_with_cards(
+    text: &mut Vec<u8>,
+    said: &[u8],
+    names: &Names,
+    statement: u64,
+) -> Result<(), AllocError>
+    ensures { OnOk result (text.new.items ≡ text.old.items
+        ++ spec.with_cards said.now names.now statement) }
+{
+    push_statement(text, said, names, statement)?;
+    push_own(text, names, statement)
+}
+
+/// Adds what is said of a breakpoint that was to be given a test, or none: that it has it, or that there is
+/// no breakpoint.
+fn push_condition<S: Places>(
+    text: &mut Vec<u8>,
+    session: &Session<S>,
+    names: &Names,
+    statement: u64,
+    test: &Option<Test>,
+) -> Result<(), AllocError>
+    ensures { OnOk result (text.new.items ≡ text.old.items
+        ++ spec.condition_text session.now.state names.now statement test.now) }
+{
+    if session.has_breakpoint(statement) {
+        push_tested(text, names, statement, test.as_ref())
+    } else {
+        text.extend_from_slice(NOT_THERE)
+    }
+}
+
+/// Adds what is said of a breakpoint that is given a test, or none, and the cards of its statement.
+fn push_tested(
+    text: &mut Vec<u8>,
+    names: &Names,
+    statement: u64,
+    test: Option<&Test>,
+) -> Result<(), AllocError>
+    ensures { OnOk result (text.new.items ≡ text.old.items
+        ++ spec.tested_text names.now statement (option_map (λ test. test.now) test.entry)) }
+{
+    push_break(text, BREAK, names, statement, test)?;
+    push_own(text, names, statement)
 }
 
 /// Adds that a chain is taken off its list, if the list has become shorter, or else that it has none of
@@ -190,17 +278,24 @@ fn view_answer<S: FreeLists>(
     alloc: Global,
     session: &Session<S>,
     names: &Names,
+    listed: Option<Cards>,
     view: &View,
 ) -> Result<Vec<u8>, AllocError>
-    ensures { IfOk result (λ text. spec.ShowsView S.rule names.now session.now.context
+    ensures { IfOk result (λ text. spec.ShowsView S.rule names.now listed session.now.context
         session.now.state view.now text.items) }
 {
     let mut text = Vec::new(alloc);
     let machine = session.machine();
+    let here = u64::from(machine.at().statement);
     match view {
         View::Print(operand) => push_value(&mut text, machine, operand)?,
+        View::Label(statement) => push_with_cards(&mut text, LABEL, names, *statement)?,
+        View::PrintLabel(operand, statement) => {
+            push_both(&mut text, machine, names, operand, *statement)?
+        }
         View::Block(operand) => push_block(alloc, &mut text, machine, operand)?,
         View::Where => push_waiting(&mut text, machine, names.labels())?,
+        View::WhereFew(lines) => push_few(&mut text, machine, names.labels(), *lines)?,
         View::Stack => push_saved(&mut text, machine)?,
         View::Show => push_answer(alloc, &mut text, machine, Batch::Show)?,
         View::Fields => push_answer(alloc, &mut text, machine, Batch::Fields)?,
@@ -211,12 +306,59 @@ fn view_answer<S: FreeLists>(
         View::Out => push_answer(alloc, &mut text, machine, Batch::Out)?,
         View::Checkpoints => push_checkpoints(&mut text, session.history())?,
         View::Info => push_info(&mut text, session, names)?,
-        View::ListHere => push_near(&mut text, names.deck(), u64::from(machine.at().statement))?,
+        View::Save => push_commands(alloc, &mut text, session, names)?,
+        View::ListHere => push_here(&mut text, names.deck(), here, listed)?,
+        View::ListBefore => push_before(&mut text, names.deck(), here, listed)?,
         View::ListNear(statement) => push_near(&mut text, names.deck(), *statement)?,
+        View::ListCards(cards) => push_listed(&mut text, names.deck(), Some(*cards))?,
         View::Help => push_help(&mut text)?,
         View::Set => text.extend_from_slice(UNCHANGED)?,
         View::Ignore => text.extend_from_slice(IGNORE)?,
-        View::Condition => text.extend_from_slice(CONDITION)?,
+        View::Commands => text.extend_from_slice(COMMANDS)?,
     }
     Ok(text)
+}
+
+/// Adds what a chain or a number reads as that is spelled as a label is, and the statement of that label.
+fn push_both<S: Places>(
+    text: &mut Vec<u8>,
+    machine: &Machine<S>,
+    names: &Names,
+    operand: &Operand,
+    statement: u64,
+) -> Result<(), AllocError>
+    ensures { OnOk result (text.new.items ≡ text.old.items
+        ++ spec.both_text machine.now.configuration.state.memory names.now operand.now statement) }
+{
+    push_value(text, machine, operand)?;
+    push_with_cards(text, LABEL, names, statement)
+}
+
+/// Adds the cards before those that were listed last, or before those near a statement.
+fn push_before(
+    text: &mut Vec<u8>,
+    deck: &[u8],
+    statement: u64,
+    listed: Option<Cards>,
+) -> Result<(), AllocError>
+    ensures { OnOk result (text.new.items ≡ text.old.items
+        ++ listed_text deck.now (listing.cards_back deck.now statement listed)) }
+{
+    push_listed(text, deck, cards_back(deck, statement, listed))
+}
+
+/// Adds the cards near a statement, or those that follow the ones that were listed last.
+fn push_here(
+    text: &mut Vec<u8>,
+    deck: &[u8],
+    statement: u64,
+    listed: Option<Cards>,
+) -> Result<(), AllocError>
+    ensures { OnOk result (text.new.items ≡ text.old.items
+        ++ here_text deck.now statement listed) }
+{
+    match listed {
+        None => push_near(text, deck, statement),
+        Some(_) => push_listed(text, deck, cards_here(deck, statement, listed)),
+    }
 }

@@ -1,6 +1,6 @@
 //! The calls that wait, and what is saved, in words.
 
-ghost use Rattle.std.specs.Prelude.{◌≡◌, ◌++◌, reverse, OnOk};
+ghost use Rattle.std.specs.Prelude.{◌≡◌, ◌-◌, ◌++◌, reverse, take, OnOk};
 ghost use Rattle.std.specs.List.{enumerate_from, flat_map};
 ghost use Rattle.l6_session.specs.Texts as spec;
 
@@ -20,10 +20,64 @@ pub(crate) fn push_waiting<S: Places>(
     ensures { OnOk result (text.new.items ≡ text.old.items
         ++ spec.waiting_text labels.now.entries machine.now.configuration.state) }
 {
+    push_here(text, machine, labels)?;
+    push_returns(text, machine.returns(), labels)
+}
+
+/// Adds where the run is, the latest returns for which calls wait, so many lines in all, and how many more
+/// there are.
+pub(crate) fn push_few<S: Places>(
+    text: &mut Vec<u8>,
+    machine: &Machine<S>,
+    labels: &Labels,
+    lines: u64,
+) -> Result<(), AllocError>
+    ensures { OnOk result (text.new.items ≡ text.old.items
+        ++ spec.few_text lines labels.now.entries machine.now.configuration.state) }
+{
+    push_here(text, machine, labels)?;
+    push_returns(text, latest(machine.returns(), lines), labels)?;
+    push_further(text, further(machine.depths().returns, lines))
+}
+
+/// The latest returns, as many as are shown in so many lines.
+fn latest(returns: &[Return], lines: u64) -> &[Return]
+    ensures { reverse result.now ≡ take (lines - 1) (reverse returns.now) }
+{
+    &returns[further(returns.len(), lines) as usize..]
+}
+
+/// How many returns are not shown in so many lines.
+fn further(returns: usize, lines: u64) -> u64
+    ensures { result ≡ returns - (lines - 1) }
+{
+    (returns as u64).saturating_sub(lines.saturating_sub(1))
+}
+
+/// Adds where the run is.
+fn push_here<S: Places>(
+    text: &mut Vec<u8>,
+    machine: &Machine<S>,
+    labels: &Labels,
+) -> Result<(), AllocError>
+    ensures { OnOk result (text.new.items ≡ text.old.items
+        ++ spec.here_line labels.now.entries machine.now.configuration.state) }
+{
     text.extend_from_slice(b"#0 at ")?;
     push_position(text, machine.at(), labels)?;
-    text.extend_from_slice(b"\n")?;
-    push_returns(text, machine.returns(), labels)
+    text.extend_from_slice(b"\n")
+}
+
+/// Adds how many more calls wait, if any do.
+fn push_further(text: &mut Vec<u8>, further: u64) -> Result<(), AllocError>
+    ensures { OnOk result (text.new.items ≡ text.old.items ++ spec.more_text further) }
+{
+    if further == 0 {
+        return Ok(());
+    }
+    text.extend_from_slice(b"and ")?;
+    push_decimal(text, further)?;
+    text.extend_from_slice(b" more\n")
 }
 
 /// Adds the lines of returns, the last one first, numbered from 1 on.

@@ -3,6 +3,7 @@
 ghost use Rattle.std.specs.Prelude.{◌≡◌, ◌++◌, OnOk};
 ghost use Rattle.l6_session.specs.Reports as spec;
 
+use crate::listing::push_added;
 use crate::names::{Names, begun_with, statement_with};
 use crate::text::push_blanks;
 use itoa::Buffer;
@@ -40,10 +41,7 @@ pub(crate) fn push_action(
     let marked = marked_at(program, at);
     let statement = u64::from(at.statement);
     push_statement(text, names.deck(), statement, marked)?;
-    if usize::from(at.statement) + 1 == program.statements().len() {
-        text.extend_from_slice(b"      the DONE that follows the last card\n")?;
-    }
-    Ok(())
+    push_added(text, names, statement)
 }
 
 /// Adds the cards of a deck that are of a statement, or of one near it.
@@ -65,7 +63,7 @@ pub(crate) fn push_near(text: &mut Vec<u8>, deck: &[u8], statement: u64) -> Resu
 }
 
 /// Whether the last of so many statements is near this one.
-fn is_near(statement: u64, begun: u64) -> bool
+pub(crate) fn is_near(statement: u64, begun: u64) -> bool
     ensures { result ≡ spec.is_near statement begun }
 {
     if begun == 0 {
@@ -120,7 +118,7 @@ fn push_statement(
 }
 
 /// Adds the line of a card: its number, and what is on it.
-fn push_card(text: &mut Vec<u8>, card: usize, line: &[u8]) -> Result<(), AllocError>
+pub(crate) fn push_card(text: &mut Vec<u8>, card: usize, line: &[u8]) -> Result<(), AllocError>
     ensures { OnOk result (text.new.items ≡ text.old.items ++ spec.card_line card line.now) }
 {
     let mut buffer = Buffer::new();

@@ -3,8 +3,10 @@
 ghost use Rattle.std.specs.Prelude.{◌≡◌};
 ghost use Rattle.l6_session.specs.Answers as moves;
 ghost use Rattle.l6_session.specs.Command as spec;
+ghost use Rattle.l6_session.specs.DeckSession as sessions;
+ghost use Rattle.l6_session.specs.Reading as lines;
 
-use l6_prog::{Chain, Operand};
+use l6_prog::{Chain, Operand, Test};
 
 /// What may be asked of a session.
 #[derive(Debug, Drop)]
@@ -24,6 +26,10 @@ pub enum Move {
     Step(u64),
     /// So many states back, at most the start.
     Back(u64),
+    /// So many times, on to where a statement begins, or where one stops.
+    StepStatement(u64),
+    /// So many times, back to where a statement begins, or where one stops.
+    BackStatement(u64),
     /// The state of a number, at most the last one.
     Goto(u64),
     /// The last state.
@@ -33,6 +39,11 @@ pub enum Move {
     /// So many times, back to the latest state at which no more calls wait than here, or where one
     /// stops.
     ReverseNext(u64),
+    /// So many times, on to where a statement begins and no more calls wait than here, or where one stops.
+    NextStatement(u64),
+    /// So many times, back to where a statement begins and no more calls wait than here, or where one
+    /// stops.
+    ReverseNextStatement(u64),
     /// On to where the latest call has returned, or where one stops.
     Finish,
     /// Back to where the latest call was made, or where one stops.
@@ -56,6 +67,10 @@ pub enum Setting {
     Break(u64),
     /// A breakpoint is set that is removed where it is first reached.
     TemporaryBreak(u64),
+    /// A breakpoint is set at which one stops where a test holds or meets a trap.
+    BreakIf(u64, Test),
+    /// The breakpoint of a statement, if it has one, is given a test, or none.
+    Condition(u64, Option<Test>),
     /// The breakpoint of a statement is removed.
     Delete(u64),
     /// All breakpoints are removed, and nothing is watched.
@@ -64,10 +79,14 @@ pub enum Setting {
     Watch(Chain),
     /// The chain of this number is watched no longer.
     Unwatch(u64),
+    /// A chain is watched no longer.
+    UnwatchChain(Chain),
     /// It is shown at each state what a chain reads as.
     Display(Chain),
     /// The chain of this number is displayed no longer.
     Undisplay(u64),
+    /// A chain is displayed no longer.
+    UndisplayChain(Chain),
 }
 
 /// What is shown.
@@ -75,10 +94,16 @@ pub enum Setting {
 pub enum View {
     /// What a chain or a number reads as, and the block to which it leads.
     Print(Operand),
+    /// The statement whose label a word is.
+    Label(u64),
+    /// What a chain reads as that is spelled as a label is, and the statement of that label.
+    PrintLabel(Operand, u64),
     /// The block to which a chain or a number leads, with its fields.
     Block(Operand),
     /// For which calls the run waits.
     Where,
+    /// Where the run is and the latest calls that wait, so many lines in all.
+    WhereFew(u64),
     /// The contents and the definitions that are saved.
     Stack,
     /// What the bugs hold, and how much is saved, taken and printed.
@@ -99,18 +124,33 @@ pub enum View {
     Checkpoints,
     /// Where one stops, and what is displayed.
     Info,
-    /// The cards near the state.
+    /// The commands that lead a new session to this one.
+    Save,
+    /// The cards near the state, or those that follow the ones that were listed last.
     ListHere,
+    /// The cards before those that were listed last.
+    ListBefore,
     /// The cards near a statement.
     ListNear(u64),
+    /// These cards.
+    ListCards(Cards),
     /// What the commands are.
     Help,
     /// That a run is never changed.
     Set,
     /// How stops are passed over.
     Ignore,
-    /// That a breakpoint has no condition.
-    Condition,
+    /// That no commands are kept for a breakpoint.
+    Commands,
+}
+
+/// Cards of a deck, by their numbers, from 1 on.
+#[derive(Clone, Copy, Debug, PartialEq, Eq)]
+pub struct Cards {
+    /// The number of the first one.
+    pub first: u64,
+    /// The number of the last one.
+    pub last: u64,
 }
 
 /// The commands by their names. The list of commands has a row for each.
@@ -120,10 +160,18 @@ pub enum Verb {
     Step,
     /// `back`.
     Back,
+    /// `stepi`.
+    StepState,
+    /// `backi`.
+    BackState,
     /// `next`.
     Next,
     /// `reverse-next`.
     ReverseNext,
+    /// `nexti`.
+    NextState,
+    /// `reverse-nexti`.
+    ReverseNextState,
     /// `finish`.
     Finish,
     /// `reverse-finish`.
@@ -198,6 +246,12 @@ pub enum Verb {
     Ignore,
     /// `condition`.
     Condition,
+    /// `commands`.
+    Commands,
+    /// `save`.
+    Save,
+    /// `source`.
+    Source,
 }
 
 /// What a line of commands is.
@@ -217,6 +271,10 @@ pub enum Reading {
     NoStatement,
     /// It names no chain.
     NoChain,
+    /// It names a file that the console has not opened.
+    NoFile,
+    /// It has no test where one is to be.
+    NoTest,
     /// It asks what this command does.
     HelpOn(Verb),
     /// It ends the session.
@@ -237,16 +295,43 @@ impl Move {
     }
 }
 
+impl Reading {
+    /// Whether a line is wrong: it is no command, lacks something or has too much, or names no statement
+    /// or no chain.
+    pub(crate) fn is_wrong(&self) -> bool
+        ensures { result ≡ sessions.is_wrong self.now }
+    {
+        match self {
+            Reading::Skipped | Reading::HelpOn(_) | Reading::Quit | Reading::Asked(_) => false,
+            _ => true,
+        }
+    }
+}
+
 impl Verb {
+    /// Whether a word after it is the name of a file.
+    pub(crate) fn names_a_file(self) -> bool
+        ensures { result ≡ lines.names_a_file self }
+    {
+        match self {
+            Verb::Save | Verb::Source => true,
+            _ => false,
+        }
+    }
+
     /// What a command asks for that no word follows.
     pub(crate) fn alone(self) -> Reading
         ensures { result ≡ spec.alone self }
     {
         match self {
-            Verb::Step => moved(Move::Step(1)),
-            Verb::Back => moved(Move::Back(1)),
-            Verb::Next => moved(Move::Next(1)),
-            Verb::ReverseNext => moved(Move::ReverseNext(1)),
+            Verb::Step => moved(Move::StepStatement(1)),
+            Verb::Back => moved(Move::BackStatement(1)),
+            Verb::StepState => moved(Move::Step(1)),
+            Verb::BackState => moved(Move::Back(1)),
+            Verb::Next => moved(Move::NextStatement(1)),
+            Verb::ReverseNext => moved(Move::ReverseNextStatement(1)),
+            Verb::NextState => moved(Move::Next(1)),
+            Verb::ReverseNextState => moved(Move::ReverseNext(1)),
             Verb::Finish => moved(Move::Finish),
             Verb::ReverseFinish => moved(Move::ReverseFinish),
             Verb::Continue => moved(Move::Continue(1)),
@@ -283,7 +368,10 @@ impl Verb {
             Verb::Quit => Reading::Quit,
             Verb::Set => shown(View::Set),
             Verb::Ignore => shown(View::Ignore),
-            Verb::Condition => shown(View::Condition),
+            Verb::Condition => Reading::Missing(self),
+            Verb::Commands => shown(View::Commands),
+            Verb::Save => shown(View::Save),
+            Verb::Source => Reading::Missing(self),
         }
     }
 }

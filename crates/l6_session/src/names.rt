@@ -1,11 +1,12 @@
 //! How commands name the statements of a deck.
 
-ghost use Rattle.std.specs.Prelude.{◌≡◌, ◌<◌, ◌^◌};
+ghost use Rattle.std.specs.Prelude.{◌≡◌, ◌+◌, ◌<◌, ◌^◌};
 ghost use Rattle.std.specs.Option.{option_or};
 ghost use Rattle.l6_word.specs.Lines.{lines_of};
 ghost use Rattle.l6_debug.specs.Command as commands;
 ghost use Rattle.l6_session.specs.Names as spec;
 
+use crate::parted::parted;
 use l6_asm::Labels;
 use l6_card::{Role, role_of};
 use l6_debug::number_of;
@@ -64,17 +65,28 @@ impl Names {
         self.deck.as_slice()
     }
 
-    /// The number of the statement that a word names: by its number, by its label, or, after a colon,
-    /// by the number of one of its cards. `None` where the program has no such statement.
+    /// The number of the statement that a word names: by its number, by its label, also with `+` and how
+    /// many statements after it, or, after a colon, by the number of one of its cards. `None` where the
+    /// program has no such statement.
     pub fn statement_of(&self, word: &[u8]) -> Option<u64>
         ensures { result ≡ spec.statement_of self.now word.now }
     {
+        if let Some((label, digits)) = parted(word, b'+') {
+            return self.statement_after(label, digits);
+        }
         let number = self.number_by(word)?;
         if number < self.statements as u64 {
             Some(number)
         } else {
             None
         }
+    }
+
+    /// Whether a statement is the one that is added to each deck, and that has no card.
+    pub(crate) fn is_added(&self, statement: u64) -> bool
+        ensures { result ≡ spec.is_added self.now statement }
+    {
+        0 < self.statements && self.statements as u64 - 1 == statement
     }
 
     /// The number that a word gives.
@@ -92,8 +104,29 @@ impl Names {
         self.statement_of_label(word)
     }
 
+    /// The number of the statement that is so many statements after a label.
+    fn statement_after(&self, label: &[u8], digits: &[u8]) -> Option<u64>
+        ensures { result ≡ spec.statement_after self.now label.now digits.now }
+    {
+        let from = self.statement_of_label(label)?;
+        let further = number_of(digits)?;
+        self.statement_further(from, further)
+    }
+
+    /// The number of the statement that is so many statements after another one.
+    fn statement_further(&self, from: u64, further: u64) -> Option<u64>
+        ensures { result ≡ spec.if_statement self.now (from + further) }
+    {
+        let statements = self.statements as u64;
+        if from < statements && further < statements - from {
+            Some(from + further)
+        } else {
+            None
+        }
+    }
+
     /// The number of the statement whose label a word is.
-    fn statement_of_label(&self, word: &[u8]) -> Option<u64>
+    pub(crate) fn statement_of_label(&self, word: &[u8]) -> Option<u64>
         ensures { result ≡ spec.statement_of_label self.now word.now }
     {
         let label = label_of(word)?;

@@ -1,20 +1,22 @@
 //! How the lines of commands are read.
 
-ghost use Rattle.std.specs.Prelude.{◌≡◌};
+ghost use Rattle.std.specs.Prelude.{◌≡◌, Some, None};
+ghost use Rattle.l6_debug.specs.Command.{words_in};
 ghost use Rattle.std.specs.Option.{option_map};
 ghost use Rattle.l6_group.specs.Character as spelling;
 ghost use Rattle.l6_group.specs.Element as element;
 ghost use Rattle.l6_session.specs.Command as commands;
 ghost use Rattle.l6_session.specs.Reading as spec;
 
-use crate::command::{Command, Move, Reading, Setting, Verb, View, moved};
+use crate::command::{Cards, Command, Move, Reading, Setting, Verb, View, moved};
 use crate::names::Names;
 use crate::near::is_one_off;
+use crate::parted::parted;
 use crate::table::{row_of, verbs};
 use crate::topics::topic_of;
 use l6_debug::{first_word, number_of};
-use l6_group::{Spelling, chain_of, decimal_of, spelled};
-use l6_prog::{Chain, Operand};
+use l6_group::{Spelling, chain_of, decimal_of, spelled, test_of};
+use l6_prog::{Chain, Operand, Test};
 use l6_word::without_return;
 
 /// How many characters the word of a command has at most.
@@ -22,6 +24,12 @@ pub(crate) const MAX_COMMAND_WORD: usize = 32;
 
 /// How many characters the word of a command has at least that another one is near to.
 pub(crate) const MIN_NEAR: usize = 4;
+
+/// The word before the test of a breakpoint.
+const IF: &[u8] = b"IF";
+
+/// The word for the cards before those that were listed last.
+const BEFORE: &[u8] = b"-";
 
 /// The characters of a word, small letters as capitals.
 type CommandWord<'a> = Spelling<'a, MAX_COMMAND_WORD>;
@@ -34,6 +42,9 @@ pub(crate) fn reading_of(names: &Names, line: &[u8]) -> Reading
     let Some((word, following)) = first_word(without_return(line)) else {
         return Reading::Skipped;
     };
+    if is_comment(word) {
+        return Reading::Skipped;
+    }
     let word = before_slash(word);
     let Some(verb) = verb_of(word) else {
         return unknown(word);
@@ -41,10 +52,33 @@ pub(crate) fn reading_of(names: &Names, line: &[u8]) -> Reading
     let Some((first, following)) = first_word(following) else {
         return verb.alone();
     };
-    if first_word(following).is_some() {
-        return with_more(verb);
+    match first_word(following) {
+        Some((second, following)) => with_words(names, verb, first, second, following),
+        None => with_word(names, verb, first),
     }
-    with_word(names, verb, first)
+}
+
+/// The file that a line names which saves a session or obeys the lines of a file, with that command.
+pub fn file_of(line: &[u8]) -> Option<(Verb, &[u8])>
+    ensures { option_map (λ named. (named.0, named.1.now)) result ≡ spec.file_of line.now }
+{
+    let (word, following) = first_word(without_return(line))?;
+    let verb = verb_of(before_slash(word))?;
+    let (file, following) = first_word(following)?;
+    if first_word(following).is_some() || !verb.names_a_file() {
+        return None;
+    }
+    Some((verb, file))
+}
+
+/// Whether a line is a comment, by its first word.
+fn is_comment(word: &[u8]) -> bool
+    ensures { result ≡ spec.is_comment word.now }
+{
+    match word.split_first() {
+        Some((first, _)) => *first == b'#',
+        None => false,
+    }
 }
 
 /// What is before the first slash of a word, or the whole word.
@@ -164,15 +198,93 @@ fn is_near(word: &[u8], other: &[u8]) -> bool
     MIN_NEAR <= other.len() && is_one_off(other, word)
 }
 
-/// What a command and further words ask for.
-fn with_more(verb: Verb) -> Reading
-    ensures { result ≡ spec.with_more verb }
+/// What a command and two words ask for, or these and further words.
+fn with_words(names: &Names, verb: Verb, first: &[u8], second: &[u8], following: &[u8]) -> Reading
+    ensures { result ≡ spec.with_words names.now verb first.now second.now (words_in following.now) }
 {
     match verb {
         Verb::Set => Reading::Asked(Command::View(View::Set)),
         Verb::Ignore => Reading::Asked(Command::View(View::Ignore)),
-        Verb::Condition | Verb::Break => Reading::Asked(Command::View(View::Condition)),
+        Verb::Commands => Reading::Asked(Command::View(View::Commands)),
+        Verb::Condition => match first_word(following) {
+            None => condition_at(names.statement_of(first), given_test_of(second)),
+            Some(_) => Reading::NoTest,
+        },
+        Verb::Break => break_with(names, first, second, following),
         _ => Reading::Unfit(verb),
+    }
+}
+
+/// A breakpoint at a statement where a test holds, which is after a word `if`.
+fn break_with(names: &Names, place: &[u8], word: &[u8], following: &[u8]) -> Reading
+    ensures { result ≡ spec.break_with names.now place.now word.now (words_in following.now) }
+{
+    if !is_if(word) {
+        return Reading::Unfit(Verb::Break);
+    }
+    let Some((test, following)) = first_word(following) else {
+        return Reading::NoTest;
+    };
+    if first_word(following).is_some() {
+        return Reading::NoTest;
+    }
+    break_if_at(names.statement_of(place), given_test_of(test))
+}
+
+/// Whether a word is `if`.
+fn is_if(word: &[u8]) -> bool
+    ensures { result ≡ spec.is_if word.now }
+{
+    match capitals_of(word) {
+        Some(word) => word.as_slice() == IF,
+        None => false,
+    }
+}
+
+/// The test of a group, with its parentheses.
+fn given_test_of(word: &[u8]) -> Option<Test>
+    ensures { result ≡ spec.given_test_of word.now }
+{
+    if word.len() < 2 || word[0] != b'(' || word[word.len() - 1] != b')' {
+        return None;
+    }
+    test_of(&word[1..word.len() - 1])
+}
+
+/// A breakpoint at a statement where a test holds, if the program has the one and there is the other.
+fn break_if_at(statement: Option<u64>, test: Option<Test>) -> Reading
+    ensures { result ≡ spec.tested (λ s t. Command.Setting (Setting.BreakIf s t)) statement test }
+{
+    match (statement, test) {
+        (Some(statement), Some(test)) => {
+            Reading::Asked(Command::Setting(Setting::BreakIf(statement, test)))
+        }
+        (Some(_), None) => Reading::NoTest,
+        (None, _) => Reading::NoStatement,
+    }
+}
+
+/// A test for the breakpoint of a statement, if the program has the one and there is the other.
+fn condition_at(statement: Option<u64>, test: Option<Test>) -> Reading
+    ensures { result
+        ≡ spec.tested (λ s t. Command.Setting (Setting.Condition s (Some t))) statement test }
+{
+    match (statement, test) {
+        (Some(statement), Some(test)) => {
+            Reading::Asked(Command::Setting(Setting::Condition(statement, Some(test))))
+        }
+        (Some(_), None) => Reading::NoTest,
+        (None, _) => Reading::NoStatement,
+    }
+}
+
+/// No test for the breakpoint of a statement, if the program has it.
+fn without_condition_at(statement: Option<u64>) -> Reading
+    ensures { result ≡ spec.named (λ s. Command.Setting (Setting.Condition s None)) statement }
+{
+    match statement {
+        Some(statement) => Reading::Asked(Command::Setting(Setting::Condition(statement, None))),
+        None => Reading::NoStatement,
     }
 }
 
@@ -185,23 +297,33 @@ fn with_word(names: &Names, verb: Verb, word: &[u8]) -> Reading
         | Verb::Back
         | Verb::Next
         | Verb::ReverseNext
+        | Verb::StepState
+        | Verb::BackState
+        | Verb::NextState
+        | Verb::ReverseNextState
         | Verb::Continue
         | Verb::ReverseContinue
         | Verb::Goto
-        | Verb::Unwatch
-        | Verb::Undisplay => with_number(verb, word),
+        | Verb::Where => with_number(verb, word),
         Verb::Until => until(names.statement_of(word)),
-        Verb::List => list_near(names.statement_of(word)),
+        Verb::List => list_of(names, word),
         Verb::Break | Verb::Enable => break_at(names.statement_of(word)),
         Verb::TemporaryBreak => temporary_break_at(names.statement_of(word)),
         Verb::Delete | Verb::Disable => delete_at(names.statement_of(word)),
         Verb::Watch => watch_of(chain_of(without_dollar(word))),
+        Verb::Unwatch => unwatch_of(number_of(word), chain_of(without_dollar(word))),
         Verb::Display => display_of(chain_of(without_dollar(word))),
-        Verb::Print => print_of(operand_of(without_dollar(word))),
+        Verb::Undisplay => undisplay_of(number_of(word), chain_of(without_dollar(word))),
+        Verb::Print => print_of(
+            operand_of(without_dollar(word)),
+            names.statement_of_label(word),
+        ),
         Verb::Block => block_of(operand_of(without_dollar(word))),
         Verb::Info => info_on(word),
         Verb::Help => help_on(word),
-        Verb::Set | Verb::Ignore | Verb::Condition => verb.alone(),
+        Verb::Save | Verb::Source => Reading::NoFile,
+        Verb::Condition => without_condition_at(names.statement_of(word)),
+        Verb::Set | Verb::Ignore | Verb::Commands => verb.alone(),
         _ => Reading::Unfit(verb),
     }
 }
@@ -221,15 +343,18 @@ fn numbered(verb: Verb, number: u64) -> Reading
     ensures { result ≡ spec.numbered verb number }
 {
     match verb {
-        Verb::Step => moved(Move::Step(number)),
-        Verb::Back => moved(Move::Back(number)),
-        Verb::Next => moved(Move::Next(number)),
-        Verb::ReverseNext => moved(Move::ReverseNext(number)),
+        Verb::Step => moved(Move::StepStatement(number)),
+        Verb::Back => moved(Move::BackStatement(number)),
+        Verb::StepState => moved(Move::Step(number)),
+        Verb::BackState => moved(Move::Back(number)),
+        Verb::Next => moved(Move::NextStatement(number)),
+        Verb::ReverseNext => moved(Move::ReverseNextStatement(number)),
+        Verb::NextState => moved(Move::Next(number)),
+        Verb::ReverseNextState => moved(Move::ReverseNext(number)),
         Verb::Continue => moved(Move::Continue(number)),
         Verb::ReverseContinue => moved(Move::ReverseContinue(number)),
         Verb::Goto => moved(Move::Goto(number)),
-        Verb::Unwatch => Reading::Asked(Command::Setting(Setting::Unwatch(number))),
-        Verb::Undisplay => Reading::Asked(Command::Setting(Setting::Undisplay(number))),
+        Verb::Where => Reading::Asked(Command::View(View::WhereFew(number))),
         _ => Reading::Unfit(verb),
     }
 }
@@ -298,6 +423,32 @@ fn delete_at(statement: Option<u64>) -> Reading
     }
 }
 
+/// What is listed by a word: the cards before the last ones, those from one number to another, or those
+/// near a statement.
+fn list_of(names: &Names, word: &[u8]) -> Reading
+    ensures { result ≡ spec.list_of names.now word.now }
+{
+    if word == BEFORE {
+        return Reading::Asked(Command::View(View::ListBefore));
+    }
+    match parted(word, b',') {
+        Some((first, last)) => list_cards(number_of(first), number_of(last)),
+        None => list_near(names.statement_of(word)),
+    }
+}
+
+/// The cards from one number to another, if both are numbers.
+fn list_cards(first: Option<u64>, last: Option<u64>) -> Reading
+    ensures { result ≡ spec.list_cards first last }
+{
+    match (first, last) {
+        (Some(first), Some(last)) => {
+            Reading::Asked(Command::View(View::ListCards(Cards { first, last })))
+        }
+        _ => Reading::Unfit(Verb::List),
+    }
+}
+
 /// The cards near a statement, if the program has it.
 fn list_near(statement: Option<u64>) -> Reading
     ensures { result ≡ spec.named (λ s. Command.View (View.ListNear s)) statement }
@@ -328,6 +479,28 @@ fn watch_of(chain: Option<Chain>) -> Reading
     }
 }
 
+/// A chain that is watched no longer, by its number or by its names.
+fn unwatch_of(number: Option<u64>, chain: Option<Chain>) -> Reading
+    ensures { result ≡ spec.unwatch_by number chain }
+{
+    match (number, chain) {
+        (Some(number), _) => Reading::Asked(Command::Setting(Setting::Unwatch(number))),
+        (None, Some(chain)) => Reading::Asked(Command::Setting(Setting::UnwatchChain(chain))),
+        (None, None) => Reading::NoChain,
+    }
+}
+
+/// A chain that is displayed no longer, by its number or by its names.
+fn undisplay_of(number: Option<u64>, chain: Option<Chain>) -> Reading
+    ensures { result ≡ spec.undisplay_by number chain }
+{
+    match (number, chain) {
+        (Some(number), _) => Reading::Asked(Command::Setting(Setting::Undisplay(number))),
+        (None, Some(chain)) => Reading::Asked(Command::Setting(Setting::UndisplayChain(chain))),
+        (None, None) => Reading::NoChain,
+    }
+}
+
 /// A chain that is displayed, if it is one.
 fn display_of(chain: Option<Chain>) -> Reading
     ensures { result ≡ spec.named_by (λ c. Command.Setting (Setting.Display c)) chain }
@@ -338,13 +511,17 @@ fn display_of(chain: Option<Chain>) -> Reading
     }
 }
 
-/// What is printed, if it is a chain or a number.
-fn print_of(operand: Option<Operand>) -> Reading
-    ensures { result ≡ spec.named_by (λ o. Command.View (View.Print o)) operand }
+/// What is printed, if it is a chain or a number; and the statement of a label.
+fn print_of(operand: Option<Operand>, label: Option<u64>) -> Reading
+    ensures { result ≡ spec.print_by operand label }
 {
-    match operand {
-        Some(operand) => Reading::Asked(Command::View(View::Print(operand))),
-        None => Reading::NoChain,
+    match (operand, label) {
+        (Some(operand), Some(statement)) => {
+            Reading::Asked(Command::View(View::PrintLabel(operand, statement)))
+        }
+        (Some(operand), None) => Reading::Asked(Command::View(View::Print(operand))),
+        (None, Some(statement)) => Reading::Asked(Command::View(View::Label(statement))),
+        (None, None) => Reading::NoChain,
     }
 }
 

@@ -1,19 +1,20 @@
 //! What a session says of itself: where one stops, what is kept, how far the run has come. The last two are
 //! tested, and not proved.
 
-ghost use Rattle.std.specs.Prelude.{◌≡◌, ◌++◌, OnOk};
+ghost use Rattle.std.specs.Prelude.{◌≡◌, ◌++◌, slice_index_or, None, OnOk};
 ghost use Rattle.std.specs.List.{enumerate_from, flat_map};
+ghost use Rattle.std.specs.Option.{option_map};
 ghost use Rattle.l6_steps.specs.Configuration.{state_at};
 ghost use Rattle.l6_session.specs.Reports as reports;
 ghost use Rattle.l6_session.specs.Texts as spec;
 
 use crate::names::Names;
 use crate::session::Session;
-use crate::text::{push_counted, push_label};
+use crate::text::{push_counted, push_if, push_label};
 use crate::values::push_chain_value;
-use l6_history::{History, MAX_KEPT};
+use l6_history::{History, MAX_KEPT, Stop};
 use l6_machine::{Machine, push_decimal};
-use l6_prog::Chain;
+use l6_prog::{Chain, Test};
 use l6_store::Places;
 use l6_word::{UNIT_SIZE, Word};
 use std::alloc::AllocError;
@@ -49,7 +50,7 @@ fn push_stops<S: Places>(
 {
     let machine = session.machine();
     let stop = session.stop();
-    push_breakpoints(text, names, session.temporary(), stop.breakpoints())?;
+    push_breakpoints(text, names, session.temporary(), stop)?;
     push_chains(text, b"watch ", machine, stop.watched())?;
     push_chains(text, b"display ", machine, session.displayed())
 }
@@ -59,15 +60,15 @@ fn push_breakpoints(
     text: &mut Vec<u8>,
     names: &Names,
     temporary: &[bool],
-    breakpoints: &[bool],
+    stop: &Stop,
 ) -> Result<(), AllocError>
     ensures { OnOk result (text.new.items ≡ text.old.items
-        ++ reports.breakpoint_lines names.now.labels temporary.now breakpoints.now) }
+        ++ reports.break_lines names.now.labels temporary.now stop.now.tests stop.now.breakpoints) }
 {
     let mut statement: u64 = 0;
-    let mut rest = breakpoints;
+    let mut rest = stop.breakpoints();
     while let Some((is_set, following)) = rest.split_first() {
-        push_breakpoint(text, names, temporary, statement, *is_set)?;
+        push_breakpoint(text, names, temporary, stop.tests(), statement, *is_set)?;
         statement += 1;
         rest = following;
     }
@@ -79,17 +80,52 @@ fn push_breakpoint(
     text: &mut Vec<u8>,
     names: &Names,
     temporary: &[bool],
+    tests: &[Option<Test>],
     statement: u64,
     is_set: bool,
 ) -> Result<(), AllocError>
     ensures { OnOk result (text.new.items ≡ text.old.items
-        ++ reports.breakpoint_line names.now.labels temporary.now (statement, is_set)) }
+        ++ reports.break_line names.now.labels temporary.now tests.now (statement, is_set)) }
 {
     if !is_set {
         return Ok(());
     }
     let is_temporary = temporary.get(statement as usize).copied().unwrap_or(false);
-    push_statement(text, said_of(is_temporary), names, statement)
+    push_break(
+        text,
+        said_of(is_temporary),
+        names,
+        statement,
+        test_at(tests, statement),
+    )
+}
+
+/// The test of a statement's breakpoint, if it has one.
+pub(crate) fn test_at(tests: &[Option<Test>], statement: u64) -> Option<&Test>
+    ensures { option_map (λ test. test.now) result ≡ slice_index_or tests.now statement None }
+{
+    match tests.get(statement as usize) {
+        Some(Some(test)) => Some(test),
+        _ => None,
+    }
+}
+
+/// Adds what is said of a statement's breakpoint.
+pub(crate) fn push_break(
+    text: &mut Vec<u8>,
+    said: &[u8],
+    names: &Names,
+    statement: u64,
+    test: Option<&Test>,
+) -> Result<(), AllocError>
+    ensures { OnOk result (text.new.items ≡ text.old.items
+        ++ spec.breakpoint_line said.now names.now.labels statement
+        (option_map (λ test. test.now) test.entry)) }
+{
+    push_counted(text, said, statement)?;
+    push_label(text, statement, names.labels())?;
+    push_if(text, test)?;
+    text.extend_from_slice(b"\n")
 }
 
 /// What is said of a breakpoint, which may be a temporary one.

@@ -7,6 +7,7 @@ ghost use Rattle.l6_prog.specs.Numerals.{letter_count, name_count};
 ghost use Rattle.l6_session.specs.Changes as spec;
 
 use crate::calls::push_definition;
+use crate::printed::push_printed;
 use crate::text::{push_chain, push_counted, push_name};
 use arrayvec::ArrayVec;
 use l6_history::MAX_WATCHED;
@@ -23,9 +24,11 @@ const MOST_CHANGES: usize = 8;
 /// How many bugs there are.
 const BUGS: usize = (NAMES - DIGITS) as usize;
 
-/// What bugs held, what fields were defined as, and what watched chains read as.
+/// How many characters had been printed, what bugs held, what fields were defined as, and what watched
+/// chains read as.
 #[derive(Drop)]
 pub(crate) struct Seen {
+    printed: usize,
     bugs: [Word; BUGS],
     definitions: [Option<Window>; NAMES as usize],
     watched: ArrayVec<Option<Word>, MAX_WATCHED>,
@@ -39,6 +42,7 @@ impl Model for Seen {
     ghost Value = { changes.Seen };
 
     ghost view = { λ s. record {
+      printed = s.printed;
       bugs = s.bugs;
       definitions = s.definitions;
       watched = s.watched.items;
@@ -53,6 +57,7 @@ impl Seen {
         ensures { result ≡ spec.seen_of machine.now.configuration.state.memory [] }
     {
         let mut seen = Seen {
+            printed: 0,
             bugs: [Word::default(); BUGS],
             definitions: [None; NAMES as usize],
             watched: ArrayVec::new(),
@@ -66,6 +71,7 @@ impl Seen {
         requires { length chains.now ≤ most_watched }
         ensures { self.new ≡ spec.seen_of machine.now.configuration.state.memory chains.now }
     {
+        self.printed = machine.output().len();
         self.bugs.copy_from_slice(machine.bugs());
         self.definitions.copy_from_slice(machine.definitions());
         look_at(&mut self.watched, machine, chains);
@@ -81,6 +87,9 @@ impl Seen {
         ensures { OnOk result (text.new.items ≡ text.old.items
             ++ spec.changes_text self.now machine.now.configuration.state.memory chains.now) }
     {
+        if let Some(characters) = machine.output().get(self.printed..) {
+            push_printed(text, characters)?;
+        }
         push_watches(text, machine, self.watched.as_slice(), chains)?;
         push_lines(
             text,

@@ -1,17 +1,18 @@
 //! A session: a run's history, where one stops, and what is displayed.
 
-ghost use Rattle.std.specs.Prelude.{◌≡◌, ◌≤◌, false, slice_index_or, IfOk};
+ghost use Rattle.std.specs.Prelude.{◌≡◌, ◌≤◌, false, slice_index_or, IfOk, Some, None};
 ghost use Rattle.l6_steps.specs.Configuration.{first_configuration};
 ghost use Rattle.l6_steps.specs.Numbering.{last_number};
 ghost use Rattle.l6_steps.specs.Numerals.{most_steps};
 ghost use Rattle.l6_history.specs.History.{number_to, run_state_at};
 ghost use Rattle.l6_history.specs.Seeking.{next_stop, previous_stop};
-ghost use Rattle.l6_session.specs.SessionState.{after, back, back_over, back_to, changed, come_to, depth_at, first_session_state, moved, on, on_to, on_until, over, times, with_breakpoint};
+ghost use Rattle.l6_session.specs.SessionState.{after, back, back_over_statement, back_statement, back_to, changed, come_to, depth_at, first_session_state, moved, on, on_statement, on_to, on_until, over_statement, with_breakpoint};
 
+use crate::chains::number_in;
 use crate::command::{Command, Move, Setting};
 use l6_history::{History, MAX_WATCHED, Stop};
 use l6_machine::Machine;
-use l6_prog::Chain;
+use l6_prog::{Chain, Operand, Test};
 use l6_store::Places;
 use std::alloc::{AllocError, Global};
 use std::marker::Model;
@@ -34,7 +35,7 @@ pub struct Session<S: Places> {
 
 impl<S: Places> Model for Session<S> {
     ghost use Rattle.std.specs.Coded.{codes};
-    ghost use Rattle.std.specs.Prelude.{◌≡◌, ◌≤◌, length, vec_capacity, None};
+    ghost use Rattle.std.specs.Prelude.{◌≡◌, ◌≤◌, length, vec_capacity, false, None};
     ghost use Rattle.l6_session.specs.Numerals.{most_displayed};
     ghost use Rattle.l6_session.specs.inner.SessionRun.{SessionRun};
 
@@ -53,6 +54,7 @@ impl<S: Places> Model for Session<S> {
     } };
 
     ghost invariant = { λ s. (s.stop.depth ≡ None)
+        × (s.stop.each ≡ false)
         × (length s.displayed.items ≤ most_displayed)
         × (most_displayed ≤ vec_capacity s.displayed) };
 }
@@ -142,6 +144,10 @@ impl<S: Places> Session<S> {
     {
         let number = self.history.number();
         match to {
+            Move::StepStatement(count) => self.step_on(alloc, count),
+            Move::BackStatement(count) => self.step_back(alloc, count),
+            Move::NextStatement(count) => self.step_over(alloc, count),
+            Move::ReverseNextStatement(count) => self.step_back_over(alloc, count),
             Move::Step(count) => self.go_to(alloc, number.saturating_add(count)),
             Move::Back(count) => self.go_to(alloc, number.saturating_sub(count)),
             Move::Goto(goal) => self.go_to(alloc, goal),
@@ -164,19 +170,23 @@ impl<S: Places> Session<S> {
         ensures state { self.new.state ≡ changed self.old.state setting.now }
     {
         match setting {
-            Setting::Break(statement) => self.breakpoint(*statement, true, false),
-            Setting::TemporaryBreak(statement) => self.breakpoint(*statement, true, true),
-            Setting::Delete(statement) => self.breakpoint(*statement, false, false),
+            Setting::Break(statement) => self.breakpoint(*statement, true, false, None),
+            Setting::BreakIf(statement, test) => self.break_if(*statement, test),
+            Setting::TemporaryBreak(statement) => self.breakpoint(*statement, true, true, None),
+            Setting::Condition(statement, test) => self.condition(*statement, test),
+            Setting::Delete(statement) => self.breakpoint(*statement, false, false, None),
             Setting::DeleteAll => self.delete_all(),
             Setting::Watch(chain) => self.watch(chain),
             Setting::Unwatch(place) => self.unwatch(*place),
+            Setting::UnwatchChain(chain) => self.unwatch_chain(chain),
             Setting::Display(chain) => self.display(chain),
             Setting::Undisplay(place) => self.undisplay(*place),
+            Setting::UndisplayChain(chain) => self.undisplay_chain(chain),
         }
     }
 
     /// For how many returns calls wait.
-    fn depth(&self) -> usize
+    pub(crate) fn depth(&self) -> usize
         ensures { result ≡ depth_at S.rule self.now.context self.now.state.number }
     {
         self.machine().depths().returns
@@ -196,7 +206,7 @@ impl<S: Places> Session<S> {
     }
 
     /// Goes on to where one stops.
-    fn on(&mut self, alloc: Global)
+    pub(crate) fn on(&mut self, alloc: Global)
     where
         S: Drop,
         ensures context { self.new.context ≡ self.old.context }
@@ -207,7 +217,7 @@ impl<S: Places> Session<S> {
     }
 
     /// Goes back to where one stops.
-    fn back(&mut self, alloc: Global)
+    pub(crate) fn back(&mut self, alloc: Global)
     where
         S: Drop,
         ensures context { self.new.context ≡ self.old.context }
@@ -217,58 +227,63 @@ impl<S: Places> Session<S> {
         self.arrive();
     }
 
-    /// Goes on to where one stops, so many times, but no more often than `MAX_REPEATS`.
-    fn go_on(&mut self, alloc: Global, count: u64)
+    /// Goes on to where a statement begins, or where one stops.
+    pub(crate) fn on_statement(&mut self, alloc: Global)
     where
         S: Drop,
         ensures context { self.new.context ≡ self.old.context }
-        ensures state { self.new.state
-            ≡ times count (on S.rule self.old.context) self.old.state }
+        ensures state { self.new.state ≡ on_statement S.rule self.old.context self.old.state }
     {
-        for _ in 0..count.min(MAX_REPEATS) {
-            self.on(alloc);
-        }
+        self.stop.set_each(true);
+        self.history.to_next(alloc, &self.stop);
+        self.stop.set_each(false);
+        self.arrive();
     }
 
-    /// Goes back to where one stops, so many times, but no more often than `MAX_REPEATS`.
-    fn go_back(&mut self, alloc: Global, count: u64)
+    /// Goes back to where a statement begins, or where one stops.
+    pub(crate) fn back_statement(&mut self, alloc: Global)
     where
         S: Drop,
         ensures context { self.new.context ≡ self.old.context }
-        ensures state { self.new.state
-            ≡ times count (back S.rule self.old.context) self.old.state }
+        ensures state { self.new.state ≡ back_statement S.rule self.old.context self.old.state }
     {
-        for _ in 0..count.min(MAX_REPEATS) {
-            self.back(alloc);
-        }
+        self.stop.set_each(true);
+        self.history.to_previous(alloc, &self.stop);
+        self.stop.set_each(false);
+        self.arrive();
     }
 
-    /// Goes on to where one stops, or where no more calls wait than there, so many times, but no more
-    /// often than `MAX_REPEATS`.
-    fn go_over(&mut self, alloc: Global, count: u64)
+    /// Goes on to where a statement begins and no more calls wait than here, or where one stops.
+    pub(crate) fn over_statement(&mut self, alloc: Global)
     where
         S: Drop,
         ensures context { self.new.context ≡ self.old.context }
-        ensures state { self.new.state
-            ≡ times count (over S.rule self.old.context) self.old.state }
+        ensures state { self.new.state ≡ over_statement S.rule self.old.context self.old.state }
     {
-        for _ in 0..count.min(MAX_REPEATS) {
-            self.on_to(alloc, self.depth());
-        }
+        let depth = self.depth();
+        self.stop.set_depth(Some(depth));
+        self.stop.set_each(true);
+        self.history.to_next(alloc, &self.stop);
+        self.stop.set_depth(None);
+        self.stop.set_each(false);
+        self.arrive();
     }
 
-    /// Goes back to where one stops, or where no more calls wait than there, so many times, but no more
-    /// often than `MAX_REPEATS`.
-    fn go_back_over(&mut self, alloc: Global, count: u64)
+    /// Goes back to where a statement begins and no more calls wait than here, or where one stops.
+    pub(crate) fn back_over_statement(&mut self, alloc: Global)
     where
         S: Drop,
         ensures context { self.new.context ≡ self.old.context }
         ensures state { self.new.state
-            ≡ times count (back_over S.rule self.old.context) self.old.state }
+            ≡ back_over_statement S.rule self.old.context self.old.state }
     {
-        for _ in 0..count.min(MAX_REPEATS) {
-            self.back_to(alloc, self.depth());
-        }
+        let depth = self.depth();
+        self.stop.set_depth(Some(depth));
+        self.stop.set_each(true);
+        self.history.to_previous(alloc, &self.stop);
+        self.stop.set_depth(None);
+        self.stop.set_each(false);
+        self.arrive();
     }
 
     /// From the start, goes on to where one stops.
@@ -292,9 +307,11 @@ impl<S: Places> Session<S> {
             ≡ on_until S.rule self.old.context self.old.state statement }
     {
         let had_breakpoint = self.has_breakpoint(statement);
+        let had_test = self.stop.set_test(statement, None);
         self.stop.set_breakpoint(statement, true);
         self.history.to_next(alloc, &self.stop);
         self.stop.set_breakpoint(statement, had_breakpoint);
+        self.stop.set_test(statement, had_test);
         self.arrive();
     }
 
@@ -311,7 +328,7 @@ impl<S: Places> Session<S> {
     }
 
     /// Whether a statement has a breakpoint.
-    fn has_breakpoint(&self, statement: u64) -> bool
+    pub(crate) fn has_breakpoint(&self, statement: u64) -> bool
         ensures { result ≡ slice_index_or self.now.state.stop.breakpoints statement false }
     {
         self.stop
@@ -322,7 +339,7 @@ impl<S: Places> Session<S> {
     }
 
     /// Goes on to where one stops, or where no more calls wait than this.
-    fn on_to(&mut self, alloc: Global, depth: usize)
+    pub(crate) fn on_to(&mut self, alloc: Global, depth: usize)
     where
         S: Drop,
         ensures context { self.new.context ≡ self.old.context }
@@ -335,7 +352,7 @@ impl<S: Places> Session<S> {
     }
 
     /// Goes back to where one stops, or where no more calls wait than this.
-    fn back_to(&mut self, alloc: Global, depth: usize)
+    pub(crate) fn back_to(&mut self, alloc: Global, depth: usize)
     where
         S: Drop,
         ensures context { self.new.context ≡ self.old.context }
@@ -379,8 +396,8 @@ impl<S: Places> Session<S> {
             ≡ come_to S.rule self.old.context self.old.state self.old.state.number }
     {
         let at = self.machine().at();
-        if at.action == 0 && self.is_temporary(at.statement) {
-            self.breakpoint(u64::from(at.statement), false, false);
+        if at.action == 0 && self.is_temporary(at.statement) && self.stop.meets(self.machine()) {
+            self.breakpoint(u64::from(at.statement), false, false, None);
         }
     }
 
@@ -394,13 +411,45 @@ impl<S: Places> Session<S> {
             .unwrap_or(false)
     }
 
-    /// Sets the breakpoint of a statement, or removes it, and makes it temporary or not.
-    fn breakpoint(&mut self, statement: u64, has_breakpoint: bool, is_temporary: bool)
+    /// Sets the breakpoint of a statement, at which one stops where a test is met.
+    fn break_if(&mut self, statement: u64, test: &Test)
         ensures context { self.new.context ≡ self.old.context }
         ensures state { self.new.state
-            ≡ with_breakpoint statement has_breakpoint is_temporary self.old.state }
+            ≡ changed self.old.state (Setting.BreakIf statement test.now) }
+    {
+        self.breakpoint(statement, true, false, copy_of(test));
+    }
+
+    /// Gives the breakpoint of a statement a test, or none, if it has a breakpoint.
+    fn condition(&mut self, statement: u64, test: &Option<Test>)
+        ensures context { self.new.context ≡ self.old.context }
+        ensures state { self.new.state
+            ≡ changed self.old.state (Setting.Condition statement test.now) }
+    {
+        if self.has_breakpoint(statement) {
+            let test = match test {
+                Some(test) => copy_of(test),
+                None => None,
+            };
+            self.stop.set_test(statement, test);
+        }
+    }
+
+    /// Sets the breakpoint of a statement, or removes it, makes it temporary or not, and gives it a test or
+    /// none.
+    fn breakpoint(
+        &mut self,
+        statement: u64,
+        has_breakpoint: bool,
+        is_temporary: bool,
+        test: Option<Test>,
+    )
+        ensures context { self.new.context ≡ self.old.context }
+        ensures state { self.new.state
+            ≡ with_breakpoint statement has_breakpoint is_temporary test self.old.state }
     {
         self.stop.set_breakpoint(statement, has_breakpoint);
+        self.stop.set_test(statement, test);
         if let Some(temporary) = self.temporary.get_mut(statement as usize) {
             *temporary = is_temporary;
         }
@@ -441,6 +490,16 @@ impl<S: Places> Session<S> {
         }
     }
 
+    /// Watches a chain no longer, if it is watched.
+    fn unwatch_chain(&mut self, chain: &Chain)
+        ensures context { self.new.context ≡ self.old.context }
+        ensures state { self.new.state
+            ≡ changed self.old.state (Setting.UnwatchChain chain.now) }
+    {
+        let number = number_in(self.stop.watched(), chain);
+        self.unwatch(number);
+    }
+
     /// Displays a further chain, if there is room.
     fn display(&mut self, chain: &Chain)
         ensures context { self.new.context ≡ self.old.context }
@@ -465,4 +524,29 @@ impl<S: Places> Session<S> {
             self.displayed.remove(index as usize);
         }
     }
+
+    /// Displays a chain no longer, if it is displayed.
+    fn undisplay_chain(&mut self, chain: &Chain)
+        ensures context { self.new.context ≡ self.old.context }
+        ensures state { self.new.state
+            ≡ changed self.old.state (Setting.UndisplayChain chain.now) }
+    {
+        let number = number_in(self.displayed.as_slice(), chain);
+        self.undisplay(number);
+    }
+}
+
+/// A copy of a test, which takes no memory.
+pub(crate) fn copy_of(test: &Test) -> Option<Test>
+    ensures { result ≡ Some test.now }
+{
+    let operand = match &test.operand {
+        Operand::Chain(chain) => Operand::Chain(chain.clone().ok()?),
+        Operand::Number(word) => Operand::Number(*word),
+    };
+    Some(Test {
+        comparison: test.comparison,
+        chain: test.chain.clone().ok()?,
+        operand,
+    })
 }

@@ -2,19 +2,23 @@
 //! are tested, and not proved.
 
 ghost use Rattle.std.specs.Prelude.{◌≡◌, ◌++◌, IfOk, OnOk};
+ghost use Rattle.l6_steps.specs.Condition.{holds};
 ghost use Rattle.l6_steps.specs.Configuration.{state_at};
+ghost use Rattle.l6_steps.specs.Locus.{read};
 ghost use Rattle.l6_session.specs.Stops as spec;
 
 use crate::before::Before;
 use crate::cards::push_action;
 use crate::names::Names;
-use crate::reports::push_displayed;
+use crate::reports::{push_displayed, test_at};
 use crate::seen::Seen;
 use crate::session::Session;
-use crate::text::push_label;
+use crate::text::{push_label, push_test};
 use crate::values::push_trap;
-use l6_machine::{Halt, Machine, Position, ending_line, push_decimal};
+use l6_machine::{Halt, Machine, Position, Trap, ending_line, push_decimal};
+use l6_prog::{Operand, Test};
 use l6_store::Places;
+use l6_word::Word;
 use std::alloc::{AllocError, Global};
 
 /// What is said where a command stays at the start.
@@ -111,9 +115,63 @@ pub(crate) fn push_stop<S: Places>(
 {
     let machine = session.machine();
     push_place(alloc, text, machine, names, details)?;
+    push_test_at(text, machine, session.stop().tests())?;
     push_stay(text, before.number, session.history().number())?;
     seen.push_changes(text, machine, session.stop().watched())?;
     push_displayed(text, machine, session.displayed())
+}
+
+/// Adds that the test of the breakpoint there meets a trap, if it does.
+fn push_test_at<S: Places>(
+    text: &mut Vec<u8>,
+    machine: &Machine<S>,
+    tests: &[Option<Test>],
+) -> Result<(), AllocError>
+    ensures { OnOk result (text.new.items ≡ text.old.items
+        ++ spec.test_at_text tests.now machine.now.configuration.state) }
+{
+    let at = machine.at();
+    if at.action != 0 {
+        return Ok(());
+    }
+    match test_at(tests, u64::from(at.statement)) {
+        Some(test) => push_tested(text, machine, test),
+        None => Ok(()),
+    }
+}
+
+/// Adds that a test meets a trap, if it does.
+fn push_tested<S: Places>(
+    text: &mut Vec<u8>,
+    machine: &Machine<S>,
+    test: &Test,
+) -> Result<(), AllocError>
+    ensures { OnOk result (text.new.items ≡ text.old.items ++ spec.trapped_text test.now
+        (holds test.now machine.now.configuration.state.memory)) }
+{
+    match (machine.value(&test.chain), value_of(machine, &test.operand)) {
+        (Ok(_), Ok(_)) => Ok(()),
+        _ => push_trapped(text, test),
+    }
+}
+
+/// What an operand reads as.
+fn value_of<S: Places>(machine: &Machine<S>, operand: &Operand) -> Result<Word, Trap>
+    ensures { result ≡ read machine.now.configuration.state.memory operand.now }
+{
+    match operand {
+        Operand::Chain(chain) => machine.value(chain),
+        Operand::Number(word) => Ok(*word),
+    }
+}
+
+/// Adds that a test meets a trap.
+fn push_trapped(text: &mut Vec<u8>, test: &Test) -> Result<(), AllocError>
+    ensures { OnOk result (text.new.items ≡ text.old.items ++ spec.met_text test.now) }
+{
+    text.extend_from_slice(b"      the test ")?;
+    push_test(text, test)?;
+    text.extend_from_slice(b" meets a trap\n")
 }
 
 /// Adds that the session stays at the state of this number, if it does.

@@ -63,11 +63,15 @@ impl Row {
 }
 
 /// The commands, in the order in which help has them.
-static VERBS: [Verb; 41] = [
+static VERBS: [Verb; 48] = [
     Verb::Step,
     Verb::Back,
+    Verb::StepState,
+    Verb::BackState,
     Verb::Next,
     Verb::ReverseNext,
+    Verb::NextState,
+    Verb::ReverseNextState,
     Verb::Finish,
     Verb::ReverseFinish,
     Verb::Continue,
@@ -83,6 +87,7 @@ static VERBS: [Verb; 41] = [
     Verb::Enable,
     Verb::Disable,
     Verb::Delete,
+    Verb::Condition,
     Verb::Info,
     Verb::Watch,
     Verb::Unwatch,
@@ -100,11 +105,13 @@ static VERBS: [Verb; 41] = [
     Verb::Stats,
     Verb::Out,
     Verb::Checkpoints,
+    Verb::Save,
+    Verb::Source,
     Verb::Help,
     Verb::Quit,
     Verb::Set,
     Verb::Ignore,
-    Verb::Condition,
+    Verb::Commands,
 ];
 
 /// The commands, in the order in which help has them.
@@ -121,28 +128,52 @@ pub(crate) fn row_of(verb: Verb) -> Row
 {
     match verb {
         Verb::Step => Row {
-            words: b"STEP S STEPI SI",
+            words: b"STEP S",
             usage: b"step|s [N]",
-            line: b"N steps on",
-            sentence: b"goes N states on, 1 without N, at most to the last one",
+            line: b"on, a statement",
+            sentence: b"goes on to where a statement begins, also in a DO, or to where one stops before; N times",
         },
         Verb::Back => Row {
             words: b"BACK REVERSE-STEP RS",
             usage: b"back|rs [N]",
+            line: b"back, a statement",
+            sentence: b"goes back to where a statement begins, also in a DO, or to where one stops after it; N times",
+        },
+        Verb::StepState => Row {
+            words: b"STEPI SI",
+            usage: b"stepi|si [N]",
+            line: b"N states on",
+            sentence: b"goes N states on, 1 without N, at most to the last one. An action leads from one state to the next",
+        },
+        Verb::BackState => Row {
+            words: b"BACKI REVERSE-STEPI RSI",
+            usage: b"backi|rsi [N]",
             line: b"N states back",
             sentence: b"goes N states back, 1 without N, at most to the start",
         },
         Verb::Next => Row {
-            words: b"NEXT N NEXTI NI",
+            words: b"NEXT N",
             usage: b"next|n [N]",
             line: b"on, over a DO",
-            sentence: b"goes on to the next state at which no more calls wait than here, so over a DO, or to where one stops before; N times",
+            sentence: b"goes on to where a statement begins and no more calls wait than here, so over a DO, or to where one stops before; N times",
         },
         Verb::ReverseNext => Row {
             words: b"REVERSE-NEXT RN",
             usage: b"reverse-next|rn [N]",
             line: b"back, over a DO",
-            sentence: b"goes back to the latest state at which no more calls wait than here, or to where one stops after it; N times",
+            sentence: b"goes back to where a statement begins and no more calls wait than here, or to where one stops after it; N times",
+        },
+        Verb::NextState => Row {
+            words: b"NEXTI NI",
+            usage: b"nexti|ni [N]",
+            line: b"a state on, so",
+            sentence: b"goes on to the next state at which no more calls wait than here, or to where one stops before; N times",
+        },
+        Verb::ReverseNextState => Row {
+            words: b"REVERSE-NEXTI RNI",
+            usage: b"reverse-nexti|rni",
+            line: b"a state back, so",
+            sentence: b"goes back to the latest state at which no more calls wait than here, or to where one stops after it; rni N does it N times",
         },
         Verb::Finish => Row {
             words: b"FINISH FIN",
@@ -200,15 +231,15 @@ pub(crate) fn row_of(verb: Verb) -> Row
         },
         Verb::List => Row {
             words: b"LIST L LL",
-            usage: b"list|l [PLACE]",
+            usage: b"list|l [PLACE|A,B|-]",
             line: b"cards near it",
-            sentence: b"shows the cards near the state, or near a statement",
+            sentence: b"shows the cards near the state, and then those that follow; or those near a statement, from one number to another, or before the last ones",
         },
         Verb::Break => Row {
             words: b"BREAK B",
             usage: b"break|b PLACE",
             line: b"stop there",
-            sentence: b"stops wherever the run comes to the statement. PLACE is a label, the number of a statement, or : and the number of a card",
+            sentence: b"stops wherever the run comes to the statement. PLACE is a label, also with + and how many statements after it, the number of a statement, or : and the number of a card. With if and TEST after it, as (A,G,5), it stops where the test holds, or meets a trap",
         },
         Verb::TemporaryBreak => Row {
             words: b"TBREAK TB",
@@ -248,9 +279,9 @@ pub(crate) fn row_of(verb: Verb) -> Row
         },
         Verb::Unwatch => Row {
             words: b"UNWATCH",
-            usage: b"unwatch N",
+            usage: b"unwatch CHAIN|N",
             line: b"watch no longer",
-            sentence: b"watches a chain no longer; N is its number in info",
+            sentence: b"watches a chain no longer; N is the number that it has in info",
         },
         Verb::Display => Row {
             words: b"DISPLAY",
@@ -260,15 +291,15 @@ pub(crate) fn row_of(verb: Verb) -> Row
         },
         Verb::Undisplay => Row {
             words: b"UNDISPLAY",
-            usage: b"undisplay N",
+            usage: b"undisplay CHAIN|N",
             line: b"print no longer",
-            sentence: b"displays a chain no longer; N is its number in info",
+            sentence: b"displays a chain no longer; N is the number that it has in info",
         },
         Verb::Print => Row {
             words: b"PRINT P PP WHATIS",
             usage: b"print|p CHAIN|NUMBER",
             line: b"what it reads as",
-            sentence: b"shows what it reads as, in decimal, in octal and as characters, and the block to which it leads; or at which field it can't be followed, and why",
+            sentence: b"shows what it reads as, in decimal, in octal and as characters, and the block to which it leads; or at which field it can't be followed, and why. Of a label it shows the statement",
         },
         Verb::Block => Row {
             words: b"BLOCK X",
@@ -278,9 +309,9 @@ pub(crate) fn row_of(verb: Verb) -> Row
         },
         Verb::Where => Row {
             words: b"WHERE W BT BACKTRACE FRAME F UP DOWN",
-            usage: b"where|bt",
+            usage: b"where|bt [N]",
             line: b"calls that wait",
-            sentence: b"shows where the run is, and where the calls that wait go on, the latest first",
+            sentence: b"shows where the run is, and where the calls that wait go on, the latest first; with N no more than N lines",
         },
         Verb::Stack => Row {
             words: b"STACK",
@@ -336,6 +367,18 @@ pub(crate) fn row_of(verb: Verb) -> Row
             line: b"states kept",
             sentence: b"shows at which states copies are kept, to go back from",
         },
+        Verb::Save => Row {
+            words: b"SAVE",
+            usage: b"save [FILE]",
+            line: b"as commands",
+            sentence: b"shows the commands that lead a new session to where this one is, with its stops and what it displays, or writes them into a file",
+        },
+        Verb::Source => Row {
+            words: b"SOURCE",
+            usage: b"source FILE",
+            line: b"lines of a file",
+            sentence: b"obeys the lines of a file, and then those that follow",
+        },
         Verb::Help => Row {
             words: b"HELP H ?",
             usage: b"help|h [COMMAND]",
@@ -361,10 +404,16 @@ pub(crate) fn row_of(verb: Verb) -> Row
             sentence: b"changes nothing: continue N passes over the stops before the Nth",
         },
         Verb::Condition => Row {
-            words: b"CONDITION COMMANDS",
-            usage: b"condition",
-            line: b"see watch",
-            sentence: b"changes nothing: a breakpoint has no condition, and watch stops where a value changes",
+            words: b"CONDITION",
+            usage: b"condition PLACE [TEST]",
+            line: b"stop there if so",
+            sentence: b"stops at the breakpoint where the test holds, or meets a trap; without TEST always. TEST is a group of a card, as (A,G,5)",
+        },
+        Verb::Commands => Row {
+            words: b"COMMANDS",
+            usage: b"commands",
+            line: b"see display",
+            sentence: b"changes nothing: display prints a chain at each stop, and source obeys the lines of a file",
         },
     }
 }

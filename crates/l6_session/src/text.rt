@@ -11,7 +11,7 @@ use l6_asm::Labels;
 use l6_draw::character_of;
 use l6_group::Label;
 use l6_machine::{Position, push_decimal};
-use l6_prog::{Chain, NAMES, Name};
+use l6_prog::{Chain, Comparison, NAMES, Name, Operand, Test};
 use l6_store::Level;
 use l6_word::{CODE_COUNT, Word, char_of, octal12};
 use std::alloc::AllocError;
@@ -117,6 +117,55 @@ pub(crate) fn push_block_at(
     push_decimal(text, place.get())?;
     text.extend_from_slice(b" SIZE ")?;
     push_decimal(text, 1u64 << level)
+}
+
+/// Adds a test, as a card has it.
+pub(crate) fn push_test(text: &mut Vec<u8>, test: &Test) -> Result<(), AllocError>
+    ensures { OnOk result (text.new.items ≡ text.old.items ++ spec.test_text test.now) }
+{
+    text.extend_from_slice(b"(")?;
+    push_chain(text, &test.chain)?;
+    text.extend_from_slice(b",")?;
+    text.extend_from_slice(letter_of(test.comparison))?;
+    text.extend_from_slice(b",")?;
+    push_compared(text, &test.operand)?;
+    text.extend_from_slice(b")")
+}
+
+/// The letter of a comparison.
+fn letter_of(comparison: Comparison) -> &'static [u8]
+    ensures { result.now ≡ spec.comparison_text comparison }
+{
+    match comparison {
+        Comparison::Equal => b"E",
+        Comparison::NotEqual => b"N",
+        Comparison::Greater => b"G",
+        Comparison::Less => b"L",
+        Comparison::AllOnes => b"O",
+        Comparison::AllZeros => b"Z",
+    }
+}
+
+/// Adds that to which a test compares.
+fn push_compared(text: &mut Vec<u8>, operand: &Operand) -> Result<(), AllocError>
+    ensures { OnOk result (text.new.items ≡ text.old.items ++ spec.compared_text operand.now) }
+{
+    match operand {
+        Operand::Chain(chain) => push_chain(text, chain),
+        Operand::Number(word) => push_decimal(text, word.get()),
+    }
+}
+
+/// Adds the test of a breakpoint, if it has one.
+pub(crate) fn push_if(text: &mut Vec<u8>, test: Option<&Test>) -> Result<(), AllocError>
+    ensures { OnOk result (text.new.items
+        ≡ text.old.items ++ spec.if_text (option_map (λ test. test.now) test.entry)) }
+{
+    let Some(test) = test else {
+        return Ok(());
+    };
+    text.extend_from_slice(b" if ")?;
+    push_test(text, test)
 }
 
 /// Adds a position, and the label that it is at or after.

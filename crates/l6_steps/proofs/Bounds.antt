@@ -14,10 +14,10 @@ use Rattle.l6_word.specs.Trying.{◌>>=◌}
 use Rattle.l6_word.specs.Window.{Window, is_window}
 use Rattle.l6_store.specs.Blocks.{block_at}
 use Rattle.l6_store.specs.Open.{Choice, FitsStore, IsAnswer, IsOpen}
-use Rattle.l6_store.proofs.Fitting.{fits-got}
+use Rattle.l6_store.proofs.Fitting.{fits_got}
 use Rattle.l6_store.proofs.Fresh.{no_fits}
-use Rattle.l6_store.proofs.Gathered.{get-remove_other}
-use Rattle.l6_store.proofs.Tagged.{fits-remove}
+use Rattle.l6_store.proofs.Gathered.{get_remove_other}
+use Rattle.l6_store.proofs.Tagged.{fits_remove}
 use Rattle.l6_prog.specs.declared.exit.Exit.TheVariants as exits
 use Rattle.l6_prog.specs.declared.operand.Operand.{Operand}
 use Rattle.l6_prog.specs.declared.operand.Operand.TheVariants.{Chain}
@@ -158,7 +158,7 @@ module _ (units : ℕ) where
           saved_contents = within.saved_contents;
           definitions = within.definitions;
           saved_definitions = within.saved_definitions;
-          blocks = fits-got units memory.blocks level place words within.blocks small clear count
+          blocks = fits_got units memory.blocks level place words within.blocks small clear count
               are_words;
         }) at place (holds_insert memory.blocks place words at holds_there)
 
@@ -170,14 +170,14 @@ module _ (units : ℕ) where
       saved_contents = within.saved_contents;
       definitions = within.definitions;
       saved_definitions = within.saved_definitions;
-      blocks = fits-remove units memory.blocks place within.blocks;
+      blocks = fits_remove units memory.blocks place within.blocks;
     }
 
     pub holds_removed : (place : ℕ) (at : Locus) → lies_in place at ≡ false →
         StandsIn memory.blocks at → StandsIn (finite.remove memory.blocks place) at
     holds_removed place (Bug bug) outside holds_there = tt
     holds_removed place (Field q window) outside holds_there =
-        let kept = get-remove_other memory.blocks place q
+        let kept = get_remove_other memory.blocks place q
         (λ same. (let inside = eq-eqb q place same in cc)) in
         (holds_there.0, (let live = holds_there.1 in cc))
 
@@ -406,5 +406,5 @@ run_within context state (old ∷ older) run =
     (action_stays units context.parameters step.choice old.memory within step.fits
     (action_at context.program old.at)))
 
-pub runs-stay_within_bounds : RunsStayWithinBounds
-runs-stay_within_bounds context state reached = run_within context state reached.older reached.run
+pub runs_stay_within_bounds : RunsStayWithinBounds
+runs_stay_within_bounds context state reached = run_within context state reached.older reached.run

@@ -10,74 +10,74 @@ use Rattle.l6_steps.specs.Calculation.{difference}
 use Rattle.l6_steps.specs.Laws.{DifferencesAddUp, TurnsEachBit}
 
 -- a power of two is a multiple of a lesser one
-pow-multiple : (more width : ℕ) → width ≤ more → 2 ^ more ≡ 2 ^ (more - width) * 2 ^ width
-pow-multiple more width below =
+pow_multiple : (more width : ℕ) → width ≤ more → 2 ^ more ≡ 2 ^ (more - width) * 2 ^ width
+pow_multiple more width below =
     let apart : more ≡ more - width + width = omega arith in
     ap (λ (n : ℕ). 2 ^ n) apart ∙ pow-add 2 (more - width) width
 
 -- numbers that differ by a multiple
-mod-same : (width number other less more : ℕ) →
+mod_same : (width number other less more : ℕ) →
     number + less * 2 ^ width ≡ other + more * 2 ^ width → number % 2 ^ width ≡ other % 2 ^ width
-mod-same width number other less more apart =
+mod_same width number other less more apart =
     sym (add-mul-mod_self_right number less (2 ^ width))
     ∙ ap (λ (n : ℕ). n % 2 ^ width) apart
     ∙ add-mul-mod_self_right other more (2 ^ width)
 
 -- a number that was cut to 64 bits
-pub mod-cut : (width number : ℕ) → width ≤ word_bits →
+pub mod_cut : (width number : ℕ) → width ≤ word_bits →
     number % 2 ^ 64 % 2 ^ width ≡ number % 2 ^ width
-mod-cut width number narrow =
+mod_cut width number narrow =
     let apart : 64 ≡ 64 - width + width = omega arith in
     ap (λ (n : ℕ). number % 2 ^ n % 2 ^ width) apart ∙ mod-mod-pow number (64 - width) width
 
 -- 2 ^ 64 where the definition has 2 ^ word_bits
-pub mod-difference : (width number word : ℕ) → width ≤ word_bits → word < 2 ^ word_bits →
+pub mod_difference : (width number word : ℕ) → width ≤ word_bits → word < 2 ^ word_bits →
     (number + (2 ^ 64 - word)) % 2 ^ 64 % 2 ^ width ≡ difference number word % 2 ^ width
-mod-difference width number word narrow fits =
+mod_difference width number word narrow fits =
     let multiple = (2 ^ 28 - 1) * 2 ^ (word_bits - width) in
-    mod-cut width (number + (2 ^ 64 - word)) narrow
-    ∙ mod-same width (number + (2 ^ 64 - word)) (difference number word) 0 multiple
-    (omega (arith, pow-multiple word_bits width narrow))
+    mod_cut width (number + (2 ^ 64 - word)) narrow
+    ∙ mod_same width (number + (2 ^ 64 - word)) (difference number word) 0 multiple
+    (omega (arith, pow_multiple word_bits width narrow))
 
 -- 2 ^ 64 where the definition has 2 ^ width
-pub mod-complement : (width word : ℕ) → width ≤ word_bits → word < 2 ^ word_bits →
+pub mod_complement : (width word : ℕ) → width ≤ word_bits → word < 2 ^ word_bits →
     (2 ^ 64 - 1 - word) % 2 ^ width ≡ difference (2 ^ width - 1) word % 2 ^ width
-mod-complement width word narrow fits =
+mod_complement width word narrow fits =
     let multiple = (2 ^ 28 - 1) * 2 ^ (word_bits - width) in
-    mod-same width (2 ^ 64 - 1 - word) (difference (2 ^ width - 1) word) 1 multiple
-    (omega (arith, pow-multiple word_bits width narrow, pow_pos width))
+    mod_same width (2 ^ 64 - 1 - word) (difference (2 ^ width - 1) word) 1 multiple
+    (omega (arith, pow_multiple word_bits width narrow, pow_pos width))
 
 -- a shift by the width or more
-pub mod-shift : (width number places : ℕ) → width ≤ places →
+pub mod_shift : (width number places : ℕ) → width ≤ places →
     0 % 2 ^ width ≡ number * 2 ^ places % 2 ^ width
-mod-shift width number places past =
-    let product = ap (λ (n : ℕ). number * n) (pow-multiple places width past) in
-    mod-same width 0 (number * 2 ^ places) (number * 2 ^ (places - width)) 0
+mod_shift width number places past =
+    let product = ap (λ (n : ℕ). number * n) (pow_multiple places width past) in
+    mod_same width 0 (number * 2 ^ places) (number * 2 ^ (places - width)) 0
     (omega (arith, product))
 
 -- a shift of all bits of a word
-pub word-shift : (word places : ℕ) → word < 2 ^ word_bits → word_bits ≤ places →
+pub word_shift : (word places : ℕ) → word < 2 ^ word_bits → word_bits ≤ places →
     0 ≡ word / 2 ^ places
-word-shift word places fits past =
+word_shift word places fits past =
     let within = pow-le-pow_right {n = 2} (omega arith) past in
     omega (arith, div_below word (2 ^ places) 1 (pow_pos places) (omega (arith, within)))
 
 -- a bit within the width is one of the lowest bits
-bit_at-lowest : (width number place : ℕ) → place < width →
+bit_at_lowest : (width number place : ℕ) → place < width →
     bit_at (number % 2 ^ width) place ≡ bit_at number place
-bit_at-lowest width number place within =
+bit_at_lowest width number place within =
     sym (bit_at_cat_low (number / 2 ^ width) width (number % 2 ^ width) place within)
     ∙ ap (λ (n : ℕ). bit_at n place) (shr_split number width)
 
 pub turns_each_bit : TurnsEachBit
 turns_each_bit width content value place narrow fits within =
     let made = difference (2 ^ width - 1) value in
-    sym (bit_at-lowest width made place within)
-    ∙ ap (λ (n : ℕ). bit_at n place) (sym (mod-complement width value narrow fits))
-    ∙ bit_at-lowest width (2 ^ 64 - 1 - value) place within
+    sym (bit_at_lowest width made place within)
+    ∙ ap (λ (n : ℕ). bit_at n place) (sym (mod_complement width value narrow fits))
+    ∙ bit_at_lowest width (2 ^ 64 - 1 - value) place within
     ∙ bit_at_not w64 value place (omega arith) (omega arith)
 
 pub differences_add_up : DifferencesAddUp
 differences_add_up width number word narrow fits =
-    mod-same width (difference number word + word) number 0 (2 ^ (word_bits - width))
-    (omega (arith, pow-multiple word_bits width narrow))
+    mod_same width (difference number word + word) number 0 (2 ^ (word_bits - width))
+    (omega (arith, pow_multiple word_bits width narrow))

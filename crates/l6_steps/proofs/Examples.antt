@@ -3,7 +3,7 @@ use Rattle.std.proofs.Common.{arith, ◌^◌, replicate, ◌≡◌, ◌≢◌, �
 use Rattle.std.specs.FinMap as map
 use Rattle.l6_word.specs.Window.{Window, take}
 use Rattle.l6_store.specs.Blocks.{Blocks}
-use Rattle.l6_store.proofs.Gathered.{get-insert_same, get-insert_other, get-remove_same}
+use Rattle.l6_store.proofs.Gathered.{get_insert_same, get_insert_other, get_remove_same}
 use Rattle.l6_steps.specs.declared.locus.Locus.TheVariants.{Bug, Field}
 use Rattle.l6_steps.specs.declared.trap.Trap.TheVariants.{UndefinedField, NotABlock, WordOutsideBlock}
 use Rattle.l6_store.specs.Least.{least}
@@ -44,18 +44,18 @@ apart same = absurd (omega (arith, same))
 
 first_there : map.get linked.blocks 1024 ≡ Some (1026 ∷ 0 ∷ [])
 first_there =
-    get-insert_other one 1026 (0 ∷ 71 ∷ []) 1024 apart
-    ∙ get-insert_same map.empty 1024 (1026 ∷ 0 ∷ [])
+    get_insert_other one 1026 (0 ∷ 71 ∷ []) 1024 apart
+    ∙ get_insert_same map.empty 1024 (1026 ∷ 0 ∷ [])
 
 second_there : map.get linked.blocks 1026 ≡ Some (0 ∷ 71 ∷ [])
-second_there = get-insert_same one 1026 (0 ∷ 71 ∷ [])
+second_there = get_insert_same one 1026 (0 ∷ 71 ∷ [])
 
 -- what XN holds
 pointer : content linked (Field 1024 low) ≡ 1026
 pointer = ap (λ found. take low (slice_index_or (unwrap_or found []) 0 0)) first_there
 
-pub chain-leads : ChainLeads
-chain-leads = (
+pub chain_leads : ChainLeads
+chain_leads = (
   ap (λ at. at >>= λ next. follow linked next (name_v ∷ []))
       (field_by linked name_n 1024 low (1026 ∷ 0 ∷ []) refl first_there refl)
       ∙ ap (λ q. field_at linked name_v q >>= λ next. Ok next) pointer
@@ -69,15 +69,15 @@ high = record { word = 1; first = 18; last = 35 }
 
 -- no block begins at a place whose block was freed
 gone : map.get freed_still.blocks 1024 ≡ None
-gone = get-remove_same stacked.blocks 1024
+gone = get_remove_same stacked.blocks 1024
 
 freed_field : field_at freed_still name_n 1024 ≡ Err NotABlock
 freed_field =
     ap (λ found. ok_or found NotABlock >>= λ ws.
     if nat_lt 1 (length ws) then Ok (Field 1024 high) else Err WordOutsideBlock) gone
 
-pub use-after_free_traps : UseAfterFreeTraps
-use-after_free_traps parameters choice =
+pub use_after_free_traps : UseAfterFreeTraps
+use_after_free_traps parameters choice =
     ap (λ at. (at >>= λ next. follow freed_still next []) >>= λ l.
     Ok 5 >>= λ value. Ok value >>= λ number. leave (assign freed_still l number)) freed_field
 
@@ -91,7 +91,7 @@ abbrev got : Memory
 got = new_block stacked (replicate (2 ^ 2) 0) (Bug name_x) 1028
 
 got_there : map.get got.blocks 1028 ≡ Some (0 ∷ 0 ∷ 0 ∷ 0 ∷ [])
-got_there = get-insert_same stacked.blocks 1028 (0 ∷ 0 ∷ 0 ∷ 0 ∷ [])
+got_there = get_insert_same stacked.blocks 1028 (0 ∷ 0 ∷ 0 ∷ 0 ∷ [])
 
 got_field : locus got (name_x ∷ name_n ∷ []) ≡ Ok (Field 1028 high)
 got_field =
@@ -109,8 +109,8 @@ kept =
     ∙ ap (λ b. record stacked { bugs = just_x 1028; blocks = b })
     (insert_twice stacked.blocks 1028 (0 ∷ 0 ∷ 0 ∷ 0 ∷ []) (0 ∷ 1024 ∷ 0 ∷ 0 ∷ []))
 
-pub get-keeps_the_old : GetKeepsTheOld
-get-keeps_the_old parameters choice picks =
+pub get_keeps_the_old : GetKeepsTheOld
+get_keeps_the_old parameters choice picks =
     let other = Some (name_x ∷ name_n ∷ []) in
     ap
     (λ level. level >>= λ k. with_place (choice k) None stacked (get k (Bug name_x) other stacked))

@@ -3,7 +3,7 @@ use Rattle.std.proofs.Common.{◌≡◌, ℕ, zero, suc, ◌+◌, ◌<◌, ◌�
 use Rattle.std.specs.Prelude.{is_some, is_none, ◌||◌, ◌&&◌, ◌==◌, unwrap_or}
 use Rattle.std.proofs.lemmas.Bool.{cases_lt}
 use Rattle.l6_store.specs.Rule.{Rule}
-use Rattle.l6_store.proofs.Least.{Answers, least-answers}
+use Rattle.l6_store.proofs.Least.{Answers, least_answers}
 use Rattle.l6_steps.specs.declared.halt.Halt.{Halt}
 use Rattle.l6_steps.specs.declared.trap.Trap.{Trap}
 use Rattle.l6_steps.specs.ActionResult.{ActionResult}
@@ -11,7 +11,7 @@ use Rattle.l6_steps.specs.Configuration.{Configuration, IsNumbered, configuratio
 use Rattle.l6_steps.specs.Numbering.{last_number}
 use Rattle.l6_steps.specs.State.{RunContext, State, is_last}
 use Rattle.l6_steps.specs.Step.{action_result_at, ending_after, outcome}
-use Rattle.l6_steps.proofs.Numbered.{later-stays, configuration_after-goes_on, configuration_after-stays}
+use Rattle.l6_steps.proofs.Numbered.{later_stays, configuration_after_goes_on, configuration_after_stays}
 
 -- a state has not ended, and as many steps are counted as states came before it
 pub record GoesOnAt (state : State) (number : ℕ) : Type 0 where
@@ -19,20 +19,20 @@ pub record GoesOnAt (state : State) (number : ℕ) : Type 0 where
   pub counted : state.count ≡ number
 
 -- a state that has ended is last
-ended-last : (context : RunContext) (state : State) (ending : Option Halt) →
+ended_last : (context : RunContext) (state : State) (ending : Option Halt) →
     state.ending ≡ ending → (is_last context state ≡ true) ⊎ (state.ending ≡ None)
-ended-last context state (Some halt) is =
+ended_last context state (Some halt) is =
     inl (ap (λ e. is_some e || (is_none e && state.count == context.parameters.limits.steps)) is)
-ended-last context state None is = inr is
+ended_last context state None is = inr is
 
 -- the state to which an action's result leads has a step more, and a trap leads to a last one
-after-action_result : (context : RunContext) (old : State) (number : ℕ)
+after_action_result : (context : RunContext) (old : State) (number : ℕ)
     (asked : Result ActionResult Trap) →
     GoesOnAt old number →
     (is_last context (outcome old asked) ≡ true) ⊎ GoesOnAt (outcome old asked) (number + 1)
-after-action_result context old number (Err trap) goes_on = inl refl
-after-action_result context old number (Ok action_result) goes_on =
-    elim (ended-last context (outcome old (Ok action_result)) (ending_after action_result.jump) refl)
+after_action_result context old number (Err trap) goes_on = inl refl
+after_action_result context old number (Ok action_result) goes_on =
+    elim (ended_last context (outcome old (Ok action_result)) (ending_after action_result.jump) refl)
     as (λ _. (is_last context (outcome old (Ok action_result)) ≡ true)
     ⊎ GoesOnAt (outcome old (Ok action_result)) (number + 1)) [
       | inl last ↦ inl last
@@ -46,40 +46,40 @@ after-action_result context old number (Ok action_result) goes_on =
 abbrev LastOr : RunContext → State → ℕ → Type 0
 LastOr context state number = (is_last context state ≡ true) ⊎ GoesOnAt state number
 
-after-open : (rule : Rule) (context : RunContext) (old : Configuration) (number : ℕ) (last : Bool) →
+after_open : (rule : Rule) (context : RunContext) (old : Configuration) (number : ℕ) (last : Bool) →
     is_last context old.state ≡ last → GoesOnAt old.state number →
     LastOr context (configuration_after rule context old).state (number + 1)
-after-open rule context old number true is goes_on =
+after_open rule context old number true is goes_on =
     inl (subst (λ (m : Configuration). is_last context m.state ≡ true)
-    (sym (configuration_after-stays rule context old is)) is)
-after-open rule context old number false is goes_on =
+    (sym (configuration_after_stays rule context old is)) is)
+after_open rule context old number false is goes_on =
     subst (λ (m : Configuration). LastOr context m.state (number + 1))
-    (sym (configuration_after-goes_on rule context old is))
-    (after-action_result context old.state number
+    (sym (configuration_after_goes_on rule context old is))
+    (after_action_result context old.state number
     (action_result_at context (pick_at rule context old) old.state) goes_on)
 
-pub last-or_goes_on : (rule : Rule) (context : RunContext) (n : ℕ) →
+pub last_or_goes_on : (rule : Rule) (context : RunContext) (n : ℕ) →
     LastOr context (state_at rule context n) n
-last-or_goes_on rule context zero = inr (record { open_yet = refl; counted = refl })
-last-or_goes_on rule context (suc n) =
+last_or_goes_on rule context zero = inr (record { open_yet = refl; counted = refl })
+last_or_goes_on rule context (suc n) =
     let old = configuration_at rule context n in
-    elim (last-or_goes_on rule context n)
+    elim (last_or_goes_on rule context n)
     as (λ _. LastOr context (state_at rule context (suc n)) (suc n)) [
       | inl last ↦
           inl (subst (λ (m : Configuration). is_last context m.state ≡ true)
-          (sym (configuration_after-stays rule context old last)) last)
+          (sym (configuration_after_stays rule context old last)) last)
       | inr goes_on ↦
           subst (LastOr context (state_at rule context (suc n))) (omega arith)
-          (after-open rule context old n (is_last context old.state) refl goes_on)
+          (after_open rule context old n (is_last context old.state) refl goes_on)
     ]
 
 -- the state of the number of the limit is last
-at_limit-last : (rule : Rule) (context : RunContext) →
+at_limit_last : (rule : Rule) (context : RunContext) →
     is_last context (state_at rule context context.parameters.limits.steps) ≡ true
-at_limit-last rule context =
+at_limit_last rule context =
     let steps = context.parameters.limits.steps in
     let state = state_at rule context steps in
-    elim (last-or_goes_on rule context steps) as (λ _. is_last context state ≡ true) [
+    elim (last_or_goes_on rule context steps) as (λ _. is_last context state ≡ true) [
       | inl last ↦ last
       | inr goes_on ↦
           ap (λ e. is_some e || (is_none e && state.count == steps)) goes_on.open_yet
@@ -101,55 +101,55 @@ found : (rule : Rule) (context : RunContext) (answer : Option ℕ) →
 unfolding Answers
 found rule context (Some number) answers = (omega (arith, answers.0), answers.1, answers.2)
 found rule context None none =
-    let last = at_limit-last rule context in
+    let last = at_limit_last rule context in
     let other = none context.parameters.limits.steps (omega arith) in
     absurd (cc (last, other))
 
-pub last-found : (rule : Rule) (context : RunContext) → Found rule context (last_number rule context)
+pub last_found : (rule : Rule) (context : RunContext) → Found rule context (last_number rule context)
 unfolding last_number
-last-found rule context =
+last_found rule context =
     found rule context _
-    (least-answers (suc context.parameters.limits.steps)
+    (least_answers (suc context.parameters.limits.steps)
     (λ n. is_last context (state_at rule context n)))
 
-pub last-is : (rule : Rule) (context : RunContext) →
+pub last_is : (rule : Rule) (context : RunContext) →
     is_last context (state_at rule context (last_number rule context)) ≡ true
-last-is rule context = (last-found rule context).1
+last_is rule context = (last_found rule context).1
 
-pub last-within : (rule : Rule) (context : RunContext) →
+pub last_within : (rule : Rule) (context : RunContext) →
     last_number rule context ≤ context.parameters.limits.steps
-last-within rule context = (last-found rule context).0
+last_within rule context = (last_found rule context).0
 
-pub last-least : (rule : Rule) (context : RunContext) (n : ℕ) →
+pub last_least : (rule : Rule) (context : RunContext) (n : ℕ) →
     is_last context (state_at rule context n) ≡ true → last_number rule context ≤ n
-last-least rule context n last =
+last_least rule context n last =
     elim (cases_lt n (last_number rule context)) as (λ _. last_number rule context ≤ n) [
       | inl below ↦
-          (let other = (last-found rule context).2 n below in absurd (cc (last, other)))
+          (let other = (last_found rule context).2 n below in absurd (cc (last, other)))
       | inr above ↦ above
     ]
 
 -- a state up to the last that is not last comes before it
-pub not_last-below : (rule : Rule) (context : RunContext) (n : ℕ) → n ≤ last_number rule context →
+pub not_last_below : (rule : Rule) (context : RunContext) (n : ℕ) → n ≤ last_number rule context →
     is_last context (state_at rule context n) ≡ false → n < last_number rule context
-not_last-below rule context n within goes_on =
+not_last_below rule context n within goes_on =
     elim (cases_lt n (last_number rule context)) as (λ _. n < last_number rule context) [
       | inl below ↦ below
       | inr above ↦
           (let same : n ≡ last_number rule context = omega arith in
           let last = ap (λ k. is_last context (state_at rule context k)) same
-          ∙ last-is rule context in
+          ∙ last_is rule context in
           absurd (cc (last, goes_on)))
     ]
 
 -- a configuration of the run that is last is that of the last number
-pub last-configuration : (rule : Rule) (context : RunContext) (configuration : Configuration) →
+pub last_configuration : (rule : Rule) (context : RunContext) (configuration : Configuration) →
     IsNumbered rule context configuration → is_last context configuration.state ≡ true →
     configuration ≡ configuration_at rule context (last_number rule context)
-last-configuration rule context configuration numbered last =
+last_configuration rule context configuration numbered last =
     let final = last_number rule context in
     let there = ap (λ (m : Configuration). is_last context m.state) (sym numbered.is) ∙ last in
-    let following = last-least rule context numbered.number there in
+    let following = last_least rule context numbered.number there in
     let apart : numbered.number ≡ (numbered.number - final) + final = omega (arith, following) in
     numbered.is ∙ ap (configuration_at rule context) apart
-    ∙ later-stays rule context (numbered.number - final) final (last-is rule context)
+    ∙ later_stays rule context (numbered.number - final) final (last_is rule context)

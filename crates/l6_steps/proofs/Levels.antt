@@ -9,7 +9,7 @@ use Rattle.l6_word.specs.Numerals.{largest_level}
 use Rattle.l6_word.specs.Trying.{◌>>=◌}
 use Rattle.l6_store.specs.Blocks.{Fits, block_at}
 use Rattle.l6_store.specs.Least.{least}
-use Rattle.l6_store.proofs.Least.{Answers, answers-alone, least-answers}
+use Rattle.l6_store.proofs.Least.{Answers, answers_alone, least_answers}
 use Rattle.l6_steps.specs.declared.trap.Trap.TheVariants.{BadSize, NotABlock}
 use Rattle.l6_steps.specs.Getting.{least_level, level_at, level_for, level_of}
 use Rattle.l6_steps.specs.State.{Memory}
@@ -24,8 +24,8 @@ pub least_is : (words level : ℕ) → level ≤ largest_level → words ≤ 2 ^
     least (suc largest_level) (enough words) ≡ Some level
 unfolding Answers
 least_is words level small some lower =
-    answers-alone (suc largest_level) (enough words) (least (suc largest_level) (enough words))
-    (Some level) (least-answers (suc largest_level) (enough words))
+    answers_alone (suc largest_level) (enough words) (least (suc largest_level) (enough words))
+    (Some level) (least_answers (suc largest_level) (enough words))
     (omega arith, le-leb words (2 ^ level) some, λ k below. lt-leb words (2 ^ k) (lower k below))
 
 -- a block of a level has just as many words as it wants
@@ -46,7 +46,7 @@ small_unless : (words : ℕ) (none : Bool) →
     (λ level. level ≤ largest_level)
 small_unless words true = tt
 small_unless words false =
-    small_by words (least_level words) (least-answers (suc largest_level) (enough words))
+    small_by words (least_level words) (least_answers (suc largest_level) (enough words))
 
 -- no block is wanted that is larger than the largest
 pub level_is_small : (words : ℕ) → IfOk (level_for words) (λ level. level ≤ largest_level)

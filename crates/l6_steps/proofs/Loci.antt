@@ -15,8 +15,8 @@ use Rattle.l6_word.specs.Trying.{◌>>=◌}
 use Rattle.l6_word.specs.Window.{Window, is_window, put, right_of, width}
 use Rattle.l6_word.proofs.Masks.{masks_fit, put_by_masks}
 use Rattle.l6_store.specs.Blocks.{Blocks, Fits, IsLive, block_at}
-use Rattle.l6_store.proofs.Fitting.{fits-changed}
-use Rattle.l6_store.proofs.Gathered.{get-insert_other, get-insert_same}
+use Rattle.l6_store.proofs.Fitting.{fits_changed}
+use Rattle.l6_store.proofs.Gathered.{get_insert_other, get_insert_same}
 use Rattle.l6_store.proofs.Live.{live_words}
 use Rattle.l6_prog.specs.declared.operand.Operand.TheVariants.{Chain}
 use Rattle.l6_steps.specs.Bounds.{IsDefinition, IsWithinBounds, IsWord}
@@ -97,9 +97,9 @@ live_insert blocks place words q live =
     elim (cases_eq q place) as (λ _. IsLive (map.insert blocks place words) q) [
       | inl same ↦
           let found : map.get (map.insert blocks place words) q ≡ Some words =
-          ap (map.get (map.insert blocks place words)) same ∙ get-insert_same blocks place words in
+          ap (map.get (map.insert blocks place words)) same ∙ get_insert_same blocks place words in
           cc
-      | inr other ↦ let kept = get-insert_other blocks place words q other in cc
+      | inr other ↦ let kept = get_insert_other blocks place words q other in cc
     ]
 
 -- it still is where a block is new or has new words
@@ -185,7 +185,7 @@ module _ (units : ℕ) (memory : Memory) (within : IsWithinBounds units memory) 
         saved_contents = within.saved_contents;
         definitions = within.definitions;
         saved_definitions = within.saved_definitions;
-        blocks = fits-changed units memory.blocks place words (put_into words window number)
+        blocks = fits_changed units memory.blocks place words (put_into words window number)
             within.blocks (live_words memory.blocks place holds_there.1)
             (length-set words window.word (put window word number))
             (All-set IsWord words window.word (put window word number)

@@ -4,7 +4,7 @@ use Rattle.std.proofs.lemmas.Bool.{cases_eq}
 use Rattle.std.specs.Cmp.{nat_cmp_total}
 use Rattle.std.specs.FinMap as map
 use Rattle.l6_store.specs.Blocks.{Blocks}
-use Rattle.l6_store.proofs.Gathered.{get-insert_same, get-insert_other}
+use Rattle.l6_store.proofs.Gathered.{get_insert_same, get_insert_other}
 
 -- what is inserted last stays
 pub insert_twice : (blocks : Blocks) (place : ℕ) (first second : List ℕ) →
@@ -18,11 +18,11 @@ insert_twice blocks place first second =
     as (λ _. map.get (map.insert one place second) q ≡ map.get (map.insert blocks place second) q) [
       | inl same ↦
           ap (map.get (map.insert one place second)) same
-          ∙ get-insert_same one place second
+          ∙ get_insert_same one place second
           ∙ sym (ap (map.get (map.insert blocks place second)) same
-          ∙ get-insert_same blocks place second)
+          ∙ get_insert_same blocks place second)
       | inr other ↦
-          get-insert_other one place second q other
-          ∙ get-insert_other blocks place first q other
-          ∙ sym (get-insert_other blocks place second q other)
+          get_insert_other one place second q other
+          ∙ get_insert_other blocks place first q other
+          ∙ sym (get_insert_other blocks place second q other)
     ])

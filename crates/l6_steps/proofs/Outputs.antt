@@ -38,7 +38,7 @@ use Rattle.l6_steps.specs.Row.{Action, condition, operation, exit, combine, acti
 use Rattle.l6_steps.specs.Stack.{has_room, pop, push}
 use Rattle.l6_steps.specs.State.{Memory, RunParameters, State, RunContext, is_last}
 use Rattle.l6_steps.specs.Step.{action_at, done_at, outcome}
-use Rattle.l6_steps.proofs.Numbered.{configuration_after-goes_on, configuration_after-stays}
+use Rattle.l6_steps.proofs.Numbered.{configuration_after_goes_on, configuration_after_stays}
 use Rattle.l6_steps.proofs.Rows.{both, chosen}
 
 -- ---- beginnings
@@ -253,10 +253,10 @@ after_prints : (rule : Rule) (context : RunContext) (old : Configuration) (last 
     IsBeginning old.state.memory.output (configuration_after rule context old).state.memory.output
 after_prints rule context old true is =
     beginning_same old.state.memory.output _
-    (ap (λ (m : Configuration). m.state.memory.output) (configuration_after-stays rule context old is))
+    (ap (λ (m : Configuration). m.state.memory.output) (configuration_after_stays rule context old is))
 after_prints rule context old false is =
     subst (λ (m : Configuration). IsBeginning old.state.memory.output m.state.memory.output)
-    (sym (configuration_after-goes_on rule context old is))
+    (sym (configuration_after_goes_on rule context old is))
     (outcome_prints old.state
     (action_result_of context.parameters (pick_at rule context old)
     (action_at context.program old.state.at)
@@ -279,20 +279,20 @@ more_prints rule context (suc more) n =
     (more_prints rule context more n)
     (after_prints rule context old (is_last context old.state) refl))
 
-pub outputs-grow : OutputsGrow
-outputs-grow rule context earlier later order =
+pub outputs_grow : OutputsGrow
+outputs_grow rule context earlier later order =
     let apart : (later - earlier) + earlier ≡ later = omega (arith, order) in
     subst (λ k. IsBeginning (state_at rule context earlier).memory.output
     (state_at rule context k).memory.output) apart
     (more_prints rule context (later - earlier) earlier)
 
 -- so the outputs of any two states begin alike
-pub outputs-begin_alike : (rule : Rule) (context : RunContext) (one other : ℕ) →
+pub outputs_begin_alike : (rule : Rule) (context : RunContext) (one other : ℕ) →
     BeginAlike (state_at rule context one).memory.output (state_at rule context other).memory.output
-outputs-begin_alike rule context one other =
+outputs_begin_alike rule context one other =
     elim (cases_lt one other)
     as (λ _. BeginAlike (state_at rule context one).memory.output
     (state_at rule context other).memory.output) [
-      | inl below ↦ inl (outputs-grow rule context one other (omega (arith, below)))
-      | inr above ↦ inr (outputs-grow rule context other one above)
+      | inl below ↦ inl (outputs_grow rule context one other (omega (arith, below)))
+      | inr above ↦ inr (outputs_grow rule context other one above)
     ]

@@ -2,7 +2,7 @@
 use Rattle.std.proofs.Common.{◌≡◌, ℕ, ◌+◌, ◌≤◌, Bool, true, false, List, [], ◌∷◌, length, Option, None, Some, Result, Ok, Err, refl, sym, ap, ◌∙◌, arith, eq-eqb}
 use Rattle.std.specs.Prelude.{is_some, is_none, ◌||◌, ◌&&◌, ◌==◌}
 use Rattle.l6_store.specs.Scan.{scan_rule}
-use Rattle.l6_store.proofs.Scan.{scan-chooses}
+use Rattle.l6_store.proofs.Scan.{scan_chooses}
 use Rattle.l6_steps.specs.declared.halt.Halt.{Halt}
 use Rattle.l6_steps.specs.declared.trap.Trap.{Trap}
 use Rattle.l6_steps.specs.ActionResult.{ActionResult}
@@ -88,7 +88,7 @@ runs_go_on context old goes_on =
       record {
         goes_on = goes_on;
         choice = choice;
-        fits = scan-chooses context.parameters.units old.memory.blocks [];
+        fits = scan_chooses context.parameters.units old.memory.blocks [];
         leads = refl;
       },
     )

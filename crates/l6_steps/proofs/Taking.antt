@@ -24,7 +24,7 @@ use Rattle.l6_steps.specs.Run.{IsRun}
 use Rattle.l6_steps.specs.State.{RunContext, RunParameters, Memory, State, is_last}
 use Rattle.l6_steps.specs.Step.{action_following, action_result_at, done_at, next, outcome, statement_at}
 use Rattle.l6_steps.specs.Taking.{takes_block, takes_no_block, takes_none}
-use Rattle.l6_steps.proofs.Numbered.{configuration_after-goes_on}
+use Rattle.l6_steps.proofs.Numbered.{configuration_after_goes_on}
 
 -- what an operation does that takes no block
 row_same : (op : Op ℕ) (parameters : RunParameters) (choice choice' : Choice) (memory : Memory) →
@@ -85,12 +85,12 @@ action_result_same context choice choice' old none =
     (none_at context.program old.at.statement none) found))
 
 -- the states of a run are those of the run under a rule
-run-numbered : (rule : Rule) (context : RunContext) (state : State) (older : List State) →
+run_numbered : (rule : Rule) (context : RunContext) (state : State) (older : List State) →
     takes_no_block context.program ≡ true → IsRun context (state ∷ older) →
     (n : ℕ) × (state ≡ state_at rule context n)
-run-numbered rule context state [] none run = (zero, run)
-run-numbered rule context state (old ∷ older) none run =
-    let before = run-numbered rule context old older none run.1 in
+run_numbered rule context state [] none run = (zero, run)
+run_numbered rule context state (old ∷ older) none run =
+    let before = run_numbered rule context old older none run.1 in
     let configuration = configuration_at rule context before.0 in
     let goes_on : is_last context configuration.state ≡ false =
     ap (is_last context) (sym before.1) ∙ run.0.goes_on in (
@@ -101,10 +101,10 @@ run-numbered rule context state (old ∷ older) none run =
           (action_result_same context run.0.choice
           (pick_at rule context configuration) configuration.state none)
           ∙ sym (ap (λ (m : Configuration). m.state)
-          (configuration_after-goes_on rule context configuration goes_on)),
+          (configuration_after_goes_on rule context configuration goes_on)),
     )
 
-pub ends-under_each_rule : EndsUnderEachRule
-ends-under_each_rule rule context final none end =
-    let numbered = run-numbered rule context final end.reached.older none end.reached.run in
+pub ends_under_each_rule : EndsUnderEachRule
+ends_under_each_rule rule context final none end =
+    let numbered = run_numbered rule context final end.reached.older none end.reached.run in
     record { number = numbered.0; is = numbered.1; last = end.last }

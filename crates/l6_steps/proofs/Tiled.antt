@@ -20,7 +20,7 @@ use Rattle.l6_store.specs.Store.{Store, after_get}
 use Rattle.l6_store.specs.Tiles.{Tiles}
 use Rattle.l6_store.proofs.Finding.{chooses}
 use Rattle.l6_store.proofs.First.{new_tiled}
-use Rattle.l6_store.proofs.Gathered.{get-insert_other, get-insert_same}
+use Rattle.l6_store.proofs.Gathered.{get_insert_other, get_insert_same}
 use Rattle.l6_store.proofs.Live.{live_words}
 use Rattle.l6_store.proofs.Steps.{freed_tiles}
 use Rattle.l6_store.proofs.Stores.{got_tiled, written_tiles}
@@ -51,7 +51,7 @@ use Rattle.l6_steps.specs.Run.{IsReached}
 use Rattle.l6_steps.specs.Stack.{has_room, pop, push}
 use Rattle.l6_steps.specs.State.{Memory, RunParameters, RunContext, State, is_last}
 use Rattle.l6_steps.specs.Step.{action_at, done_at, outcome}
-use Rattle.l6_steps.proofs.Bounds.{new_block_within, runs-stay_within_bounds, holds_removed}
+use Rattle.l6_steps.proofs.Bounds.{new_block_within, runs_stay_within_bounds, holds_removed}
 use Rattle.l6_steps.proofs.Levels.{HasLevel, level_at_fills, level_is_small}
 use Rattle.l6_steps.proofs.Loci.{StandsIn, after, locus_holds, holds_assigned, holds_insert}
 use Rattle.l6_steps.proofs.Rows.{both, chosen}
@@ -66,7 +66,7 @@ lies_alike blocks place one other count at lies =
     elim (cases_eq lies.start place) as (λ _. LiesIn (finite.insert blocks place other) at) [
       | inl same ↦
           let found : Some one ≡ Some lies.words =
-          sym (get-insert_same blocks place one)
+          sym (get_insert_same blocks place one)
           ∙ ap (finite.get (finite.insert blocks place one)) (sym same) ∙ lies.is in
           let words_are : one ≡ lies.words = cc in
           let counts : length one ≡ length lies.words =
@@ -74,7 +74,7 @@ lies_alike blocks place one other count at lies =
           record {
             start = place;
             words = other;
-            is = get-insert_same blocks place other;
+            is = get_insert_same blocks place other;
             from = omega (arith, lies.from, same);
             below = omega (arith, lies.below, same, counts, count);
           }
@@ -82,8 +82,8 @@ lies_alike blocks place one other count at lies =
           record {
             start = lies.start;
             words = lies.words;
-            is = get-insert_other blocks place other lies.start apart
-                ∙ sym (get-insert_other blocks place one lies.start apart) ∙ lies.is;
+            is = get_insert_other blocks place other lies.start apart
+                ∙ sym (get_insert_other blocks place one lies.start apart) ∙ lies.is;
             from = lies.from;
             below = lies.below;
           }
@@ -377,15 +377,15 @@ record IsFilled (context : RunContext) (configuration : Configuration) : Type 0 
   reached : IsReached context configuration.state
   tiles : Tiles context.parameters.units configuration.state.memory.blocks configuration.order
 
-filled-cond : (context : RunContext) (old : Configuration) (last : Bool) →
+filled_cond : (context : RunContext) (old : Configuration) (last : Bool) →
     is_last context old.state ≡ last → IsFilled context old →
     IsFilled context (cond last old (next_configuration buddy_rule context old))
 unfolding choice
-filled-cond context old true is filled = filled
-filled-cond context old false is filled =
+filled_cond context old true is filled = filled
+filled_cond context old false is filled =
     let units = context.parameters.units in
     let memory = old.state.memory in
-    let within = runs-stay_within_bounds context old.state filled.reached in
+    let within = runs_stay_within_bounds context old.state filled.reached in
     let picks = pick_at buddy_rule context old in
     record {
       reached = reached_by context old.state _
@@ -397,15 +397,15 @@ filled-cond context old false is filled =
           (action_at context.program old.state.at));
     }
 
-filled-at : (context : RunContext) (n : ℕ) →
+filled_at : (context : RunContext) (n : ℕ) →
     IsFilled context (configuration_at buddy_rule context n)
-filled-at context zero = record {
+filled_at context zero = record {
   reached = record { older = []; run = refl };
   tiles = new_tiled context.parameters.units;
 }
-filled-at context (suc n) =
+filled_at context (suc n) =
     let old = configuration_at buddy_rule context n in
-    filled-cond context old (is_last context old.state) refl (filled-at context n)
+    filled_cond context old (is_last context old.state) refl (filled_at context n)
 
 pub buddy_by_steps : BuddyRunsBySteps
-buddy_by_steps context n = (filled-at context n).reached
+buddy_by_steps context n = (filled_at context n).reached

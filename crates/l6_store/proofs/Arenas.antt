@@ -16,10 +16,10 @@ use Rattle.l6_store.specs.inner.ArenaLayout.{AreBeside, AreLists, IsArena, IsSou
 use Rattle.l6_store.specs.declared.place_tag.PlaceTag.{PlaceTag}
 use Rattle.l6_store.specs.declared.place_tag.PlaceTag.TheVariants.{Inner, Block, Listed}
 use Rattle.l6_store.specs.declared.tag.Tag.TheVariants.{Free}
-use Rattle.l6_store.proofs.ListedPieces.{the_one, another, in_front-listed, taken_out-listed}
-use Rattle.l6_store.proofs.Chains.{with_before-at, with_before-none, with_after-at, with_after-none, linked_along, length-words_linked, linked_others}
-use Rattle.l6_store.proofs.Unlinking.{length-words_unlinked, unlinked_others, around, around_within}
-use Rattle.l6_store.proofs.PlaceLists.{first_or-within, AreWithin}
+use Rattle.l6_store.proofs.ListedPieces.{the_one, another, in_front_listed, taken_out_listed}
+use Rattle.l6_store.proofs.Chains.{with_before_at, with_before_none, with_after_at, with_after_none, linked_along, length_words_linked, linked_others}
+use Rattle.l6_store.proofs.Unlinking.{length_words_unlinked, unlinked_others, around, around_within}
+use Rattle.l6_store.proofs.PlaceLists.{first_or_within, AreWithin}
 use Rattle.l6_store.proofs.Lists.{few}
 use Rattle.l6_store.proofs.Linking.{lists_within, lists_show, lists-linked, lists-unlinked}
 use Rattle.l6_store.proofs.Tagged.{block_here, tagged_lies, same_blocks}
@@ -42,45 +42,45 @@ word_below words place are =
       | inr past ↦ omega (arith, get_or_past words place 0 past)
     ]
 
-words-with_before : (words : List ℕ) (place before : ℕ) → before < 2 ^ place_bits
+words_with_before : (words : List ℕ) (place before : ℕ) → before < 2 ^ place_bits
     → AreWords words → AreWords (with_before words place before)
-words-with_before words place before small are =
+words_with_before words place before small are =
     elim (cases_place place) as (λ _. AreWords (with_before words place before)) [
       | inl some ↦
-          subst AreWords (sym (with_before-at words place before some))
+          subst AreWords (sym (with_before_at words place before some))
           (All-set (λ word. word < 2 ^ word_bits) words place
           (link_word before (after_in (get_or words place 0))) (omega arith) are)
-      | inr none ↦ subst AreWords (sym (with_before-none words place before none)) are
+      | inr none ↦ subst AreWords (sym (with_before_none words place before none)) are
     ]
 
-words-with_after : (words : List ℕ) (place after : ℕ) → after < 2 ^ place_bits
+words_with_after : (words : List ℕ) (place after : ℕ) → after < 2 ^ place_bits
     → AreWords words → AreWords (with_after words place after)
-words-with_after words place after small are =
+words_with_after words place after small are =
     let word = word_below words place are in
     elim (cases_place place) as (λ _. AreWords (with_after words place after)) [
       | inl some ↦
-          subst AreWords (sym (with_after-at words place after some))
+          subst AreWords (sym (with_after_at words place after some))
           (All-set (λ word. word < 2 ^ word_bits) words place
           (link_word (before_in (get_or words place 0)) after) (omega arith) are)
-      | inr none ↦ subst AreWords (sym (with_after-none words place after none)) are
+      | inr none ↦ subst AreWords (sym (with_after_none words place after none)) are
     ]
 
-words-words_linked : (words : List ℕ) (place head : ℕ) → place < 2 ^ place_bits
+words_words_linked : (words : List ℕ) (place head : ℕ) → place < 2 ^ place_bits
     → head < 2 ^ place_bits → AreWords words → AreWords (words_linked words place head)
 unfolding words_linked
-words-words_linked words place head place_small head_small are =
-    words-with_before (set words place (link_word 0 head)) head place place_small
+words_words_linked words place head place_small head_small are =
+    words_with_before (set words place (link_word 0 head)) head place place_small
     (All-set (λ word. word < 2 ^ word_bits) words place (link_word 0 head) (omega arith) are)
 
-words-words_unlinked : (words : List ℕ) (place : ℕ) → AreWords words
+words_words_unlinked : (words : List ℕ) (place : ℕ) → AreWords words
     → AreWords (words_unlinked words place)
 unfolding words_unlinked
-words-words_unlinked words place are =
+words_words_unlinked words place are =
     let word : ℕ = get_or words place 0 in
     let fits = word_below words place are in
-    words-with_before (with_after words (before_in word) (after_in word)) (after_in word)
+    words_with_before (with_after words (before_in word) (after_in word)) (after_in word)
     (before_in word) (omega arith)
-    (words-with_after words (before_in word) (after_in word) (omega arith) are)
+    (words_with_after words (before_in word) (after_in word) (omega arith) are)
 
 -- ---- an arena, put together
 pub places_small : (units : ℕ) → units ≤ most_units → end_of units ≤ 2 ^ place_bits
@@ -167,7 +167,7 @@ module _ (units : ℕ) (words heads : List ℕ) (place_tags : List PlaceTag)
         were.are_lists.links.begun level,
         were.filled,
         were.some,
-        first_or-within (length words) (listed (order_of words heads) level)
+        first_or_within (length words) (listed (order_of words heads) level)
             (omega (arith, were.filled)) (within level),
       )
 
@@ -192,7 +192,7 @@ module _ (units : ℕ) (words heads : List ℕ) (place_tags : List PlaceTag)
         level place (get_or heads level 0) level_small some (omega (arith, were.filled)) fresh refl
 
     linked_count : length (words_linked words place (get_or heads level 0)) ≡ length words
-    linked_count = length-words_linked words place (get_or heads level 0)
+    linked_count = length_words_linked words place (get_or heads level 0)
 
     place_tags_count : length (set place_tags place (Listed level)) ≡ end_of units
     place_tags_count = length-set place_tags place (Listed level) ∙ were.count
@@ -246,7 +246,7 @@ module _ (units : ℕ) (words heads : List ℕ) (place_tags : List PlaceTag)
 
     linked_beside : AreBeside (blocks_of place_tags words) (in_front (order_of words heads) level place)
     linked_beside k q is lies =
-        elim (in_front-listed (order_of words heads) level place k q
+        elim (in_front_listed (order_of words heads) level place k q
         (omega (arith, were.are_lists.levels)) is) as (λ _. ⊥) [
           | the_one same here ↦
               beside (subst (λ (p : ℕ). LiesIn (blocks_of place_tags words) p) here lies)
@@ -254,7 +254,7 @@ module _ (units : ℕ) (words heads : List ℕ) (place_tags : List PlaceTag)
         ]
 
     linked_words : AreWords (words_linked words place (get_or heads level 0))
-    linked_words = words-words_linked words place (get_or heads level 0)
+    linked_words = words_words_linked words place (get_or heads level 0)
         (omega (arith, places_small units were.most))
         (omega (arith, head_within level, small)) were.are_blocks.are_words
 
@@ -287,7 +287,7 @@ module _ (units : ℕ) (words heads : List ℕ) (place_tags : List PlaceTag)
         level place there level_small
 
     out_count : length (words_unlinked words place) ≡ length words
-    out_count = length-words_unlinked words place
+    out_count = length_words_unlinked words place
 
     out_place_tags_count : length (set place_tags place Inner) ≡ end_of units
     out_place_tags_count = length-set place_tags place Inner ∙ were.count
@@ -330,7 +330,7 @@ module _ (units : ℕ) (words heads : List ℕ) (place_tags : List PlaceTag)
 
     out_beside : AreBeside (blocks_of place_tags words) (taken_out (order_of words heads) level place)
     out_beside k q is lies =
-        were.beside k q (taken_out-listed (order_of words heads) level place k q
+        were.beside k q (taken_out_listed (order_of words heads) level place k q
         (omega (arith, were.are_lists.levels)) is) lies
 
     pub out_order : order_of (words_unlinked words place)
@@ -342,7 +342,7 @@ module _ (units : ℕ) (words heads : List ℕ) (place_tags : List PlaceTag)
         (blocks_of place_tags words)
         were.some were.most (out_count ∙ were.filled) out_place_tags_count out_lists out_blocks
         out_holds
-        were.are_blocks.fits (words-words_unlinked words place were.are_blocks.are_words) out_beside
+        were.are_blocks.fits (words_words_unlinked words place were.are_blocks.are_words) out_beside
 
     pub out_laid : IsArena units (words_unlinked words place) (set place_tags place Inner)
         (with_head heads level (before_in (get_or words place 0)) (after_in (get_or words place 0)))
@@ -352,7 +352,7 @@ module _ (units : ℕ) (words heads : List ℕ) (place_tags : List PlaceTag)
         (blocks_of place_tags words)
         were.some were.most (out_count ∙ were.filled) out_place_tags_count out_lists out_blocks
         out_holds
-        were.are_blocks.fits (words-words_unlinked words place were.are_blocks.are_words) out_beside
+        were.are_blocks.fits (words_words_unlinked words place were.are_blocks.are_words) out_beside
 
     -- the places around it are among the words
     pub around_is : (before_in (get_or words place 0) < length words)

@@ -17,8 +17,8 @@ use Rattle.l6_store.specs.inner.Tags.{tag_at, level_of, tagged, gathered, store_
 use Rattle.l6_store.specs.inner.PlaceTags.{IsVacantRun, IsTagged, IsFilled, IsCleared, IsCopied}
 use Rattle.l6_store.specs.declared.tag.Tag.{Tag}
 use Rattle.l6_store.specs.declared.tag.Tag.TheVariants.{Free, First, Inside}
-use Rattle.l6_store.proofs.Ranges.{index-range, same_range, set_range}
-use Rattle.l6_store.proofs.Gathered.{determined, determines, get-gathered}
+use Rattle.l6_store.proofs.Ranges.{index_range, same_range, set_range}
+use Rattle.l6_store.proofs.Gathered.{determined, determines, get_gathered}
 use Rattle.l6_store.proofs.Kept.{length_of}
 use Rattle.l6_store.proofs.Changes.{tagged-are_tags, untagged-are_tags}
 use Rattle.l6_store.proofs.Contents.{changed_block, got_block, freed_block, no_blocks, no_tags, InRun, ChangedAt}
@@ -57,7 +57,7 @@ pub live_level : (tags : List Tag) (words : List ℕ) (place : ℕ)
     → IsLive (gathered tags words (length tags)) place → IsSome (level_of (tag_at tags place))
 live_level tags words place live =
     live_by words place (tag_at tags place)
-    (subst (λ (b : Option (List ℕ)). IsSome b) (get-gathered tags words place) live)
+    (subst (λ (b : Option (List ℕ)). IsSome b) (get_gathered tags words place) live)
 
 known_live_by : (words : List ℕ) (place : ℕ) (tag : Tag) → IsSome (level_of tag)
     → IsSome (tagged words place tag)
@@ -69,7 +69,7 @@ known_live_by words place Free live = live
 pub known_live : (tags : List Tag) (words : List ℕ) (place : ℕ)
     → IsSome (level_of (tag_at tags place)) → IsLive (gathered tags words (length tags)) place
 known_live tags words place determined =
-    subst (λ (b : Option (List ℕ)). IsSome b) (sym (get-gathered tags words place))
+    subst (λ (b : Option (List ℕ)). IsSome b) (sym (get_gathered tags words place))
     (known_live_by words place (tag_at tags place) determined)
 
 pub live_at : (units : ℕ) (tags : List Tag) (words : List ℕ) (store : Store)
@@ -97,7 +97,7 @@ pub size_known : (units : ℕ) (tags : List Tag) (words : List ℕ) → IsKept u
     (map.get (gathered tags words (length tags)) place)
 size_known units tags words kept place =
     size_by units tags words kept place (tag_at tags place) refl
-    ∙ ap (option_map (λ (block : List ℕ). length block)) (sym (get-gathered tags words place))
+    ∙ ap (option_map (λ (block : List ℕ). length block)) (sym (get_gathered tags words place))
 
 small_by : (units : ℕ) (tags : List Tag) → AreTags units tags → (place : ℕ) (tag : Tag)
     → tag_at tags place ≡ tag
@@ -151,7 +151,7 @@ found_word units tags words kept place found =
     = omega (arith, found.from, found.below, counts) in
     let index : found.start + (place - found.start) ≡ place = omega (arith, found.from) in
     sym (ap (λ (b : List ℕ). get_or b (place - found.start) 0) by.is
-    ∙ index-range words found.start (2 ^ by.level) (place - found.start) inner
+    ∙ index_range words found.start (2 ^ by.level) (place - found.start) inner
     ∙ ap (λ (i : ℕ). get_or words i 0) index)
 
 -- what is read there is a word, ..
@@ -329,7 +329,7 @@ same_level units tags words store view kept from to level first live same =
     let there : IsSome (map.get (gathered tags words (length tags)) to)
     = subst (λ (s : Store). IsLive s.blocks to) (sym view) live in
     level_by units tags words kept to level (tag_at tags to) refl
-    (subst (λ (b : Option (List ℕ)). IsSome b) (get-gathered tags words to) there) size
+    (subst (λ (b : Option (List ℕ)). IsSome b) (get_gathered tags words to) there) size
 
 pub copied_kept : (units : ℕ) (tags : List Tag) (words new : List ℕ) → IsKept units tags words
     → (from to size : ℕ) → from + size ≤ length words

@@ -7,16 +7,16 @@ use Rattle.std.proofs.lemmas.List.Elements.{All-set, All-take, All-drop}
 use Rattle.std.specs.FinMap as map
 use Rattle.l6_word.specs.Numerals.{word_bits}
 use Rattle.l6_raw.specs.Words.{overwritten}
-use Rattle.l6_raw.proofs.Overwriting.{length-overwritten, are_words-overwritten, get_or-overwritten_before, get_or-overwritten_in, get_or-overwritten_following}
+use Rattle.l6_raw.proofs.Overwriting.{length_overwritten, are_words_overwritten, get_or_overwritten_before, get_or_overwritten_in, get_or_overwritten_following}
 use Rattle.l6_store.specs.Blocks.{Fits, IsLive, LiesIn, block_at, word_at}
 use Rattle.l6_store.specs.Buddy.{IsListed}
 use Rattle.l6_store.specs.inner.Chains.{order_of}
 use Rattle.l6_store.specs.inner.ArenaLayout.{AreBeside, IsArena, blocks_of, place_tag_at}
 use Rattle.l6_store.specs.declared.place_tag.PlaceTag.{PlaceTag}
 use Rattle.l6_store.specs.declared.place_tag.PlaceTag.TheVariants.{Block}
-use Rattle.l6_store.proofs.Ranges.{length-range, index-range, set_range}
-use Rattle.l6_store.proofs.DetachedBlocks.{insert-lies}
-use Rattle.l6_store.proofs.Tagged.{block_tagged, fits-insert, with_tag, tagged_lies, one_block, BlockHere, Tagged, block_here}
+use Rattle.l6_store.proofs.Ranges.{length_range, index_range, set_range}
+use Rattle.l6_store.proofs.DetachedBlocks.{insert_lies}
+use Rattle.l6_store.proofs.Tagged.{block_tagged, fits_insert, with_tag, tagged_lies, one_block, BlockHere, Tagged, block_here}
 use Rattle.l6_store.proofs.Live.{live_words}
 use Rattle.l6_store.proofs.Arenas.{AreWords, kept_laid, kept_order}
 
@@ -27,12 +27,12 @@ pub outside : (words : List ℕ) (place : ℕ) (others : List ℕ) (at : ℕ)
 outside words place others at within not =
     elim (cases_lt at place)
     as (λ _. get_or (overwritten words place others) at 0 ≡ get_or words at 0) [
-      | inl before ↦ get_or-overwritten_before words place others at (omega arith) before
+      | inl before ↦ get_or_overwritten_before words place others at (omega arith) before
       | inr from ↦
           elim (cases_lt at (place + length others))
           as (λ _. get_or (overwritten words place others) at 0 ≡ get_or words at 0) [
             | inl inside ↦ absurd (not from inside)
-            | inr past ↦ get_or-overwritten_following words place others at (omega arith) past
+            | inr past ↦ get_or_overwritten_following words place others at (omega arith) past
           ]
     ]
 
@@ -41,13 +41,13 @@ pub overwritten_part : (words : List ℕ) (place size : ℕ) (others : List ℕ)
     → place + size ≤ length words
     → slice_range (overwritten words place others) place (place + size) ≡ others
 overwritten_part words place size others count within =
-    let counts = length-overwritten words place others (omega arith) in
-    let size_is = length-range (overwritten words place others) place size (omega (arith, counts)) in
+    let counts = length_overwritten words place others (omega arith) in
+    let size_is = length_range (overwritten words place others) place size (omega (arith, counts)) in
     same_number_lists (slice_range (overwritten words place others) place (place + size)) others
     (size_is ∙ sym count)
     (λ k below.
-    index-range (overwritten words place others) place size k (omega (arith, size_is))
-    ∙ get_or-overwritten_in words place others k (omega arith) (omega (arith, size_is)))
+    index_range (overwritten words place others) place size k (omega (arith, size_is))
+    ∙ get_or_overwritten_in words place others k (omega arith) (omega (arith, size_is)))
 
 module _ (units : ℕ) (words heads : List ℕ) (place_tags : List PlaceTag)
     (were : IsArena units words place_tags heads) where
@@ -61,16 +61,16 @@ module _ (units : ℕ) (words heads : List ℕ) (place_tags : List PlaceTag)
     words_within = omega (arith, were.filled, (were.are_blocks.is_aligned level place is).within)
 
     block_size : length (slice_range words place (place + 2 ^ level)) ≡ 2 ^ level
-    block_size = length-range words place (2 ^ level) words_within
+    block_size = length_range words place (2 ^ level) words_within
 
     new_size : length (slice_range new place (place + 2 ^ level)) ≡ 2 ^ level
-    new_size = length-range new place (2 ^ level) (omega (arith, words_within, count))
+    new_size = length_range new place (2 ^ level) (omega (arith, words_within, count))
 
     -- another block has none of its words
     pub others_apart : (q k at : ℕ) → q ≢ place → place_tag_at place_tags q ≡ Block k → q ≤ at
         → at < q + 2 ^ k → place ≤ at → at < place + 2 ^ level → ⊥
     others_apart q k at other found from before low high =
-        let size = length-range words q (2 ^ k)
+        let size = length_range words q (2 ^ k)
         (omega (arith, were.filled, (were.are_blocks.is_aligned k q found).within)) in
         elim (cases_lt q place) as (λ _. ⊥) [
           | inl lower ↦
@@ -123,7 +123,7 @@ module _ (units : ℕ) (words heads : List ℕ) (place_tags : List PlaceTag)
 
     changed_fits : Fits units
         (map.insert (blocks_of place_tags words) place (slice_range new place (place + 2 ^ level)))
-    changed_fits = fits-insert units (blocks_of place_tags words) place
+    changed_fits = fits_insert units (blocks_of place_tags words) place
         (slice_range new place (place + 2 ^ level)) were.are_blocks.fits
         (record {
           level = level;
@@ -143,7 +143,7 @@ module _ (units : ℕ) (words heads : List ℕ) (place_tags : List PlaceTag)
         (map.insert (blocks_of place_tags words) place (slice_range new place (place + 2 ^ level)))
         (order_of words heads)
     changed_beside k q there lies =
-        elim (insert-lies (blocks_of place_tags words) place
+        elim (insert_lies (blocks_of place_tags words) place
         (slice_range new place (place + 2 ^ level)) q lies) as (λ _. ⊥) [
           | inl (from, before) ↦
               were.beside k q there (lies_there q from (omega (arith, new_size)))
@@ -182,7 +182,7 @@ module _ (units : ℕ) (words heads : List ℕ) (place_tags : List PlaceTag)
 
     found_size : length found.words ≡ 2 ^ from.level
     found_size = ap (λ (ws : List ℕ). length ws) from.is
-        ∙ length-range words found.start (2 ^ from.level) inside
+        ∙ length_range words found.start (2 ^ from.level) inside
 
     pub found_within : place < length words
     found_within = omega (arith, inside, found_size, found.below)
@@ -193,7 +193,7 @@ module _ (units : ℕ) (words heads : List ℕ) (place_tags : List PlaceTag)
     pub found_word : get_or words place 0 ≡ word_at place found
     found_word =
         sym (ap (λ (ws : List ℕ). get_or ws (place - found.start) 0) from.is
-        ∙ index-range words found.start (2 ^ from.level) (place - found.start)
+        ∙ index_range words found.start (2 ^ from.level) (place - found.start)
         (omega (arith, found_size, found.from, found.below))
         ∙ ap (λ (i : ℕ). get_or words i 0) index_is)
 
@@ -281,11 +281,11 @@ module _ (units : ℕ) (words heads : List ℕ) (place_tags : List PlaceTag)
         ]
 
     part_size : length (slice_range words source (source + size)) ≡ size
-    part_size = length-range words source size source_within
+    part_size = length_range words source size source_within
 
     copy_count : length (overwritten words target (slice_range words source (source + size)))
         ≡ length words
-    copy_count = length-overwritten words target (slice_range words source (source + size))
+    copy_count = length_overwritten words target (slice_range words source (source + size))
         (omega (arith, part_size, target_within))
 
     pub copy_same : (at : ℕ) → (target ≤ at → at < target + 2 ^ two.level → ⊥)
@@ -296,7 +296,7 @@ module _ (units : ℕ) (words heads : List ℕ) (place_tags : List PlaceTag)
         (λ low high. not low (omega (arith, part_size, size_two)))
 
     copy_words : AreWords (overwritten words target (slice_range words source (source + size)))
-    copy_words = are_words-overwritten words target (slice_range words source (source + size))
+    copy_words = are_words_overwritten words target (slice_range words source (source + size))
         were.are_blocks.are_words
         (All-take (λ word. word < 2 ^ word_bits) _ (drop source words)
         (All-drop (λ word. word < 2 ^ word_bits) source words were.are_blocks.are_words))

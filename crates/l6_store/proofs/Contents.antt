@@ -10,7 +10,7 @@ use Rattle.l6_store.specs.inner.PlaceTags.{IsVacantRun, IsTagged, IsFilled, IsCl
 use Rattle.l6_store.specs.declared.tag.Tag.{Tag}
 use Rattle.l6_store.specs.declared.tag.Tag.TheVariants.{Free, First, Inside}
 use Rattle.l6_store.proofs.Ranges.{same_range, zero_range}
-use Rattle.l6_store.proofs.Gathered.{gathered_is, get-gathered, get-insert_same, get-insert_other, get-remove_same, get-remove_other}
+use Rattle.l6_store.proofs.Gathered.{gathered_is, get_gathered, get_insert_same, get_insert_other, get_remove_same, get_remove_other}
 use Rattle.l6_store.proofs.Kept.{block_apart}
 use Rattle.l6_store.proofs.Changes.{as_before, in_run, tagged_change, untagged_change}
 
@@ -80,12 +80,12 @@ changed_block units tags words new were count new_count place level first change
           ap (λ (p : ℕ). tagged new p (tag_at tags p)) same
           ∙ ap (tagged new place) first
           ∙ sym (ap (map.get (map.insert blocks place block)) same
-          ∙ get-insert_same blocks place block)
+          ∙ get_insert_same blocks place block)
       | inr other ↦
           known_alike words new q (tag_at tags q) (λ k is.
           beside units tags were words new count new_count place (2 ^ level) changed q k is
           (λ j below run. another units tags were place level q k j first is other below run))
-          ∙ sym (get-insert_other blocks place block q other ∙ get-gathered tags words q)
+          ∙ sym (get_insert_other blocks place block q other ∙ get_gathered tags words q)
     ])
 
 -- clearing a run changes no other word
@@ -130,7 +130,7 @@ got_block units old new words cleared were count place level run with_tag clear 
           (zero_range cleared place (2 ^ level)
           (omega (arith, run.within, clear.count, were.count, count)) clear.zeros)
           ∙ sym (ap (map.get (map.insert blocks place block)) same
-          ∙ get-insert_same blocks place block)
+          ∙ get_insert_same blocks place block)
       | inr other ↦
           elim (tagged_change old new place level with_tag q)
           as (λ _. tagged cleared q (tag_at new q) ≡ map.get (map.insert blocks place block) q) [
@@ -141,10 +141,10 @@ got_block units old new words cleared were count place level run with_tag clear 
                 (changed_of words cleared place (2 ^ level) clear) q k first
                 (λ j below in_run. not_free units old were q k j first below
                 (run.free (q + j) in_run.0 in_run.1)))
-                ∙ sym (get-insert_other blocks place block q other ∙ get-gathered old words q)
+                ∙ sym (get_insert_other blocks place block q other ∙ get_gathered old words q)
             | in_run from below ↦
                 ap (tagged cleared q) (with_tag.rest q (omega (arith, other)) below)
-                ∙ sym (get-insert_other blocks place block q other ∙ get-gathered old words q
+                ∙ sym (get_insert_other blocks place block q other ∙ get_gathered old words q
                 ∙ ap (tagged words q) (run.free q from below))
           ]
     ])
@@ -162,15 +162,15 @@ freed_block units old new words were place level first untagged =
       | inl same ↦
           ap (tagged words q)
           (untagged.filled q (omega (arith, same)) (omega (arith, same, pow_pos level)))
-          ∙ sym (ap (map.get (map.remove blocks place)) same ∙ get-remove_same blocks place)
+          ∙ sym (ap (map.get (map.remove blocks place)) same ∙ get_remove_same blocks place)
       | inr other ↦
           elim (untagged_change old new place (2 ^ level) untagged q)
           as (λ _. tagged words q (tag_at new q) ≡ map.get (map.remove blocks place) q) [
             | as_before is ↦ ap (tagged words q) is
-                ∙ sym (get-remove_other blocks place q other ∙ get-gathered old words q)
+                ∙ sym (get_remove_other blocks place q other ∙ get_gathered old words q)
             | in_run from below ↦
                 ap (tagged words q) (untagged.filled q from below)
-                ∙ sym (get-remove_other blocks place q other ∙ get-gathered old words q
+                ∙ sym (get_remove_other blocks place q other ∙ get_gathered old words q
                 ∙ ap (tagged words q) (were.rest place level q first (omega (arith, other)) below))
           ]
     ])

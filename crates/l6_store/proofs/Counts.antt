@@ -8,17 +8,17 @@ use Rattle.l6_store.specs.Buddy.{has, without, listed, IsListed, in_front, taken
 use Rattle.l6_store.specs.Tiles.{holds, held_in, held_below, held}
 
 -- ---- one piece
-pub holds-within : (at size place : ℕ) → place ≤ at → at < place + size → holds at size place ≡ 1
-holds-within at size place from before =
+pub holds_within : (at size place : ℕ) → place ≤ at → at < place + size → holds at size place ≡ 1
+holds_within at size place from before =
     ap (λ (b : Bool). if b && nat_lt at (place + size) then 1 else 0) (le-leb place at from)
     ∙ ap (λ (b : Bool). if b then 1 else 0) (lt-ltb at (place + size) before)
 
-pub holds-before : (at size place : ℕ) → at < place → holds at size place ≡ 0
-holds-before at size place before =
+pub holds_before : (at size place : ℕ) → at < place → holds at size place ≡ 0
+holds_before at size place before =
     ap (λ (b : Bool). if b && nat_lt at (place + size) then 1 else 0) (lt-leb place at before)
 
-pub holds-following : (at size place : ℕ) → place + size ≤ at → holds at size place ≡ 0
-holds-following at size place past =
+pub holds_following : (at size place : ℕ) → place + size ≤ at → holds at size place ≡ 0
+holds_following at size place past =
     ap (λ (b : Bool). if b && nat_lt at (place + size) then 1 else 0) (le-leb place at (omega arith))
     ∙ ap (λ (b : Bool). if b then 1 else 0) (le-ltb at (place + size) past)
 
@@ -30,10 +30,10 @@ pub data Holds (at size place : ℕ) : Type 0 where
 pub which_holds : (at size place : ℕ) → Holds at size place
 which_holds at size place =
     elim (cases_lt at place) as (λ _. Holds at size place) [
-      | inl before ↦ outside (λ from _. omega arith) (holds-before at size place before)
+      | inl before ↦ outside (λ from _. omega arith) (holds_before at size place before)
       | inr from ↦ elim (cases_lt at (place + size)) as (λ _. Holds at size place) [
-        | inl inside ↦ within from inside (holds-within at size place from inside)
-        | inr past ↦ outside (λ _ before. omega arith) (holds-following at size place past)
+        | inl inside ↦ within from inside (holds_within at size place from inside)
+        | inr past ↦ outside (λ _ before. omega arith) (holds_following at size place past)
       ]
     ]
 
@@ -46,9 +46,9 @@ halves_hold at size place =
       | inl before ↦
           omega (
             arith,
-            holds-before at (size + size) place before,
-            holds-before at size place before,
-            holds-before at size (place + size) (omega arith),
+            holds_before at (size + size) place before,
+            holds_before at size place before,
+            holds_before at size (place + size) (omega arith),
           )
       | inr from ↦ elim (cases_lt at (place + size))
           as (λ _. holds at (size + size) place
@@ -56,9 +56,9 @@ halves_hold at size place =
             | inl low ↦
                 omega (
                   arith,
-                  holds-within at (size + size) place from (omega arith),
-                  holds-within at size place from low,
-                  holds-before at size (place + size) low,
+                  holds_within at (size + size) place from (omega arith),
+                  holds_within at size place from low,
+                  holds_before at size (place + size) low,
                 )
             | inr high ↦ elim (cases_lt at (place + size + size))
                 as (λ _. holds at (size + size) place
@@ -66,27 +66,27 @@ halves_hold at size place =
                   | inl less ↦
                       omega (
                         arith,
-                        holds-within at (size + size) place from (omega arith),
-                        holds-following at size place high,
-                        holds-within at size (place + size) high less,
+                        holds_within at (size + size) place from (omega arith),
+                        holds_following at size place high,
+                        holds_within at size (place + size) high less,
                       )
                   | inr past ↦
                       omega (
                         arith,
-                        holds-following at (size + size) place (omega arith),
-                        holds-following at size place high,
-                        holds-following at size (place + size) past,
+                        holds_following at (size + size) place (omega arith),
+                        holds_following at size place high,
+                        holds_following at size (place + size) past,
                       )
                 ]
           ]
     ]
 
 -- ---- a list
-held_in-without : (at size place : ℕ) (places : List ℕ) → has place places ≡ true
+held_in_without : (at size place : ℕ) (places : List ℕ) → has place places ≡ true
     → held_in at size places ≡ holds at size place + held_in at size (without place places)
 unfolding has without held_in
-held_in-without at size place [] is = cc
-held_in-without at size place (first ∷ rest) is =
+held_in_without at size place [] is = cc
+held_in_without at size place (first ∷ rest) is =
     elim (cases_Bool (place == first))
     as (λ _. held_in at size (first ∷ rest)
     ≡ holds at size place + held_in at size (without place (first ∷ rest))) [
@@ -97,7 +97,7 @@ held_in-without at size place (first ∷ rest) is =
       | inr other ↦
           let later : has place rest ≡ true
           = sym (ap (λ (b : Bool). b || has place rest) other) ∙ is in
-          let more = held_in-without at size place rest later in
+          let more = held_in_without at size place rest later in
           let moved : holds at size first + held_in at size rest
           ≡ holds at size place + (holds at size first + held_in at size (without place rest))
           = omega (arith, more) in
@@ -112,19 +112,19 @@ pub record PieceIn (places : List ℕ) (at size : ℕ) : Type 0 where
   pub from : place ≤ at
   pub before : at < place + size
 
-pub has-first : (place : ℕ) (rest : List ℕ) → has place (place ∷ rest) ≡ true
+pub has_first : (place : ℕ) (rest : List ℕ) → has place (place ∷ rest) ≡ true
 unfolding has
-has-first place rest = ap (λ (b : Bool). b || has place rest) (eq-eqb place place refl)
+has_first place rest = ap (λ (b : Bool). b || has place rest) (eq-eqb place place refl)
 
-pub or-true : (b : Bool) → (b || true) ≡ true
-or-true true = refl
-or-true false = refl
+pub or_true : (b : Bool) → (b || true) ≡ true
+or_true true = refl
+or_true false = refl
 
-pub has-more : (place first : ℕ) (rest : List ℕ) → has place rest ≡ true
+pub has_more : (place first : ℕ) (rest : List ℕ) → has place rest ≡ true
     → has place (first ∷ rest) ≡ true
 unfolding has
-has-more place first rest is =
-    ap (λ (b : Bool). place == first || b) is ∙ or-true (place == first)
+has_more place first rest is =
+    ap (λ (b : Bool). place == first || b) is ∙ or_true (place == first)
 
 piece_in : (at size : ℕ) (places : List ℕ) → 0 < held_in at size places → PieceIn places at size
 unfolding held_in
@@ -132,53 +132,53 @@ piece_in at size [] some = absurd (omega arith)
 piece_in at size (first ∷ rest) some =
     elim (which_holds at size first) as (λ _. PieceIn (first ∷ rest) at size) [
       | within from before one ↦
-          record { place = first; is = has-first first rest; from = from; before = before }
+          record { place = first; is = has_first first rest; from = from; before = before }
       | outside not none ↦
           let found = piece_in at size rest (omega arith) in
           record {
             place = found.place;
-            is = has-more found.place first rest found.is;
+            is = has_more found.place first rest found.is;
             from = found.from;
             before = found.before;
           }
     ]
 
 -- ---- all lists
-listed-set_same : (order : Order) (level : ℕ) (places : List ℕ) → level < length order
+listed_set_same : (order : Order) (level : ℕ) (places : List ℕ) → level < length order
     → listed (set order level places) level ≡ places
-listed-set_same order level places below = get_or-set_same order level places [] below
+listed_set_same order level places below = get_or-set_same order level places [] below
 
-listed-set_other : (order : Order) (level k : ℕ) (places : List ℕ) → k ≢ level
+listed_set_other : (order : Order) (level k : ℕ) (places : List ℕ) → k ≢ level
     → listed (set order level places) k ≡ listed order k
-listed-set_other order level k places other = get_or-set_other order level k places [] other
+listed_set_other order level k places other = get_or-set_other order level k places [] other
 
-pub listed-same : (order : Order) (level : ℕ) (places : List ℕ) → level < length order
+pub listed_same : (order : Order) (level : ℕ) (places : List ℕ) → level < length order
     → listed (set order level places) level ≡ places
-listed-same = listed-set_same
+listed_same = listed_set_same
 
-pub listed-other : (order : Order) (level k : ℕ) (places : List ℕ) → k ≢ level
+pub listed_other : (order : Order) (level k : ℕ) (places : List ℕ) → k ≢ level
     → listed (set order level places) k ≡ listed order k
-listed-other = listed-set_other
+listed_other = listed_set_other
 
-held_below-past : (bound : ℕ) (order : Order) (level at : ℕ) (places : List ℕ) → bound ≤ level
+held_below_past : (bound : ℕ) (order : Order) (level at : ℕ) (places : List ℕ) → bound ≤ level
     → held_below bound (set order level places) at ≡ held_below bound order at
 unfolding held_below
-held_below-past zero order level at places past = refl
-held_below-past (suc bound) order level at places past =
+held_below_past zero order level at places past = refl
+held_below_past (suc bound) order level at places past =
     let same : held_in at (2 ^ bound) (listed (set order level places) bound)
     ≡ held_in at (2 ^ bound) (listed order bound)
     = ap (held_in at (2 ^ bound))
-    (listed-set_other order level bound places (λ is. absurd (omega arith))) in
-    let less = held_below-past bound order level at places (omega arith) in
+    (listed_set_other order level bound places (λ is. absurd (omega arith))) in
+    let less = held_below_past bound order level at places (omega arith) in
     omega (arith, same, less)
 
-held_below-set : (bound : ℕ) (order : Order) (level at : ℕ) (places : List ℕ)
+held_below_set : (bound : ℕ) (order : Order) (level at : ℕ) (places : List ℕ)
     → level < length order → level < bound
     → held_below bound (set order level places) at + held_in at (2 ^ level) (listed order level)
     ≡ held_below bound order at + held_in at (2 ^ level) places
 unfolding held_below
-held_below-set zero order level at places room below = absurd (omega arith)
-held_below-set (suc bound) order level at places room below =
+held_below_set zero order level at places room below = absurd (omega arith)
+held_below_set (suc bound) order level at places room below =
     elim (cases_eq level bound)
     as (λ _. held_below (suc bound) (set order level places) at
     + held_in at (2 ^ level) (listed order level)
@@ -187,40 +187,40 @@ held_below-set (suc bound) order level at places room below =
           let here : held_in at (2 ^ bound) (listed (set order level places) bound)
           ≡ held_in at (2 ^ level) places
           = ap (λ (k : ℕ). held_in at (2 ^ k) (listed (set order level places) k)) (sym same)
-          ∙ ap (held_in at (2 ^ level)) (listed-set_same order level places room) in
+          ∙ ap (held_in at (2 ^ level)) (listed_set_same order level places room) in
           let was : held_in at (2 ^ bound) (listed order bound)
           ≡ held_in at (2 ^ level) (listed order level)
           = ap (λ (k : ℕ). held_in at (2 ^ k) (listed order k)) (sym same) in
-          let less = held_below-past bound order level at places (omega arith) in
+          let less = held_below_past bound order level at places (omega arith) in
           omega (arith, here, was, less)
       | inr other ↦
           let here : held_in at (2 ^ bound) (listed (set order level places) bound)
           ≡ held_in at (2 ^ bound) (listed order bound)
           = ap (held_in at (2 ^ bound))
-          (listed-set_other order level bound places (λ is. other (sym is))) in
-          let less = held_below-set bound order level at places room (omega (arith, other)) in
+          (listed_set_other order level bound places (λ is. other (sym is))) in
+          let less = held_below_set bound order level at places room (omega (arith, other)) in
           omega (arith, here, less)
     ]
 
 -- a piece more
-pub held-in_front : (order : Order) (level place at : ℕ) → length order ≡ suc largest_level
+pub held_in_front : (order : Order) (level place at : ℕ) → length order ≡ suc largest_level
     → level ≤ largest_level
     → held (in_front order level place) at ≡ holds at (2 ^ level) place + held order at
 unfolding held held_in
-held-in_front order level place at lists small =
-    let changed = held_below-set (suc largest_level) order level at (place ∷ listed order level)
+held_in_front order level place at lists small =
+    let changed = held_below_set (suc largest_level) order level at (place ∷ listed order level)
     (omega arith) (omega arith) in
     omega (arith, changed)
 
 -- a piece less
-pub held-taken_out : (order : Order) (level place at : ℕ) → length order ≡ suc largest_level
+pub held_taken_out : (order : Order) (level place at : ℕ) → length order ≡ suc largest_level
     → level ≤ largest_level → IsListed order level place
     → held order at ≡ holds at (2 ^ level) place + held (taken_out order level place) at
 unfolding held
-held-taken_out order level place at lists small is =
-    let changed = held_below-set (suc largest_level) order level at
+held_taken_out order level place at lists small is =
+    let changed = held_below_set (suc largest_level) order level at
     (without place (listed order level)) (omega arith) (omega arith) in
-    let less = held_in-without at (2 ^ level) place (listed order level) is in
+    let less = held_in_without at (2 ^ level) place (listed order level) is in
     omega (arith, changed, less)
 
 -- a listed piece that has the word
@@ -259,6 +259,6 @@ pub piece_counts : (order : Order) (level place at : ℕ) → length order ≡ s
 piece_counts order level place at lists small is from before =
     omega (
       arith,
-      held-taken_out order level place at lists small is,
-      holds-within at (2 ^ level) place from before,
+      held_taken_out order level place at lists small is,
+      holds_within at (2 ^ level) place from before,
     )

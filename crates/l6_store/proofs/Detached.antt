@@ -7,9 +7,9 @@ use Rattle.l6_store.specs.Rule.{Order}
 use Rattle.l6_store.specs.Buddy.{DetachedPiece, has, listed, IsListed, in_front, taken_out, buddy_of, whole_of, halved, joined, put_back}
 use Rattle.l6_store.specs.Tiles.{holds, held, Tiles}
 use Rattle.l6_store.specs.inner.Detached.{ArePieces, Fills, Holding}
-use Rattle.l6_store.proofs.Multiples.{double, is_lower, is_upper, which_half, multiple_down, multiple_next, buddy_of-lower, buddy_of-upper, whole_of-lower, whole_of-upper}
-use Rattle.l6_store.proofs.Counts.{holds-within, halves_hold, held-in_front, held-taken_out, piece_counts}
-use Rattle.l6_store.proofs.ListedPieces.{pieces-taken, pieces-in_front}
+use Rattle.l6_store.proofs.Multiples.{double, is_lower, is_upper, which_half, multiple_down, multiple_next, buddy_of_lower, buddy_of_upper, whole_of_lower, whole_of_upper}
+use Rattle.l6_store.proofs.Counts.{holds_within, halves_hold, held_in_front, held_taken_out, piece_counts}
+use Rattle.l6_store.proofs.ListedPieces.{pieces_taken, pieces_in_front}
 
 -- ---- a detached piece has its words for itself
 pub detached_beside : (units : ℕ) (blocks : Blocks) (detached : DetachedPiece) →
@@ -19,7 +19,7 @@ detached_beside units blocks detached holding at from before lies =
     omega (
       arith,
       holding.fills.apart at lies,
-      holds-within at
+      holds_within at
           (2 ^ detached.level) detached.place from before,
     )
 
@@ -33,7 +33,7 @@ detached_unheld units blocks detached holding at from before =
       holding.fills.once at (omega (arith, holding.is_aligned.above))
           (omega (arith, holding.is_aligned.within))
           (detached_beside units blocks detached holding at from before),
-      holds-within at (2 ^ detached.level) detached.place from before,
+      holds_within at (2 ^ detached.level) detached.place from before,
     )
 
 -- so no free piece begins in it
@@ -68,20 +68,20 @@ holds_taken units blocks order level place tiles is =
     let pieces : ArePieces units order
     = record { lists = tiles.lists; is_aligned = tiles.is_aligned; whole = tiles.whole } in
     record {
-      pieces = pieces-taken units order level place is_aligned.small pieces;
+      pieces = pieces_taken units order level place is_aligned.small pieces;
       is_aligned = is_aligned;
       fills = record {
         apart = λ at lies.
             omega (
               arith,
               tiles.apart at lies,
-              held-taken_out order level place at tiles.lists is_aligned.small is,
+              held_taken_out order level place at tiles.lists is_aligned.small is,
             );
         once = λ at from before none.
             omega (
               arith,
               tiles.once at from before none,
-              held-taken_out order level place at tiles.lists is_aligned.small is,
+              held_taken_out order level place at tiles.lists is_aligned.small is,
             );
       };
     }
@@ -105,11 +105,11 @@ halved_by units blocks order level place holding =
     let detached : DetachedPiece = record { order = order; level = suc level; place = place } in
     let upper = upper_holds units level place holding.is_aligned in
     record {
-      pieces = pieces-in_front units order level (place + 2 ^ level) holding.pieces upper
+      pieces = pieces_in_front units order level (place + 2 ^ level) holding.pieces upper
           (λ less is. detached_unlisted units blocks detached holding level place (omega arith)
           (omega (arith, pow_pos (suc level)))
           (ap (λ (q : ℕ). has q (listed order level))
-          (sym (buddy_of-upper level place holding.is_aligned.aligned)) ∙ is));
+          (sym (buddy_of_upper level place holding.is_aligned.aligned)) ∙ is));
       is_aligned = record {
         small = omega (arith, holding.is_aligned.small);
         aligned = multiple_down level (suc level) place (omega arith) holding.is_aligned.aligned;
@@ -125,7 +125,7 @@ halved_by units blocks order level place holding =
             arith,
             sizes,
             halves_hold at (2 ^ level) place,
-            held-in_front order level (place + 2 ^ level) at holding.pieces.lists upper.small,
+            held_in_front order level (place + 2 ^ level) at holding.pieces.lists upper.small,
           ))
           holding.fills;
     }
@@ -149,7 +149,7 @@ joined_by : (units : ℕ) (blocks : Blocks) (order : Order) (level place buddy w
 joined_by units blocks order level place buddy whole less holding is aligned halves =
     let other = holding.pieces.is_aligned level buddy is in
     record {
-      pieces = pieces-taken units order level buddy other.small holding.pieces;
+      pieces = pieces_taken units order level buddy other.small holding.pieces;
       is_aligned = record {
         small = omega arith;
         aligned = aligned;
@@ -167,7 +167,7 @@ joined_by units blocks order level place buddy whole less holding is aligned hal
           (λ at.
           let sizes : holds at (2 ^ suc level) whole ≡ holds at (2 ^ level + 2 ^ level) whole
           = ap (λ (s : ℕ). holds at s whole) (double level) in
-          let counts = held-taken_out order level buddy at holding.pieces.lists other.small is in
+          let counts = held_taken_out order level buddy at holding.pieces.lists other.small is in
           let parts = halves_hold at (2 ^ level) whole in
           elim halves as (λ _. held (taken_out order level buddy) at + holds at (2 ^ suc level) whole
           ≡ held order at + holds at (2 ^ level) place) [
@@ -200,18 +200,18 @@ holds_joined units blocks detached less holding is =
           (buddy_of detached.level detached.place)
           (whole_of detached.level detached.place) less holding is
           (ap (λ (p : ℕ). p % 2 ^ suc detached.level)
-          (whole_of-lower detached.level detached.place lower) ∙ lower)
+          (whole_of_lower detached.level detached.place lower) ∙ lower)
           (inl (
-            sym (whole_of-lower detached.level detached.place lower),
-            buddy_of-lower detached.level detached.place lower
+            sym (whole_of_lower detached.level detached.place lower),
+            buddy_of_lower detached.level detached.place lower
                 ∙ ap (λ (p : ℕ). p + 2 ^ detached.level)
-                (sym (whole_of-lower detached.level detached.place lower)),
+                (sym (whole_of_lower detached.level detached.place lower)),
           ))
       | is_upper lower multiple at ↦
           let whole : whole_of detached.level detached.place ≡ lower
-          = ap (whole_of detached.level) at ∙ whole_of-upper detached.level lower multiple in
+          = ap (whole_of detached.level) at ∙ whole_of_upper detached.level lower multiple in
           let buddy : buddy_of detached.level detached.place ≡ lower
-          = ap (buddy_of detached.level) at ∙ buddy_of-upper detached.level lower multiple in
+          = ap (buddy_of detached.level) at ∙ buddy_of_upper detached.level lower multiple in
           joined_by units blocks detached.order detached.level detached.place
           (buddy_of detached.level detached.place)
           (whole_of detached.level detached.place) less holding is
@@ -227,7 +227,7 @@ pub holds_released : (units : ℕ) (blocks : Blocks) (detached : DetachedPiece) 
     → ⊥)
     → Tiles units blocks (put_back detached)
 holds_released units blocks detached holding alone =
-    let pieces = pieces-in_front units detached.order detached.level detached.place holding.pieces
+    let pieces = pieces_in_front units detached.order detached.level detached.place holding.pieces
     holding.is_aligned alone in
     record {
       lists = pieces.lists;
@@ -237,14 +237,14 @@ holds_released units blocks detached holding alone =
           omega (
             arith,
             holding.fills.apart at lies,
-            held-in_front detached.order detached.level detached.place at holding.pieces.lists
+            held_in_front detached.order detached.level detached.place at holding.pieces.lists
                 holding.is_aligned.small,
           );
       once = λ at from before none.
           omega (
             arith,
             holding.fills.once at from before none,
-            held-in_front detached.order detached.level detached.place at holding.pieces.lists
+            held_in_front detached.order detached.level detached.place at holding.pieces.lists
                 holding.is_aligned.small,
           );
     }

@@ -8,18 +8,18 @@ use Rattle.l6_store.specs.Rule.{Order}
 use Rattle.l6_store.specs.Buddy.{DetachedPiece}
 use Rattle.l6_store.specs.Tiles.{holds, held, Tiles}
 use Rattle.l6_store.specs.inner.Detached.{Holding}
-use Rattle.l6_store.proofs.Gathered.{get-insert_same, get-insert_other, get-remove_same, get-remove_other}
+use Rattle.l6_store.proofs.Gathered.{get_insert_same, get_insert_other, get_remove_same, get_remove_other}
 use Rattle.l6_store.proofs.Counts.{within, outside, which_holds}
 use Rattle.l6_store.proofs.Detached.{detached_beside, detached_unheld}
 
 -- a word of another block is one still
-pub lies-insert : (blocks : Blocks) (place : ℕ) (words : List ℕ)
+pub lies_insert : (blocks : Blocks) (place : ℕ) (words : List ℕ)
     → map.get blocks place ≡ None → (at : ℕ) → LiesIn blocks at
     → LiesIn (map.insert blocks place words) at
-lies-insert blocks place words none at lies = record {
+lies_insert blocks place words none at lies = record {
   start = lies.start;
   words = lies.words;
-  is = get-insert_other blocks place words lies.start
+  is = get_insert_other blocks place words lies.start
       (λ same. (let is = lies.is in let was = ap (map.get blocks) same in cc))
       ∙ lies.is;
   from = lies.from;
@@ -27,17 +27,17 @@ lies-insert blocks place words none at lies = record {
 }
 
 -- a word of a block lies in the new one or in another
-pub insert-lies : (blocks : Blocks) (place : ℕ) (words : List ℕ) (at : ℕ)
+pub insert_lies : (blocks : Blocks) (place : ℕ) (words : List ℕ) (at : ℕ)
     → LiesIn (map.insert blocks place words) at
     → ((place ≤ at) × (at < place + length words)) ⊎ LiesIn blocks at
-insert-lies blocks place words at lies =
+insert_lies blocks place words at lies =
     elim (cases_eq lies.start place)
     as (λ _. ((place ≤ at) × (at < place + length words)) ⊎ LiesIn blocks at) [
       | inl same ↦
           let found : map.get (map.insert blocks place words) place ≡ Some lies.words
           = ap (map.get (map.insert blocks place words)) (sym same) ∙ lies.is in
           let new : Some words ≡ Some lies.words
-          = sym (get-insert_same blocks place words) ∙ found in
+          = sym (get_insert_same blocks place words) ∙ found in
           let words_are : words ≡ lies.words = cc in
           let counts : length words ≡ length lies.words
           = ap (λ (ws : List ℕ). length ws) words_are in
@@ -45,7 +45,7 @@ insert-lies blocks place words at lies =
       | inr other ↦ inr (record {
         start = lies.start;
         words = lies.words;
-        is = sym (get-insert_other blocks place words lies.start other) ∙ lies.is;
+        is = sym (get_insert_other blocks place words lies.start other) ∙ lies.is;
         from = lies.from;
         below = lies.below;
       })
@@ -88,7 +88,7 @@ detached_is_block units blocks order level place words fits size holding =
       is_aligned = holding.pieces.is_aligned;
       whole = holding.pieces.whole;
       apart = λ at lies.
-          elim (insert-lies blocks place words at lies) as (λ _. held order at ≡ 0) [
+          elim (insert_lies blocks place words at lies) as (λ _. held order at ≡ 0) [
             | inl (from, before) ↦ detached_unheld units blocks detached holding at from (omega arith)
             | inr old ↦ omega (arith, holding.fills.apart at old)
           ];
@@ -98,7 +98,7 @@ detached_is_block units blocks order level place words fits size holding =
                 absurd (not (record {
                   start = place;
                   words = words;
-                  is = get-insert_same blocks place words;
+                  is = get_insert_same blocks place words;
                   from = low;
                   below = omega arith;
                 }))
@@ -107,7 +107,7 @@ detached_is_block units blocks order level place words fits size holding =
                   arith,
                   zeros,
                   holding.fills.once at from before
-                      (λ lies. not (lies-insert blocks place words none at lies)),
+                      (λ lies. not (lies_insert blocks place words none at lies)),
                 )
           ];
     }
@@ -132,12 +132,12 @@ block_is_detached units blocks order level place words fits tiles is size is_ali
     × (start ≤ at) × (at < start + length found))
     = λ (at : ℕ) (lies : LiesIn (map.remove blocks place) at).
     let other : lies.start ≢ place
-    = λ same. (let found = lies.is in let gone = get-remove_same blocks place in
+    = λ same. (let found = lies.is in let gone = get_remove_same blocks place in
     let there = ap (map.get (map.remove blocks place)) same in cc) in (
       lies.start,
       lies.words,
       other,
-      sym (get-remove_other blocks place lies.start other) ∙ lies.is,
+      sym (get_remove_other blocks place lies.start other) ∙ lies.is,
       lies.from,
       lies.below,
     ) in
@@ -183,7 +183,7 @@ block_is_detached units blocks order level place words fits tiles is size is_ali
                         not (record {
                           start = lies.start;
                           words = lies.words;
-                          is = get-remove_other blocks place lies.start (λ same.
+                          is = get_remove_other blocks place lies.start (λ same.
                               let found : Some lies.words ≡ Some words
                               = sym lies.is ∙ ap (map.get blocks) same ∙ is in
                               let words_are : lies.words ≡ words = cc in

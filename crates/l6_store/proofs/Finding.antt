@@ -9,9 +9,9 @@ use Rattle.l6_store.specs.Open.{IsOpen, IsAnswer}
 use Rattle.l6_store.specs.Rule.{Order, Chooses}
 use Rattle.l6_store.specs.Buddy.{has, listed, IsListed, first_of, first_or, level_found, buddy_rule}
 use Rattle.l6_store.specs.Tiles.{Tiles}
-use Rattle.l6_store.proofs.Least.{Answers, least-answers}
+use Rattle.l6_store.proofs.Least.{Answers, least_answers}
 use Rattle.l6_store.proofs.Multiples.{double, size_le, same_multiple, multiple_down, multiple_next}
-use Rattle.l6_store.proofs.Counts.{has-first, piece_of, piece_counts}
+use Rattle.l6_store.proofs.Counts.{has_first, piece_of, piece_counts}
 
 -- a free piece of at least a level that has a word
 pub record Large (order : Order) (level at : ℕ) : Type 0 where
@@ -135,7 +135,7 @@ large_piece units blocks order tiles (suc level) place small is =
 pub first_listed : (places : List ℕ) → is_some (first_of places) ≡ true
     → has (first_or places 0) places ≡ true
 first_listed [] some = cc
-first_listed (place ∷ rest) some = has-first place rest
+first_listed (place ∷ rest) some = has_first place rest
 
 pub listed_some : (place : ℕ) (places : List ℕ) → has place places ≡ true
     → is_some (first_of places) ≡ true
@@ -168,7 +168,7 @@ pub level_is_found : (order : Order) (level : ℕ) → Found order level (level_
 unfolding level_found
 level_is_found order level =
     found_by order level (level_found order level)
-    (least-answers (suc largest_level)
+    (least_answers (suc largest_level)
     (λ k. nat_le level k && is_some (first_of (listed order k))))
 
 -- the first piece of the level found answers

@@ -10,15 +10,15 @@ use Rattle.l6_store.specs.Rule.{Order}
 use Rattle.l6_store.specs.Buddy.{has, listed, IsListed, first_order, units_from}
 use Rattle.l6_store.specs.Tiles.{held_in, held_below, held, Tiles}
 use Rattle.l6_store.proofs.Multiples.{times_size}
-use Rattle.l6_store.proofs.Counts.{holds-within, holds-before, holds-following}
+use Rattle.l6_store.proofs.Counts.{holds_within, holds_before, holds_following}
 use Rattle.l6_store.proofs.ListedPieces.{has_cases}
 
 -- lists of which only that of the largest level may have a place
 abbrev pub only_top : List ℕ → Order
 only_top places = replicate largest_level [] ++ places ∷ []
 
-pub length-only_top : (places : List ℕ) → length (only_top places) ≡ suc largest_level
-length-only_top places =
+pub length_only_top : (places : List ℕ) → length (only_top places) ≡ suc largest_level
+length_only_top places =
     omega (
       arith,
       length-append (replicate largest_level []) (places ∷ []),
@@ -40,7 +40,7 @@ listed_largest places =
 pub listed_past : (places : List ℕ) (level : ℕ) → largest_level < level
     → listed (only_top places) level ≡ []
 listed_past places level more =
-    get_or_past (only_top places) level [] (omega (arith, length-only_top places))
+    get_or_past (only_top places) level [] (omega (arith, length_only_top places))
 
 pub has_none : (place : ℕ) → has place [] ≡ true → ⊥
 unfolding has
@@ -93,15 +93,15 @@ numbered (suc units) place at is =
     ]
 
 -- each word of these units is counted once
-held_units-before : (units place at : ℕ) → at < place
+held_units_before : (units place at : ℕ) → at < place
     → held_in at unit_size (units_from place units) ≡ 0
 unfolding held_in units_from
-held_units-before zero place at before = refl
-held_units-before (suc units) place at before =
+held_units_before zero place at before = refl
+held_units_before (suc units) place at before =
     omega (
       arith,
-      holds-before at unit_size place before,
-      held_units-before units (place + unit_size) at (omega arith),
+      holds_before at unit_size place before,
+      held_units_before units (place + unit_size) at (omega arith),
     )
 
 held_units : (units place at : ℕ) → place ≤ at → at < place + unit_size * units
@@ -114,13 +114,13 @@ held_units (suc units) place at from before =
       | inl here ↦
           omega (
             arith,
-            holds-within at unit_size place from here,
-            held_units-before units (place + unit_size) at here,
+            holds_within at unit_size place from here,
+            held_units_before units (place + unit_size) at here,
           )
       | inr later ↦
           omega (
             arith,
-            holds-following at unit_size place later,
+            holds_following at unit_size place later,
             held_units units (place + unit_size) at later (omega arith),
           )
     ]
@@ -152,7 +152,7 @@ no_block_lies at lies =
 
 pub new_tiled : (units : ℕ) → Tiles units map.empty (first_order units)
 new_tiled units = record {
-  lists = length-only_top (units_from unit_size units);
+  lists = length_only_top (units_from unit_size units);
   is_aligned = λ level place is.
       let only = top_only (units_from unit_size units) level place is in
       let number = numbered units unit_size place only.1 in

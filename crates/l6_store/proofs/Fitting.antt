@@ -7,15 +7,15 @@ use Rattle.std.specs.FinMap as map
 use Rattle.l6_word.specs.Numerals.{largest_level, word_bits}
 use Rattle.l6_store.specs.Blocks.{Blocks, Fits}
 use Rattle.l6_store.specs.Open.{IsOpen}
-use Rattle.l6_store.proofs.Tagged.{fits-insert}
+use Rattle.l6_store.proofs.Tagged.{fits_insert}
 
 -- a block has new words, as many as before
-pub fits-changed : (units : ℕ) (blocks : Blocks) (place : ℕ) (old new : List ℕ) → Fits units blocks
+pub fits_changed : (units : ℕ) (blocks : Blocks) (place : ℕ) (old new : List ℕ) → Fits units blocks
     → map.get blocks place ≡ Some old → length new ≡ length old
     → All (λ word. word < 2 ^ word_bits) new → Fits units (map.insert blocks place new)
-fits-changed units blocks place old new fits is count are_words =
+fits_changed units blocks place old new fits is count are_words =
     let block = fits.each place old is in
-    fits-insert units blocks place new fits
+    fits_insert units blocks place new fits
     (record {
       level = block.level;
       size = omega (arith, count, block.size);
@@ -35,11 +35,11 @@ fits-changed units blocks place old new fits is count are_words =
     ])
 
 -- a new block is at an open place
-pub fits-got : (units : ℕ) (blocks : Blocks) (level place : ℕ) (new : List ℕ) → Fits units blocks
+pub fits_got : (units : ℕ) (blocks : Blocks) (level place : ℕ) (new : List ℕ) → Fits units blocks
     → level ≤ largest_level → IsOpen units blocks (2 ^ level) place → length new ≡ 2 ^ level
     → All (λ word. word < 2 ^ word_bits) new → Fits units (map.insert blocks place new)
-fits-got units blocks level place new fits small clear count are_words =
-    fits-insert units blocks place new fits
+fits_got units blocks level place new fits small clear count are_words =
+    fits_insert units blocks place new fits
     (record {
       level = level;
       size = count;

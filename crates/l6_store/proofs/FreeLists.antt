@@ -6,10 +6,10 @@ use Rattle.l6_store.specs.Numerals.{place_bits}
 use Rattle.l6_store.specs.Buddy.{has, without}
 use Rattle.l6_store.specs.inner.Chains.{before_in, after_in, with_head, words_linked, words_unlinked}
 use Rattle.l6_store.specs.inner.FreeLists.{IsFreeList}
-use Rattle.l6_store.proofs.ListedPieces.{has_cases, has-without}
-use Rattle.l6_store.proofs.Chains.{linked_front, length-words_linked}
-use Rattle.l6_store.proofs.Unlinking.{unlinked, head_unlinked, length-words_unlinked}
-use Rattle.l6_store.proofs.PlaceLists.{distinct-without}
+use Rattle.l6_store.proofs.ListedPieces.{has_cases, has_without}
+use Rattle.l6_store.proofs.Chains.{linked_front, length_words_linked}
+use Rattle.l6_store.proofs.Unlinking.{unlinked, head_unlinked, length_words_unlinked}
+use Rattle.l6_store.proofs.PlaceLists.{distinct_without}
 
 module _ (words heads places : List ℕ) (level place : ℕ)
     (are : IsFreeList words heads level places) (small : length words ≤ 2 ^ place_bits)
@@ -24,7 +24,7 @@ module _ (words heads places : List ℕ) (level place : ℕ)
         some below fresh are.begun are.linked;
     distinct = (fresh, are.distinct);
     within = λ at is.
-        let count = length-words_linked words place (get_or heads level 0) in
+        let count = length_words_linked words place (get_or heads level 0) in
         elim (has_cases at place places is) [
           | inl same ↦ (omega (arith, same, some), omega (arith, same, below, count))
           | inr there ↦ ((are.within at there).0, omega (arith, (are.within at there).1, count))
@@ -39,14 +39,14 @@ module _ (words heads places : List ℕ) (level place : ℕ)
   unlinked_list is = record {
     begun = head_unlinked words places heads level place is are.within small are.linked room are.begun;
     linked = unlinked words places place is are.distinct are.within small are.linked;
-    distinct = distinct-without place places are.distinct;
+    distinct = distinct_without place places are.distinct;
     within = λ at there.
-        let was = are.within at (has-without at place places there) in
-        (was.0, omega (arith, was.1, length-words_unlinked words place));
+        let was = are.within at (has_without at place places there) in
+        (was.0, omega (arith, was.1, length_words_unlinked words place));
   }
 
 -- a list without its first place
-pub without-first : (first : ℕ) (rest : List ℕ) → without first (first ∷ rest) ≡ rest
+pub without_first : (first : ℕ) (rest : List ℕ) → without first (first ∷ rest) ≡ rest
 unfolding without
-without-first first rest =
+without_first first rest =
     ap (λ (b : Bool). if b then rest else first ∷ without first rest) (eq-eqb first first refl)

@@ -22,53 +22,53 @@ tie_other q place other =
     as (λ _. nat_eq q place ≡ false)
     [ inl same ↦ absurd (other same.1) | inr differs ↦ differs.0 ]
 
-pub get-insert_same : (blocks : Blocks) (place : ℕ) (words : List ℕ)
+pub get_insert_same : (blocks : Blocks) (place : ℕ) (words : List ℕ)
     → map.get (map.insert blocks place words) place ≡ Some words
-get-insert_same blocks place words =
+get_insert_same blocks place words =
     map.get-insert nat_cmp_total blocks place words place
     ∙ ap (λ b. cond b (Some words) (map.get blocks place)) (tie_same place)
 
-pub get-insert_other : (blocks : Blocks) (place : ℕ) (words : List ℕ) (q : ℕ) → q ≢ place
+pub get_insert_other : (blocks : Blocks) (place : ℕ) (words : List ℕ) (q : ℕ) → q ≢ place
     → map.get (map.insert blocks place words) q ≡ map.get blocks q
-get-insert_other blocks place words q other =
+get_insert_other blocks place words q other =
     map.get-insert nat_cmp_total blocks place words q
     ∙ ap (λ b. cond b (Some words) (map.get blocks q)) (tie_other q place other)
 
-pub get-remove_same : (blocks : Blocks) (place : ℕ) → map.get (map.remove blocks place) place ≡ None
-get-remove_same blocks place =
+pub get_remove_same : (blocks : Blocks) (place : ℕ) → map.get (map.remove blocks place) place ≡ None
+get_remove_same blocks place =
     map.get-remove nat_cmp_total blocks place place
     ∙ ap (λ b. cond b None (map.get blocks place)) (tie_same place)
 
-pub get-remove_other : (blocks : Blocks) (place q : ℕ) → q ≢ place
+pub get_remove_other : (blocks : Blocks) (place q : ℕ) → q ≢ place
     → map.get (map.remove blocks place) q ≡ map.get blocks q
-get-remove_other blocks place q other =
+get_remove_other blocks place q other =
     map.get-remove nat_cmp_total blocks place q
     ∙ ap (λ b. cond b None (map.get blocks q)) (tie_other q place other)
 
 with_same : (place : ℕ) (found : Option (List ℕ)) (blocks : Blocks) → map.get blocks place ≡ None
     → map.get (with place found blocks) place ≡ found
 with_same place None blocks none = none
-with_same place (Some words) blocks none = get-insert_same blocks place words
+with_same place (Some words) blocks none = get_insert_same blocks place words
 
 with_other : (place q : ℕ) (found : Option (List ℕ)) (blocks : Blocks) → q ≢ place
     → map.get (with place found blocks) q ≡ map.get blocks q
 with_other place q None blocks other = refl
-with_other place q (Some words) blocks other = get-insert_other blocks place words q other
+with_other place q (Some words) blocks other = get_insert_other blocks place words q other
 
-get-gathered_past : (tags : List Tag) (words : List ℕ) (bound q : ℕ) → bound ≤ q
+get_gathered_past : (tags : List Tag) (words : List ℕ) (bound q : ℕ) → bound ≤ q
     → map.get (gathered tags words bound) q ≡ None
 unfolding gathered
-get-gathered_past tags words zero q past = map.get-empty nat_cmp q
-get-gathered_past tags words (suc bound) q past =
+get_gathered_past tags words zero q past = map.get-empty nat_cmp q
+get_gathered_past tags words (suc bound) q past =
     with_other bound q (tagged words bound (tag_at tags bound)) (gathered tags words bound)
     (λ same. absurd (omega arith))
-    ∙ get-gathered_past tags words bound q (omega arith)
+    ∙ get_gathered_past tags words bound q (omega arith)
 
-get-gathered_below : (tags : List Tag) (words : List ℕ) (bound q : ℕ) → q < bound
+get_gathered_below : (tags : List Tag) (words : List ℕ) (bound q : ℕ) → q < bound
     → map.get (gathered tags words bound) q ≡ tagged words q (tag_at tags q)
 unfolding gathered
-get-gathered_below tags words zero q below = absurd (omega arith)
-get-gathered_below tags words (suc bound) q below =
+get_gathered_below tags words zero q below = absurd (omega arith)
+get_gathered_below tags words (suc bound) q below =
     elim (cases_lt q bound)
     as (λ _. map.get
     (with bound (tagged words bound (tag_at tags bound)) (gathered tags words bound)) q
@@ -76,24 +76,24 @@ get-gathered_below tags words (suc bound) q below =
       | inl less ↦
           with_other bound q (tagged words bound (tag_at tags bound)) (gathered tags words bound)
           (λ same. absurd (omega arith))
-          ∙ get-gathered_below tags words bound q less
+          ∙ get_gathered_below tags words bound q less
       | inr not_less ↦
           let same : q ≡ bound = omega arith in
           ap (map.get (with bound (tagged words bound (tag_at tags bound))
           (gathered tags words bound))) same
           ∙ with_same bound (tagged words bound (tag_at tags bound)) (gathered tags words bound)
-          (get-gathered_past tags words bound bound (omega arith))
+          (get_gathered_past tags words bound bound (omega arith))
           ∙ ap (λ (p : ℕ). tagged words p (tag_at tags p)) (sym same)
     ]
 
 -- the block that begins at a place is the one that its tag gives
-pub get-gathered : (tags : List Tag) (words : List ℕ) (q : ℕ)
+pub get_gathered : (tags : List Tag) (words : List ℕ) (q : ℕ)
     → map.get (gathered tags words (length tags)) q ≡ tagged words q (tag_at tags q)
-get-gathered tags words q =
+get_gathered tags words q =
     elim (cases_lt q (length tags))
     as (λ _. map.get (gathered tags words (length tags)) q ≡ tagged words q (tag_at tags q)) [
-      | inl less ↦ get-gathered_below tags words (length tags) q less
-      | inr past ↦ get-gathered_past tags words (length tags) q past
+      | inl less ↦ get_gathered_below tags words (length tags) q less
+      | inr past ↦ get_gathered_past tags words (length tags) q past
           ∙ sym (ap (tagged words q) (get_or_past tags q Free past))
     ]
 
@@ -103,7 +103,7 @@ pub gathered_is : (tags : List Tag) (words : List ℕ) (blocks : Blocks)
     → gathered tags words (length tags) ≡ blocks
 gathered_is tags words blocks each =
     map.same_map nat_cmp_total map.nat_cmp-IsAntisymmetric (gathered tags words (length tags))
-    blocks (λ q. get-gathered tags words q ∙ each q)
+    blocks (λ q. get_gathered tags words q ∙ each q)
 
 -- where a block that is found comes from
 pub record Told (tags : List Tag) (words : List ℕ) (q : ℕ) (block : List ℕ) : Type 0 where
@@ -125,9 +125,9 @@ known_by tags words q block Inside is determined = cc
 pub determined : (tags : List Tag) (words : List ℕ) (q : ℕ) (block : List ℕ)
     → map.get (gathered tags words (length tags)) q ≡ Some block → Told tags words q block
 determined tags words q block is =
-    known_by tags words q block (tag_at tags q) refl (sym (get-gathered tags words q) ∙ is)
+    known_by tags words q block (tag_at tags q) refl (sym (get_gathered tags words q) ∙ is)
 
 -- and the other way round
 pub determines : (tags : List Tag) (words : List ℕ) (q level : ℕ) → tag_at tags q ≡ First level
     → map.get (gathered tags words (length tags)) q ≡ Some (slice_range words q (q + 2 ^ level))
-determines tags words q level tag = get-gathered tags words q ∙ ap (tagged words q) tag
+determines tags words q level tag = get_gathered tags words q ∙ ap (tagged words q) tag

@@ -6,14 +6,14 @@ use Rattle.l6_store.specs.inner.ArenaLayout.{ArenaLayout, IsArena, layout_of}
 use Rattle.l6_store.specs.inner.Chains.{order_of}
 use Rattle.l6_store.specs.declared.place_tag.PlaceTag.{PlaceTag}
 use Rattle.l6_store.proofs.Arenas.{within}
-use Rattle.l6_store.proofs.Counts.{has-first}
+use Rattle.l6_store.proofs.Counts.{has_first}
 use Rattle.l6_store.proofs.PlaceLists.{AreWithin}
 
 pub none_first : (bound : ℕ) (places : List ℕ) → AreWithin bound places → first_or places 0 ≡ 0
     → first_of places ≡ None
 none_first bound [] are none = refl
 none_first bound (first ∷ rest) are none =
-    absurd (omega (arith, (are first (has-first first rest)).0))
+    absurd (omega (arith, (are first (has_first first rest)).0))
 
 pub some_first : (places : List ℕ) → (first_or places 0 ≡ 0 → ⊥)
     → Some (first_or places 0) ≡ first_of places

@@ -13,10 +13,10 @@ use Rattle.l6_store.specs.inner.Tags.{tag_at, gathered, store_of, AreTags, IsKep
 use Rattle.l6_store.specs.inner.PlaceTags.{IsVacantRun, IsLowest}
 use Rattle.l6_store.specs.declared.tag.Tag.{Tag}
 use Rattle.l6_store.specs.declared.tag.Tag.TheVariants.{Free, First, Inside}
-use Rattle.l6_store.proofs.Least.{Answers, least-answers, answers-alone}
-use Rattle.l6_store.proofs.Ranges.{length-range}
+use Rattle.l6_store.proofs.Least.{Answers, least_answers, answers_alone}
+use Rattle.l6_store.proofs.Ranges.{length_range}
 use Rattle.l6_store.proofs.Gathered.{determined, determines}
-use Rattle.l6_store.proofs.Scan.{is_open-holds, is_open-made, scan-chooses}
+use Rattle.l6_store.proofs.Scan.{is_open_holds, is_open_made, scan_chooses}
 
 -- two blocks share no place
 pub block_apart : (units : ℕ) (tags : List Tag) → AreTags units tags → (one other level others : ℕ)
@@ -34,7 +34,7 @@ pub length_of : (units : ℕ) (tags : List Tag) (words : List ℕ) → IsKept un
     → length (slice_range words place (place + 2 ^ level)) ≡ 2 ^ level
 length_of units tags words kept place level first =
     let is_aligned = kept.are_tags.first place level first in
-    length-range words place (2 ^ level) (omega (arith, kept.count, is_aligned.within))
+    length_range words place (2 ^ level) (omega (arith, kept.count, is_aligned.within))
 
 pub fits_of : (units : ℕ) (tags : List Tag) (words : List ℕ) → IsKept units tags words
     → Fits units (gathered tags words (length tags))
@@ -67,7 +67,7 @@ sound_of units tags words kept = record {
   some = kept.some;
   most = kept.most;
   fits = fits_of units tags words kept;
-  chooses = scan-chooses units (gathered tags words (length tags)) [];
+  chooses = scan_chooses units (gathered tags words (length tags)) [];
 }
 
 -- places that are tagged free are open
@@ -134,7 +134,7 @@ not_open_by units tags words kept size place closed false is = refl
 not_open_by units tags words kept size place closed true is =
     absurd
     (closed (run_of_open units tags words kept size place
-    (is_open-holds units (gathered tags words (length tags)) size place is)))
+    (is_open_holds units (gathered tags words (length tags)) size place is)))
 
 not_open : (units : ℕ) (tags : List Tag) (words : List ℕ) → IsKept units tags words
     → (size place : ℕ) → (IsVacantRun tags size place → ⊥)
@@ -151,7 +151,7 @@ unfolding Answers
 answers_of_lowest units tags words kept size some (Some place) lowest =
     let clear = open_of_run units tags words kept size place lowest.0 in (
       omega (arith, clear.within),
-      is_open-made units (gathered tags words (length tags)) size place some clear,
+      is_open_made units (gathered tags words (length tags)) size place some clear,
       λ lower less. not_open units tags words kept size lower (lowest.1 lower less),
     )
 answers_of_lowest units tags words kept size some None none =
@@ -163,10 +163,10 @@ pub picked_of_lowest : (units : ℕ) (tags : List Tag) (words : List ℕ) → Is
     → IsLowest tags (2 ^ level) answer → answer ≡ picked scan_rule (store_of units tags words) level
 picked_of_lowest units tags words kept level answer lowest =
     let blocks : Blocks = gathered tags words (length tags) in
-    answers-alone (end_of units) (is_open units blocks (2 ^ level)) answer
+    answers_alone (end_of units) (is_open units blocks (2 ^ level)) answer
     (least (end_of units) (is_open units blocks (2 ^ level)))
     (answers_of_lowest units tags words kept (2 ^ level) (pow_pos level) answer lowest)
-    (least-answers (end_of units) (is_open units blocks (2 ^ level)))
+    (least_answers (end_of units) (is_open units blocks (2 ^ level)))
 
 pub answer_of_lowest : (units : ℕ) (tags : List Tag) (words : List ℕ) → IsKept units tags words
     → (level : ℕ) (answer : Option ℕ)
@@ -175,4 +175,4 @@ pub answer_of_lowest : (units : ℕ) (tags : List Tag) (words : List ℕ) → Is
 answer_of_lowest units tags words kept level answer small lowest =
     subst (IsAnswer units (gathered tags words (length tags)) (2 ^ level))
     (sym (picked_of_lowest units tags words kept level answer lowest))
-    (scan-chooses units (gathered tags words (length tags)) [] level small)
+    (scan_chooses units (gathered tags words (length tags)) [] level small)

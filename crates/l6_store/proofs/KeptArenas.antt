@@ -6,7 +6,7 @@ use Rattle.std.proofs.lemmas.Nat.{pow_pos}
 use Rattle.l6_word.specs.Numerals.{largest_level, word_bits}
 use Rattle.l6_raw.specs.Pages.{AreUnused}
 use Rattle.l6_raw.specs.Words.{overwritten}
-use Rattle.l6_raw.proofs.Overwriting.{get_or-overwritten_before, get_or-overwritten_in, get_or-overwritten_following}
+use Rattle.l6_raw.proofs.Overwriting.{get_or_overwritten_before, get_or_overwritten_in, get_or_overwritten_following}
 use Rattle.l6_store.specs.Blocks.{LiesIn, IsLive, IsAlignedPlace, block_at}
 use Rattle.l6_store.specs.Buddy.{has, listed, IsListed}
 use Rattle.l6_store.specs.inner.ArenaLayout.{IsArena, blocks_of, place_tag_at, tag_of}
@@ -213,18 +213,18 @@ module _ (units : ℕ) (words heads : List ℕ) (place_tags : List PlaceTag) (us
             (λ at _ _ none.
             elim (cases_lt at place) as (λ _. get_or (overwritten words place zeros) at 0 ≡ 0) [
               | inl first ↦
-                  get_or-overwritten_before words place zeros at (omega (arith, below)) first ∙ none
+                  get_or_overwritten_before words place zeros at (omega (arith, below)) first ∙ none
               | inr from ↦ elim (cases_lt at (place + length zeros))
                   as (λ _. get_or (overwritten words place zeros) at 0 ≡ 0) [
                     | inl inside ↦
                         let there : place + (at - place) ≡ at = omega (arith, from) in
                         let index : at - place < length zeros = omega (arith, from, inside) in
                         ap (λ (i : ℕ). get_or (overwritten words place zeros) i 0) (sym there)
-                        ∙ get_or-overwritten_in words place zeros (at - place) (omega (arith, below))
+                        ∙ get_or_overwritten_in words place zeros (at - place) (omega (arith, below))
                         index
                         ∙ get_or-replicate (2 ^ level) (at - place) 0 0 (omega (arith, index, count))
                     | inr following ↦
-                        get_or-overwritten_following words place zeros at (omega (arith, below))
+                        get_or_overwritten_following words place zeros at (omega (arith, below))
                         following
                         ∙ none
                   ]

@@ -16,24 +16,24 @@ last_or_below k bound below =
       | inr not_less ↦ inr (omega arith)
     ]
 
-pub all_below-holds : (bound : ℕ) (test : ℕ → Bool) → all_below bound test ≡ true → (k : ℕ)
+pub all_below_holds : (bound : ℕ) (test : ℕ → Bool) → all_below bound test ≡ true → (k : ℕ)
     → k < bound → test k ≡ true
 unfolding all_below
-all_below-holds zero test all k below = absurd (omega arith)
-all_below-holds (suc bound) test all k below =
+all_below_holds zero test all k below = absurd (omega arith)
+all_below_holds (suc bound) test all k below =
     let both = and_both (test bound) (all_below bound test) all in
     elim (last_or_below k bound below) as (λ _. test k ≡ true) [
-      | inl less ↦ all_below-holds bound test both.1 k less
+      | inl less ↦ all_below_holds bound test both.1 k less
       | inr is ↦ ap test is ∙ both.0
     ]
 
-pub all_below-made : (bound : ℕ) (test : ℕ → Bool) → ((k : ℕ) → k < bound → test k ≡ true)
+pub all_below_made : (bound : ℕ) (test : ℕ → Bool) → ((k : ℕ) → k < bound → test k ≡ true)
     → all_below bound test ≡ true
 unfolding all_below
-all_below-made zero test each = refl
-all_below-made (suc bound) test each =
+all_below_made zero test each = refl
+all_below_made (suc bound) test each =
     ap (λ b. b && all_below bound test) (each bound (omega arith))
-    ∙ all_below-made bound test (λ k below. each k (omega arith))
+    ∙ all_below_made bound test (λ k below. each k (omega arith))
 
 -- what an answer says: the number passes and no lower one does, or none below the bound passes
 unfoldable pub Answers : ℕ → (ℕ → Bool) → Option ℕ → Type 0
@@ -55,16 +55,16 @@ unfolding Answers
 more bound test (Some n) is = (omega (arith, is.0), is.1, is.2)
 more bound test None none = none_more bound test (test bound) refl none
 
-pub least-answers : (bound : ℕ) (test : ℕ → Bool) → Answers bound test (least bound test)
+pub least_answers : (bound : ℕ) (test : ℕ → Bool) → Answers bound test (least bound test)
 unfolding least Answers
-least-answers zero test = λ k below. absurd (omega arith)
-least-answers (suc bound) test = more bound test (least bound test) (least-answers bound test)
+least_answers zero test = λ k below. absurd (omega arith)
+least_answers (suc bound) test = more bound test (least bound test) (least_answers bound test)
 
 -- an answer is the only one
-pub answers-alone : (bound : ℕ) (test : ℕ → Bool) (one other : Option ℕ) → Answers bound test one
+pub answers_alone : (bound : ℕ) (test : ℕ → Bool) (one other : Option ℕ) → Answers bound test one
     → Answers bound test other → one ≡ other
 unfolding Answers
-answers-alone bound test (Some n) (Some m) one other =
+answers_alone bound test (Some n) (Some m) one other =
     elim (cases_lt n m) as (λ _. Some n ≡ Some m) [
       | inl less ↦ (let wrong = other.2 n less in let right = one.1 in cc)
       | inr not_less ↦ elim (cases_lt m n) as (λ _. Some n ≡ Some m) [
@@ -72,8 +72,8 @@ answers-alone bound test (Some n) (Some m) one other =
         | inr same ↦ ap (λ (k : ℕ). Some k) (omega arith)
       ]
     ]
-answers-alone bound test (Some n) None one none =
+answers_alone bound test (Some n) None one none =
     let wrong = none n one.0 in let right = one.1 in cc
-answers-alone bound test None (Some n) none one =
+answers_alone bound test None (Some n) none one =
     let wrong = none n one.0 in let right = one.1 in cc
-answers-alone bound test None None one other = refl
+answers_alone bound test None None one other = refl

@@ -11,9 +11,9 @@ use Rattle.l6_store.specs.inner.Chains.{before_in, after_in, with_head, words_li
 use Rattle.l6_store.specs.inner.ArenaLayout.{AreDistinct, AreLists, place_tag_at}
 use Rattle.l6_store.specs.declared.place_tag.PlaceTag.{PlaceTag}
 use Rattle.l6_store.specs.declared.place_tag.PlaceTag.TheVariants.{Inner, Listed}
-use Rattle.l6_store.proofs.Counts.{has-first, has-more, listed-same, listed-other}
-use Rattle.l6_store.proofs.ListedPieces.{the_one, another, in_front-listed, taken_out-listed}
-use Rattle.l6_store.proofs.PlaceLists.{AreWithin, distinct-without, without-gone, without-other}
+use Rattle.l6_store.proofs.Counts.{has_first, has_more, listed_same, listed_other}
+use Rattle.l6_store.proofs.ListedPieces.{the_one, another, in_front_listed, taken_out_listed}
+use Rattle.l6_store.proofs.PlaceLists.{AreWithin, distinct_without, without_gone, without_other}
 use Rattle.l6_store.proofs.Chains.{linked_along, linked_front, linked_others}
 use Rattle.l6_store.proofs.Unlinking.{unlinked, unlinked_others, head_unlinked}
 use Rattle.l6_store.proofs.Lists.{order_is}
@@ -63,24 +63,24 @@ not_has place places not =
       | inr absent ↦ absent
     ]
 
-in_front-keeps : (order : Order) (level place k p : ℕ) → level < length order
+in_front_keeps : (order : Order) (level place k p : ℕ) → level < length order
     → IsListed order k p → IsListed (in_front order level place) k p
-in_front-keeps order level place k p room is =
+in_front_keeps order level place k p room is =
     elim (cases_eq k level) as (λ _. IsListed (in_front order level place) k p) [
       | inl same ↦
           ap (λ (j : ℕ). has p (listed (in_front order level place) j)) same
-          ∙ ap (has p) (listed-same order level (place ∷ listed order level) room)
-          ∙ has-more p place (listed order level)
+          ∙ ap (has p) (listed_same order level (place ∷ listed order level) room)
+          ∙ has_more p place (listed order level)
           (ap (λ (j : ℕ). has p (listed order j)) (sym same) ∙ is)
       | inr other ↦
-          ap (has p) (listed-other order level k (place ∷ listed order level) other) ∙ is
+          ap (has p) (listed_other order level k (place ∷ listed order level) other) ∙ is
     ]
 
-in_front-first : (order : Order) (level place : ℕ) → level < length order
+in_front_first : (order : Order) (level place : ℕ) → level < length order
     → IsListed (in_front order level place) level place
-in_front-first order level place room =
-    ap (has place) (listed-same order level (place ∷ listed order level) room)
-    ∙ has-first place (listed order level)
+in_front_first order level place room =
+    ap (has place) (listed_same order level (place ∷ listed order level) room)
+    ∙ has_first place (listed order level)
 
 -- ---- a piece is linked
 module _ (words heads : List ℕ) (place_tags : List PlaceTag) (order : Order)
@@ -108,12 +108,12 @@ module _ (words heads : List ℕ) (place_tags : List PlaceTag) (order : Order)
             ∙ get_or-set_same heads level place 0 heads_room
             ∙ sym (ap (λ (j : ℕ). first_or (listed (in_front order level place) j) 0) same
             ∙ ap (λ (ps : List ℕ). first_or ps 0)
-            (listed-same order level (place ∷ listed order level) room))
+            (listed_same order level (place ∷ listed order level) room))
         | inr other ↦
             get_or-set_other heads level k place 0 other
             ∙ are.links.begun k
             ∙ sym (ap (λ (ps : List ℕ). first_or ps 0)
-            (listed-other order level k (place ∷ listed order level) other))
+            (listed_other order level k (place ∷ listed order level) other))
       ]
 
   link_linked : (k : ℕ)
@@ -125,13 +125,13 @@ module _ (words heads : List ℕ) (place_tags : List PlaceTag) (order : Order)
         | inl same ↦
             subst (λ (ps : List ℕ). AreLinked (words_linked words place head) 0 ps 0)
             (sym (ap (listed (in_front order level place)) same
-            ∙ listed-same order level (place ∷ listed order level) room))
+            ∙ listed_same order level (place ∷ listed order level) room))
             (linked_front words (listed order level) place head (are.distinct level)
             (lists_within words heads place_tags order are count level) small some below
             (not_has place (listed order level) (fresh level)) begins (are.links.linked level))
         | inr other ↦
             subst (λ (ps : List ℕ). AreLinked (words_linked words place head) 0 ps 0)
-            (sym (listed-other order level k (place ∷ listed order level) other))
+            (sym (listed_other order level k (place ∷ listed order level) other))
             (linked_along words (words_linked words place head) 0 (listed order k) 0
             (λ at is. linked_others words (listed order level) place head at begins
             (λ same. fresh k (ap (λ (p : ℕ). has p (listed order k)) (sym same) ∙ is))
@@ -146,11 +146,11 @@ module _ (words heads : List ℕ) (place_tags : List PlaceTag) (order : Order)
         | inl same ↦
             subst AreDistinct
             (sym (ap (listed (in_front order level place)) same
-            ∙ listed-same order level (place ∷ listed order level) room))
+            ∙ listed_same order level (place ∷ listed order level) room))
             (not_has place (listed order level) (fresh level), are.distinct level)
         | inr other ↦
             subst AreDistinct
-            (sym (listed-other order level k (place ∷ listed order level) other)) (are.distinct k)
+            (sym (listed_other order level k (place ∷ listed order level) other)) (are.distinct k)
       ]
 
   tagged_new : place_tag_at (set place_tags place (Listed level)) place ≡ Listed level
@@ -159,7 +159,7 @@ module _ (words heads : List ℕ) (place_tags : List PlaceTag) (order : Order)
   link_tagged : (k p : ℕ) → IsListed (in_front order level place) k p
       → place_tag_at (set place_tags place (Listed level)) p ≡ Listed k
   link_tagged k p is =
-      elim (in_front-listed order level place k p room is)
+      elim (in_front_listed order level place k p room is)
       as (λ _. place_tag_at (set place_tags place (Listed level)) p ≡ Listed k) [
         | the_one same here ↦
             ap (place_tag_at (set place_tags place (Listed level))) here
@@ -181,9 +181,9 @@ module _ (words heads : List ℕ) (place_tags : List PlaceTag) (order : Order)
             let levels : level ≡ k = cc in
             subst (λ (j : ℕ). IsListed (in_front order level place) j p) levels
             (ap (λ (q : ℕ). has q (listed (in_front order level place) level)) same
-            ∙ in_front-first order level place room)
+            ∙ in_front_first order level place room)
         | inr other ↦
-            in_front-keeps order level place k p room
+            in_front_keeps order level place k p room
             (are.determined k p (sym (get_or-set_other place_tags place p (Listed level) Inner other) ∙ is))
       ]
 
@@ -260,12 +260,12 @@ module _ (words heads : List ℕ) (place_tags : List PlaceTag) (order : Order)
             (are.links.linked level) out_heads_room (are.links.begun level)
             ∙ sym (ap (λ (j : ℕ). first_or (listed (taken_out order level place) j) 0) same
             ∙ ap (λ (ps : List ℕ). first_or ps 0)
-            (listed-same order level (without place (listed order level)) out_room))
+            (listed_same order level (without place (listed order level)) out_room))
         | inr other ↦
             with_head-other k (before_in (get_or words place 0)) (after_in (get_or words place 0)) other
             ∙ are.links.begun k
             ∙ sym (ap (λ (ps : List ℕ). first_or ps 0)
-            (listed-other order level k (without place (listed order level)) other))
+            (listed_other order level k (without place (listed order level)) other))
       ]
 
   out_linked : (k : ℕ)
@@ -277,12 +277,12 @@ module _ (words heads : List ℕ) (place_tags : List PlaceTag) (order : Order)
         | inl same ↦
             subst (λ (ps : List ℕ). AreLinked (words_unlinked words place) 0 ps 0)
             (sym (ap (listed (taken_out order level place)) same
-            ∙ listed-same order level (without place (listed order level)) out_room))
+            ∙ listed_same order level (without place (listed order level)) out_room))
             (unlinked words (listed order level) place there (are.distinct level) within_level small
             (are.links.linked level))
         | inr other ↦
             subst (λ (ps : List ℕ). AreLinked (words_unlinked words place) 0 ps 0)
-            (sym (listed-other order level k (without place (listed order level)) other))
+            (sym (listed_other order level k (without place (listed order level)) other))
             (linked_along words (words_unlinked words place) 0 (listed order k) 0
             (λ at is. unlinked_others words (listed order level) place at there within_level small
             (are.links.linked level)
@@ -297,23 +297,23 @@ module _ (words heads : List ℕ) (place_tags : List PlaceTag) (order : Order)
         | inl same ↦
             subst AreDistinct
             (sym (ap (listed (taken_out order level place)) same
-            ∙ listed-same order level (without place (listed order level)) out_room))
-            (distinct-without place (listed order level) (are.distinct level))
+            ∙ listed_same order level (without place (listed order level)) out_room))
+            (distinct_without place (listed order level) (are.distinct level))
         | inr other ↦
             subst AreDistinct
-            (sym (listed-other order level k (without place (listed order level)) other))
+            (sym (listed_other order level k (without place (listed order level)) other))
             (are.distinct k)
       ]
 
   -- the piece is listed no more
   pub out_gone : (k : ℕ) → IsListed (taken_out order level place) k place → ⊥
   out_gone k is =
-      let was = taken_out-listed order level place k place out_room is in
+      let was = taken_out_listed order level place k place out_room is in
       let same : k ≡ level = one_level words heads place_tags order are k level place was there in
-      let gone = without-gone place (listed order level) (are.distinct level) in
+      let gone = without_gone place (listed order level) (are.distinct level) in
       let lists : listed (taken_out order level place) k ≡ without place (listed order level)
       = ap (listed (taken_out order level place)) same
-      ∙ listed-same order level (without place (listed order level)) out_room in
+      ∙ listed_same order level (without place (listed order level)) out_room in
       let found : has place (without place (listed order level)) ≡ true
       = ap (has place) (sym lists) ∙ is in
       cc
@@ -324,7 +324,7 @@ module _ (words heads : List ℕ) (place_tags : List PlaceTag) (order : Order)
       get_or-set_other place_tags place p Inner Inner
       (λ same. out_gone k
       (ap (λ (q : ℕ). has q (listed (taken_out order level place) k)) (sym same) ∙ is))
-      ∙ are.with_tag k p (taken_out-listed order level place k p out_room is)
+      ∙ are.with_tag k p (taken_out_listed order level place k p out_room is)
 
   out_known : (k p : ℕ) → place_tag_at (set place_tags place Inner) p ≡ Listed k
       → IsListed (taken_out order level place) k p
@@ -342,12 +342,12 @@ module _ (words heads : List ℕ) (place_tags : List PlaceTag) (order : Order)
               | inl levels ↦
                   ap (λ (j : ℕ). has p (listed (taken_out order level place) j)) levels
                   ∙ ap (has p)
-                  (listed-same order level (without place (listed order level)) out_room)
-                  ∙ without-other p place (listed order level) other
+                  (listed_same order level (without place (listed order level)) out_room)
+                  ∙ without_other p place (listed order level) other
                   (ap (λ (j : ℕ). has p (listed order j)) (sym levels) ∙ was)
               | inr differ ↦
                   ap (has p)
-                  (listed-other order level k (without place (listed order level)) differ) ∙ was
+                  (listed_other order level k (without place (listed order level)) differ) ∙ was
             ]
       ]
 

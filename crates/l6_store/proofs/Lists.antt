@@ -10,8 +10,8 @@ use Rattle.l6_store.specs.Buddy.{has, first_or, listed}
 use Rattle.l6_store.specs.Links.{AreLinked, Links}
 use Rattle.l6_store.specs.inner.Chains.{after_in, followed, list_of, order_of}
 use Rattle.l6_store.specs.inner.ArenaLayout.{AreDistinct}
-use Rattle.l6_store.proofs.Counts.{has-first}
-use Rattle.l6_store.proofs.PlaceLists.{AreWithin, within-rest, first_or-within, has_not}
+use Rattle.l6_store.proofs.Counts.{has_first}
+use Rattle.l6_store.proofs.PlaceLists.{AreWithin, within_rest, first_or_within, has_not}
 use Rattle.l6_store.proofs.Chains.{after_of}
 
 has_any : (place : ℕ) (places : List ℕ) → has place places ≡ list_any (nat_eq place) places
@@ -46,22 +46,22 @@ followed_is zero words before [] within small long linked = refl
 followed_is zero words before (first ∷ rest) within small long linked = absurd (omega arith)
 followed_is (suc count) words before [] within small long linked = refl
 followed_is (suc count) words before (first ∷ rest) within small long linked =
-    let some = within first (has-first first rest) in
+    let some = within first (has_first first rest) in
     let after : after_in (get_or words first 0) ≡ first_or rest 0
     = ap after_in linked.0
     ∙ after_of before (first_or rest 0)
     (omega (
       arith,
       small,
-      first_or-within (length words) rest (omega (arith, some.1))
-          (within-rest (length words) first rest within),
+      first_or_within (length words) rest (omega (arith, some.1))
+          (within_rest (length words) first rest within),
     )) in
     ap (λ (b : Bool). if b then []
     else first ∷ followed count words (after_in (get_or words first 0)))
     (ne_eqb first 0 (λ none. absurd (omega (arith, some.0))))
     ∙ ap (λ (next : ℕ). first ∷ followed count words next) after
     ∙ ap (λ (ps : List ℕ). first ∷ ps)
-    (followed_is count words first rest (within-rest (length words) first rest within) small
+    (followed_is count words first rest (within_rest (length words) first rest within) small
     (omega arith) linked.1)
 
 pub list_is : (words places : List ℕ) → AreDistinct places → AreWithin (length words) places

@@ -9,10 +9,10 @@ use Rattle.l6_store.specs.Rule.{Order}
 use Rattle.l6_store.specs.Buddy.{DetachedPiece, has, listed, IsListed, buddy_of, first_of, halved, halved_often, joined, joined_often, level_found, whole_of}
 use Rattle.l6_store.specs.Least.{least}
 use Rattle.l6_store.specs.inner.Detached.{HalvesPiece, IsDetached, JoinsPiece}
-use Rattle.l6_store.proofs.Least.{Answers, least-answers, answers-alone}
-use Rattle.l6_store.proofs.Multiples.{is_lower, is_upper, which_half, same_multiple, multiple_down, multiple_next, times_size, double, buddy_of-lower, buddy_of-upper, whole_of-lower, whole_of-upper}
+use Rattle.l6_store.proofs.Least.{Answers, least_answers, answers_alone}
+use Rattle.l6_store.proofs.Multiples.{is_lower, is_upper, which_half, same_multiple, multiple_down, multiple_next, times_size, double, buddy_of_lower, buddy_of_upper, whole_of_lower, whole_of_upper}
 use Rattle.l6_store.proofs.Detached.{holds_halved, holds_joined}
-use Rattle.l6_store.proofs.Steps.{joined_often-more, joined_often-done}
+use Rattle.l6_store.proofs.Steps.{joined_often_more, joined_often_done}
 
 -- ---- where a buddy is
 -- multiples of a size that differ are a size apart
@@ -44,7 +44,7 @@ buddy_holds units level place less is_aligned =
           let far = apart (2 ^ suc level) place (end_of units) lower
           (whole_end units (suc level) (omega arith))
           (omega (arith, is_aligned.within, pow_pos level)) in
-          subst (λ (p : ℕ). IsAlignedPlace units level p) (sym (buddy_of-lower level place lower))
+          subst (λ (p : ℕ). IsAlignedPlace units level p) (sym (buddy_of_lower level place lower))
           (record {
             small = is_aligned.small;
             aligned = multiple_next level place is_aligned.aligned;
@@ -53,7 +53,7 @@ buddy_holds units level place less is_aligned =
           })
       | is_upper lower multiple at ↦
           subst (λ (p : ℕ). IsAlignedPlace units level p)
-          (sym (ap (buddy_of level) at ∙ buddy_of-upper level lower multiple))
+          (sym (ap (buddy_of level) at ∙ buddy_of_upper level lower multiple))
           (record {
             small = is_aligned.small;
             aligned = multiple_down level (suc level) lower (omega arith) multiple;
@@ -81,14 +81,14 @@ min_whole level place aligned =
     elim (which_half level place aligned)
     as (λ _. min place (buddy_of level place) ≡ whole_of level place) [
       | is_lower lower ↦
-          ap (min place) (buddy_of-lower level place lower)
+          ap (min place) (buddy_of_lower level place lower)
           ∙ (let le : min place (place + 2 ^ level) ≡ place = omega arith in le)
-          ∙ sym (whole_of-lower level place lower)
+          ∙ sym (whole_of_lower level place lower)
       | is_upper lower multiple at ↦
           ap (λ (p : ℕ). min p (buddy_of level p)) at
-          ∙ ap (min (lower + 2 ^ level)) (buddy_of-upper level lower multiple)
+          ∙ ap (min (lower + 2 ^ level)) (buddy_of_upper level lower multiple)
           ∙ (let le : min (lower + 2 ^ level) lower ≡ lower = omega arith in le)
-          ∙ sym (ap (whole_of level) at ∙ whole_of-upper level lower multiple)
+          ∙ sym (ap (whole_of level) at ∙ whole_of_upper level lower multiple)
     ]
 
 -- ---- halving
@@ -152,7 +152,7 @@ joins_more units blocks level first now moves less is joins =
         most = joins.is_detached.most;
         holds = holds_joined units blocks now less joins.is_detached.holds is;
       };
-      comes = sym (joined_often-more (largest_level - suc now.level) now is)
+      comes = sym (joined_often_more (largest_level - suc now.level) now is)
           ∙ ap (λ (t : ℕ). joined_often t now) (sym times) ∙ joins.comes;
     }
 
@@ -169,7 +169,7 @@ pub joins_alone : (units : ℕ) (blocks : Blocks) (level : ℕ) (first now : Det
     → JoinsPiece units blocks level first now moves
     → now ≡ joined_often (largest_level - level) first
 joins_alone units blocks level first now moves alone joins =
-    sym (joined_often-done (largest_level - now.level) now alone) ∙ joins.comes
+    sym (joined_often_done (largest_level - now.level) now alone) ∙ joins.comes
 
 -- ---- the level found
 not_yet : (order : Order) (level k : ℕ) → (level ≤ k → first_of (listed order k) ≡ None)
@@ -197,8 +197,8 @@ found_at order level found from most some none =
           ∙ some,
       λ k less. not_yet order level k (λ le. none k le less),
     ) in
-    answers-alone (suc largest_level) test (Some found) (least (suc largest_level) test) answer
-    (least-answers (suc largest_level) test)
+    answers_alone (suc largest_level) test (Some found) (least (suc largest_level) test) answer
+    (least_answers (suc largest_level) test)
 
 found_none : (order : Order) (level : ℕ)
     → ((k : ℕ) → level ≤ k → k ≤ largest_level → first_of (listed order k) ≡ None)
@@ -209,8 +209,8 @@ found_none order level none =
     let answer : Answers (suc largest_level) test None
     = λ (k : ℕ) (below : k < suc largest_level).
     not_yet order level k (λ le. none k le (omega arith)) in
-    answers-alone (suc largest_level) test None (least (suc largest_level) test) answer
-    (least-answers (suc largest_level) test)
+    answers_alone (suc largest_level) test None (least (suc largest_level) test) answer
+    (least_answers (suc largest_level) test)
 
 -- the first of the numbers from one to another that passes, or none does
 abbrev IsFirst : (ℕ → Type 0) → (ℕ → Type 0) → ℕ → ℕ → Option ℕ → Type 0

@@ -113,20 +113,20 @@ upper_test level lower multiple =
     (λ none. absurd (omega (arith, upper_rest level lower multiple, pow_pos level)))
 
 -- so the buddies of halves are these, and so is the whole
-pub buddy_of-lower : (level place : ℕ) → place % 2 ^ suc level ≡ 0
+pub buddy_of_lower : (level place : ℕ) → place % 2 ^ suc level ≡ 0
     → buddy_of level place ≡ place + 2 ^ level
-buddy_of-lower level place multiple =
+buddy_of_lower level place multiple =
     ap (λ (b : Bool). if b then place + 2 ^ level else place - 2 ^ level)
     (eq-eqb (place % 2 ^ suc level) 0 multiple)
 
-pub whole_of-lower : (level place : ℕ) → place % 2 ^ suc level ≡ 0 → whole_of level place ≡ place
-whole_of-lower level place multiple =
+pub whole_of_lower : (level place : ℕ) → place % 2 ^ suc level ≡ 0 → whole_of level place ≡ place
+whole_of_lower level place multiple =
     ap (λ (b : Bool). if b then place else place - 2 ^ level)
     (eq-eqb (place % 2 ^ suc level) 0 multiple)
 
-pub buddy_of-upper : (level lower : ℕ) → lower % 2 ^ suc level ≡ 0
+pub buddy_of_upper : (level lower : ℕ) → lower % 2 ^ suc level ≡ 0
     → buddy_of level (lower + 2 ^ level) ≡ lower
-buddy_of-upper level lower multiple =
+buddy_of_upper level lower multiple =
     let back : lower + 2 ^ level - 2 ^ level ≡ lower = omega arith in
     ap (λ (b : Bool). if b then lower + 2 ^ level + 2 ^ level else lower + 2 ^ level - 2 ^ level)
     (upper_test level lower multiple) ∙ back
@@ -143,22 +143,22 @@ one_bit level place multiple =
     ∙ xor_shifted number (suc level) (2 ^ level) small
     ∙ ap (λ (p : ℕ). p + 2 ^ level) (sym is)
 
-pub buddy_of-bit : (level place : ℕ) → place % 2 ^ level ≡ 0
+pub buddy_of_bit : (level place : ℕ) → place % 2 ^ level ≡ 0
     → bit_xor place (2 ^ level) ≡ buddy_of level place
-buddy_of-bit level place aligned =
+buddy_of_bit level place aligned =
     elim (which_half level place aligned) as (λ _. bit_xor place (2 ^ level) ≡ buddy_of level place) [
-      | is_lower lower ↦ one_bit level place lower ∙ sym (buddy_of-lower level place lower)
+      | is_lower lower ↦ one_bit level place lower ∙ sym (buddy_of_lower level place lower)
       | is_upper lower multiple at ↦
           ap (λ (p : ℕ). bit_xor p (2 ^ level)) (at ∙ sym (one_bit level lower multiple))
           ∙ xor_assoc lower (2 ^ level) (2 ^ level)
           ∙ ap (bit_xor lower) (xor_self (2 ^ level))
           ∙ xor_zero_r lower
-          ∙ sym (ap (buddy_of level) at ∙ buddy_of-upper level lower multiple)
+          ∙ sym (ap (buddy_of level) at ∙ buddy_of_upper level lower multiple)
     ]
 
-pub whole_of-upper : (level lower : ℕ) → lower % 2 ^ suc level ≡ 0
+pub whole_of_upper : (level lower : ℕ) → lower % 2 ^ suc level ≡ 0
     → whole_of level (lower + 2 ^ level) ≡ lower
-whole_of-upper level lower multiple =
+whole_of_upper level lower multiple =
     let back : lower + 2 ^ level - 2 ^ level ≡ lower = omega arith in
     ap (λ (b : Bool). if b then lower + 2 ^ level else lower + 2 ^ level - 2 ^ level)
     (upper_test level lower multiple) ∙ back

@@ -6,15 +6,15 @@ use Rattle.std.proofs.lemmas.List.{get_or-set_same, length-set, length-replicate
 use Rattle.std.specs.FinMap as map
 use Rattle.l6_word.specs.Numerals.{largest_level}
 use Rattle.l6_raw.specs.Words.{overwritten}
-use Rattle.l6_raw.proofs.Overwriting.{length-overwritten, are_words-overwritten, are_words-zeros}
+use Rattle.l6_raw.proofs.Overwriting.{length_overwritten, are_words_overwritten, are_words_zeros}
 use Rattle.l6_store.specs.Blocks.{Fits, LiesIn, IsAlignedPlace}
 use Rattle.l6_store.specs.Buddy.{IsListed}
 use Rattle.l6_store.specs.inner.Chains.{order_of}
 use Rattle.l6_store.specs.inner.ArenaLayout.{AreBeside, IsArena, blocks_of, place_tag_at, tag_of}
 use Rattle.l6_store.specs.declared.place_tag.PlaceTag.{PlaceTag}
 use Rattle.l6_store.specs.declared.place_tag.PlaceTag.TheVariants.{Inner, Block, Listed}
-use Rattle.l6_store.proofs.DetachedBlocks.{insert-lies}
-use Rattle.l6_store.proofs.Tagged.{block_gone, fits-insert, fits-remove, tagged_lies, one_block, was_there}
+use Rattle.l6_store.proofs.DetachedBlocks.{insert_lies}
+use Rattle.l6_store.proofs.Tagged.{block_gone, fits_insert, fits_remove, tagged_lies, one_block, was_there}
 use Rattle.l6_store.proofs.Arenas.{place_tag_same, kept_laid, kept_order}
 use Rattle.l6_store.proofs.Changed.{outside, overwritten_part}
 
@@ -58,7 +58,7 @@ module _ (units : ℕ) (words heads : List ℕ) (place_tags : List PlaceTag)
     open_within = omega (arith, were.filled, is_aligned.within)
 
     open_count : length (overwritten words place (replicate (2 ^ level) 0)) ≡ length words
-    open_count = length-overwritten words place (replicate (2 ^ level) 0)
+    open_count = length_overwritten words place (replicate (2 ^ level) 0)
         (omega (arith, zeros_count, open_within))
 
     open_same : (at : ℕ) → (place ≤ at → at < place + 2 ^ level → ⊥)
@@ -144,20 +144,20 @@ module _ (units : ℕ) (words heads : List ℕ) (place_tags : List PlaceTag)
         ]
 
     opened_fits : Fits units (map.insert (blocks_of place_tags words) place (replicate (2 ^ level) 0))
-    opened_fits = fits-insert units (blocks_of place_tags words) place (replicate (2 ^ level) 0)
+    opened_fits = fits_insert units (blocks_of place_tags words) place (replicate (2 ^ level) 0)
         were.are_blocks.fits
         (record {
           level = level;
           size = zeros_count;
           is_aligned = is_aligned;
-          are_words = are_words-zeros (2 ^ level);
+          are_words = are_words_zeros (2 ^ level);
         })
         clear_of
 
     opened_beside : AreBeside
         (map.insert (blocks_of place_tags words) place (replicate (2 ^ level) 0)) (order_of words heads)
     opened_beside k q is lies =
-        elim (insert-lies (blocks_of place_tags words) place (replicate (2 ^ level) 0) q lies)
+        elim (insert_lies (blocks_of place_tags words) place (replicate (2 ^ level) 0) q lies)
         as (λ _. ⊥) [
           | inl (from, before) ↦ unlisted k q from (omega (arith, zeros_count)) is
           | inr old ↦ were.beside k q is old
@@ -177,8 +177,8 @@ module _ (units : ℕ) (words heads : List ℕ) (place_tags : List PlaceTag)
         (λ k at is. open_same at (λ low high. unlisted k at low high is))
         (λ at. place_tags_alike place_tags place (Block level) at open_room (λ k is. (cc)) not_listed)
         open_none opened_holds opened_blocks opened_fits
-        (are_words-overwritten words place (replicate (2 ^ level) 0) were.are_blocks.are_words
-        (are_words-zeros (2 ^ level))) opened_beside
+        (are_words_overwritten words place (replicate (2 ^ level) 0) were.are_blocks.are_words
+        (are_words_zeros (2 ^ level))) opened_beside
 
     pub opened_order : order_of (overwritten words place (replicate (2 ^ level) 0)) heads
         ≡ order_of words heads
@@ -189,8 +189,8 @@ module _ (units : ℕ) (words heads : List ℕ) (place_tags : List PlaceTag)
         (λ k at is. open_same at (λ low high. unlisted k at low high is))
         (λ at. place_tags_alike place_tags place (Block level) at open_room (λ k is. (cc)) not_listed)
         open_none opened_holds opened_blocks opened_fits
-        (are_words-overwritten words place (replicate (2 ^ level) 0) were.are_blocks.are_words
-        (are_words-zeros (2 ^ level))) opened_beside
+        (are_words_overwritten words place (replicate (2 ^ level) 0) were.are_blocks.are_words
+        (are_words_zeros (2 ^ level))) opened_beside
 
   -- ---- a block is closed
   module _ (level place : ℕ) (is : place_tag_at place_tags place ≡ Block level) where
@@ -251,5 +251,5 @@ module _ (units : ℕ) (words heads : List ℕ) (place_tags : List PlaceTag)
     closed_laid = kept_laid units words heads place_tags were words (set place_tags place Inner)
         (map.remove (blocks_of place_tags words) place) refl (length-set place_tags place Inner)
         (λ k at there. refl) closed_alike close_none closed_holds closed_blocks
-        (fits-remove units (blocks_of place_tags words) place were.are_blocks.fits)
+        (fits_remove units (blocks_of place_tags words) place were.are_blocks.fits)
         were.are_blocks.are_words closed_beside

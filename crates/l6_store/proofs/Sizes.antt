@@ -16,7 +16,7 @@ use Rattle.l6_store.specs.inner.PlaceTags.{AreSizes, IsFilled, IsVacantRun, IsTa
 use Rattle.l6_store.specs.declared.tag.Tag.{Tag}
 use Rattle.l6_store.specs.declared.tag.Tag.TheVariants.{Free, First, Inside}
 use Rattle.l6_store.proofs.Kept.{length_of}
-use Rattle.l6_store.proofs.Ranges.{index-range}
+use Rattle.l6_store.proofs.Ranges.{index_range}
 use Rattle.l6_store.proofs.Calls.{block_known, block_within, size_known}
 
 -- ---- a new block
@@ -169,7 +169,7 @@ module _ (units : ℕ) (tags : List Tag) (words sizes : List ℕ) (kept : IsKept
       let long = length_of units tags words kept place first.0 first.1 in
       ap (λ b. slice_get b index) (sym (block_known tags words place first.0 first.1))
       ∙ slice_get-get_or block index 0 (omega (arith, small, long))
-      ∙ ap Some (index-range words place (2 ^ first.0) index small ∙ sym is)
+      ∙ ap Some (index_range words place (2 ^ first.0) index small ∙ sym is)
 
   pub word_fits : (value : ℕ) → value ≡ get_or words (place + index) 0 → value < 2 ^ word_bits
   word_fits value is =

@@ -13,33 +13,33 @@ use Rattle.l6_store.specs.Buddy.{DetachedPiece, has, listed, IsListed, buddy_of,
 use Rattle.l6_store.specs.Least.{least}
 use Rattle.l6_store.specs.Tiles.{Tiles}
 use Rattle.l6_store.specs.inner.Detached.{Holding}
-use Rattle.l6_store.proofs.Least.{Answers, least-answers, answers-alone}
+use Rattle.l6_store.proofs.Least.{Answers, least_answers, answers_alone}
 use Rattle.l6_store.proofs.Multiples.{same_multiple, times_size}
 use Rattle.l6_store.proofs.Finding.{Found, level_is_found, large_piece}
 use Rattle.l6_store.proofs.Detached.{holds_taken, holds_halved, holds_joined, holds_released}
 use Rattle.l6_store.proofs.DetachedBlocks.{detached_is_block, block_is_detached}
 
 -- ---- halving often
-pub halved_often-level : (times : ℕ) (detached : DetachedPiece) → times ≤ detached.level
+pub halved_often_level : (times : ℕ) (detached : DetachedPiece) → times ≤ detached.level
     → (halved_often times detached).level + times ≡ detached.level
 unfolding halved_often
-halved_often-level zero detached le = omega arith
-halved_often-level (suc times) detached le =
-    let less = halved_often-level times (halved detached) (omega arith) in omega (arith, less)
+halved_often_level zero detached le = omega arith
+halved_often_level (suc times) detached le =
+    let less = halved_often_level times (halved detached) (omega arith) in omega (arith, less)
 
-pub halved_often-place : (times : ℕ) (detached : DetachedPiece) →
+pub halved_often_place : (times : ℕ) (detached : DetachedPiece) →
     (halved_often times detached).place ≡ detached.place
 unfolding halved_often
-halved_often-place zero detached = refl
-halved_often-place (suc times) detached = halved_often-place times (halved detached)
+halved_often_place zero detached = refl
+halved_often_place (suc times) detached = halved_often_place times (halved detached)
 
-pub halved_often-holds : (units : ℕ) (blocks : Blocks) (times : ℕ) (detached : DetachedPiece)
+pub halved_often_holds : (units : ℕ) (blocks : Blocks) (times : ℕ) (detached : DetachedPiece)
     → times ≤ detached.level → Holding units blocks detached
     → Holding units blocks (halved_often times detached)
 unfolding halved_often
-halved_often-holds units blocks zero detached le holding = holding
-halved_often-holds units blocks (suc times) detached le holding =
-    halved_often-holds units blocks times (halved detached) (omega arith)
+halved_often_holds units blocks zero detached le holding = holding
+halved_often_holds units blocks (suc times) detached le holding =
+    halved_often_holds units blocks times (halved detached) (omega arith)
     (holds_halved units blocks detached (omega arith) holding)
 
 -- ---- joining often
@@ -55,18 +55,18 @@ joined_then times detached b is =
     ap (λ (t : Bool). if t then joined_often times (joined detached) else detached) is
 
 -- one joining more
-pub joined_often-more : (times : ℕ) (detached : DetachedPiece)
+pub joined_often_more : (times : ℕ) (detached : DetachedPiece)
     → IsListed detached.order detached.level (buddy_of detached.level detached.place)
     → joined_often (suc times) detached ≡ joined_often times (joined detached)
-joined_often-more times detached is = joined_then times detached true is
+joined_often_more times detached is = joined_then times detached true is
 
 -- and no more
-pub joined_often-done : (times : ℕ) (detached : DetachedPiece)
+pub joined_often_done : (times : ℕ) (detached : DetachedPiece)
     → has (buddy_of detached.level detached.place) (listed detached.order detached.level) ≡ false
     → joined_often times detached ≡ detached
 unfolding joined_often
-joined_often-done zero detached is = refl
-joined_often-done (suc times) detached is = joined_then times detached false is
+joined_often_done zero detached is = refl
+joined_often_done (suc times) detached is = joined_then times detached false is
 
 -- what comes of it: a detached piece whose buddy is not free, or of the last level
 pub record Joined (units : ℕ) (blocks : Blocks) (top : ℕ) (detached : DetachedPiece) : Type 0 where
@@ -75,27 +75,27 @@ pub record Joined (units : ℕ) (blocks : Blocks) (top : ℕ) (detached : Detach
   pub alone : detached.level < top →
       IsListed detached.order detached.level (buddy_of detached.level detached.place) → ⊥
 
-pub joined_often-holds : (units : ℕ) (blocks : Blocks) (times : ℕ) (detached : DetachedPiece)
+pub joined_often_holds : (units : ℕ) (blocks : Blocks) (times : ℕ) (detached : DetachedPiece)
     → detached.level + times ≤ largest_level → Holding units blocks detached
     → Joined units blocks (detached.level + times) (joined_often times detached)
-joined_often-holds units blocks zero detached le holding =
+joined_often_holds units blocks zero detached le holding =
     subst (λ (h : DetachedPiece). Joined units blocks (detached.level + zero) h)
     (sym (joined_none detached))
     (record { holds = holding; most = omega arith; alone = λ less. absurd (omega arith) })
-joined_often-holds units blocks (suc times) detached le holding =
+joined_often_holds units blocks (suc times) detached le holding =
     elim (cases_Bool (has (buddy_of detached.level detached.place)
     (listed detached.order detached.level)))
     as (λ _. Joined units blocks (detached.level + suc times) (joined_often (suc times) detached)) [
       | inl is ↦
           let top : suc detached.level + times ≡ detached.level + suc times = omega arith in
           subst (λ (h : DetachedPiece). Joined units blocks (detached.level + suc times) h)
-          (sym (joined_often-more times detached is))
+          (sym (joined_often_more times detached is))
           (subst (λ (t : ℕ). Joined units blocks t (joined_often times (joined detached))) top
-          (joined_often-holds units blocks times (joined detached) (omega arith)
+          (joined_often_holds units blocks times (joined detached) (omega arith)
           (holds_joined units blocks detached (omega arith) holding is)))
       | inr none ↦
           subst (λ (h : DetachedPiece). Joined units blocks (detached.level + suc times) h)
-          (sym (joined_often-done (suc times) detached none))
+          (sym (joined_often_done (suc times) detached none))
           (record {
             holds = holding;
             most = omega arith;
@@ -103,33 +103,33 @@ joined_often-holds units blocks (suc times) detached le holding =
           })
     ]
 
-pub joined_often-level : (times : ℕ) (detached : DetachedPiece)
+pub joined_often_level : (times : ℕ) (detached : DetachedPiece)
     → (joined_often times detached).level ≤ detached.level + times
-joined_often-level zero detached =
+joined_often_level zero detached =
     omega (arith, ap (λ (h : DetachedPiece). h.level) (joined_none detached))
-joined_often-level (suc times) detached =
+joined_often_level (suc times) detached =
     elim (cases_Bool (has (buddy_of detached.level detached.place)
     (listed detached.order detached.level)))
     as (λ _. (joined_often (suc times) detached).level ≤ detached.level + suc times) [
       | inl is ↦
           omega (
             arith,
-            ap (λ (h : DetachedPiece). h.level) (joined_often-more times detached is),
-            joined_often-level times (joined detached),
+            ap (λ (h : DetachedPiece). h.level) (joined_often_more times detached is),
+            joined_often_level times (joined detached),
           )
       | inr none ↦
           omega (
             arith,
             ap (λ (h : DetachedPiece). h.level)
-                (joined_often-done (suc times) detached none),
+                (joined_often_done (suc times) detached none),
           )
     ]
 
 -- ---- the level of a block
-pub level_at-is : (blocks : Blocks) (place level : ℕ) (words : List ℕ) → level ≤ largest_level
+pub level_at_is : (blocks : Blocks) (place level : ℕ) (words : List ℕ) → level ≤ largest_level
     → map.get blocks place ≡ Some words → length words ≡ 2 ^ level → level_at blocks place ≡ level
 unfolding level_at Answers
-level_at-is blocks place level words small is size =
+level_at_is blocks place level words small is size =
     let test : ℕ → Bool = λ k. 2 ^ k == length (block_at blocks place) in
     let counts : length (block_at blocks place) ≡ 2 ^ level
     = ap (λ (found : Option (List ℕ)). length (unwrap_or found [])) is ∙ size in
@@ -140,8 +140,8 @@ level_at-is blocks place level words small is size =
           (λ same. absurd (omega (arith, counts, pow_below k level less))),
     ) in
     ap (λ (found : Option ℕ). unwrap_or found 0)
-    (answers-alone (suc largest_level) test (least (suc largest_level) test) (Some level)
-    (least-answers (suc largest_level) test) answer)
+    (answers_alone (suc largest_level) test (least (suc largest_level) test) (Some level)
+    (least_answers (suc largest_level) test) answer)
 
 -- ---- gets and frees
 -- the piece that a get has detached at the end
@@ -157,12 +157,12 @@ pub got_holds : (units : ℕ) (blocks : Blocks) (order : Order) (level found : �
 got_holds units blocks order level found tiles le is =
     let first : DetachedPiece = first_taken order found in
     let last : DetachedPiece = piece_got order level found in
-    let holding = halved_often-holds units blocks (found - level) first (omega arith)
+    let holding = halved_often_holds units blocks (found - level) first (omega arith)
     (holds_taken units blocks order found (first_or (listed order found) 0) tiles is) in
-    let counts = halved_often-level (found - level) first (omega arith) in
+    let counts = halved_often_level (found - level) first (omega arith) in
     let level_is : last.level ≡ level = omega (arith, counts) in
     subst (λ (p : ℕ). Holding units blocks (record { order = last.order; level = level; place = p }))
-    (halved_often-place (found - level) first)
+    (halved_often_place (found - level) first)
     (subst (λ (k : ℕ). Holding units blocks
     (record { order = last.order; level = k; place = last.place })) level_is holding)
 
@@ -184,13 +184,13 @@ pub freed_tiles : (units : ℕ) (blocks : Blocks) (order : Order) (place : ℕ) 
 freed_tiles units blocks order place words fits tiles is =
     let block = fits.each place words is in
     let level : level_at blocks place ≡ block.level
-    = level_at-is blocks place block.level words block.is_aligned.small is block.size in
+    = level_at_is blocks place block.level words block.is_aligned.small is block.size in
     let first : DetachedPiece = record { order = order; level = block.level; place = place } in
     let detached = block_is_detached units blocks order block.level place words fits tiles is block.size
     block.is_aligned in
     let sum : block.level + (largest_level - block.level) ≡ largest_level
     = omega (arith, block.is_aligned.small) in
-    let done = joined_often-holds units (map.remove blocks place) (largest_level - block.level) first
+    let done = joined_often_holds units (map.remove blocks place) (largest_level - block.level) first
     (omega (arith, sum)) detached in
     subst (λ (k : ℕ). Tiles units (map.remove blocks place) (put_back (piece_freed order k place)))
     (sym level)
@@ -252,6 +252,6 @@ pub moves_few_freed : (order : Order) (level place : ℕ)
 moves_few_freed order level place =
     omega (
       arith,
-      joined_often-level (largest_level - level)
+      joined_often_level (largest_level - level)
           (record { order = order; level = level; place = place }),
     )

@@ -12,11 +12,11 @@ use Rattle.l6_store.specs.Tiles.{Tiles}
 use Rattle.l6_store.specs.inner.Detached.{Holding, IsDetached}
 use Rattle.l6_store.specs.inner.ArenaLayout.{IsSoundLayout, ArenaLayout}
 use Rattle.l6_store.proofs.Live.{live_words}
-use Rattle.l6_store.proofs.Gathered.{get-insert_same, get-insert_other}
-use Rattle.l6_store.proofs.DetachedBlocks.{block_is_detached, insert-lies}
+use Rattle.l6_store.proofs.Gathered.{get_insert_same, get_insert_other}
+use Rattle.l6_store.proofs.DetachedBlocks.{block_is_detached, insert_lies}
 use Rattle.l6_store.proofs.Detached.{holds_taken}
 use Rattle.l6_store.proofs.Finding.{Found, chooses, level_is_found}
-use Rattle.l6_store.proofs.Steps.{got_holds, got_tiles, freed_tiles, level_at-is, moves_few_freed, moves_few_got}
+use Rattle.l6_store.proofs.Steps.{got_holds, got_tiles, freed_tiles, level_at_is, moves_few_freed, moves_few_got}
 
 -- a filled arena is a sound store
 pub sound_store : (layout : ArenaLayout) (moves : ℕ) → IsSoundLayout layout
@@ -68,7 +68,7 @@ again_lies blocks place old new is count at lies =
           record {
             start = place;
             words = new;
-            is = get-insert_same blocks place new;
+            is = get_insert_same blocks place new;
             from = omega (arith, lies.from, same);
             below = omega (arith, lies.below, same, counts, count);
           }
@@ -76,7 +76,7 @@ again_lies blocks place old new is count at lies =
           record {
             start = lies.start;
             words = lies.words;
-            is = get-insert_other blocks place new lies.start other ∙ lies.is;
+            is = get_insert_other blocks place new lies.start other ∙ lies.is;
             from = lies.from;
             below = lies.below;
           }
@@ -85,7 +85,7 @@ again_lies blocks place old new is count at lies =
 was_lying : (blocks : Blocks) (place : ℕ) (old new : List ℕ) → map.get blocks place ≡ Some old
     → length new ≡ length old → (at : ℕ) → LiesIn (map.insert blocks place new) at → LiesIn blocks at
 was_lying blocks place old new is count at lies =
-    elim (insert-lies blocks place new at lies) as (λ _. LiesIn blocks at) [
+    elim (insert_lies blocks place new at lies) as (λ _. LiesIn blocks at) [
       | inl (from, before) ↦
           record { start = place; words = old; is = is; from = from; below = omega (arith, count) }
       | inr was ↦ was
@@ -176,7 +176,7 @@ module _ (was : ArenaLayout) (sound : IsSoundLayout was) (tiles : Tiles was.unit
     (closed_blocks : closed.blocks ≡ map.remove was.blocks place)
     (closed_order : closed.order ≡ was.order) where
   pub level_known : level_at was.blocks place ≡ level
-  level_known = level_at-is was.blocks place level (block_at was.blocks place) small
+  level_known = level_at_is was.blocks place level (block_at was.blocks place) small
       (live_words was.blocks place live) (sym size)
 
   freed_holds : IsAlignedPlace was.units level place
@@ -184,7 +184,7 @@ module _ (was : ArenaLayout) (sound : IsSoundLayout was) (tiles : Tiles was.unit
       let block = sound.fits.each place (block_at was.blocks place) (live_words was.blocks place live)
       in
       let its : level_at was.blocks place ≡ block.level
-      = level_at-is was.blocks place block.level (block_at was.blocks place) block.is_aligned.small
+      = level_at_is was.blocks place block.level (block_at was.blocks place) block.is_aligned.small
       (live_words was.blocks place live) block.size in
       subst (λ (k : ℕ). IsAlignedPlace was.units k place) (sym its ∙ level_known) block.is_aligned
 

@@ -14,14 +14,14 @@ use Rattle.l6_store.specs.declared.place_tag.PlaceTag.{PlaceTag}
 use Rattle.l6_store.specs.declared.place_tag.PlaceTag.TheVariants.{Inner, Block, Listed}
 use Rattle.l6_store.specs.declared.tag.Tag.{Tag}
 use Rattle.l6_store.specs.declared.tag.Tag.TheVariants.{Free, First, Inside}
-use Rattle.l6_store.proofs.Ranges.{index-range, same_range, length-range}
-use Rattle.l6_store.proofs.Gathered.{gathered_is, get-gathered, get-insert_same, get-insert_other, get-remove_same, get-remove_other}
+use Rattle.l6_store.proofs.Ranges.{index_range, same_range, length_range}
+use Rattle.l6_store.proofs.Gathered.{gathered_is, get_gathered, get_insert_same, get_insert_other, get_remove_same, get_remove_other}
 use Rattle.l6_store.proofs.Contents.{known_alike}
 use Rattle.l6_store.proofs.Live.{live_words}
 
-tag_at-map : (place_tags : List PlaceTag) (place : ℕ)
+tag_at_map : (place_tags : List PlaceTag) (place : ℕ)
     → tag_at (mapped tag_of place_tags) place ≡ tag_of (place_tag_at place_tags place)
-tag_at-map place_tags place =
+tag_at_map place_tags place =
     elim (cases_lt place (length place_tags))
     as (λ _. tag_at (mapped tag_of place_tags) place ≡ tag_of (place_tag_at place_tags place)) [
       | inl below ↦ get_or-map tag_of place_tags place Inner Free below
@@ -32,13 +32,13 @@ tag_at-map place_tags place =
     ]
 
 -- what begins at a place
-pub get-blocks_of : (place_tags : List PlaceTag) (words : List ℕ) (place : ℕ)
+pub get_blocks_of : (place_tags : List PlaceTag) (words : List ℕ) (place : ℕ)
     → map.get (blocks_of place_tags words) place
     ≡ tagged words place (tag_of (place_tag_at place_tags place))
 unfolding blocks_of
-get-blocks_of place_tags words place =
-    get-gathered (mapped tag_of place_tags) words place
-    ∙ ap (tagged words place) (tag_at-map place_tags place)
+get_blocks_of place_tags words place =
+    get_gathered (mapped tag_of place_tags) words place
+    ∙ ap (tagged words place) (tag_at_map place_tags place)
 
 pub blocks_are : (place_tags : List PlaceTag) (words : List ℕ) (blocks : Blocks)
     → ((q : ℕ) → tagged words q (tag_of (place_tag_at place_tags q)) ≡ map.get blocks q)
@@ -46,14 +46,14 @@ pub blocks_are : (place_tags : List PlaceTag) (words : List ℕ) (blocks : Block
 unfolding blocks_of
 blocks_are place_tags words blocks each =
     gathered_is (mapped tag_of place_tags) words blocks
-    (λ q. ap (tagged words q) (tag_at-map place_tags q) ∙ each q)
+    (λ q. ap (tagged words q) (tag_at_map place_tags q) ∙ each q)
 
 -- a block's tag gives its words
 pub block_tagged : (place_tags : List PlaceTag) (words : List ℕ) (level place : ℕ)
     → place_tag_at place_tags place ≡ Block level
     → map.get (blocks_of place_tags words) place ≡ Some (slice_range words place (place + 2 ^ level))
 block_tagged place_tags words level place is =
-    get-blocks_of place_tags words place ∙ ap (λ (m : PlaceTag). tagged words place (tag_of m)) is
+    get_blocks_of place_tags words place ∙ ap (λ (m : PlaceTag). tagged words place (tag_of m)) is
 
 pub record Tagged (place_tags : List PlaceTag) (words : List ℕ) (place : ℕ)
     (block : List ℕ) : Type 0 where
@@ -77,7 +77,7 @@ pub with_tag : (place_tags : List PlaceTag) (words : List ℕ) (place : ℕ) (bl
     → map.get (blocks_of place_tags words) place ≡ Some block → Tagged place_tags words place block
 with_tag place_tags words place block is =
     tagged_by place_tags words place block (place_tag_at place_tags place) refl
-    (sym (get-blocks_of place_tags words place) ∙ is)
+    (sym (get_blocks_of place_tags words place) ∙ is)
 
 -- a place of a block lies in it
 pub tagged_lies : (units : ℕ) (place_tags : List PlaceTag) (words : List ℕ) →
@@ -94,7 +94,7 @@ tagged_lies units place_tags words filled is_aligned level place at is from befo
   from = from;
   below = omega (
     arith,
-    length-range words place (2 ^ level)
+    length_range words place (2 ^ level)
         (omega (arith, filled, (is_aligned level place is).within)),
   );
 }
@@ -126,7 +126,7 @@ same_blocks units place_tags after words new filled count is_aligned tags same =
     (λ j below. same (q + j)
     (tagged_lies units place_tags words filled is_aligned level q (q + j) is (omega arith)
     (omega arith))))
-    ∙ sym (get-blocks_of place_tags words q))
+    ∙ sym (get_blocks_of place_tags words q))
 
 -- one block is new, or has new words
 pub one_block : (units : ℕ) (place_tags after : List PlaceTag) (words new : List ℕ) (level place : ℕ)
@@ -149,7 +149,7 @@ one_block units place_tags after words new level place filled count is_aligned i
           ap (λ (p : ℕ). tagged new p (tag_of (place_tag_at after p))) there
           ∙ ap (λ (m : PlaceTag). tagged new place (tag_of m)) is
           ∙ sym (ap (map.get (map.insert (blocks_of place_tags words) place block)) there
-          ∙ get-insert_same (blocks_of place_tags words) place block)
+          ∙ get_insert_same (blocks_of place_tags words) place block)
       | inr other ↦
           ap (tagged new q) (tags q other)
           ∙ known_alike words new q (tag_of (place_tag_at place_tags q)) (λ k first.
@@ -157,8 +157,8 @@ one_block units place_tags after words new level place filled count is_aligned i
           let within = (is_aligned k q was).within in
           same_range new words q q (2 ^ k) (omega (arith, filled, count)) (omega (arith, filled))
           (λ j below. same q k (q + j) other was (omega arith) (omega arith)))
-          ∙ sym (get-insert_other (blocks_of place_tags words) place block q other
-          ∙ get-blocks_of place_tags words q)
+          ∙ sym (get_insert_other (blocks_of place_tags words) place block q other
+          ∙ get_blocks_of place_tags words q)
     ])
 
 -- one block is gone
@@ -175,11 +175,11 @@ block_gone place_tags after words place is tags =
           ap (λ (p : ℕ). tagged words p (tag_of (place_tag_at after p))) there
           ∙ ap (tagged words place) is
           ∙ sym (ap (map.get (map.remove (blocks_of place_tags words) place)) there
-          ∙ get-remove_same (blocks_of place_tags words) place)
+          ∙ get_remove_same (blocks_of place_tags words) place)
       | inr other ↦
           ap (tagged words q) (tags q other)
-          ∙ sym (get-remove_other (blocks_of place_tags words) place q other
-          ∙ get-blocks_of place_tags words q)
+          ∙ sym (get_remove_other (blocks_of place_tags words) place q other
+          ∙ get_blocks_of place_tags words q)
     ])
 
 -- ---- blocks that fit
@@ -192,19 +192,19 @@ insert_cases blocks place words q block is =
     as (λ _. ((q ≡ place) × (block ≡ words)) ⊎ ((q ≢ place) × (map.get blocks q ≡ Some block))) [
       | inl same ↦
           let found : Some words ≡ Some block
-          = sym (get-insert_same blocks place words)
+          = sym (get_insert_same blocks place words)
           ∙ ap (map.get (map.insert blocks place words)) (sym same) ∙ is in
           let words_are : block ≡ words = cc in
           inl (same, words_are)
-      | inr other ↦ inr (other, sym (get-insert_other blocks place words q other) ∙ is)
+      | inr other ↦ inr (other, sym (get_insert_other blocks place words q other) ∙ is)
     ]
 
-pub fits-insert : (units : ℕ) (blocks : Blocks) (place : ℕ) (words : List ℕ) → Fits units blocks
+pub fits_insert : (units : ℕ) (blocks : Blocks) (place : ℕ) (words : List ℕ) → Fits units blocks
     → IsBlock units place words
     → ((q : ℕ) (block : List ℕ) → q ≢ place → map.get blocks q ≡ Some block
     → (q + length block ≤ place) ⊎ (place + length words ≤ q))
     → Fits units (map.insert blocks place words)
-fits-insert units blocks place words fits is clear = record {
+fits_insert units blocks place words fits is clear = record {
   each = λ q block found.
       elim (insert_cases blocks place words q block found) as (λ _. IsBlock units q block) [
         | inl (same, words_are) ↦
@@ -242,13 +242,13 @@ fits-insert units blocks place words fits is clear = record {
 pub was_there : (blocks : Blocks) (place q : ℕ) (block : List ℕ)
     → map.get (map.remove blocks place) q ≡ Some block → map.get blocks q ≡ Some block
 was_there blocks place q block found =
-    sym (get-remove_other blocks place q (λ same.
-    (let gone = get-remove_same blocks place in
+    sym (get_remove_other blocks place q (λ same.
+    (let gone = get_remove_same blocks place in
     let there = ap (map.get (map.remove blocks place)) same in cc))) ∙ found
 
-pub fits-remove : (units : ℕ) (blocks : Blocks) (place : ℕ) → Fits units blocks
+pub fits_remove : (units : ℕ) (blocks : Blocks) (place : ℕ) → Fits units blocks
     → Fits units (map.remove blocks place)
-fits-remove units blocks place fits = record {
+fits_remove units blocks place fits = record {
   each = λ q block found. fits.each q block (was_there blocks place q block found);
   apart = λ one two block others first second less.
       fits.apart one two block others (was_there blocks place one block first)
@@ -272,7 +272,7 @@ pub tagged_live : (place_tags : List PlaceTag) (words : List ℕ) (place : ℕ)
     → IsSome (level_of (tag_of (place_tag_at place_tags place))) →
     IsLive (blocks_of place_tags words) place
 tagged_live place_tags words place determined =
-    subst (λ (b : Option (List ℕ)). IsSome b) (sym (get-blocks_of place_tags words place))
+    subst (λ (b : Option (List ℕ)). IsSome b) (sym (get_blocks_of place_tags words place))
     (level_live words place (tag_of (place_tag_at place_tags place)) determined)
 
 pub live_tagged : (place_tags : List PlaceTag) (words : List ℕ) (place : ℕ)
@@ -280,7 +280,7 @@ pub live_tagged : (place_tags : List PlaceTag) (words : List ℕ) (place : ℕ)
     IsSome (level_of (tag_of (place_tag_at place_tags place)))
 live_tagged place_tags words place live =
     live_level words place (tag_of (place_tag_at place_tags place))
-    (subst (λ (b : Option (List ℕ)). IsSome b) (get-blocks_of place_tags words place) live)
+    (subst (λ (b : Option (List ℕ)). IsSome b) (get_blocks_of place_tags words place) live)
 
 size_by : (units : ℕ) (place_tags : List PlaceTag) (words : List ℕ) → length words ≡ end_of units
     → ((level place : ℕ) → place_tag_at place_tags place ≡ Block level →
@@ -289,7 +289,7 @@ size_by : (units : ℕ) (place_tags : List PlaceTag) (words : List ℕ) → leng
     → option_map (λ (level : ℕ). 2 ^ level) (level_of (tag_of place_tag))
     ≡ option_map (λ (block : List ℕ). length block) (tagged words place (tag_of place_tag))
 size_by units place_tags words filled is_aligned place (Block level) is =
-    ap (λ (n : ℕ). Some n) (sym (length-range words place (2 ^ level)
+    ap (λ (n : ℕ). Some n) (sym (length_range words place (2 ^ level)
     (omega (arith, filled, (is_aligned level place is).within))))
 size_by units place_tags words filled is_aligned place Inner is = refl
 size_by units place_tags words filled is_aligned place (Listed level) is = refl
@@ -303,7 +303,7 @@ pub tagged_size : (units : ℕ) (place_tags : List PlaceTag) (words : List ℕ) 
     ≡ option_map (λ (block : List ℕ). length block) (map.get (blocks_of place_tags words) place)
 tagged_size units place_tags words filled is_aligned place =
     size_by units place_tags words filled is_aligned place (place_tag_at place_tags place) refl
-    ∙ ap (option_map (λ (block : List ℕ). length block)) (sym (get-blocks_of place_tags words place))
+    ∙ ap (option_map (λ (block : List ℕ). length block)) (sym (get_blocks_of place_tags words place))
 
 small_by : (units : ℕ) (place_tags : List PlaceTag)
     → ((level place : ℕ) → place_tag_at place_tags place ≡ Block level →
@@ -353,7 +353,7 @@ block_here units place_tags words filled is_aligned place live =
       place_tag = from.place_tag;
       words_are = from.is;
       size = ap (λ (ws : List ℕ). length ws) from.is
-          ∙ length-range words place (2 ^ from.level) inside;
+          ∙ length_range words place (2 ^ from.level) inside;
       within = inside;
     }
 
@@ -369,7 +369,7 @@ pub no_word : (place_tags : List PlaceTag) (words : List ℕ) (place index : ℕ
     → None ≡ slice_get (block_at (blocks_of place_tags words) place) index
 no_word place_tags words place index none =
     sym (ap (λ (found : Option (List ℕ)). slice_get (unwrap_or found []) index)
-    (get-blocks_of place_tags words place
+    (get_blocks_of place_tags words place
     ∙ no_level words place (tag_of (place_tag_at place_tags place)) none))
 
 -- the word of an index in a block
@@ -378,8 +378,8 @@ pub block_word : (place_tags : List PlaceTag) (words : List ℕ) (level place in
     → Some (get_or words (place + index) 0)
     ≡ slice_get (block_at (blocks_of place_tags words) place) index
 block_word place_tags words level place index is within below =
-    let size = length-range words place (2 ^ level) within in
-    ap (λ (w : ℕ). Some w) (sym (index-range words place (2 ^ level) index below))
+    let size = length_range words place (2 ^ level) within in
+    ap (λ (w : ℕ). Some w) (sym (index_range words place (2 ^ level) index below))
     ∙ sym (slice_get-get_or (slice_range words place (place + 2 ^ level)) index 0 (omega arith))
     ∙ ap (λ (ws : List ℕ). slice_get ws index) (sym (block_at_tagged place_tags words level place is))
 
@@ -387,6 +387,6 @@ pub past_block : (place_tags : List PlaceTag) (words : List ℕ) (level place in
     → place_tag_at place_tags place ≡ Block level → place + 2 ^ level ≤ length words → 2 ^ level ≤ index
     → None ≡ slice_get (block_at (blocks_of place_tags words) place) index
 past_block place_tags words level place index is within past =
-    let size = length-range words place (2 ^ level) within in
+    let size = length_range words place (2 ^ level) within in
     sym (ap (λ (ws : List ℕ). slice_get ws index) (block_at_tagged place_tags words level place is)
     ∙ slice_get_past (slice_range words place (place + 2 ^ level)) index (omega arith))

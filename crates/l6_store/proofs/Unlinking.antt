@@ -7,9 +7,9 @@ use Rattle.l6_store.specs.Buddy.{has, without, first_or}
 use Rattle.l6_store.specs.Links.{AreLinked}
 use Rattle.l6_store.specs.inner.Chains.{before_in, after_in, with_before, with_after, with_head, words_unlinked}
 use Rattle.l6_store.specs.inner.ArenaLayout.{AreDistinct}
-use Rattle.l6_store.proofs.Counts.{has-first, has-more}
-use Rattle.l6_store.proofs.PlaceLists.{has-front, has-back, last_or, has-last_or, AreWithin, within-rest, first_or-within, Split, split, distinct-front, distinct-back, distinct-apart}
-use Rattle.l6_store.proofs.Chains.{before_of, after_of, with_after-none, before-others, after-others, length-with_before, length-with_after, linked_parts, linked_whole, linked_along, last_renamed, first_renamed}
+use Rattle.l6_store.proofs.Counts.{has_first, has_more}
+use Rattle.l6_store.proofs.PlaceLists.{has_front, has_back, last_or, has_last_or, AreWithin, within_rest, first_or_within, Split, split, distinct_front, distinct_back, distinct_apart}
+use Rattle.l6_store.proofs.Chains.{before_of, after_of, with_after_none, before_others, after_others, length_with_before, length_with_after, linked_parts, linked_whole, linked_along, last_renamed, first_renamed}
 
 -- what its link says
 pub record Around (words : List ℕ) (place : ℕ) (places : List ℕ) : Type 0 where
@@ -19,13 +19,13 @@ pub record Around (words : List ℕ) (place : ℕ) (places : List ℕ) : Type 0 
   pub linked_front : AreLinked words 0 parts.front place
   pub linked_back : AreLinked words place parts.back 0
 
-within-back : (bound : ℕ) (front back : List ℕ) → AreWithin bound (front ++ back)
+within_back : (bound : ℕ) (front back : List ℕ) → AreWithin bound (front ++ back)
     → AreWithin bound back
-within-back bound front back are place is = are place (has-back place front back is)
+within_back bound front back are place is = are place (has_back place front back is)
 
-within-front : (bound : ℕ) (front back : List ℕ) → AreWithin bound (front ++ back)
+within_front : (bound : ℕ) (front back : List ℕ) → AreWithin bound (front ++ back)
     → AreWithin bound front
-within-front bound front back are place is = are place (has-front place front back is)
+within_front bound front back are place is = are place (has_front place front back is)
 
 pub around : (words : List ℕ) (place : ℕ) (places : List ℕ) → has place places ≡ true
     → AreWithin (length words) places → length words ≤ 2 ^ place_bits
@@ -37,11 +37,11 @@ around words place places is within small linked =
     let two = linked_parts words 0 parts.front (place ∷ parts.back) 0 whole in
     let inside : AreWithin (length words) (parts.front ++ place ∷ parts.back)
     = subst (AreWithin (length words)) parts.is within in
-    let following = within-back (length words) parts.front (place ∷ parts.back) inside in
-    let some = following place (has-first place parts.back) in
+    let following = within_back (length words) parts.front (place ∷ parts.back) inside in
+    let some = following place (has_first place parts.back) in
     let next : first_or parts.back 0 < length words
-    = first_or-within (length words) parts.back (omega (arith, some.1))
-    (within-rest (length words) place parts.back following) in
+    = first_or_within (length words) parts.back (omega (arith, some.1))
+    (within_rest (length words) place parts.back following) in
     record {
       parts = parts;
       before_is = ap before_in two.1.0
@@ -55,17 +55,17 @@ around words place places is within small linked =
 -- the last of a list that is not 0 is in it
 last_in : (places : List ℕ) → 1 ≤ last_or places 0 → has (last_or places 0) places ≡ true
 last_in [] some = absurd (omega arith)
-last_in (first ∷ rest) some = has-last_or rest first
+last_in (first ∷ rest) some = has_last_or rest first
 
 first_in : (places : List ℕ) → 1 ≤ first_or places 0 → has (first_or places 0) places ≡ true
 first_in [] some = absurd (omega arith)
-first_in (first ∷ rest) some = has-first first rest
+first_in (first ∷ rest) some = has_first first rest
 
 -- the places that are linked are among the words
-pub last-within : (bound : ℕ) (front : List ℕ) → 0 < bound → AreWithin bound front
+pub last_within : (bound : ℕ) (front : List ℕ) → 0 < bound → AreWithin bound front
     → last_or front 0 < bound
-last-within bound [] some are = some
-last-within bound (first ∷ rest) some are = (are (last_or rest first) (has-last_or rest first)).1
+last_within bound [] some are = some
+last_within bound (first ∷ rest) some are = (are (last_or rest first) (has_last_or rest first)).1
 
 pub around_within : (words : List ℕ) (place : ℕ) (places : List ℕ) → 0 < length words
     → AreWithin (length words) places → (ends : Around words place places)
@@ -77,15 +77,15 @@ around_within words place places some within ends =
       omega (
         arith,
         ends.before_is,
-        last-within (length words) ends.parts.front some
-            (within-front (length words) ends.parts.front (place ∷ ends.parts.back) inside),
+        last_within (length words) ends.parts.front some
+            (within_front (length words) ends.parts.front (place ∷ ends.parts.back) inside),
       ),
       omega (
         arith,
         ends.after_is,
-        first_or-within (length words) ends.parts.back some
-            (within-rest (length words) place ends.parts.back
-            (within-back (length words) ends.parts.front (place ∷ ends.parts.back) inside)),
+        first_or_within (length words) ends.parts.back some
+            (within_rest (length words) place ends.parts.back
+            (within_back (length words) ends.parts.front (place ∷ ends.parts.back) inside)),
       ),
     )
 
@@ -100,20 +100,20 @@ taken_apart words front back place are within small one two =
     let last : ℕ = last_or front 0 in
     let first : ℕ = first_or back 0 in
     let middle : List ℕ = with_after words last first in
-    let count : length middle ≡ length words = length-with_after words last first in
-    let following = within-back (length words) front (place ∷ back) within in
-    let back_within = within-rest (length words) place back following in
-    let back_are : AreDistinct back = (distinct-back front (place ∷ back) are).1 in
+    let count : length middle ≡ length words = length_with_after words last first in
+    let following = within_back (length words) front (place ∷ back) within in
+    let back_within = within_rest (length words) place back following in
+    let back_are : AreDistinct back = (distinct_back front (place ∷ back) are).1 in
     let place_small : place < 2 ^ place_bits
-    = omega (arith, (following place (has-first place back)).1, small) in
+    = omega (arith, (following place (has_first place back)).1, small) in
     let front_middle : AreLinked middle 0 front first
-    = last_renamed words 0 front place first (distinct-front front (place ∷ back) are)
-    (within-front (length words) front (place ∷ back) within) place_small one in
+    = last_renamed words 0 front place first (distinct_front front (place ∷ back) are)
+    (within_front (length words) front (place ∷ back) within) place_small one in
     let back_middle : AreLinked middle place back 0
     = linked_along words middle place back 0
-    (λ at is. after-others words last first at
-    (λ some same. distinct-apart front (place ∷ back) at are
-    (ap (λ (p : ℕ). has p front) same ∙ last_in front some) (has-more at place back is)))
+    (λ at is. after_others words last first at
+    (λ some same. distinct_apart front (place ∷ back) at are
+    (ap (λ (p : ℕ). has p front) same ∙ last_in front some) (has_more at place back is)))
     two in
     let back_new : AreLinked (with_before middle first last) last back 0
     = first_renamed middle place last back back_are
@@ -121,9 +121,9 @@ taken_apart words front back place are within small one two =
     back_middle in
     let front_new : AreLinked (with_before middle first last) 0 front first
     = linked_along middle (with_before middle first last) 0 front first
-    (λ at is. before-others middle first last at
-    (λ some same. distinct-apart front (place ∷ back) at are is
-    (has-more at place back (ap (λ (p : ℕ). has p back) same ∙ first_in back some))))
+    (λ at is. before_others middle first last at
+    (λ some same. distinct_apart front (place ∷ back) at are is
+    (has_more at place back (ap (λ (p : ℕ). has p back) same ∙ first_in back some))))
     front_middle in
     linked_whole (with_before middle first last) 0 front back 0 front_new back_new
 
@@ -161,27 +161,27 @@ unlinked_others words places place at is within small linked none =
     = λ (p : ℕ) (there : has p (front ++ place ∷ back) ≡ true) (same : at ≡ p).
     (let found : has at places ≡ true = ap (has at) ends.parts.is
     ∙ ap (λ (q : ℕ). has q (front ++ place ∷ back)) same ∙ there in let not = none in cc) in
-    before-others (with_after words (before_in word) (after_in word)) (after_in word)
+    before_others (with_after words (before_in word) (after_in word)) (after_in word)
     (before_in word) at
     (λ some. outside (after_in word)
     (ap (λ (q : ℕ). has q (front ++ place ∷ back)) ends.after_is
-    ∙ has-back (first_or back 0) front (place ∷ back)
-    (has-more (first_or back 0) place back
+    ∙ has_back (first_or back 0) front (place ∷ back)
+    (has_more (first_or back 0) place back
     (first_in back (subst (λ (q : ℕ). 1 ≤ q) ends.after_is some)))))
-    ∙ after-others words (before_in word) (after_in word) at
+    ∙ after_others words (before_in word) (after_in word) at
     (λ some. outside (before_in word)
     (ap (λ (q : ℕ). has q (front ++ place ∷ back)) ends.before_is
-    ∙ has-front (last_or front 0) front (place ∷ back)
+    ∙ has_front (last_or front 0) front (place ∷ back)
     (last_in front (subst (λ (q : ℕ). 1 ≤ q) ends.before_is some))))
 
-pub length-words_unlinked : (words : List ℕ) (place : ℕ)
+pub length_words_unlinked : (words : List ℕ) (place : ℕ)
     → length (words_unlinked words place) ≡ length words
 unfolding words_unlinked
-length-words_unlinked words place =
+length_words_unlinked words place =
     let word : ℕ = get_or words place 0 in
-    length-with_before (with_after words (before_in word) (after_in word)) (after_in word)
+    length_with_before (with_after words (before_in word) (after_in word)) (after_in word)
     (before_in word)
-    ∙ length-with_after words (before_in word) (after_in word)
+    ∙ length_with_after words (before_in word) (after_in word)
 
 head_by : (heads : List ℕ) (level : ℕ) (front back : List ℕ) (place bound : ℕ)
     → AreWithin bound (front ++ place ∷ back) → level < length heads
@@ -193,8 +193,8 @@ head_by heads level [] back place bound within room begins =
     get_or-set_same heads level (first_or back 0) 0 room
 head_by heads level (first ∷ front) back place bound within room begins =
     let some : 1 ≤ last_or front first
-    = (within (last_or front first) (has-front (last_or front first) (first ∷ front) (place ∷ back)
-    (has-last_or front first))).0 in
+    = (within (last_or front first) (has_front (last_or front first) (first ∷ front) (place ∷ back)
+    (has_last_or front first))).0 in
     ap (λ (b : Bool). get_or (if b then set heads level (first_or back 0) else heads) level 0)
     (ne_eqb (last_or front first) 0 (λ none. absurd (omega arith)))
     ∙ begins
@@ -219,43 +219,43 @@ head_unlinked words places heads level place is within small linked room begins 
     ∙ ap (λ (ps : List ℕ). first_or ps 0) (sym ends.parts.left)
 
 -- the heads after the first of a list has changed, and after another place has
-pub with_head-none : (heads : List ℕ) (level before after : ℕ) → before ≡ 0
+pub with_head_none : (heads : List ℕ) (level before after : ℕ) → before ≡ 0
     → with_head heads level before after ≡ set heads level after
 unfolding with_head
-with_head-none heads level before after none =
+with_head_none heads level before after none =
     ap (λ (b : Bool). if b then set heads level after else heads) (eq-eqb before 0 none)
 
-pub with_head-some : (heads : List ℕ) (level before after : ℕ) → 1 ≤ before
+pub with_head_some : (heads : List ℕ) (level before after : ℕ) → 1 ≤ before
     → with_head heads level before after ≡ heads
 unfolding with_head
-with_head-some heads level before after some =
+with_head_some heads level before after some =
     ap (λ (b : Bool). if b then set heads level after else heads)
     (ne_eqb before 0 (λ none. absurd (omega arith)))
 
 -- the two steps of taking a place out
-pub words_unlinked-by : (words one two : List ℕ) (place before after : ℕ)
+pub words_unlinked_by : (words one two : List ℕ) (place before after : ℕ)
     → before ≡ before_in (get_or words place 0) → after ≡ after_in (get_or words place 0)
     → one ≡ with_after words before after → two ≡ with_before one after before
     → two ≡ words_unlinked words place
 unfolding words_unlinked
-words_unlinked-by words one two place before after is_before is_after first second =
+words_unlinked_by words one two place before after is_before is_after first second =
     second ∙ ap (λ (ws : List ℕ). with_before ws after before) first
     ∙ ap (λ (b : ℕ). with_before (with_after words b after) after b) is_before
     ∙ ap (λ (a : ℕ). with_before (with_after words (before_in (get_or words place 0)) a) a
     (before_in (get_or words place 0))) is_after
 
 -- of the first place of a list, with none before it, only the one after it changes, and the head
-pub words_unlinked-first : (words : List ℕ) (place : ℕ) → before_in (get_or words place 0) ≡ 0
+pub words_unlinked_first : (words : List ℕ) (place : ℕ) → before_in (get_or words place 0) ≡ 0
     → with_before words (after_in (get_or words place 0)) 0 ≡ words_unlinked words place
 unfolding words_unlinked
-words_unlinked-first words place first =
+words_unlinked_first words place first =
     let word : ℕ = get_or words place 0 in
     sym (ap (λ (b : ℕ). with_before (with_after words b (after_in word)) (after_in word) b) first
     ∙ ap (λ (ws : List ℕ). with_before ws (after_in word) 0)
-    (with_after-none words 0 (after_in word) refl))
+    (with_after_none words 0 (after_in word) refl))
 
-pub with_head-first : (heads : List ℕ) (level before after : ℕ) → before ≡ 0
+pub with_head_first : (heads : List ℕ) (level before after : ℕ) → before ≡ 0
     → set heads level after ≡ with_head heads level before after
 unfolding with_head
-with_head-first heads level before after first =
+with_head_first heads level before after first =
     sym (ap (λ (b : Bool). if b then set heads level after else heads) (eq-eqb before 0 first))

@@ -10,7 +10,7 @@ use Rattle.l6_word.specs.Numerals.{largest_level}
 use Rattle.l6_store.specs.Blocks.{Blocks}
 use Rattle.l6_store.specs.Buddy.{level_at}
 use Rattle.l6_store.proofs.Multiples.{size_le}
-use Rattle.l6_store.proofs.Steps.{level_at-is}
+use Rattle.l6_store.proofs.Steps.{level_at_is}
 use Rattle.l6_store_c.specs.declared.fault.CallFault.TheVariants.{NoWord, NotAlike}
 use Rattle.l6_store_c.specs.Outcome.{copy_outcome, level_of, read_outcome}
 
@@ -64,7 +64,7 @@ pub level_told : (blocks : Blocks) (place level : ℕ) (block : Option (List ℕ
 level_told blocks place level None is small size = cc
 level_told blocks place level (Some words) is small size =
     let long : 2 ^ level ≡ length words = cc in
-    ap (λ (l : ℕ). Ok l) (sym (level_at-is blocks place level words small is (sym long)))
+    ap (λ (l : ℕ). Ok l) (sym (level_at_is blocks place level words small is (sym long)))
 
 pub past_word : (level : Option ℕ) (block : Option (List ℕ)) (index : ℕ) →
     option_map (λ (l : ℕ). 2 ^ l) level ≡ option_map (λ (words : List ℕ). length words) block →

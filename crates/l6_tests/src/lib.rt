@@ -29,6 +29,8 @@ mod machines;
 #[cfg(test)]
 mod own_stores;
 #[cfg(test)]
+mod places;
+#[cfg(test)]
 mod regions;
 #[cfg(test)]
 mod scan_stores;

@@ -2,7 +2,7 @@
 use Rattle.std.proofs.Common.{◌≡◌, ℕ, ◌<◌, true, List, [], ◌∷◌, ◌++◌, length, get_or, take, Option, Some, refl, subst}
 use Rattle.std.proofs.lemmas.Option.{slice_get-get_or}
 use Rattle.l6_trace.specs.Tracing.{Tracing, IsCalled}
-use Rattle.l6_trace.specs.Following.{Leads, Reaches, agrees}
+use Rattle.l6_trace.specs.Following.{Leads, Reaches, Replays, agrees}
 use Rattle.l6_trace.specs.declared.call.Answer.{Answer}
 use Rattle.l6_trace.specs.declared.call.Line.{Line}
 
@@ -36,4 +36,17 @@ there_is first lines index answer before after none below leads called = (
     called = called;
   },
   refl,
+)
+
+-- the calls of lines, and one more
+pub replays_on : (first : Tracing) (lines : List Line) (last : Tracing) (line : Line)
+    (answer : Option Answer) (next : Tracing) → Replays first lines last
+    → IsCalled last line.call answer next → Replays first (lines ++ line ∷ []) next
+replays_on first [] last line answer next replays called =
+    (answer, next, subst (λ (t : Tracing). IsCalled t line.call answer next) replays called, refl)
+replays_on first (one ∷ lines) last line answer next replays called = (
+  replays.0,
+  replays.1,
+  replays.2,
+  replays_on replays.1 lines last line answer next replays.3 called,
 )

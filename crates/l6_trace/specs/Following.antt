@@ -1,6 +1,6 @@
 -- A trace that is followed: its calls are done one after another, and answered, until an answer differs
 -- from another allocator's.
-use Rattle.std.specs.Prelude.{◌≡◌, ℕ, ◌==◌, Bool, true, false, List, [], ◌∷◌, take, slice_get, Option, Some, None, Result, Ok, Err}
+use Rattle.std.specs.Prelude.{◌≡◌, ℕ, ◌^◌, ◌==◌, ◌&&◌, Bool, true, false, List, [], ◌∷◌, take, slice_get, Option, Some, None, Result, Ok, Err}
 use Rattle.l6_trace.specs.Tracing.{Tracing, IsCalled}
 use Rattle.l6_trace.specs.declared.call.Answer.{Answer}
 use Rattle.l6_trace.specs.declared.call.Answer.TheVariants.{Given, Refused, Freed}
@@ -11,10 +11,15 @@ use Rattle.l6_trace.specs.declared.fault.TraceFault.{TraceFault}
 use Rattle.l6_trace.specs.declared.fault.TraceFault.TheVariants.{Held, NoMemory}
 use Rattle.l6_trace.specs.declared.following.Difference.{Difference}
 
+-- a block of a level has this size, or the size is not known
+abbrev pub is_size : ℕ → Option ℕ → Bool
+is_size level None = true
+is_size level (Some size) = size == 2 ^ level
+
 -- another allocator gave this answer, or its answer is not known
 abbrev pub agrees : Answer → Option Reply → Bool
 agrees answer None = true
-agrees (Given place level halved) (Some (At other)) = place == other
+agrees (Given place level halved) (Some (At other size)) = place == other && is_size level size
 agrees Refused (Some Nothing) = true
 agrees (Freed joined) (Some (Joined other)) = joined == other
 agrees answer (Some reply) = false
@@ -47,3 +52,10 @@ IsFollowed first lines (Err (Held number)) =
     (index : ℕ) × (there : Reaches first lines index None) × (there.line.number ≡ number)
 IsFollowed first lines (Err NoMemory) = Unit {0}
 IsFollowed first lines (Err fault) = ⊥
+
+-- the calls of lines are done one after another, whatever is answered
+abbrev pub Replays : Tracing → List Line → Tracing → Type 0
+Replays first [] last = last ≡ first
+Replays first (line ∷ lines) last =
+    (answer : Option Answer) × (next : Tracing) × IsCalled first line.call answer next
+    × Replays next lines last

@@ -3,4 +3,9 @@ pub mod Number
 pub mod Limits
 pub mod Tracing
 pub mod Following
+pub mod Ending
+pub mod Judging
+pub mod Pieces
+pub mod Boards
+pub mod Tallying
 pub mod inner

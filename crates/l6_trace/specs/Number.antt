@@ -1,9 +1,13 @@
--- The numbers of a line.
-use Rattle.std.specs.Prelude.{ℕ, ◌-◌, ◌&&◌, nat_lt, nat_le, Option, Some, None, List, [], ◌∷◌, length, if◌then◌else◌}
+-- The words and the numbers of a line.
+use Rattle.std.specs.Prelude.{ℕ, ◌-◌, ◌&&◌, ◌||◌, ◌==◌, Bool, nat_lt, nat_le, Option, Some, None, List, [], ◌∷◌, length, if◌then◌else◌}
 use Rattle.std.specs.Option.{option_map, option_and_then}
 use Rattle.std.specs.Int.Digits.{number_from_digits}
 use Rattle.std.specs.Str.{byte}
 use Rattle.l6_trace.specs.Numerals.{most_number, base}
+
+-- a byte that separates words: a blank or a tab
+abbrev pub is_blank : ℕ → Bool
+is_blank given = given == byte " " || given == 9
 
 -- the digit that a byte is
 abbrev pub digit_of : ℕ → Option ℕ

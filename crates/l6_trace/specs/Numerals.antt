@@ -1,5 +1,5 @@
 -- The numbers of traces.
-use Rattle.std.specs.Prelude.{ℕ}
+use Rattle.std.specs.Prelude.{ℕ, ◌^◌}
 
 -- how many calls a trace may have
 abbrev pub most_calls : ℕ
@@ -16,3 +16,14 @@ base = 10
 -- how many bytes a name may have
 abbrev pub most_name_bytes : ℕ
 most_name_bytes = 64
+
+-- the largest level of a block of an allocator that is judged
+abbrev pub largest_pool_level : ℕ
+largest_pool_level = 20
+
+-- below which power of two, and so how many, its places are
+abbrev pub most_places_level : ℕ
+most_places_level = 24
+
+abbrev pub most_places : ℕ
+most_places = 2 ^ most_places_level

@@ -20,8 +20,10 @@ pub enum Call {
 /// What another allocator answered to a call.
 #[derive(Clone, Copy, Debug, PartialEq, Eq)]
 pub enum Reply {
-    /// The place of the block.
-    At(Place),
+    /// The place of the block, and its size, where that is said.
+    At { place: Place, size: Option<u32> },
+    /// A place that is no multiple of the smallest piece.
+    Between,
     /// There was no block.
     Nothing,
     /// The piece that was freed was joined so often.

@@ -3,6 +3,7 @@
 ghost use Rattle.l6_trace.specs.inner.Faults.{trace_fault};
 ghost use Rattle.l6_trace.specs.declared.fault.TraceFault.TheVariants.{NoMemory};
 
+use l6_places::BoardFault;
 use l6_store::StoreFault;
 use std::alloc::AllocError;
 use thiserror::Error;
@@ -16,6 +17,12 @@ pub enum TraceFault {
     /// A store may not have so many units.
     #[error("units out of range")]
     BadUnits,
+    /// An allocator that is judged may not have such places.
+    #[error("places out of range")]
+    BadPlaces,
+    /// The line is the last one, without a line feed, and no call.
+    #[error("line {0}: not a call: the trace is cut off")]
+    CutOff(u32),
     /// The line is no call.
     #[error("line {0}: not a call")]
     NotACall(u32),
@@ -36,6 +43,20 @@ impl From<StoreFault> for TraceFault {
         match fault {
             StoreFault::NoMemory => TraceFault::NoMemory,
             StoreFault::BadUnits => TraceFault::BadUnits,
+        }
+    }
+}
+
+impl From<BoardFault> for TraceFault {
+    ghost use Rattle.std.specs.Prelude.{◌≡◌};
+    ghost use Rattle.l6_trace.specs.inner.Faults.{board_fault};
+
+    ghost from_gives = { λ refused fault. fault ≡ board_fault refused };
+
+    fn from(fault: BoardFault) -> Self {
+        match fault {
+            BoardFault::NoMemory => TraceFault::NoMemory,
+            BoardFault::BadPlaces => TraceFault::BadPlaces,
         }
     }
 }

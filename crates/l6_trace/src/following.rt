@@ -1,6 +1,6 @@
 //! The calls of a trace, one after another, until an answer differs from another allocator's.
 
-ghost use Rattle.std.specs.Prelude.{◌≡◌};
+ghost use Rattle.std.specs.Prelude.{◌≡◌, ◌==◌, ◌^◌};
 ghost use Rattle.l6_trace.specs.Following as spec;
 ghost use Rattle.l6_trace.specs.Following.{IsFollowed};
 
@@ -69,9 +69,28 @@ fn agrees(answer: Answer, reply: Option<Reply>) -> bool
 {
     match (answer, reply) {
         (_, None) => true,
-        (Answer::Given { place, .. }, Some(Reply::At(other))) => place == other,
+        (Answer::Given { place, level, .. }, Some(Reply::At { place: other, size })) => {
+            place == other && is_size(level, size)
+        }
         (Answer::Refused, Some(Reply::Nothing)) => true,
         (Answer::Freed { joined }, Some(Reply::Joined(other))) => joined == other,
         _ => false,
     }
+}
+
+/// Whether a block of a level has this size, or the size is not known.
+fn is_size(level: Level, size: Option<u32>) -> bool
+    ensures { result ≡ spec.is_size level size }
+{
+    match size {
+        Some(size) => has_size(level, size),
+        None => true,
+    }
+}
+
+/// Whether a block of a level has this size.
+fn has_size(level: Level, size: u32) -> bool
+    ensures { result ≡ (size == 2 ^ level) }
+{
+    level < 32 && size == 1 << level
 }

@@ -37,6 +37,10 @@ pub(crate) enum Asked<'a> {
     Map,
     /// How much of the store is used.
     Stats,
+    /// The end of the trace, which has so many gets and frees.
+    End {
+        answers: usize,
+    },
 }
 
 /// What a line asks for, or `None` where it is no call.
@@ -49,6 +53,7 @@ pub(crate) fn asked_by(line: &[u8]) -> Option<Asked<'_>> {
         b"lists" => alone(rest, Asked::Lists),
         b"map" => alone(rest, Asked::Map),
         b"stats" => alone(rest, Asked::Stats),
+        b"end" => end(rest),
         _ => {
             if verb.first().is_none_or(|byte| *byte == b'#') {
                 Some(Asked::Nothing)
@@ -61,18 +66,24 @@ pub(crate) fn asked_by(line: &[u8]) -> Option<Asked<'_>> {
 
 /// What is asked for if nothing follows.
 fn alone<'a>(rest: &[u8], asked: Asked<'a>) -> Option<Asked<'a>> {
+    if is_over(rest) { Some(asked) } else { None }
+}
+
+/// Whether no word is left of a line.
+fn is_over(rest: &[u8]) -> bool {
     let (word, _) = first_word(rest);
-    if word.is_empty() { Some(asked) } else { None }
+    word.is_empty()
 }
 
 /// A get, from what follows its verb: a name, a number of words, and perhaps `=` and a reply.
 fn get(rest: &[u8]) -> Option<Asked<'_>> {
     let (name, rest) = first_word(rest);
     let (words, rest) = first_word(rest);
-    let reply = match reply_word(rest)? {
+    let (word, rest) = reply_word(rest)?;
+    let reply = match word {
         b"" => None,
-        b"none" => Some(Reply::Nothing),
-        digits => Some(Reply::At(number_of(digits)?)),
+        b"none" if is_over(rest) => Some(Reply::Nothing),
+        digits => Some(place_reply(digits, rest)?),
     };
     let words = number_of(words)?;
     if words == 0 || !is_name(name) {
@@ -81,29 +92,57 @@ fn get(rest: &[u8]) -> Option<Asked<'_>> {
     Some(Asked::Get { name, words, reply })
 }
 
+/// The reply that gives a place, by its digits and what follows: nothing, or `words` and the size of the block.
+fn place_reply(digits: &[u8], rest: &[u8]) -> Option<Reply> {
+    let place = number_of(digits)?;
+    let (word, rest) = first_word(rest);
+    if word.is_empty() {
+        return Some(Reply::At { place, size: None });
+    }
+    let (size, rest) = first_word(rest);
+    if word != b"words".as_slice() || !is_over(rest) {
+        return None;
+    }
+    Some(Reply::At {
+        place,
+        size: Some(number_of(size)?),
+    })
+}
+
 /// A free, from what follows its verb: a name, and perhaps `=` and how often the piece was joined.
 fn free(rest: &[u8]) -> Option<Asked<'_>> {
     let (name, rest) = first_word(rest);
-    let reply = match reply_word(rest)? {
+    let (word, rest) = reply_word(rest)?;
+    let reply = match word {
         b"" => None,
         digits => Some(Reply::Joined(number_of(digits)?)),
     };
-    if !is_name(name) {
+    if !is_name(name) || !is_over(rest) {
         return None;
     }
     Some(Asked::Free { name, reply })
 }
 
-/// The word after `=`, which is empty where nothing follows; `None` where something else does.
-fn reply_word(rest: &[u8]) -> Option<&[u8]> {
+/// The end of a trace, from what follows its verb: how many gets and frees the trace has.
+fn end(rest: &[u8]) -> Option<Asked<'_>> {
+    let (answers, rest) = first_word(rest);
+    alone(
+        rest,
+        Asked::End {
+            answers: number_of(answers)? as usize,
+        },
+    )
+}
+
+/// The word after `=` and what follows it, both empty where nothing is left; `None` where there is something else.
+fn reply_word(rest: &[u8]) -> Option<(&[u8], &[u8])> {
     let (sign, rest) = first_word(rest);
     if sign.is_empty() {
-        return Some(b"");
+        return Some((b"", b""));
     }
     let (word, rest) = first_word(rest);
-    let (more, _) = first_word(rest);
-    if sign == b"=".as_slice() && !word.is_empty() && more.is_empty() {
-        Some(word)
+    if sign == b"=".as_slice() && !word.is_empty() {
+        Some((word, rest))
     } else {
         None
     }
@@ -155,6 +194,8 @@ fn first_word(line: &[u8]) -> (&[u8], &[u8]) {
 }
 
 /// Whether a byte separates words.
-fn is_blank(byte: u8) -> bool {
+fn is_blank(byte: u8) -> bool
+    ensures { result ≡ spec.is_blank byte }
+{
     byte == b' ' || byte == b'\t'
 }

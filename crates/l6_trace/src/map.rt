@@ -1,6 +1,6 @@
 //! The map of a store: its blocks and its free pieces, by their places.
 
-ghost use Rattle.std.specs.Prelude.{◌≤◌};
+ghost use Rattle.std.specs.Prelude.{◌≡◌, ◌≤◌, slice_set};
 ghost use Rattle.l6_word.specs.Numerals.{largest_level};
 
 use crate::tally::words_of;
@@ -75,18 +75,18 @@ fn pieces_of(alloc: Global, names: usize, tracer: &Tracer) -> Result<Vec<Piece>,
     let end = end_of(store.units());
     let mut pieces = vec![in alloc; Piece::Inner; end as usize]?;
     for level in 0..=LARGEST_LEVEL {
-        mark_list(pieces.as_mut_slice(), store, level);
+        add_free_pieces(pieces.as_mut_slice(), store, level);
     }
     for block in 0..names {
         if let Some(place) = tracer.holder(block) {
-            mark(pieces.as_mut_slice(), place as usize, Piece::Block(block));
+            set_piece(pieces.as_mut_slice(), place as usize, Piece::Block(block));
         }
     }
     Ok(pieces)
 }
 
-/// Marks the free pieces of a level.
-fn mark_list(pieces: &mut [Piece], store: &Buddy, level: Level)
+/// Adds the free pieces of a level.
+fn add_free_pieces(pieces: &mut [Piece], store: &Buddy, level: Level)
     requires { level ≤ largest_level }
 {
     let mut next = store.first_free(level);
@@ -94,13 +94,15 @@ fn mark_list(pieces: &mut [Piece], store: &Buddy, level: Level)
         let Some(place) = next else {
             return;
         };
-        mark(pieces, place as usize, Piece::Free(level));
+        set_piece(pieces, place as usize, Piece::Free(level));
         next = store.next_free(level, place);
     }
 }
 
-/// Marks a place.
-fn mark(pieces: &mut [Piece], place: usize, piece: Piece) {
+/// Says what begins at a place.
+fn set_piece(pieces: &mut [Piece], place: usize, piece: Piece)
+    ensures { pieces.new ≡ slice_set pieces.old place piece }
+{
     if place < pieces.len() {
         pieces[place] = piece;
     }

@@ -105,11 +105,21 @@ pub(crate) fn push_result(text: &mut Vec<u8>, answer: Answer) -> Result<(), Allo
 /// Adds what another allocator answered, and ends the line.
 pub(crate) fn push_reply(text: &mut Vec<u8>, reply: Reply) -> Result<(), AllocError> {
     match reply {
-        Reply::At(place) => push_number(text, place)?,
+        Reply::At { place, size } => push_place(text, place, size)?,
+        Reply::Between => text.extend_from_slice(b"a place between pieces")?,
         Reply::Nothing => text.extend_from_slice(b"none")?,
         Reply::Joined(joined) => push_counted(text, b"joined ", joined)?,
     }
     Ok(text.extend_from_slice(b"\n")?)
+}
+
+/// Adds a place, and the size of the block there if it was said.
+fn push_place(text: &mut Vec<u8>, place: Place, size: Option<u32>) -> Result<(), AllocError> {
+    push_number(text, place)?;
+    match size {
+        Some(size) => push_counted(text, b", words ", size),
+        None => Ok(()),
+    }
 }
 
 /// Adds the free lists, a line for each level that has a free piece.

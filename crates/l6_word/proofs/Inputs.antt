@@ -10,17 +10,17 @@ use Rattle.l6_word.specs.Input.{characters_of, filled}
 use Rattle.l6_word.specs.Laws.{LineByLine, WholeLinesUnchanged}
 use Rattle.l6_word.specs.Lines.{lines_of, without_return}
 use Rattle.l6_word.specs.Numerals.{input_width}
-use Rattle.l6_word.proofs.Cuts.{lines_of-front}
+use Rattle.l6_word.proofs.Cuts.{lines_of_front}
 
 pub line_by_line : LineByLine
 line_by_line line following lacking =
-    ap (flat_map (λ l. filled input_width (without_return l))) (lines_of-front line following lacking)
+    ap (flat_map (λ l. filled input_width (without_return l))) (lines_of_front line following lacking)
     ∙ flat_map-cons (λ l. filled input_width (without_return l)) line (lines_of following)
 
 -- a line of just so many bytes fills a line
-filled-whole : (width : ℕ) (line : List ℕ) → length line ≡ width →
+filled_whole : (width : ℕ) (line : List ℕ) → length line ≡ width →
     filled width line ≡ map input_code line
-filled-whole width line is =
+filled_whole width line is =
     let size : length (map input_code line) ≡ width = length-map line input_code ∙ is in
     let blanks : List ℕ = replicate width (input_code (byte " ")) in
     ap (λ n. take n (map input_code line ++ blanks)) (sym size)
@@ -30,4 +30,4 @@ pub whole_lines : WholeLinesUnchanged
 whole_lines line following lacking kept is =
     line_by_line line following lacking
     ∙ ap (λ l. filled input_width l ++ characters_of following) kept
-    ∙ ap (λ l. l ++ characters_of following) (filled-whole input_width line is)
+    ∙ ap (λ l. l ++ characters_of following) (filled_whole input_width line is)

@@ -14,30 +14,30 @@ use Rattle.l6_word.specs.Numerals.{word_bits, word_octals}
 use Rattle.l6_word.specs.Octal.{octal12, octal_digits, is_octal_digit, OctalsAreReadAgain}
 
 -- a digit has its value
-digit_value-octal : (digit : ℕ) → digit < 8 → digit_value (byte "0" + digit) ≡ digit
-digit_value-octal digit below = omega (arith, digit_value_digit (byte "0" + digit) (search (arith)))
+digit_value_octal : (digit : ℕ) → digit < 8 → digit_value (byte "0" + digit) ≡ digit
+digit_value_octal digit below = omega (arith, digit_value_digit (byte "0" + digit) (search (arith)))
 
 -- as many digits as a number has tell the number
-pub octal_digits-value : (count number : ℕ) → number < 8 ^ count →
+pub octal_digits_value : (count number : ℕ) → number < 8 ^ count →
     digits_value 8 (octal_digits count number) ≡ number
-octal_digits-value zero number fits = omega arith
-octal_digits-value (suc count) number fits =
+octal_digits_value zero number fits = omega arith
+octal_digits_value (suc count) number fits =
     let below : number / 8 < 8 ^ count =
     div_below number 8 (8 ^ count) (omega arith) (omega (arith, pow-suc 8 count)) in
-    let digit = digit_value-octal (number % 8) (mod_below number 8 (omega arith)) in
+    let digit = digit_value_octal (number % 8) (mod_below number 8 (omega arith)) in
     digits_value_push 8 (octal_digits count (number / 8)) (byte "0" + number % 8)
-    ∙ omega (arith, octal_digits-value count (number / 8) below, digit)
+    ∙ omega (arith, octal_digits_value count (number / 8) below, digit)
 
 -- the digits of a word tell it
-pub octal12-value : (word : ℕ) → word < 2 ^ word_bits → digits_value 8 (octal12 word) ≡ word
+pub octal12_value : (word : ℕ) → word < 2 ^ word_bits → digits_value 8 (octal12 word) ≡ word
 unfolding octal12
-octal12-value word fits = octal_digits-value word_octals word fits
+octal12_value word fits = octal_digits_value word_octals word fits
 
 -- a word is written as its first eight digits and its last four
-pub octal12-parts : (word : ℕ) →
+pub octal12_parts : (word : ℕ) →
     octal_digits 8 (word / 4096) ++ octal_digits 4 (word % 4096) ≡ octal12 word
 unfolding octal12
-octal12-parts word =
+octal12_parts word =
     let first : word / 4096 ≡ word / 8 / 8 / 8 / 8 = omega arith in
     let one : word % 4096 / 8 / 8 / 8 % 8 ≡ word / 8 / 8 / 8 % 8 = omega arith in
     let two : word % 4096 / 8 / 8 % 8 ≡ word / 8 / 8 % 8 = omega arith in
@@ -63,31 +63,31 @@ parted number fits =
     omega (arith, masked, high, last)
 
 -- each digit is one
-octal_digit-is : (digit : ℕ) → digit < 8 → is_octal_digit (byte "0" + digit) ≡ true
-octal_digit-is digit below = search (rules, arith)
+octal_digit_is : (digit : ℕ) → digit < 8 → is_octal_digit (byte "0" + digit) ≡ true
+octal_digit_is digit below = search (rules, arith)
 
-octal_digits-are : (count number : ℕ) →
+octal_digits_are : (count number : ℕ) →
     list_all is_octal_digit (octal_digits count number) ≡ true
-octal_digits-are zero number = refl
-octal_digits-are (suc count) number =
+octal_digits_are zero number = refl
+octal_digits_are (suc count) number =
     list_all-append is_octal_digit (octal_digits count (number / 8)) ((byte "0" + number % 8) ∷ [])
     ∙ rw (
-      octal_digits-are count (number / 8),
-      octal_digit-is (number % 8) (mod_below number 8 (omega arith)),
+      octal_digits_are count (number / 8),
+      octal_digit_is (number % 8) (mod_below number 8 (omega arith)),
     ) refl
 
-octal_digits-length : (count number : ℕ) → length (octal_digits count number) ≡ count
-octal_digits-length zero number = refl
-octal_digits-length (suc count) number =
+octal_digits_length : (count number : ℕ) → length (octal_digits count number) ≡ count
+octal_digits_length zero number = refl
+octal_digits_length (suc count) number =
     length-append (octal_digits count (number / 8)) ((byte "0" + number % 8) ∷ [])
-    ∙ omega (arith, octal_digits-length count (number / 8))
+    ∙ omega (arith, octal_digits_length count (number / 8))
 
 -- the digits of a word are read as that word
 pub octals_are_read_again : OctalsAreReadAgain
 unfolding octal12
 octals_are_read_again word fits =
-    let whole = octal_digits-length word_octals word in
-    (rw (octal_digits-are word_octals word) refl, octal_digits-value word_octals word fits)
+    let whole = octal_digits_length word_octals word in
+    (rw (octal_digits_are word_octals word) refl, octal_digits_value word_octals word fits)
 
 -- where so many digits are not too many, their number fits
 pub few_digits : (index number : ℕ) → index ≤ word_octals → number < 8 ^ index →

@@ -1,5 +1,5 @@
 -- How a session begins.
-use Rattle.std.specs.Prelude.{◌≡◌, ℕ, List, length, Option, unwrap_or}
+use Rattle.std.specs.Prelude.{◌≡◌, ℕ, false, List, length, Option, None, unwrap_or}
 use Rattle.l6_asm.specs.Assembled.{Assembled}
 use Rattle.l6_asm.specs.Spells.{SpellsJust}
 use Rattle.l6_device.specs.JobParts.{commands_of, deck_of, head_of, input_of}
@@ -14,6 +14,8 @@ pub record BeginsWith (options : OptionValues) (deck input : List ℕ) (session 
   pub spells : SpellsJust deck assembly
   pub context : session.context ≡ context_under options input assembly.program
   pub start : session.state ≡ first_session_state session.context
+  pub unlisted : session.listed ≡ None
+  pub well : session.refused ≡ false
   pub names : session.names ≡ record {
     labels = assembly.labels;
     deck = deck;

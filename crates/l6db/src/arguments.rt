@@ -19,6 +19,8 @@ pub(crate) struct Request<'a> {
     pub(crate) is_batch: bool,
     /// Whether each command is repeated before its answer.
     pub(crate) has_echo: bool,
+    /// The prompt, if one is given: it is then shown over a pipe, too.
+    pub(crate) prompt: Option<&'a str>,
     /// What the user chose for the run.
     pub(crate) options: Options,
 }
@@ -33,8 +35,8 @@ Examples:
   l6db examples/queue.deck
   printf 'break LOOP\\nc\\nwhere\\n' | l6db --echo examples/queue.deck
 
-Exit status: 0 the session ended, 4 the job was refused, 5 memory ran out, or reading or writing
-failed, 64 the command line is wrong";
+Exit status: 0 the session ended, 1 with --batch a command was refused, 4 the job was refused, 5 memory
+ran out, or reading or writing failed, 64 the command line is wrong";
 
 /// What these words ask for. The first one is the program's name.
 ///
@@ -50,6 +52,7 @@ pub(crate) fn request_of<'a>(alloc: Global, words: &'a [String]) -> Result<Reque
         commands: matches.get_str("commands"),
         is_batch: matches.get_flag("batch"),
         has_echo: matches.get_flag("echo"),
+        prompt: matches.get_str("prompt"),
         options: chosen_options(&matches).unwrap_or_default(),
     })
 }
@@ -77,6 +80,10 @@ fn program<'a>(alloc: Global) -> Result<Command<'a>, AllocError> {
         .long("echo")
         .help("Repeats each command before its answer")
         .action(ArgAction::SetTrue);
+    let prompt = Arg::new(alloc, "prompt")
+        .long("prompt")
+        .value_name("TEXT")
+        .help("The prompt, which is then shown over a pipe, too");
     let command = Command::new(alloc, "l6db")
         .override_usage("l6db [OPTIONS] DECK")
         .about("Debugs a deck of L6: forward and back, with an answer to each command at once")
@@ -86,6 +93,7 @@ fn program<'a>(alloc: Global) -> Result<Command<'a>, AllocError> {
         .arg(input)?
         .arg(commands)?
         .arg(batch)?
-        .arg(echo)?;
+        .arg(echo)?
+        .arg(prompt)?;
     with_options(command, alloc)
 }

@@ -95,6 +95,17 @@ fn part_if_named(
     }
 }
 
+/// The lines of a file of commands.
+///
+/// # Errors
+///
+/// The file can't be read, or is too long, or memory ran out.
+pub(crate) fn commands_of(rt: &HostRuntime, path: &str) -> Result<Vec<u8>, DbFault> {
+    let commands = part_of(rt, path, Part::Commands)?;
+    Part::Commands.check(commands.as_slice())?;
+    Ok(commands)
+}
+
 /// What a file holds, or, for `-`, standard input, at most the limit of the part.
 fn part_of(rt: &HostRuntime, path: &str, part: Part) -> Result<Vec<u8>, DbFault> {
     let mut patience = Patience::new();

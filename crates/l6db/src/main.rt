@@ -2,12 +2,14 @@
 #![tactic(auto)]
 
 mod arguments;
+mod ending;
 mod fault;
 mod files;
 mod opening;
 mod terminal;
 
 use arguments::{Request, request_of};
+use ending::Ending;
 use fault::DbFault;
 use files::{Job, job_of};
 use l6_device::{Host, Part, Patience, write_text};
@@ -20,7 +22,7 @@ use terminal::{Mode, Terminal};
 
 fn main(rt: HostRuntime) -> ExitCode {
     match run_session(&rt) {
-        Ok(()) => ExitCode::from(0),
+        Ok(ending) => ExitCode::from(ending.status()),
         Err(fault) => {
             let text = format!(in rt.alloc(); "{fault}");
             if let Ok(text) = text {
@@ -36,7 +38,7 @@ fn main(rt: HostRuntime) -> ExitCode {
 }
 
 /// Does what the words of the command line ask for.
-fn run_session(rt: &HostRuntime) -> Result<(), DbFault> {
+fn run_session(rt: &HostRuntime) -> Result<Ending, DbFault> {
     let words: Vec<String> = env::args(rt)?.collect(rt.alloc())?;
     let request = request_of(rt.alloc(), words.as_slice())?;
     let job = job_of(rt, &request)?;
@@ -45,7 +47,7 @@ fn run_session(rt: &HostRuntime) -> Result<(), DbFault> {
 
 /// Shows where the run of a job begins, and then answers the lines of its commands, and those that are
 /// typed.
-fn debug(rt: &HostRuntime, request: &Request<'_>, job: Job) -> Result<(), DbFault> {
+fn debug(rt: &HostRuntime, request: &Request<'_>, job: Job) -> Result<Ending, DbFault> {
     let mode = mode_of(rt, request);
     let Job {
         deck,
@@ -63,9 +65,24 @@ fn debug(rt: &HostRuntime, request: &Request<'_>, job: Job) -> Result<(), DbFaul
         0,
         &mut Patience::new(),
     )?;
-    let prompt: &[u8] = if mode.is_typed { b"(l6db) " } else { b"" };
-    let mut console = Terminal::new(rt.stdin().lock(), Host::new(rt.stdout()), commands, mode);
-    Ok(converse(rt.alloc(), &mut session, &mut console, prompt)?)
+    let output = Host::new(rt.stdout());
+    let mut console = Terminal::new(rt, rt.stdin().lock(), output, commands, mode);
+    converse(
+        rt.alloc(),
+        &mut session,
+        &mut console,
+        prompt_of(request, mode),
+    )?;
+    Ok(Ending::of(request.is_batch, session.is_refused()))
+}
+
+/// What is shown before each line: the prompt that is given, or one where lines are typed.
+fn prompt_of<'a>(request: &Request<'a>, mode: Mode) -> &'a [u8] {
+    match request.prompt {
+        Some(prompt) => prompt.as_bytes(),
+        None if mode.is_typed => b"(l6db) ",
+        None => b"",
+    }
 }
 
 /// How the console behaves. Where the job comes from standard input, no commands are left there.

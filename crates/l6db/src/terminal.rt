@@ -1,9 +1,20 @@
 //! The console of the host: commands that are given, and then standard input and standard output.
 
-use l6_device::{Patience, Sink, write_text};
-use l6_session::{Console, ConsoleFault};
+use crate::files::commands_of;
+use l6_device::{Host, Patience, Sink, write_text};
+use l6_session::{Console, ConsoleFault, Verb, file_of};
 use l6_word::first_line;
+use std::fs::File;
 use std::io::{BufRead, ErrorKind};
+
+/// How many files of commands a session obeys at most, so that one which names itself comes to an end.
+const MAX_SOURCES: u32 = 1000;
+
+/// What is shown of a session that is saved.
+const SAVED: &[u8] = b"Saved: source obeys the file\n";
+
+/// What is shown where it could not be written.
+const UNSAVED: &[u8] = b"The file can't be written\n";
 
 /// How a console behaves.
 #[derive(Clone, Copy, Debug, PartialEq, Eq)]
@@ -18,25 +29,52 @@ pub(crate) struct Mode {
 
 /// A console that reads the lines of a text, and then those of a reader, and shows texts by a writer.
 #[derive(Drop)]
-pub(crate) struct Terminal<R, W> {
+pub(crate) struct Terminal<'a, R, W> {
+    rt: &'a HostRuntime,
     reader: R,
     writer: W,
     commands: Vec<u8>,
     /// How many bytes of the commands are read.
     taken: usize,
+    /// How many files of commands are obeyed.
+    sources: u32,
+    /// The file into which the next text goes.
+    file: Option<File>,
     mode: Mode,
 }
 
-impl<R: BufRead, W: Sink> Terminal<R, W> {
+impl<'a, R: BufRead, W: Sink> Terminal<'a, R, W> {
     /// A console of this reader and this writer.
-    pub(crate) fn new(reader: R, writer: W, commands: Vec<u8>, mode: Mode) -> Self {
+    pub(crate) fn new(
+        rt: &'a HostRuntime,
+        reader: R,
+        writer: W,
+        commands: Vec<u8>,
+        mode: Mode,
+    ) -> Self {
         Terminal {
+            rt,
             reader,
             writer,
             commands,
             taken: 0,
+            sources: 0,
+            file: None,
             mode,
         }
+    }
+
+    /// Reads a line in place of `line`. Answers whether there was one.
+    fn read_line(&mut self, line: &mut Vec<u8>) -> Result<bool, ConsoleFault> {
+        line.clear();
+        if self.read_command(line)? {
+            self.echo(line.as_slice(), self.mode.has_echo || self.mode.is_typed)?;
+            return Ok(true);
+        }
+        if self.mode.is_batch {
+            return Ok(false);
+        }
+        self.read_typed(line)
     }
 
     /// Reads a line of the commands in place of `line`. Answers whether there was one.
@@ -91,26 +129,71 @@ impl<R: BufRead, W: Sink> Terminal<R, W> {
             },
         }
     }
+
+    /// Opens the file that a line names. Answers whether the lines of that file come next; a session that
+    /// is saved into it is asked to show how.
+    fn open(&mut self, line: &mut Vec<u8>) -> Result<bool, ConsoleFault> {
+        let Some((verb, name)) = file_of(line.as_slice()) else {
+            return Ok(false);
+        };
+        let Ok(path) = str::from_utf8(name) else {
+            return Ok(false);
+        };
+        if verb == Verb::Source {
+            return self.source(path);
+        }
+        if let Ok(file) = File::create(self.rt, path) {
+            self.file = Some(file);
+            line.clear();
+            line.extend_from_slice(b"save")?;
+        }
+        Ok(false)
+    }
+
+    /// Has the lines of a file come before the commands that are left, if it can be read. Answers whether
+    /// it can.
+    fn source(&mut self, path: &str) -> Result<bool, ConsoleFault> {
+        if self.sources >= MAX_SOURCES {
+            return Ok(false);
+        }
+        let Ok(mut commands) = commands_of(self.rt, path) else {
+            return Ok(false);
+        };
+        self.sources += 1;
+        if commands.as_slice().last() != Some(&b'\n') {
+            commands.extend_from_slice(b"\n")?;
+        }
+        if let Some(rest) = self.commands.as_slice().get(self.taken..) {
+            commands.extend_from_slice(rest)?;
+        }
+        self.commands = commands;
+        self.taken = 0;
+        Ok(true)
+    }
 }
 
-impl<R: BufRead, W: Sink> Console for Terminal<R, W> {
+impl<'a, R: BufRead, W: Sink> Console for Terminal<'a, R, W> {
     ghost use Rattle.std.specs.Prelude.{None};
 
     ghost passed = { λ _. None };
 
     fn read(&mut self, line: &mut Vec<u8>) -> Result<bool, ConsoleFault> {
-        line.clear();
-        if self.read_command(line)? {
-            self.echo(line.as_slice(), self.mode.has_echo || self.mode.is_typed)?;
-            return Ok(true);
+        'files: for _ in 0..=MAX_SOURCES {
+            if !self.read_line(line)? {
+                return Ok(false);
+            }
+            if !self.open(line)? {
+                return Ok(true);
+            }
         }
-        if self.mode.is_batch {
-            return Ok(false);
-        }
-        self.read_typed(line)
+        Ok(true)
     }
 
     fn show(&mut self, text: &[u8]) -> Result<(), ConsoleFault> {
-        self.write(text)
+        let Some(file) = self.file.take() else {
+            return self.write(text);
+        };
+        let written = write_text(&mut Host::new(file), text, 0, &mut Patience::new());
+        self.write(if written.is_ok() { SAVED } else { UNSAVED })
     }
 }

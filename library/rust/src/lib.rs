@@ -120,8 +120,17 @@ fn place(code: i64) -> Result<Option<u32>, Fault> {
     Ok(u32::try_from(answer(code)?).ok().filter(|place| *place != 0))
 }
 
-/// A store. It is open as long as it lives, and stays in the thread that has made it.
+/// A level.
+fn level(code: i64) -> Result<u32, Fault> {
+    u32::try_from(answer(code)?).map_err(|_| Fault::Unknown(code))
+}
+
+/// A store. It is open as long as it lives, and may be sent to another thread.
 pub struct Store(Raw);
+
+// SAFETY: a store has no part in any thread: its memory is its own, and two stores share the heap alone, which is that of
+// malloc.
+unsafe impl Send for Store {}
 
 // SAFETY, of all calls below: the struct began closed, no bytes of it are changed or copied but by calls (a move
 // is fine, since nothing points to it), and `&mut self` lets one call at a time have it.
@@ -149,8 +158,8 @@ impl Store {
     }
 
     /// The level of the block that begins at a place.
-    pub fn live(&mut self, place: u32) -> Result<u64, Fault> {
-        answer(unsafe { l6_store_live(&mut self.0, place) })
+    pub fn live(&mut self, place: u32) -> Result<u32, Fault> {
+        level(unsafe { l6_store_live(&mut self.0, place) })
     }
 
     /// Frees all blocks.
@@ -189,8 +198,8 @@ impl Store {
     }
 
     /// The largest level with a free piece.
-    pub fn largest(&mut self) -> Option<u64> {
-        answer(unsafe { l6_store_largest(&mut self.0) }).ok()
+    pub fn largest(&mut self) -> Option<u32> {
+        level(unsafe { l6_store_largest(&mut self.0) }).ok()
     }
 
     /// How many free pieces a level has.
@@ -217,6 +226,6 @@ impl Drop for Store {
 }
 
 /// The least level whose blocks have at least so many words.
-pub fn level_for(words: u32) -> Result<u64, Fault> {
-    answer(unsafe { l6_store_level_for(words) })
+pub fn level_for(words: u32) -> Result<u32, Fault> {
+    level(unsafe { l6_store_level_for(words) })
 }

@@ -13,9 +13,9 @@ NAME_LIMIT = 64  # bytes
 LARGEST = len(SIZES) - 1
 
 LINE = re.compile(
-    rb"(?:get (?P<name>\S+) (?P<words>\d+)(?: = (?P<place>none|\d+))?"
+    rb"(?:get (?P<name>\S+) (?P<words>\d+)(?: = (?P<place>none|\d+(?: words (?P<size>\d+))?))?"
     rb"|free (?P<freed>\S+)(?: = (?P<joined>\d+))?"
-    rb"|(?P<shown>lists|map|stats))"
+    rb"|(?P<shown>lists|map|stats)|end (?P<end>\d+))"
 )
 
 
@@ -89,19 +89,53 @@ def pieces_of(store: Store) -> int:
     return sum(map(len, store.free_lists.values()))
 
 
-def answer_of_trace(text: bytes, units: int) -> tuple[bytes, int]:
-    """What goes to standard output for a trace, and the exit status."""
+def answer_of_trace(text: bytes, units: int) -> tuple[bytes, bytes, int]:
+    """What goes to both outputs for a trace, and the exit status."""
     calls: list[tuple[int, re.Match[bytes]]] = []
-    for number, line in enumerate(lines_of(text), 1):
-        words = b" ".join(line.replace(b"\t", b" ").split(b" ")).split()
+    end: tuple[int, int, int] | None = None  # its line, how many answers it tells, and how many calls are before it
+    lines = lines_of(text)
+    for number, line in enumerate(lines, 1):
+        words = line.replace(b"\t", b" ").split()
         if not words or words[0].startswith(b"#"):
             continue
         call = LINE.fullmatch(b" ".join(words))
         if call is None or not is_right(call):
-            raise Fault(f"line {number}: not a call")
+            is_cut = number == len(lines) and not text.endswith(b"\n")
+            raise Fault(f"line {number}: not a call{': the trace is cut off' * is_cut}")
+        if call["end"]:
+            end = end or (number, int(call["end"]), len(calls))
+            continue
         if len(calls) == MOST_CALLS:
             raise Fault(f"line {number}: too many calls")
         calls.append((number, call))
+    answers, is_right_so_far = answers_to(calls, units)
+    notes, is_whole = notes_on([call for _, call in calls], end, bool(text) and not text.endswith(b"\n"))
+    return text_of(answers), text_of([f"l6: {note}" for note in notes]), int(not (is_right_so_far and is_whole))
+
+
+def notes_on(
+    calls: list[re.Match[bytes]], end: tuple[int, int, int] | None, is_cut: bool
+) -> tuple[list[str], bool]:
+    """Why answers may not have been compared, and whether all is there."""
+    is_compared = any(call["place"] or call["joined"] for call in calls)
+    notes = ["the last line has no line feed: it may be cut off"] * (is_cut and is_compared)
+    answers = sum(call["shown"] is None for call in calls)
+    if answers == 0:
+        if calls and end is None:
+            return notes, True
+        return [*notes, f"{f'line {end[0]}: ' if end else ''}the trace has no get and no free"], False
+    if end is None:
+        return notes + ["the trace may be cut off: it has no line end"] * is_compared, True
+    if end[2] < len(calls):
+        return [*notes, f"line {end[0]}: calls follow the line end"], False
+    if end[1] != answers:
+        wrong = "the trace is cut off, or has lines too many: its gets and frees are"
+        return [*notes, f"line {end[0]}: {wrong} {answers}"], False
+    return (notes, True) if is_compared else ([*notes, "no answer was compared"], False)
+
+
+def answers_to(calls: list[tuple[int, re.Match[bytes]]], units: int) -> tuple[list[str], bool]:
+    """The answers to calls up to the first that is wrong, and whether none is."""
     tracer = Tracer(units)
     answers: list[str] = []
     for number, call in calls:
@@ -111,31 +145,37 @@ def answer_of_trace(text: bytes, units: int) -> tuple[bytes, int]:
             continue
         name = call["name"] or call["freed"]
         if (name in tracer.held) == (call["name"] is not None):
-            raise Fault(f"line {number}: the name holds a block already, or none")
+            return [*answers, f"line {number}: the name holds a block already, or none"], False
         before = tracer.lists()
         if call["name"]:
             what = " ".join(("get", name.decode(), str(int(call["words"]))))
             answer, value = tracer.get(name, int(call["words"]))
-            other = int(call["place"]) if call["place"] not in (None, b"none") else None
-            is_known, said = call["place"] is not None, "none" if other is None else str(other)
+            place, size = place_and_size(call)
+            is_known, said = call["place"] is not None, "none" if place is None else f"{place}{f', words {size}' * (size is not None)}"
+            is_other = value != place or (size is not None and size != 2 ** tracer.held[name][1])
         else:
             what = " ".join(("free", name.decode()))
             answer, value = tracer.free(name)
             other = int(call["joined"]) if call["joined"] else None
-            is_known, said = other is not None, f"joined {other}"
-        if is_known and value != other:
+            is_known, said, is_other = other is not None, f"joined {other}", value != other
+        if is_known and is_other:
             answers += [f"line {number} differs: {what}: {answer}", f"the other allocator: {said}"]
-            answers += ["the free lists before it:", *before]
-            return text_of(answers), 1
+            return [*answers, "the free lists before it:", *before], False
         answers.append(f"{what}: {answer}")
-    return text_of(answers), 0
+    return answers, True
+
+
+def place_and_size(call: re.Match[bytes]) -> tuple[int | None, int | None]:
+    """The place that a get was answered with, and the size, where they are said."""
+    if call["place"] in (None, b"none"):
+        return None, None
+    return int(call["place"].split()[0]), int(call["size"]) if call["size"] else None
 
 
 def is_right(call: re.Match[bytes]) -> bool:
     """Whether the numbers and the name of a call are in range."""
-    numbers = [int(call[part]) for part in ("words", "joined") if call[part]]
-    if call["place"] not in (None, b"none"):
-        numbers.append(int(call["place"]))
+    numbers = [int(call[part]) for part in ("words", "joined", "end") if call[part]]
+    numbers += [number for number in place_and_size(call) if number is not None]
     name = call["name"] or call["freed"] or b"-"
     some = call["words"] is None or int(call["words"]) > 0
     return some and max(numbers, default=0) <= MOST_NUMBER and len(name) <= NAME_LIMIT and name != b"="

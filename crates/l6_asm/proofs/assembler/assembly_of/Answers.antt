@@ -1,7 +1,7 @@
 use Rattle.std.proofs.Common.{is_ok, sym, ap, ◌∙◌}
 use Rattle.l6_asm.specs.Labels.{labels_of}
 use Rattle.l6_asm.specs.Resolution.{statements_of}
-use Rattle.l6_asm.proofs.Programs.{program_of-made}
+use Rattle.l6_asm.proofs.Programs.{program_of_made}
 use Rattle.l6_asm.proofs.assembler.assembly_of.Goals as goal
 
 -- what the cards say makes a program
@@ -12,6 +12,6 @@ from_known-requires c =
     let made = ap (statements_of labels) (sym c.into_statements.ensures)
     ∙ c.in_ok-statements.ensures in
     let whole =
-    program_of-made c.args.cards labels c.in_ok-statements.statements.items c.requires labelled made
+    program_of_made c.args.cards labels c.in_ok-statements.statements.items c.requires labelled made
     in
     ap is_ok whole

@@ -5,7 +5,7 @@ use Rattle.l6_prog.specs.Statement.{plain_done}
 use Rattle.l6_image.specs.Image.{statement_words}
 use Rattle.l6_word.specs.Word.{is_word}
 use Rattle.l6_asm.specs.Listing.{word_line}
-use Rattle.l6_asm.proofs.StatementLines.{lines-of, lines-past, targets-known}
+use Rattle.l6_asm.proofs.StatementLines.{lines_of, lines_past, targets_known}
 use Rattle.l6_asm.proofs.listings.push_statement.Goals as goal
 
 pub push_words-requires : goal.push_words-requires
@@ -14,7 +14,7 @@ push_words-requires c =
     let same : c.deref.result.now ≡ c.in_ok-words.words.items = search rules in
     ap (list_all is_word) same
     ∙ c.in_ok-words.ensures.fit
-    (targets-known c.args.program.now s c.statement.ensures.count c.statement.ensures.targets)
+    (targets_known c.args.program.now s c.statement.ensures.count c.statement.ensures.targets)
 
 pub returns-in_ok-push_words : goal.returns-in_ok-push_words
 returns-in_ok-push_words c =
@@ -27,11 +27,11 @@ returns-in_ok-push_words c =
     let added : c.push_words.new.text.items ≡ c.args.text.now.items ++ flat_map word_line words
     = search rules in
     added ∙ ap (λ lines. c.args.text.now.items ++ lines)
-    (lines-of program c.args.number s plain_done words within is same)
+    (lines_of program c.args.number s plain_done words within is same)
 
 pub returns-else-number-statements : goal.returns-else-number-statements
 returns-else-number-statements c =
     let program = c.args.program.now in
     let past : length program ≤ c.args.number = search rules in
     sym (append-nil c.args.text.now.items)
-    ∙ ap (λ lines. c.args.text.now.items ++ lines) (lines-past program c.args.number past)
+    ∙ ap (λ lines. c.args.text.now.items ++ lines) (lines_past program c.args.number past)

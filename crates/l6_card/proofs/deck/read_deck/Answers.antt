@@ -7,7 +7,7 @@ use Rattle.l6_card.specs.ReadsAs.{ReadsAs}
 use Rattle.l6_card.specs.Laws.{AreWithinLimits, IsOnlyReading}
 use Rattle.l6_card.specs.inner.Reader.{stage_of}
 use Rattle.l6_card.proofs.Settling.{reads_when_taken, only_reading_taken, within_limits, no_fault_taken}
-use Rattle.l6_card.proofs.Passes.{FirstCard, text_pieces, bytes_in, bytes_in-lines, refused, refused_at_end, pass_goes, pass_over}
+use Rattle.l6_card.proofs.Passes.{FirstCard, text_pieces, bytes_in, bytes_in_lines, refused, refused_at_end, pass_goes, pass_over}
 use Rattle.l6_card.proofs.deck.read_deck.Goals as goal
 use Rattle.l6_card.proofs.deck.read_deck.Goals.{After-new}
 
@@ -38,7 +38,7 @@ pub loop-line-init : goal.loop-line-init
 loop-line-init c = record {
   pass = ap (λ known. after_pieces known (text_pieces 1 0 c.args.deck.now)) c.new-reader.ensures;
   numbers = omega (arith, c.requires);
-  offsets = omega (arith, c.requires, bytes_in-lines c.args.deck.now);
+  offsets = omega (arith, c.requires, bytes_in_lines c.args.deck.now);
 }
 
 pub loop-line-preserved : goal.loop-line-preserved

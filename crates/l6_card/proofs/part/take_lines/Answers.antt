@@ -4,7 +4,7 @@ use Rattle.l6_word.specs.Lines.{lines_of}
 use Rattle.l6_card.specs.Objection.{objection_in}
 use Rattle.l6_card.specs.inner.Pass.{after_pieces}
 use Rattle.l6_card.specs.inner.Reader.{stage_of}
-use Rattle.l6_card.proofs.Passes.{bytes_in, bytes_in-lines}
+use Rattle.l6_card.proofs.Passes.{bytes_in, bytes_in_lines}
 use Rattle.l6_card.proofs.PartPasses.{line_pieces, take_first, take_none, line_goes, line_stops, lines_over}
 use Rattle.l6_card.proofs.part.take_lines.Goals as goal
 
@@ -12,7 +12,7 @@ pub loop-left-init : goal.loop-left-init
 loop-left-init c = record {
   pass = refl;
   numbers = omega (arith, c.requires);
-  offsets = omega (arith, c.requires, bytes_in-lines c.args.text.now);
+  offsets = omega (arith, c.requires, bytes_in_lines c.args.text.now);
 }
 
 pub returns-in-None : goal.returns-in-None

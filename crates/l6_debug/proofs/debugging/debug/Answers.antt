@@ -3,9 +3,9 @@ use Rattle.std.proofs.lemmas.Result.{err_from_is_err_and}
 use Rattle.l6_device.specs.Patience.{reports_read, reported_by}
 use Rattle.l6_device.specs.declared.fault.Part.{Part}
 use Rattle.l6_device.specs.declared.fault.Part.TheVariants.{Deck, Input, Commands}
-use Rattle.l6_device.proofs.DeviceUses.{retries-alone, retries-first, retries-more, unreported-other, unreported-writer}
+use Rattle.l6_device.proofs.DeviceUses.{retries_alone, retries_first, retries_more, unreported_other, unreported_writer}
 use Rattle.l6_debug.specs.Serving.{ServesSession}
-use Rattle.l6_debug.proofs.Sessions.{unreported-debugger_state}
+use Rattle.l6_debug.proofs.Sessions.{unreported_debugger_state}
 use Rattle.l6_debug.proofs.debugging.debug.Goals as goal
 
 -- the deck was read whole, and the input was not
@@ -73,11 +73,11 @@ returns-in_err-cards-clause-retries g c =
     let p = err_from_is_err_and c.from_residual.result c.from_residual.ensures.1 in
     let ends = c.in_err-cards.ensures.bytes in
     rw (p.1, p.2)
-    (retries-alone _ _ _ c.new-patience.ensures (retries-first _ _ _ _ c.in_err-cards.ensures.retries (
-      (refl, unreported-other Deck Input _ _ _ refl ends),
+    (retries_alone _ _ _ c.new-patience.ensures (retries_first _ _ _ _ c.in_err-cards.ensures.retries (
+      (refl, unreported_other Deck Input _ _ _ refl ends),
       (
-        (refl, unreported-other Deck Commands _ _ _ refl ends),
-        ((refl, unreported-writer Deck _ _ _ ends), tt),
+        (refl, unreported_other Deck Commands _ _ _ refl ends),
+        ((refl, unreported_writer Deck _ _ _ ends), tt),
       ),
     )))
 
@@ -88,11 +88,11 @@ returns-in_err-lines-clause-retries g c =
     c.from_residual-in_err-lines.ensures.1 in
     let ends = c.in_err-lines.ensures.bytes in
     rw (p.1, p.2)
-    (retries-alone _ _ _ c.new-patience.ensures
-    (retries-more _ _ _ _ _ _ _ (unreported-other Input Deck _ _ _ refl ends) c.in_ok-cards.ensures.retries
-    (retries-first _ _ _ _ c.in_err-lines.ensures.retries (
-      (refl, unreported-other Input Commands _ _ _ refl ends),
-      ((refl, unreported-writer Input _ _ _ ends), tt),
+    (retries_alone _ _ _ c.new-patience.ensures
+    (retries_more _ _ _ _ _ _ _ (unreported_other Input Deck _ _ _ refl ends) c.in_ok-cards.ensures.retries
+    (retries_first _ _ _ _ c.in_err-lines.ensures.retries (
+      (refl, unreported_other Input Commands _ _ _ refl ends),
+      ((refl, unreported_writer Input _ _ _ ends), tt),
     ))))
 
 -- the commands were not read whole: the writer was not asked
@@ -102,23 +102,23 @@ returns-in_err-asked-clause-retries g c =
     c.from_residual-in_err-asked.ensures.1 in
     let ends = c.in_err-asked.ensures.bytes in
     rw (p.1, p.2)
-    (retries-alone _ _ _ c.new-patience.ensures
-    (retries-more _ _ _ _ _ _ _ (unreported-other Commands Deck _ _ _ refl ends)
+    (retries_alone _ _ _ c.new-patience.ensures
+    (retries_more _ _ _ _ _ _ _ (unreported_other Commands Deck _ _ _ refl ends)
     c.in_ok-cards.ensures.retries
-    (retries-more _ _ _ _ _ _ _ (unreported-other Commands Input _ _ _ refl ends)
+    (retries_more _ _ _ _ _ _ _ (unreported_other Commands Input _ _ _ refl ends)
     c.in_ok-lines.ensures.retries
-    (retries-first _ _ _ _ c.in_err-asked.ensures.retries
-    ((refl, unreported-writer Commands _ _ _ ends), tt)))))
+    (retries_first _ _ _ _ c.in_err-asked.ensures.retries
+    ((refl, unreported_writer Commands _ _ _ ends), tt)))))
 
 -- all three were read whole
 pub returns-clause-retries : goal.returns-clause-retries
 returns-clause-retries g c =
     let unreported : (part : Part) → reported_by (reports_read part) c.debug_deck.result ≡ false =
-    λ part. unreported-debugger_state c.args.options c.as_slice.result.now c.as_slice-2.result.now
+    λ part. unreported_debugger_state c.args.options c.as_slice.result.now c.as_slice-2.result.now
     c.as_slice-3.result.now part (g.W.Sink.taken c.args.writer.now)
     (g.W.Sink.taken c.debug_deck.new.writer) c.debug_deck.result c.debug_deck.ensures.done in
-    retries-alone _ _ _ c.new-patience.ensures
-    (retries-more _ _ _ _ _ _ _ (unreported Deck) c.in_ok-cards.ensures.retries
-    (retries-more _ _ _ _ _ _ _ (unreported Input) c.in_ok-lines.ensures.retries
-    (retries-more _ _ _ _ _ _ _ (unreported Commands) c.in_ok-asked.ensures.retries
+    retries_alone _ _ _ c.new-patience.ensures
+    (retries_more _ _ _ _ _ _ _ (unreported Deck) c.in_ok-cards.ensures.retries
+    (retries_more _ _ _ _ _ _ _ (unreported Input) c.in_ok-lines.ensures.retries
+    (retries_more _ _ _ _ _ _ _ (unreported Commands) c.in_ok-asked.ensures.retries
     c.debug_deck.ensures.retries)))

@@ -1,7 +1,7 @@
 use Rattle.std.proofs.Common.{◌≡◌, ◌*◌, ◌+◌, arith, ap, sym, ◌∙◌, rules}
 use Rattle.l6_word.specs.Numerals.{unit_size}
 use Rattle.l6_store.specs.Blocks.{end_of}
-use Rattle.l6_debug.proofs.Lines.{none-past}
+use Rattle.l6_debug.proofs.Lines.{none_past}
 use Rattle.l6_debug.proofs.showing.block_at.Goals as goal
 
 pub returns-then-end-place-clause-value : goal.returns-then-end-place-clause-value
@@ -11,5 +11,5 @@ returns-then-end-place-clause-value g c =
     let other : c.from-2.result ≡ unit_size = search rules in
     let end : end_of store.units ≡ c.from.result * c.from-2.result =
     sym (ap (λ n. c.from.result * n) other ∙ ap (λ n. n * unit_size) one ∙ omega arith) in
-    none-past store.units store.blocks c.units.ensures.sound.fits c.args.place
+    none_past store.units store.blocks c.units.ensures.sound.fits c.args.place
     (omega (arith, end, c.if-end-place.true))

@@ -1,6 +1,6 @@
 -- What the read put into the front of the chunk is what was appended.
 use Rattle.std.proofs.Common.{arith, take, sym, length-take}
-use Rattle.l6_device.proofs.Transfers.{appended-front}
+use Rattle.l6_device.proofs.Transfers.{appended_front}
 use Rattle.l6_device.proofs.transfer.read_more.Goals as goal
 
 pub returns-in_ok-extend_from_slice-in-Ok-clause-ok :
@@ -11,7 +11,7 @@ returns-in_ok-extend_from_slice-in-Ok-clause-ok g c =
       more = take c.in-Ok.count c.read_patiently.new.buffer;
       given = read.bytes.0;
       appended
-          = appended-front _ _ _ _ _ read.bound.0 c.in_ok-extend_from_slice-in-Ok.ensures.items;
+          = appended_front _ _ _ _ _ read.bound.0 c.in_ok-extend_from_slice-in-Ok.ensures.items;
       counted = sym read.bound.1;
       ended =
           λ none. read.bytes.1 none

@@ -2,15 +2,15 @@
 use Rattle.std.proofs.Common.{arith, refl, inl, rules}
 use Rattle.std.proofs.KnownBytes.{Consumes-nil}
 use Rattle.std.proofs.lemmas.Result.{err_from_is_err_and}
-use Rattle.l6_device.proofs.DeviceUses.{retries-then, retried-none, retried-unreported}
-use Rattle.l6_device.proofs.Transfers.{Consumes-more, EndsReading-read_fault, GivesAtMost-after, GivesPart-at_end}
+use Rattle.l6_device.proofs.DeviceUses.{retries_then, retried_none, retried_unreported}
+use Rattle.l6_device.proofs.Transfers.{Consumes_more, EndsReading_read_fault, GivesAtMost_after, GivesPart_at_end}
 use Rattle.l6_device.proofs.transfer.read_part.Goals as goal
 
 pub loop-reader-init : goal.loop-reader-init
 loop-reader-init g c = record {
   given = rw c.new-bytes.ensures.items (Consumes-nil _);
   within = omega (arith, c.new-bytes.ensures.len);
-  repeated = retried-none _ _;
+  repeated = retried_none _ _;
   room = refl;
 }
 
@@ -18,10 +18,10 @@ pub loop-reader-preserved : goal.loop-reader-preserved
 loop-reader-preserved g c =
     let so_far = c.loop-reader.invariant in
     record {
-      given = Consumes-more _ _ _ _ _ _ so_far.given c.in_ok-count.ensures.ok;
+      given = Consumes_more _ _ _ _ _ _ so_far.given c.in_ok-count.ensures.ok;
       within = c.in_ok-count.ensures.within;
-      repeated = retried-unreported _ _ _ _
-          (retries-then _ _ _ _ _ _ _ so_far.repeated c.in_ok-count.ensures.retries);
+      repeated = retried_unreported _ _ _ _
+          (retries_then _ _ _ _ _ _ _ so_far.repeated c.in_ok-count.ensures.retries);
       room = so_far.room;
     }
 
@@ -30,12 +30,12 @@ returns-in_err-count-clause-bytes g c =
     let p =
     err_from_is_err_and c.from_residual-in_err-count.result
     c.from_residual-in_err-count.ensures.1 in
-    rw (p.1, p.2) (EndsReading-read_fault _ _ _ _ c.in_err-count.ensures.err)
+    rw (p.1, p.2) (EndsReading_read_fault _ _ _ _ c.in_err-count.ensures.err)
 
 pub returns-in_err-count-clause-at_most : goal.returns-in_err-count-clause-at_most
 returns-in_err-count-clause-at_most g c =
     let so_far = c.loop-reader.invariant in
-    GivesAtMost-after _ _ _ _ _ _ (omega (arith, c.loop-reader.bytes.ok.0, so_far.within))
+    GivesAtMost_after _ _ _ _ _ _ (omega (arith, c.loop-reader.bytes.ok.0, so_far.within))
     so_far.given c.in_err-count.ensures.at_most
 
 pub returns-in_err-count-clause-retries : goal.returns-in_err-count-clause-retries
@@ -44,22 +44,22 @@ returns-in_err-count-clause-retries g c =
     err_from_is_err_and c.from_residual-in_err-count.result
     c.from_residual-in_err-count.ensures.1 in
     rw (p.1, p.2)
-    (retries-then _ _ _ _ _ _ _ c.loop-reader.invariant.repeated c.in_err-count.ensures.retries)
+    (retries_then _ _ _ _ _ _ _ c.loop-reader.invariant.repeated c.in_err-count.ensures.retries)
 
 pub returns-then-count-eq0-clause-bytes : goal.returns-then-count-eq0-clause-bytes
 returns-then-count-eq0-clause-bytes g c =
-    GivesPart-at_end _ _ _ _ _ _ _ (omega (arith, c.loop-reader.bytes.ok.0))
+    GivesPart_at_end _ _ _ _ _ _ _ (omega (arith, c.loop-reader.bytes.ok.0))
     c.loop-reader.invariant.given c.in_ok-count.ensures.ok (search rules)
 
 pub returns-then-count-eq0-clause-at_most : goal.returns-then-count-eq0-clause-at_most
 returns-then-count-eq0-clause-at_most g c =
     let so_far = c.loop-reader.invariant in
-    GivesAtMost-after _ _ _ _ _ _ (omega (arith, c.loop-reader.bytes.ok.0, so_far.within))
+    GivesAtMost_after _ _ _ _ _ _ (omega (arith, c.loop-reader.bytes.ok.0, so_far.within))
     so_far.given c.in_ok-count.ensures.at_most
 
 pub returns-then-count-eq0-clause-retries : goal.returns-then-count-eq0-clause-retries
 returns-then-count-eq0-clause-retries g c =
-    retries-then _ _ _ _ _ _ _ c.loop-reader.invariant.repeated c.in_ok-count.ensures.retries
+    retries_then _ _ _ _ _ _ _ c.loop-reader.invariant.repeated c.in_ok-count.ensures.retries
 
 pub returns-clause-bytes : goal.returns-clause-bytes
 returns-clause-bytes g c =

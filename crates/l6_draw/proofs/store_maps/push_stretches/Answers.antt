@@ -3,7 +3,7 @@ use Rattle.std.specs.List.{flat_map}
 use Rattle.l6_word.specs.Numerals.{unit_size}
 use Rattle.l6_store.specs.Blocks.{Blocks, block_at}
 use Rattle.l6_draw.specs.StoreMap.{line_of, stretches_from}
-use Rattle.l6_draw.proofs.Lines.{stretch-more}
+use Rattle.l6_draw.proofs.Lines.{stretch_more}
 use Rattle.l6_draw.proofs.Summing.{place_small}
 use Rattle.l6_draw.proofs.store_maps.push_stretches.Goals as goal
 
@@ -31,7 +31,7 @@ pub loop-place-preserved : goal.loop-place-preserved
 loop-place-preserved g c =
     let memory = c.args.machine.now.configuration.state.memory in
     let place = get_or c.args.places.now c.loop-place.place-index 0 in
-    stretch-more memory c.args.places.now c.loop-place.place-index c.loop-place.from c.end_of-end.result
+    stretch_more memory c.args.places.now c.loop-place.place-index c.loop-place.from c.end_of-end.result
     c.loop-place.text.items c.push_free.new.text.items c.push_block.new.text.items
     (c.args.text.now.items ++ flat_map (line_of memory)
     (stretches_from memory unit_size c.end_of-end.result c.args.places.now))

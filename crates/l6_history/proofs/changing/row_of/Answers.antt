@@ -2,7 +2,7 @@ use Rattle.std.proofs.Common.{◌+◌, ◌<◌, ℕ, List, true, false, length, 
 use Rattle.l6_prog.specs.declared.operation.Op.{Op}
 use Rattle.l6_steps.specs.Step.{action_of}
 use Rattle.l6_history.specs.inner.Changing.{IsRow, action_changes}
-use Rattle.l6_history.proofs.ChangeRows.{exit-changes, first-row, operation-changes, set-row}
+use Rattle.l6_history.proofs.ChangeRows.{exit_changes, first_row, operation_changes, set_row}
 use Rattle.l6_history.proofs.changing.row_of.Goals as goal
 
 -- the condition and the exit are known
@@ -13,13 +13,13 @@ loop-index-init c =
     let operations = c.operations-operations.result.now in
     let first : IsRow chains statement c.set_entry.new.row =
     subst (IsRow chains statement) (sym c.set_entry.ensures)
-    (set-row chains statement (replicate 64 true) 0 false (first-row chains statement 64) (λ _. refl)) in
+    (set_row chains statement (replicate 64 true) 0 false (first_row chains statement 64) (λ _. refl)) in
     record {
       known = subst (IsRow chains statement) (sym c.set_entry-2.ensures)
-          (set-row chains statement c.set_entry.new.row (length operations + 1) false first
+          (set_row chains statement c.set_entry.new.row (length operations + 1) false first
           (λ _. ap (λ (rows : List (Op ℕ)). action_changes chains (action_of statement (length rows + 1)))
           c.operations-operations.ensures
-          ∙ exit-changes chains statement));
+          ∙ exit_changes chains statement));
     }
 
 -- an operation more is known
@@ -32,9 +32,9 @@ loop-index-preserved c =
     let same = c.operations-operations.ensures in
     record {
       known = subst (IsRow chains statement) (sym c.set_entry-in-loop-index.ensures)
-          (set-row chains statement c.loop-index.row (index + 1) c.changes_some.result
+          (set_row chains statement c.loop-index.row (index + 1) c.changes_some.result
           c.loop-index.invariant.known
-          (λ none. operation-changes chains statement index op
+          (λ none. operation_changes chains statement index op
           (subst (λ (rows : List (Op ℕ)). index < length rows) same c.loop-index-test.true)
           (c.index-operations-index.is ∙ ap (λ (rows : List (Op ℕ)). get_or rows index op) same)
           ∙ sym c.changes_some.ensures ∙ none));

@@ -2,7 +2,7 @@ use Rattle.std.proofs.Common.{◌≡◌, ◌+◌, ◌<◌, drop, get_or, length,
 use Rattle.std.specs.Prelude.{◌||◌}
 use Rattle.std.proofs.lemmas.List.{length-map}
 use Rattle.l6_history.specs.Stop.{some_differ, value_of, values_of}
-use Rattle.l6_history.proofs.Snapshots.{differ-more, read-as}
+use Rattle.l6_history.proofs.Snapshots.{differ_more, read_as}
 use Rattle.l6_history.proofs.snapshot.differ.Goals as goal
 
 -- one that differs is found
@@ -18,9 +18,9 @@ returns-then-is_other g c =
     let many = length-map c.args.chains.now (value_of memory) in
     let within_new : index < length new = omega (arith, many, c.loop-index-test.true) in
     let seen : value ≡ get_or new index value =
-    read-as c.args.chains.now memory index c.index-chains-index.result value c.loop-index-test.true
+    read_as c.args.chains.now memory index c.index-chains-index.result value c.loop-index-test.true
     c.index-chains-index.is c.readable_value.ensures in
-    let more = differ-more c.args.values.now new index kept value c.is_other.result within within_new
+    let more = differ_more c.args.values.now new index kept value c.is_other.result within within_new
     c.index-values-index.is seen c.is_other.ensures c.loop-index.invariant.rest in
     ap (λ b. b || some_differ (drop (index + 1) c.args.values.now) (drop (index + 1) new))
     (sym c.if-is_other.true)
@@ -39,9 +39,9 @@ loop-index-preserved g c =
     let many = length-map c.args.chains.now (value_of memory) in
     let within_new : index < length new = omega (arith, many, c.loop-index-test.true) in
     let seen : value ≡ get_or new index value =
-    read-as c.args.chains.now memory index c.index-chains-index.result value c.loop-index-test.true
+    read_as c.args.chains.now memory index c.index-chains-index.result value c.loop-index-test.true
     c.index-chains-index.is c.readable_value.ensures in
-    let more = differ-more c.args.values.now new index kept value c.is_other.result within within_new
+    let more = differ_more c.args.values.now new index kept value c.is_other.result within within_new
     c.index-values-index.is seen c.is_other.ensures c.loop-index.invariant.rest in
     record {
       rest = ap (λ b. b || some_differ (drop (index + 1) c.args.values.now) (drop (index + 1) new))

@@ -1,7 +1,7 @@
 use Rattle.std.proofs.Common.{◌≡◌, ◌<◌, ◌++◌, ◌∷◌, [], get_or, length, take, sym, ap, ◌∙◌, arith}
 use Rattle.std.proofs.lemmas.List.{length-map, length-set, take_more, take_more_set}
 use Rattle.l6_history.specs.Stop.{value_of, values_of}
-use Rattle.l6_history.proofs.Snapshots.{read-as}
+use Rattle.l6_history.proofs.Snapshots.{read_as}
 use Rattle.l6_history.proofs.snapshot.see.Goals as goal
 
 -- a value more is seen
@@ -17,7 +17,7 @@ loop-index-preserved g c =
     omega (arith, before.many, c.loop-index-test.true) in
     let within_new : index < length new = omega (arith, many, c.loop-index-test.true) in
     let seen : value ≡ get_or new index value =
-    read-as c.args.chains.now memory index c.index-chains-index.result value c.loop-index-test.true
+    read_as c.args.chains.now memory index c.index-chains-index.result value c.loop-index-test.true
     c.index-chains-index.is c.readable_value.ensures in
     record {
       many = length-set c.loop-index.values index value ∙ before.many;

@@ -1,7 +1,7 @@
 use Rattle.std.proofs.Common.{◌≡◌, ℕ, ◌+◌, List, length, get_or, set, take, ap, sym, ◌∙◌, arith}
 use Rattle.std.proofs.lemmas.List.{take_more, length-take-le}
 use Rattle.l6_raw.specs.Words.{overwritten}
-use Rattle.l6_raw.proofs.Overwriting.{length-overwritten, overwritten_more}
+use Rattle.l6_raw.proofs.Overwriting.{length_overwritten, overwritten_more}
 use Rattle.l6_raw.proofs.region.put.Goals as goal
 
 pub write-requires : goal.write-requires
@@ -10,7 +10,7 @@ write-requires c =
     let some : List ℕ = take c.loop-done.done c.args.words.now in
     let size = length-take-le c.loop-done.done c.args.words.now
     (omega (arith, c.loop-done-test.true)) in
-    let long = length-overwritten words c.args.index some
+    let long = length_overwritten words c.args.index some
     (omega (arith, size, c.requires, c.loop-done-test.true)) in
     omega (
       arith,

@@ -4,7 +4,7 @@ use Rattle.std.specs.Io.KnownBytes.{Appends}
 use Rattle.std.proofs.lemmas.Result.{err_from_is_err_and}
 use Rattle.l6_device.specs.Numerals.{most_counted}
 use Rattle.l6_device.specs.Transfer.{EndsWriting}
-use Rattle.l6_device.proofs.DeviceUses.{retries-then, retried-unreported}
+use Rattle.l6_device.proofs.DeviceUses.{retries_then, retried_unreported}
 use Rattle.l6_run.proofs.WordLines.{written_front, written_on}
 use Rattle.l6_run.proofs.lines.write_card_lines.Goals as goal
 
@@ -43,8 +43,8 @@ loop-is_over-preserved g c =
           (c.saturating_add-sent.ensures
           ∙ ap (λ n. min (c.loop-is_over.sent + n) most_counted) count);
       ended = λ over. c.fill-is_over.ensures.over (unended c.fill-is_over.result over);
-      retried = retried-unreported _ _ _ _
-          (retries-then _ _ _ _ _ _ _ c.loop-is_over.invariant.retried
+      retried = retried_unreported _ _ _ _
+          (retries_then _ _ _ _ _ _ _ c.loop-is_over.invariant.retried
           c.in_ok-write_text.ensures.retries);
     }
   where

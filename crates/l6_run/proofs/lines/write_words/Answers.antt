@@ -10,7 +10,7 @@ use Rattle.l6_word.specs.Word.{is_word}
 use Rattle.l6_image.specs.Text.{text_of_words, word_line}
 use Rattle.l6_device.specs.Numerals.{most_counted}
 use Rattle.l6_device.specs.Transfer.{EndsWriting}
-use Rattle.l6_device.proofs.DeviceUses.{retries-then, retried-unreported}
+use Rattle.l6_device.proofs.DeviceUses.{retries_then, retried_unreported}
 use Rattle.l6_run.proofs.WordLines.{written_front, written_on}
 use Rattle.l6_run.proofs.lines.write_words.Goals as goal
 
@@ -55,6 +55,6 @@ loop-rest-preserved g c =
           c.saturating_add-before.result out
           (c.saturating_add-before.ensures
           ∙ ap (λ n. min (c.loop-rest.before + n) most_counted) (count ∙ ap length lines));
-      retried = retried-unreported _ _ _ _
-          (retries-then _ _ _ _ _ _ _ c.loop-rest.invariant.retried c.in_ok-write_text.ensures.retries);
+      retried = retried_unreported _ _ _ _
+          (retries_then _ _ _ _ _ _ _ c.loop-rest.invariant.retried c.in_ok-write_text.ensures.retries);
     }

@@ -2,7 +2,7 @@ use Rattle.std.proofs.Common.{ℕ, List, subst, sym}
 use Rattle.l6_image.specs.Text.{text_of_words}
 use Rattle.l6_run.specs.Texts.{RefusesRewriting, RewritesImage}
 use Rattle.l6_run.proofs.Servings.{text_served}
-use Rattle.l6_run.proofs.WordLines.{renewed-counted}
+use Rattle.l6_run.proofs.WordLines.{renewed_counted}
 use Rattle.l6_run.proofs.texts.rewrite_image_text.Goals as goal
 
 -- the lines of the image's words are its text
@@ -13,4 +13,4 @@ returns-clause-done g c =
     let written = subst (λ (words : List ℕ). RewritesImage image (text_of_words words))
     (sym c.deref.ensures.value) c.in_ok-words.ensures.image in
     text_served (λ _ text. RewritesImage image text) (RefusesRewriting image) text _ _ c.write_words.result
-    (renewed-counted image text written) written c.write_words.ensures.ok c.write_words.ensures.err
+    (renewed_counted image text written) written c.write_words.ensures.ok c.write_words.ensures.err

@@ -1,6 +1,6 @@
 use Rattle.std.proofs.Common.{◌≡◌, true, false, [], ◌∷◌, List, ℕ, sym, ap, subst, ◌∙◌, inr}
 use Rattle.l6_session.specs.Dialogue.{GoesOn, Talked, asked, shown}
-use Rattle.l6_session.proofs.Dialogues.{answered-to, asked-for, read-one, talked-more}
+use Rattle.l6_session.proofs.Dialogues.{answered_to, asked_for, read_one, talked-more}
 use Rattle.l6_session.proofs.conversation.converse.Goals as goal
 
 -- a line that ends the session
@@ -13,7 +13,7 @@ returns-then-ends g c =
     let there = c.as_slice.ensures.value ∙ c.keep_asked.ensures in
     let ended : ends c.lines.answerer (asked c.lines.last.items line) ≡ true =
     ap (ends c.lines.answerer) (sym there) ∙ sym c.ends.ensures ∙ c.if-ends.true in
-    let read = read-one (passed c.show.new.self) (passed c.read.new.self) line c.in_ok-read.field-0
+    let read = read_one (passed c.show.new.self) (passed c.read.new.self) line c.in_ok-read.field-0
     c.if-not-branch.false c.in_ok-read.ensures in
     record {
       newest = c.lines.last.items;
@@ -26,7 +26,7 @@ returns-then-ends g c =
       ended = inr (
         line,
         ended,
-        asked-for (passed c.lines.console) (passed c.show.new.self) (passed c.read.new.self) prompt line
+        asked_for (passed c.lines.console) (passed c.show.new.self) (passed c.read.new.self) prompt line
             c.in_ok-show.ensures read,
       );
     }
@@ -46,14 +46,14 @@ lines-preserved g c =
     let there_too = c.as_slice-in-lines.ensures.value ∙ c.keep_asked.ensures in
     let goes_on : ends now (asked c.lines.last.items line) ≡ false =
     ap (ends now) (sym there) ∙ sym c.ends.ensures ∙ c.if-ends.false in
-    let read = read-one (passed c.show.new.self) (passed c.read.new.self) line c.in_ok-read.field-0
+    let read = read_one (passed c.show.new.self) (passed c.read.new.self) line c.in_ok-read.field-0
     c.if-not-branch.false c.in_ok-read.ensures in
-    let given_line = asked-for (passed c.lines.console) (passed c.show.new.self)
+    let given_line = asked_for (passed c.lines.console) (passed c.show.new.self)
     (passed c.read.new.self) prompt line c.in_ok-show.ensures read in
     let answered = subst (λ (t : List ℕ). GoesOn (passed c.read.new.self)
     (passed c.show-in-lines.new.self) (shown t ∷ [])) c.as_slice-in-lines-2.ensures.value
     c.in_ok-show-2.ensures in
-    let goes = answered-to (passed c.lines.console) (passed c.read.new.self)
+    let goes = answered_to (passed c.lines.console) (passed c.read.new.self)
     (passed c.show-in-lines.new.self) prompt line text given_line answered in
     let more = talked-more Answers after ends prompt c.args.answerer.now now c.answer.new.self []
     c.lines.last.items (passed c.args.console.now) (passed c.lines.console)

@@ -3,7 +3,7 @@ use Rattle.std.specs.Prelude.{codes}
 use Rattle.std.proofs.lemmas.List.{append-nil}
 use Rattle.l6_steps.specs.Configuration.{state_at}
 use Rattle.l6_session.specs.Reports.{or_nothing, stops_lines}
-use Rattle.l6_session.proofs.Pushing.{none-added, on_ok, when_ok}
+use Rattle.l6_session.proofs.Pushing.{none_added, on_ok, when_ok}
 use Rattle.l6_session.proofs.reports.push_info.Goals as goal
 
 -- no line was added
@@ -16,7 +16,7 @@ returns-then-len-begin g c =
     (state_at g.S.Places.rule session.context session.state.number).memory session.state in
     let nothing = codes "No breakpoint is set, and nothing is watched or displayed\n" in
     let same : length now ≡ length old = search rules in
-    let none = none-added old lines c.in_ok-push_stops.ensures same in
+    let none = none_added old lines c.in_ok-push_stops.ensures same in
     on_ok c.extend_from_slice.result
     (λ last.
     last ∙ ap (λ text. text ++ nothing) (c.in_ok-push_stops.ensures

@@ -1,5 +1,5 @@
-use Rattle.l6_steps.proofs.Lasting.{last-found}
+use Rattle.l6_steps.proofs.Lasting.{last_found}
 use Rattle.l6_steps.proofs.laws.runs_have_a_last_state.Goals as goal
 
 pub returns : goal.returns
-returns c = last-found
+returns c = last_found

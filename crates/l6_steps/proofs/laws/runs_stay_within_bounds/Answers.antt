@@ -1,5 +1,5 @@
-use Rattle.l6_steps.proofs.Bounds.{runs-stay_within_bounds}
+use Rattle.l6_steps.proofs.Bounds.{runs_stay_within_bounds}
 use Rattle.l6_steps.proofs.laws.runs_stay_within_bounds.Goals as goal
 
 pub returns : goal.returns
-returns c = runs-stay_within_bounds
+returns c = runs_stay_within_bounds

@@ -2,9 +2,9 @@ use Rattle.std.proofs.Common.{◌≡◌, ℕ, true, List, ◌∷◌, get_or, set
 use Rattle.l6_store.specs.Buddy.{has, without}
 use Rattle.l6_store.specs.inner.Chains.{after_in, before_in, with_before, words_unlinked}
 use Rattle.l6_store.specs.inner.FreeLists.{IsFreeList}
-use Rattle.l6_store.proofs.Counts.{has-first}
-use Rattle.l6_store.proofs.FreeLists.{unlinked_list, without-first}
-use Rattle.l6_store.proofs.Unlinking.{words_unlinked-first, with_head-first}
+use Rattle.l6_store.proofs.Counts.{has_first}
+use Rattle.l6_store.proofs.FreeLists.{unlinked_list, without_first}
+use Rattle.l6_store.proofs.Unlinking.{words_unlinked_first, with_head_first}
 use Rattle.l6_store.proofs.link.pop.Goals as goal
 
 -- the head, as the code reads it
@@ -21,25 +21,25 @@ pub returns-clause-words : goal.returns-clause-words
 returns-clause-words c =
     c.set_before.ensures
     ∙ ap (λ (after : ℕ). with_before c.args.words.now after 0) c.neighbors_at-next.ensures.after
-    ∙ words_unlinked-first c.args.words.now (get_or c.args.heads.now c.from.result 0) (none_before c)
+    ∙ words_unlinked_first c.args.words.now (get_or c.args.heads.now c.from.result 0) (none_before c)
 
 pub returns-clause-heads : goal.returns-clause-heads
 returns-clause-heads c =
     let word : ℕ = get_or c.args.words.now (get_or c.args.heads.now c.from.result 0) 0 in
     ap (λ (level : ℕ). set c.args.heads.now level c.neighbors_at-next.result.after) c.from-2.ensures
     ∙ ap (set c.args.heads.now c.args.level) c.neighbors_at-next.ensures.after
-    ∙ with_head-first c.args.heads.now c.args.level (before_in word) (after_in word) (none_before c)
+    ∙ with_head_first c.args.heads.now c.args.level (before_in word) (after_in word) (none_before c)
 
 pub returns-clause-list : goal.returns-clause-list
 returns-clause-list c first rest are =
     let place = get_or c.args.heads.now c.from.result 0 in
     let same : place ≡ first = head c ∙ are.begun in
     let there : has place (first ∷ rest) ≡ true
-    = subst (λ (p : ℕ). has p (first ∷ rest) ≡ true) (sym same) (has-first first rest) in (
+    = subst (λ (p : ℕ). has p (first ∷ rest) ≡ true) (sym same) (has_first first rest) in (
       same,
       subst (λ (ps : List ℕ). IsFreeList c.set_before.new.words
           (set c.args.heads.now c.from-2.result c.neighbors_at-next.result.after) c.args.level ps)
-          (ap (λ (p : ℕ). without p (first ∷ rest)) same ∙ without-first first rest)
+          (ap (λ (p : ℕ). without p (first ∷ rest)) same ∙ without_first first rest)
           (subst (λ (words : List ℕ). IsFreeList words
           (set c.args.heads.now c.from-2.result c.neighbors_at-next.result.after) c.args.level
           (without place (first ∷ rest))) (sym (returns-clause-words c))

@@ -1,6 +1,6 @@
 use Rattle.std.proofs.Common.{◌∙◌, ap, sym, arith}
 use Rattle.std.specs.Str.Parse.{digits_value}
-use Rattle.l6_word.proofs.Octals.{few_digits, read_whole, octal12-value}
+use Rattle.l6_word.proofs.Octals.{few_digits, read_whole, octal12_value}
 use Rattle.l6_word.proofs.octal.read_octal12.Goals as goal
 
 pub overflow_mul-value : goal.overflow_mul-value
@@ -26,4 +26,4 @@ returns-clause-number c =
     read_whole now.given-index now.value c.from_value.result c.args.text.now (omega arith)
     (omega arith) (omega arith) now.invariant.digits (omega arith) in
     let fits = few_digits now.given-index now.value (omega arith) now.invariant.below in
-    sym (ap (digits_value 8) whole ∙ octal12-value c.from_value.result (omega (arith, fits)))
+    sym (ap (digits_value 8) whole ∙ octal12_value c.from_value.result (omega (arith, fits)))

@@ -2,7 +2,7 @@ use Rattle.std.proofs.Common.{◌≡◌, ◌++◌, ◌∙◌, List, ℕ, true, s
 use Rattle.std.specs.Str.{byte}
 use Rattle.std.proofs.lemmas.List.{take-append-drop}
 use Rattle.l6_word.specs.Split.{lacks}
-use Rattle.l6_word.proofs.Cuts.{skip-block}
+use Rattle.l6_word.proofs.Cuts.{skip_block}
 use Rattle.l6_word.proofs.split.skip_blocks.Goals as goal
 
 pub loop-rest-preserved : goal.loop-rest-preserved
@@ -16,5 +16,5 @@ loop-rest-preserved c =
     ∙ ap (λ (b : List ℕ). b ++ drop 16 rest) (sym c.split_at.ensures.front)
     ∙ ap (λ (f : List ℕ). block ++ f) (sym c.split_at.ensures.back) in
     let lacking : lacks (byte "\n") block ≡ true = search rules in
-    skip-block (byte "\n") c.args.text.now before.0 rest block following before.1 before.2 parts
+    skip_block (byte "\n") c.args.text.now before.0 rest block following before.1 before.2 parts
     lacking

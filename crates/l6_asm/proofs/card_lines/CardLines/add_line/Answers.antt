@@ -1,6 +1,6 @@
 use Rattle.std.proofs.Common.{◌≡◌, ◌++◌, ◌∷◌, ◌∙◌, ap, sym, rules}
 use Rattle.l6_asm.specs.Listing.{word_line}
-use Rattle.l6_asm.proofs.CardsLeft.{word-added}
+use Rattle.l6_asm.proofs.CardsLeft.{word_added}
 use Rattle.l6_asm.proofs.card_lines.CardLines.add_line.Goals as goal
 
 pub returns-in-Some-clause-line : goal.returns-in-Some-clause-line
@@ -13,4 +13,4 @@ returns-in-Some-clause-line c =
     let is : c.from_value.result ≡ word = search rules in
     let added : c.push_word.new.text.items ≡ text ++ word_line word = search (rules, is) in
     ap (λ left. text ++ left) (sym c.self.view_is)
-    ∙ word-added text c.push_word.new.text.items word words following _ are added
+    ∙ word_added text c.push_word.new.text.items word words following _ are added

@@ -4,7 +4,7 @@ use Rattle.std.proofs.lemmas.List.{map-append}
 use Rattle.std.proofs.lemmas.List.Folds.{list_all-append}
 use Rattle.l6_prog.specs.Statement.{plain_done}
 use Rattle.l6_asm.specs.inner.CardsLeft.{are_words}
-use Rattle.l6_asm.proofs.StatementLines.{statement-more, targets-known}
+use Rattle.l6_asm.proofs.StatementLines.{statement_more, targets_known}
 use Rattle.l6_asm.proofs.statement_words.StatementWords.of.Goals as goal
 
 pub loop-number-preserved : goal.loop-number-preserved
@@ -21,9 +21,9 @@ loop-number-preserved c =
     ∙ map-append (λ v. v.items) c.loop-number.statements.items _ in
     let known : are_words words ≡ true =
     c.in_ok-statement_words.ensures.fit
-    (targets-known program statement c.statement.ensures.count c.statement.ensures.targets) in
+    (targets_known program statement c.statement.ensures.count c.statement.ensures.targets) in
     record {
-      made = statement-more program number statement plain_done words before _ within is
+      made = statement_more program number statement plain_done words before _ within is
           c.in_ok-statement_words.ensures.words c.loop-number.invariant.made added;
       known = ap (list_all are_words) added
           ∙ list_all-append are_words before (words ∷ [])

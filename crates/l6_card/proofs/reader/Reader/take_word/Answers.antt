@@ -8,7 +8,7 @@ use Rattle.l6_card.specs.inner.StatementBuilder.{StatementBuilder, expected_in, 
 use Rattle.l6_card.specs.inner.Pass.{when_built}
 use Rattle.l6_card.specs.inner.Reader.{stage_of}
 use Rattle.l6_card.specs.inner.Token.{letters_of}
-use Rattle.l6_card.proofs.Characters.{spelled-letters}
+use Rattle.l6_card.proofs.Characters.{spelled_letters}
 use Rattle.l6_card.proofs.Refusals.{form_objects, limit_objects}
 use Rattle.l6_card.proofs.reader.Reader.take_word.Goals as goal
 
@@ -18,7 +18,7 @@ returns-in-Ok-clause-taken c =
     let columns = c.args.columns.now in
     let past = c.args.offset + count_solid columns in
     let i = word c.args.offset past (letters_of columns) in
-    let made = ap (with_characters known.body.card known.builder) (spelled-letters columns) in
+    let made = ap (with_characters known.body.card known.builder) (spelled_letters columns) in
     ap (λ m. when_built i m known) (made ∙ c.in-Ok.ensures.taken)
 
 pub returns-in-Err-Form-clause-taken : goal.returns-in-Err-Form-clause-taken
@@ -27,12 +27,12 @@ returns-in-Err-Form-clause-taken c =
     let columns = c.args.columns.now in
     let past = c.args.offset + count_solid columns in
     let i = word c.args.offset past (letters_of columns) in
-    let made = ap (with_characters known.body.card known.builder) (spelled-letters columns) in
+    let made = ap (with_characters known.body.card known.builder) (spelled_letters columns) in
     let left = rw c.in-Err-Form.field-0-is at c.in-Err-Form.ensures.left in
     let reason = c.word_reason-reason.ensures
     ∙ ap (λ (b : StatementBuilder). word_reason (expected_in b) (is_some (after_then (spelled columns)))) left
     ∙ ap (λ cs. word_reason (expected_in known.builder) (is_some (after_then cs)))
-    (sym (spelled-letters columns)) in
+    (sym (spelled_letters columns)) in
     rw c.word_objects.ensures
     (form_objects i known.body.card _ known _
     (made ∙ rw c.in-Err-Form.field-0-is at c.in-Err-Form.ensures.taken) reason)
@@ -43,7 +43,7 @@ returns-in-Err-Limit-clause-taken c =
     let columns = c.args.columns.now in
     let past = c.args.offset + count_solid columns in
     let i = word c.args.offset past (letters_of columns) in
-    let made = ap (with_characters known.body.card known.builder) (spelled-letters columns) in
+    let made = ap (with_characters known.body.card known.builder) (spelled_letters columns) in
     rw c.word_objects-in-Err-Limit.ensures
     (limit_objects i known.body.card _ known
     (made ∙ rw c.in-Err-Limit.field-0-is at c.in-Err-Limit.ensures.taken))

@@ -3,7 +3,7 @@ use Rattle.l6_history.specs.Seeking.{next_stop}
 use Rattle.l6_history.specs.Stop.{Stop}
 use Rattle.l6_debug.specs.DebuggerState.{next_breakpoint}
 use Rattle.l6_debug.specs.inner.DebuggerRun.{DebuggerRun}
-use Rattle.l6_debug.proofs.Stopping.{by-breakpoints, debugger_state_of}
+use Rattle.l6_debug.proofs.Stopping.{by_breakpoints, debugger_state_of}
 use Rattle.l6_debug.proofs.debugger.Debugger.go.Goals as goal
 
 -- the history stops at breakpoints alone
@@ -17,7 +17,7 @@ returns-clause-debugger_state g c =
     let there : c.to_next.new.self.number ≡ next_breakpoint rule old.context old.debugger_state =
     c.to_next.ensures.number
     ∙ ap (λ (s : Stop). next_stop rule history.context s history.number) c.self.invariant
-    ∙ by-breakpoints rule history.context breakpoints history.number
+    ∙ by_breakpoints rule history.context breakpoints history.number
     ∙ ap (λ (r : DebuggerRun). next_breakpoint rule r.context r.debugger_state) viewed in
     ap (λ n. debugger_state_of n breakpoints) there
     ∙ ap (λ (r : DebuggerRun). debugger_state_of (next_breakpoint rule old.context old.debugger_state)

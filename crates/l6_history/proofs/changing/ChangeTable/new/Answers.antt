@@ -3,7 +3,7 @@ use Rattle.std.specs.List.{each_same}
 use Rattle.std.proofs.lemmas.List.{length-replicate}
 use Rattle.l6_prog.specs.Statement.{Parts}
 use Rattle.l6_history.specs.inner.Changing.{IsTable}
-use Rattle.l6_history.proofs.ChangeRows.{first-table}
+use Rattle.l6_history.proofs.ChangeRows.{first_table}
 use Rattle.l6_history.proofs.changing.ChangeTable.new.Goals as goal
 
 -- of no action it is said at first that it changes nothing
@@ -17,5 +17,5 @@ loop-number-init c =
       many = ap (λ (t : List (List Bool)). length t) rows ∙ length-replicate count (replicate 64 true)
           ∙ ap (λ (ps : List Parts). length ps) c.statements-statements.ensures.value;
       known = subst (IsTable c.args.chains.now program) (sym rows)
-          (first-table c.args.chains.now program count 64);
+          (first_table c.args.chains.now program count 64);
     }

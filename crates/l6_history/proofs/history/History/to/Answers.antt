@@ -1,6 +1,6 @@
 use Rattle.std.proofs.Common.{◌≤◌, subst, sym, arith}
 use Rattle.l6_history.specs.History.{History}
-use Rattle.l6_history.proofs.Rings.{greatest-within}
+use Rattle.l6_history.proofs.Rings.{greatest_within}
 use Rattle.l6_history.proofs.history.History.to.Goals as goal
 use Rattle.l6_history.proofs.history.History.to.Goals.{then-number, else-number}
 
@@ -8,7 +8,7 @@ use Rattle.l6_history.proofs.history.History.to.Goals.{then-number, else-number}
 pub forward-requires : goal.forward-requires
 forward-requires g c = elim c.if-number.branch [
   | then-number w ↦
-      (let within = greatest-within c.args.number c.args.self.now.kept in
+      (let within = greatest_within c.args.number c.args.self.now.kept in
       subst (λ (h : History). h.number ≤ c.args.number) (sym w.self-is)
       (omega (arith, within, w.go_back.ensures.number)))
   | else-number w ↦

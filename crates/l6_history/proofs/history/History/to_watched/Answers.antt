@@ -4,7 +4,7 @@ use Rattle.l6_steps.specs.Configuration.{state_at}
 use Rattle.l6_steps.specs.Numbering.{last_number}
 use Rattle.l6_steps.specs.State.{RunContext}
 use Rattle.l6_machine.specs.Later.{sees}
-use Rattle.l6_history.proofs.Sought.{comes-on, none-on}
+use Rattle.l6_history.proofs.Sought.{comes_on, none_on}
 use Rattle.l6_history.proofs.history.History.to_watched.Goals as goal
 
 -- one more stretch is looked through
@@ -21,7 +21,7 @@ stretches-preserved g c =
     record {
       context = c.stretch_until.ensures.context ∙ same;
       passed =
-          none-on (seen c.args.self.now.context) c.args.self.now.number old.number new.number
+          none_on (seen c.args.self.now.context) c.args.self.now.number old.number new.number
           c.stretches.invariant.passed goes_on.0
           (subst
           (λ w. (k : ℕ) → old.number < k → k < new.number → seen w k ≡ false)
@@ -43,7 +43,7 @@ returns-clause-comes g c =
     let seen : RunContext → ℕ → Bool =
     λ w n. sees (g.W.Watch.stops c.args.watch.now) (g.W.Watch.changed c.args.watch.now)
     (state_at rule w n) in
-    comes-on (seen c.args.self.now.context) c.args.self.now.number old.number
+    comes_on (seen c.args.self.now.context) c.args.self.now.number old.number
     (last_number rule c.args.self.now.context) new.number c.stretches.invariant.passed
     c.stretch_until.ensures.on
     (subst (λ w. new.number ≤ last_number rule w) same c.stretch_until.ensures.within)

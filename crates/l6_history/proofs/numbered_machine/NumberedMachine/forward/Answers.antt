@@ -1,15 +1,15 @@
 use Rattle.std.proofs.Common.{◌≤◌, sym, subst, ap, ◌∙◌, arith}
 use Rattle.l6_history.specs.History.{number_to}
 use Rattle.l6_history.specs.inner.NumberedMachine.{NumberedMachine}
-use Rattle.l6_history.proofs.NumberedMachines.{goes-to, last-bound}
+use Rattle.l6_history.proofs.NumberedMachines.{goes_to, last_bound}
 use Rattle.l6_history.proofs.numbered_machine.NumberedMachine.forward.Goals as goal
 
 pub overflow_add-self : goal.overflow_add-self
 overflow_add-self g c =
     let rule = g.S.Places.rule in
-    let bound = last-bound rule c.self.inside.machine.context c.self.invariant.allowed in
+    let bound = last_bound rule c.self.inside.machine.context c.self.invariant.allowed in
     let there =
-    goes-to rule c.self.inside.machine c.run_to-ran.new.self c.self.inside.number c.args.number
+    goes_to rule c.self.inside.machine c.run_to-ran.new.self c.self.inside.number c.args.number
     c.run_to-ran.result c.self.invariant
     (subst (λ (v : NumberedMachine). v.number ≤ c.args.number) (sym c.self.view_is) c.requires)
     (record {
@@ -24,7 +24,7 @@ overflow_add-self g c =
 
 pub invariant_of-self : goal.invariant_of-self
 invariant_of-self g c =
-    (goes-to g.S.Places.rule c.self.inside.machine c.run_to-ran.new.self c.self.inside.number
+    (goes_to g.S.Places.rule c.self.inside.machine c.run_to-ran.new.self c.self.inside.number
     c.args.number c.run_to-ran.result c.self.invariant
     (subst (λ (v : NumberedMachine). v.number ≤ c.args.number) (sym c.self.view_is) c.requires)
     (record {
@@ -37,7 +37,7 @@ invariant_of-self g c =
 
 pub returns-clause-number : goal.returns-clause-number
 returns-clause-number g c =
-    (goes-to g.S.Places.rule c.self.inside.machine c.run_to-ran.new.self c.self.inside.number
+    (goes_to g.S.Places.rule c.self.inside.machine c.run_to-ran.new.self c.self.inside.number
     c.args.number c.run_to-ran.result c.self.invariant
     (subst (λ (v : NumberedMachine). v.number ≤ c.args.number) (sym c.self.view_is) c.requires)
     (record {

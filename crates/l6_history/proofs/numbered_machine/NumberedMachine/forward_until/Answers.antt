@@ -4,7 +4,7 @@ use Rattle.l6_steps.specs.State.{State}
 use Rattle.l6_machine.specs.Later.{sees}
 use Rattle.l6_history.specs.History.{number_to}
 use Rattle.l6_history.specs.inner.NumberedMachine.{NumberedMachine}
-use Rattle.l6_history.proofs.NumberedMachines.{goes-until, last-bound}
+use Rattle.l6_history.proofs.NumberedMachines.{goes-until, last_bound}
 use Rattle.l6_history.proofs.numbered_machine.NumberedMachine.forward_until.Goals as goal
 
 -- no number is greater than the last
@@ -25,7 +25,7 @@ overflow_add-self g c =
       few = c.run_until-ran.ensures.few;
       stops = c.run_until-ran.ensures.stops;
     }) in
-    let bound = last-bound rule c.self.inside.machine.context c.self.invariant.allowed in
+    let bound = last_bound rule c.self.inside.machine.context c.self.invariant.allowed in
     let within = comes.within in
     omega (arith, bound, within)
 

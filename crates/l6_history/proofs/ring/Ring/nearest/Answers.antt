@@ -1,6 +1,6 @@
 use Rattle.std.proofs.Common.{Some, ◌∙◌}
 use Rattle.l6_history.specs.inner.Ring.{numbers_of}
-use Rattle.l6_history.proofs.Rings.{found-same, greatest-next, greatest-past, greatest-stays}
+use Rattle.l6_history.proofs.Rings.{found_same, greatest_next, greatest_past, greatest_stays}
 use Rattle.l6_history.proofs.ring.Ring.nearest.Goals as goal
 use Rattle.l6_history.proofs.ring.Ring.nearest.Goals.{then-greatest-kept+then-kept-number, else-greatest-kept, else-greatest-kept-via-then-greatest-kept+else-kept-number, else-greatest-kept-via-else-greatest-kept}
 
@@ -11,23 +11,23 @@ loop-index-preserved g c =
     elim c.if-greatest-kept.branch [
       | then-greatest-kept+then-kept-number w ↦ record {
         most = w.greatest-is
-            ∙ greatest-next c.args.number numbers c.loop-index.index c.number_at-kept.result
+            ∙ greatest_next c.args.number numbers c.loop-index.index c.number_at-kept.result
             c.loop-index.greatest c.number_at-kept.ensures most w.if-greatest-kept.true
             w.if-kept-number.true;
-        at = found-same numbers c.if-greatest-kept.nearest (Some c.loop-index.index)
+        at = found_same numbers c.if-greatest-kept.nearest (Some c.loop-index.index)
             c.if-greatest-kept.greatest c.number_at-kept.result w.nearest-is w.greatest-is
             c.number_at-kept.ensures;
       }
       | else-greatest-kept w ↦ record {
         most = w.greatest-is ∙ (elim w.else-greatest-kept.branch [
           | else-greatest-kept-via-then-greatest-kept+else-kept-number w' ↦
-              greatest-past c.args.number numbers c.loop-index.index c.number_at-kept.result
+              greatest_past c.args.number numbers c.loop-index.index c.number_at-kept.result
               c.loop-index.greatest c.number_at-kept.ensures most w'.if-kept-number.false
           | else-greatest-kept-via-else-greatest-kept w' ↦
-              greatest-stays c.args.number numbers c.loop-index.index c.number_at-kept.result
+              greatest_stays c.args.number numbers c.loop-index.index c.number_at-kept.result
               c.loop-index.greatest c.number_at-kept.ensures most w'.if-greatest-kept.false
         ]);
-        at = found-same numbers c.if-greatest-kept.nearest c.loop-index.nearest
+        at = found_same numbers c.if-greatest-kept.nearest c.loop-index.nearest
             c.if-greatest-kept.greatest c.loop-index.greatest w.nearest-is w.greatest-is
             c.loop-index.invariant.at;
       }

@@ -2,7 +2,7 @@ use Rattle.std.proofs.Common.{◌≡◌, ℕ, Bool, false, List, Option, length,
 use Rattle.std.proofs.lemmas.List.{length-map}
 use Rattle.l6_history.specs.Stop.{some_differ, stops_at, value_of, values_of}
 use Rattle.l6_history.specs.inner.Seeking.{Snapshot}
-use Rattle.l6_history.proofs.Snapshots.{none-differ}
+use Rattle.l6_history.proofs.Snapshots.{none_differ}
 use Rattle.l6_history.proofs.snapshot.Snapshot.look.Goals as goal
 
 -- values of which none differs are those that the chains read as
@@ -21,7 +21,7 @@ returns-then-not-differ-clause-snapshot g c =
     ∙ sym c.if-not-differ.ensures in
     let snapshot : Bool → List (Option ℕ) → Snapshot = λ stops values. record { stops = stops; values = values } in
     ap (λ stops. snapshot stops old) c.stops_at-self-inside.ensures
-    ∙ ap (λ values. snapshot (stops_at c.args.stop.now state) values) (none-differ old new many none)
+    ∙ ap (λ values. snapshot (stops_at c.args.stop.now state) values) (none_differ old new many none)
 
 pub returns-then-not-differ-clause-differ : goal.returns-then-not-differ-clause-differ
 returns-then-not-differ-clause-differ g c =
@@ -37,5 +37,5 @@ returns-then-not-differ-clause-differ g c =
     (sym c.watched.ensures.value)
     ∙ sym c.if-not-differ.ensures in
     sym (ap (λ values. some_differ values old) (sym is)
-    ∙ ap (λ values. some_differ old values) (none-differ old new many none)
+    ∙ ap (λ values. some_differ old values) (none_differ old new many none)
     ∙ none)

@@ -4,7 +4,7 @@ use Rattle.l6_steps.specs.Configuration.{Configuration}
 use Rattle.l6_steps.specs.declared.limits.Limits.{Limits}
 use Rattle.l6_steps.specs.State.{RunContext, State, is_last}
 use Rattle.l6_machine.specs.Later.{sees, state_later}
-use Rattle.l6_machine.proofs.Seeing.{later, not_last, one-more, open-number}
+use Rattle.l6_machine.proofs.Seeing.{later, not_last, one_more, open_number}
 use Rattle.l6_machine.proofs.machine.Machine.run_until.Goals as goal
 
 -- one step more was made
@@ -32,15 +32,15 @@ steps-preserved g c =
     c.go_on.ensures.configuration in
     let unseen : sees stops changed c.go_on.new.self.configuration.state ≡ false =
     sym c.is_seen.ensures ∙ c.if-is_seen.false in
-    let number = open-number now.configuration.state goes_on.0 in
+    let number = open_number now.configuration.state goes_on.0 in
     record {
       context = c.go_on.ensures.context ∙ old.context;
       there = there;
       goes_on = λ k within.
-          one-more (λ n. is_last context (state_later rule context n from)) 0 made
+          one_more (λ n. is_last context (state_later rule context n from)) 0 made
           (λ n _ before. old.goes_on n before) here k (omega arith) within;
       unseen =
-          one-more (λ n. sees stops changed (state_later rule context n from)) 1 (made + 1) old.unseen
+          one_more (λ n. sees stops changed (state_later rule context n from)) 1 (made + 1) old.unseen
           (ap (λ (m : Configuration). sees stops changed m.state) (sym there) ∙ unseen);
       unchanged =
           (or_parts (stops c.go_on.new.self.configuration.state)

@@ -39,7 +39,7 @@ use Rattle.l6_raw.specs.Words.{overwritten}
 use Rattle.l6_raw.specs.contracts.memory.RawMemory.{the_row as Row}
 use Rattle.l6_raw.specs.contracts.memory.RawMemory.clear as its
 use Rattle.l6_raw.proofs.Fields.{memory_val, fields_own, fields_made}
-use Rattle.l6_raw.proofs.Overwriting.{length-overwritten, overwritten_more}
+use Rattle.l6_raw.proofs.Overwriting.{length_overwritten, overwritten_more}
 use Rattle.l6_raw.proofs.Rows as Rows
 use Rattle.l6_raw.proofs.memory.RawMemory.TheLaws.{lowers}
 use Rattle.l6_raw.proofs.memory.RawMemory.clear.Code as code
@@ -72,10 +72,10 @@ following (lend_static x y z) = skip
 abbrev cleared : List ℕ → ℕ → ℕ → List ℕ
 cleared words index count = overwritten words index (replicate count 0)
 
-length-cleared : (words : List ℕ) (index count : ℕ) → index + count ≤ length words
+length_cleared : (words : List ℕ) (index count : ℕ) → index + count ≤ length words
     → length (cleared words index count) ≡ length words
-length-cleared words index count within =
-    length-overwritten words index (replicate count 0)
+length_cleared words index count within =
+    length_overwritten words index (replicate count 0)
     (omega (arith, within, length-replicate {A = ℕ} count 0))
 
 cleared_none : (words : List ℕ) (index : ℕ) → words ≡ cleared words index 0
@@ -163,7 +163,7 @@ module _ {M : Type 1} {𝓤 : Ura M} (𝓛 : Logic 𝓤) (at_mem : Memory → SP
     turns t =
         let done = t.0 in
         let now : List ℕ = cleared words index done in
-        let long : length now ≡ length words = length-cleared words index done (omega (arith, t.1, inside)) in
+        let long : length now ≡ length words = length_cleared words index done (omega (arith, t.1, inside)) in
         sets ! (bin ! (get ! refl) (get ! refl) tt) refl (tt, tt) $ first ! $ branches ! (get ! refl)
         (λ less.
         let more : done < count = ltb→lt done count less in
@@ -201,7 +201,7 @@ module _ {M : Type 1} {𝓤 : Ura M} (𝓛 : Logic 𝓤) (at_mem : Memory → SP
         rewrite ! 0 (λ (k : ℕ). ‵ (Rows.array_at 𝓛 block (cleared words index k) from)) all refl $
         -- the memory is shut with its new words
         let written : List ℕ = cleared words index count in
-        let same : length written ≡ length words = length-cleared words index count inside in
+        let same : length written ≡ length words = length_cleared words index count inside in
         let room_fits : memory.room < 2 ^ 64 = omega (arith, memory.small) in
         let count_fits : memory.written < 2 ^ 64 = omega (arith, memory.within, memory.small) in
         let own_cell = λ (vs : List Val). ‵ (cell_at full_share Row.mir vs self.ref_ptr.0 self.ref_ptr.1) in

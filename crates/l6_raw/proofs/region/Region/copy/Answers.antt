@@ -1,5 +1,5 @@
 use Rattle.std.proofs.Common.{ℕ, ◌+◌, List, length, get_or, set, slice_range, ap, ◌∙◌, arith}
-use Rattle.l6_raw.proofs.Overwriting.{copied_more, length-overwritten, length-range}
+use Rattle.l6_raw.proofs.Overwriting.{copied_more, length_overwritten, length_range}
 use Rattle.l6_raw.proofs.region.Region.copy.Goals as goal
 
 pub loop-done-preserved : goal.loop-done-preserved
@@ -16,9 +16,9 @@ loop-done-preserved c =
 pub read-word-requires : goal.read-word-requires
 read-word-requires c =
     let words = c.args.self.now in
-    let size = length-range words c.args.from c.loop-done.done
+    let size = length_range words c.args.from c.loop-done.done
     (omega (arith, c.requires.source, c.loop-done-test.true)) in
-    let long = length-overwritten words c.args.to
+    let long = length_overwritten words c.args.to
     (slice_range words c.args.from (c.args.from + c.loop-done.done))
     (omega (arith, size, c.requires.target, c.loop-done-test.true)) in
     omega (
@@ -32,9 +32,9 @@ read-word-requires c =
 pub write-requires-clause-index : goal.write-requires-clause-index
 write-requires-clause-index c =
     let words = c.args.self.now in
-    let size = length-range words c.args.from c.loop-done.done
+    let size = length_range words c.args.from c.loop-done.done
     (omega (arith, c.requires.source, c.loop-done-test.true)) in
-    let long = length-overwritten words c.args.to
+    let long = length_overwritten words c.args.to
     (slice_range words c.args.from (c.args.from + c.loop-done.done))
     (omega (arith, size, c.requires.target, c.loop-done-test.true)) in
     omega (

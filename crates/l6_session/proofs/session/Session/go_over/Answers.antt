@@ -1,12 +1,12 @@
 use Rattle.std.proofs.Common.{refl, sym, ap, ◌∙◌}
 use Rattle.l6_session.specs.SessionState.{over, on_to}
-use Rattle.l6_session.proofs.Repeats.{repeated-none, repeats}
+use Rattle.l6_session.proofs.Repeats.{repeated_none, repeats}
 use Rattle.l6_session.proofs.session.Session.go_over.Goals as goal
 
 pub loop-init : goal.loop-init
 loop-init g c = record {
   context = refl;
-  state = sym (repeated-none (over g.S.Places.rule c.args.self.now.context) c.args.self.now.state);
+  state = sym (repeated_none (over g.S.Places.rule c.args.self.now.context) c.args.self.now.state);
 }
 
 -- once more

@@ -5,7 +5,7 @@ use Rattle.l6_store.specs.declared.place_tag.PlaceTag.TheVariants.{Inner}
 use Rattle.std.proofs.lemmas.List.{length-replicate}
 use Rattle.l6_word.specs.Numerals.{largest_level}
 use Rattle.l6_store.specs.Blocks.{end_of}
-use Rattle.l6_raw.proofs.Overwriting.{are_words-zeros}
+use Rattle.l6_raw.proofs.Overwriting.{are_words_zeros}
 use Rattle.l6_store.proofs.Arenas.{AreWords}
 use Rattle.l6_store.proofs.Fresh.{cleared_laid, cleared_blocks, cleared_order, all_alike, zero_heads}
 use Rattle.l6_raw.specs.Pages.{AreUnused}
@@ -35,7 +35,7 @@ inner c at = ap (λ (place_tags : List PlaceTag). place_tag_at place_tags at) (p
 
 are_words : (c : goal.In_ok-new-2) → AreWords c.in_ok-new.field-0
 are_words c = subst AreWords (sym c.in_ok-new.ensures)
-    (are_words-zeros c.end_of-places.result)
+    (are_words_zeros c.end_of-places.result)
 
 pub invariant_of-arena : goal.invariant_of-arena
 invariant_of-arena c =
@@ -73,7 +73,7 @@ inner_then c at = ap (λ (place_tags : List PlaceTag). place_tag_at place_tags a
 
 are_words_then : (c : goal.After-arena-2-1) → AreWords c.in_ok-new.field-0
 are_words_then c = subst AreWords (sym c.in_ok-new.ensures)
-    (are_words-zeros c.end_of-places.result)
+    (are_words_zeros c.end_of-places.result)
 
 pub list_units-requires-clause-blocks : goal.list_units-requires-clause-blocks
 list_units-requires-clause-blocks c =

@@ -4,7 +4,7 @@ use Rattle.l6_store.specs.inner.ArenaLayout.{ArenaLayout, IsArena}
 use Rattle.l6_store.specs.inner.Chains.{after_in, order_of}
 use Rattle.l6_store.specs.declared.place_tag.PlaceTag.{PlaceTag}
 use Rattle.l6_store.proofs.Arenas.{places_small, within}
-use Rattle.l6_store.proofs.NextPlaces.{next-absent, next-is, next-linked, next-none, next-past, next-some}
+use Rattle.l6_store.proofs.NextPlaces.{next_absent, next_is, next_linked, next_none, next_past, next_some}
 use Rattle.l6_store.proofs.arena.Arena.next.Goals as goal
 use Rattle.l6_store.proofs.arena.Arena.next.Goals.{then-end_of-place-via-then-end_of-place, then-end_of-place-via-else-end_of-place+then-not-is_listed}
 
@@ -14,12 +14,12 @@ returns-then-end_of-place c =
       | then-end_of-place-via-then-end_of-place w ↦
           sym (ap (λ (l : ArenaLayout). next_in c.args.place (listed l.order c.args.level))
           (sym c.self.view_is)
-          ∙ next-past (length c.self.inside.words) c.args.place _
+          ∙ next_past (length c.self.inside.words) c.args.place _
           (within c.self.inside.units c.self.inside.words c.self.inside.heads
           c.self.inside.place_tags c.self.invariant.laid c.args.level)
           (omega (arith, c.self.invariant.laid.filled, c.end_of.ensures, w.if-end_of-place.true)))
       | then-end_of-place-via-else-end_of-place+then-not-is_listed w ↦
-          sym (next-absent c.args.place _ (sym w.is_listed.ensures ∙ w.if-not-is_listed.true))
+          sym (next_absent c.args.place _ (sym w.is_listed.ensures ∙ w.if-not-is_listed.true))
     ]
 
 -- the link of a listed place has the next one, or 0
@@ -30,7 +30,7 @@ linked : (units : ℕ) (words heads : List ℕ) (place_tags : List PlaceTag)
     → next ≡ unwrap_or (next_in place (listed (order_of words heads) level)) 0
 linked units words heads place_tags laid level place next is link =
     link
-    ∙ next-linked words 0 place (listed (order_of words heads) level)
+    ∙ next_linked words 0 place (listed (order_of words heads) level)
     (within units words heads place_tags laid level)
     (omega (arith, laid.filled, places_small units laid.most)) is
     (laid.are_lists.links.linked level)
@@ -48,9 +48,9 @@ returns-then-next-eq0 c =
     c.neighbors_at-next.result.after is c.neighbors_at-next.ensures.after in
     sym (ap (λ (l : ArenaLayout). next_in c.args.place (listed l.order c.args.level))
     (sym c.self.view_is)
-    ∙ next-none (length words) (listed (order_of words heads) c.args.level) _
+    ∙ next_none (length words) (listed (order_of words heads) c.args.level) _
     (within units words heads place_tags c.self.invariant.laid c.args.level)
-    (next-is c.args.place _) (sym at ∙ c.if-next-eq0.true))
+    (next_is c.args.place _) (sym at ∙ c.if-next-eq0.true))
 
 pub returns-else-next-eq0 : goal.returns-else-next-eq0
 returns-else-next-eq0 c =
@@ -64,5 +64,5 @@ returns-else-next-eq0 c =
     let at = linked units words heads place_tags c.self.invariant.laid c.args.level c.args.place
     c.neighbors_at-next.result.after is c.neighbors_at-next.ensures.after in
     ap (λ (p : ℕ). Some p) at
-    ∙ next-some _ (λ none. c.if-next-eq0.false (at ∙ none))
+    ∙ next_some _ (λ none. c.if-next-eq0.false (at ∙ none))
     ∙ ap (λ (l : ArenaLayout). next_in c.args.place (listed l.order c.args.level)) c.self.view_is

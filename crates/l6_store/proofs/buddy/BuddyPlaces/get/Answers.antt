@@ -5,7 +5,7 @@ use Rattle.l6_store.specs.BuddyStore.{BuddyStore}
 use Rattle.l6_store.specs.Open.{IsAnswer}
 use Rattle.l6_store.specs.Buddy.{first_or, level_found, listed}
 use Rattle.std.specs.Option.{option_map}
-use Rattle.l6_store.proofs.Gathered.{get-insert_same}
+use Rattle.l6_store.proofs.Gathered.{get_insert_same}
 use Rattle.l6_store.proofs.Finding.{chooses}
 use Rattle.l6_store.specs.Tiles.{Tiles}
 use Rattle.l6_store.specs.inner.Detached.{Holding}
@@ -134,7 +134,7 @@ returns-clause-fits c =
 pub returns-clause-block : goal.returns-clause-block
 returns-clause-block c =
     ap (λ (b : Blocks). finite.get b c.pop-place.result) c.open.ensures.blocks
-    ∙ get-insert_same _ c.pop-place.result (replicate (2 ^ c.args.level) 0)
+    ∙ get_insert_same _ c.pop-place.result (replicate (2 ^ c.args.level) 0)
 
 pub returns-clause-sound : goal.returns-clause-sound
 returns-clause-sound c =

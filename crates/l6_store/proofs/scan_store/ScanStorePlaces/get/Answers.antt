@@ -9,7 +9,7 @@ use Rattle.l6_store.specs.Store.{Store, IsSound, picked, after_get}
 use Rattle.l6_store.specs.inner.Tags.{store_of, IsKept}
 use Rattle.l6_store.specs.inner.PlaceTags.{AreSizes, IsTagged, IsCleared, IsFull, IsLowest}
 use Rattle.l6_store.specs.declared.tag.Tag.{Tag}
-use Rattle.l6_store.proofs.Gathered.{get-insert_same}
+use Rattle.l6_store.proofs.Gathered.{get_insert_same}
 use Rattle.l6_store.proofs.Runs.{raised_full}
 use Rattle.l6_store.proofs.Kept.{sound_of}
 use Rattle.l6_store.proofs.Sizes.{got_sizes}
@@ -137,7 +137,7 @@ returns-clause-after c =
 pub returns-clause-block : goal.returns-clause-block
 returns-clause-block c =
     ap (λ (s : Store). finite.get s.blocks c.in_ok-place.place) (returns-clause-after c)
-    ∙ get-insert_same _ c.in_ok-place.place (replicate (2 ^ c.args.level) 0)
+    ∙ get_insert_same _ c.in_ok-place.place (replicate (2 ^ c.args.level) 0)
 
 pub returns-clause-sound : goal.returns-clause-sound
 returns-clause-sound c =

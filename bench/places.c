@@ -1,0 +1,150 @@
+/* Places alone, by the library (library/l6_offset.h), beside a buddy system with lists outside of the memory: gets and frees, by
+   time.
+
+   places WORK KIND TOP ROUNDS does so many rounds in a memory of 2^TOP places, and prints the nanoseconds of the processor
+   that a call took. WORK is one of
+
+       none       a block of one place, got and freed, whose buddy is free: nothing is halved or joined
+       all        a block of one place, got and freed in an empty memory: all levels are halved, and joined again
+       mix        gets and frees of 1 to 256 places, about half of the memory in blocks
+
+   and KIND is proved or lists. */
+#include <assert.h>
+#include <stdint.h>
+#include <stdio.h>
+#include <stdlib.h>
+#include <string.h>
+#include <time.h>
+#include "../library/l6_offset.h"
+
+enum { MOST_TOP = 20, MOST = 1 << MOST_TOP, NONE = -1, HELD = 1 << 15 };
+
+static l6_offset proved = L6_OFFSET_CLOSED;
+
+static void start_proved(int top) {
+    int64_t opened = l6_offset_open(&proved, (uint32_t)top, 0, UINT32_C(1) << top);
+    assert(opened == 0);
+    (void)opened;
+}
+
+static int64_t proved_get(int level) {
+    return l6_offset_get(&proved, (uint32_t)level);
+}
+
+static void proved_free(int64_t place) {
+    l6_offset_free(&proved, (uint32_t)place);
+}
+
+static int32_t heads[MOST_TOP + 1], after[MOST], before[MOST];
+static uint8_t tags[MOST]; /* a level of a block, or 64 and one of a free piece, or 128 */
+static int lists_top;
+
+static void add(int32_t piece, int level) {
+    after[piece] = heads[level];
+    before[piece] = NONE;
+    if (heads[level] != NONE)
+        before[heads[level]] = piece;
+    heads[level] = piece;
+    tags[piece] = (uint8_t)(64 + level);
+}
+
+static void take(int32_t piece, int level) {
+    *(before[piece] == NONE ? &heads[level] : &after[before[piece]]) = after[piece];
+    if (after[piece] != NONE)
+        before[after[piece]] = before[piece];
+    tags[piece] = 128;
+}
+
+static void start_lists(int top) {
+    lists_top = top;
+    memset(tags, 128, sizeof tags);
+    for (int level = 0; level <= top; level++)
+        heads[level] = NONE;
+    add(0, top);
+}
+
+static int64_t lists_get(int level) {
+    int found = level;
+    while (found <= lists_top && heads[found] == NONE)
+        found++;
+    if (found > lists_top)
+        return NONE;
+    int32_t piece = heads[found];
+    take(piece, found);
+    while (found > level) {
+        found--;
+        add(piece + (1 << found), found);
+    }
+    tags[piece] = (uint8_t)level;
+    return piece;
+}
+
+static void lists_free(int64_t place) {
+    int32_t piece = (int32_t)place;
+    int level = tags[piece];
+    while (level < lists_top && tags[piece ^ (1 << level)] == 64 + level) {
+        take(piece ^ (1 << level), level);
+        piece &= ~(1 << level);
+        level++;
+    }
+    add(piece, level);
+}
+
+static const struct kind {
+    const char *name;
+    void (*start)(int top);
+    int64_t (*get)(int level);
+    void (*free)(int64_t place);
+} kinds[] = {{"proved", start_proved, proved_get, proved_free}, {"lists", start_lists, lists_get, lists_free}};
+
+static uint64_t one_block(const struct kind *kind, long rounds) {
+    for (long round = 0; round < rounds; round++)
+        kind->free(kind->get(0));
+    return 2 * (uint64_t)rounds;
+}
+
+static uint64_t mixed(const struct kind *kind, int top, long rounds) {
+    static int64_t held[HELD];
+    static int levels[HELD];
+    uint32_t number = 12345;
+    int count = 0;
+    long used = 0;
+    for (long round = 0; round < rounds; round++) {
+        number = number * 1664525u + 1013904223u;
+        int level = __builtin_ctz((number >> 9) | 256);
+        if (count < HELD && used < (1L << top) / 2) {
+            int64_t place = kind->get(level);
+            if (place >= 0) {
+                held[count] = place;
+                levels[count++] = level;
+                used += 1L << level;
+                continue;
+            }
+        }
+        int at = (int)((number >> 4) % (uint32_t)count);
+        kind->free(held[at]);
+        used -= 1L << levels[at];
+        held[at] = held[--count];
+        levels[at] = levels[count];
+    }
+    return (uint64_t)rounds;
+}
+
+int main(int count, char **words) {
+    assert(count == 5);
+    int top = atoi(words[3]);
+    long rounds = atol(words[4]);
+    const struct kind *kind = &kinds[strcmp(words[2], "lists") == 0];
+    assert(count == 5 && top <= MOST_TOP);
+    kind->start(top);
+    if (strcmp(words[1], "none") == 0) {
+        int64_t place = kind->get(0);
+        kind->get(0);
+        kind->free(place);
+    }
+    clock_t start = clock();
+    uint64_t calls = strcmp(words[1], "mix") == 0 ? mixed(kind, top, rounds) : one_block(kind, rounds);
+    double nanoseconds = (double)(clock() - start) * 1e9 / CLOCKS_PER_SEC;
+    printf("%.1f\n", nanoseconds / (double)calls);
+    return 0;
+}

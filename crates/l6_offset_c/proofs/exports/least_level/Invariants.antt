@@ -1,0 +1,6 @@
+use Rattle.std.proofs.Common.{ℕ, ◌<◌, ◌^◌}
+use Rattle.l6_offset_c.proofs.exports.least_level.Given as goal
+
+-- no smaller block has so many places
+abbrev pub invariant-loop-level : goal.invariant-loop-level
+invariant-loop-level l = (lower : ℕ) → lower < l.level → 2 ^ lower < l.places

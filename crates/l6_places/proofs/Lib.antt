@@ -1,0 +1,11 @@
+pub mod Multiples
+pub mod Nodes
+pub mod Values
+pub mod Descent
+pub mod Settling
+pub mod Changes
+pub mod Built
+pub mod Climbing
+pub mod InTheWay
+pub mod Counting
+pub mod Following

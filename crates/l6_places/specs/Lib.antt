@@ -1,0 +1,4 @@
+pub mod Numerals
+pub mod Board
+pub mod Hindrance
+pub mod inner

@@ -1,0 +1,41 @@
+"""What a batch of l6db answers by its status, a prompt that is given, and sessions that are saved.
+
+Used by l6db.py.
+"""
+from __future__ import annotations
+
+from collections.abc import Iterator
+from pathlib import Path
+
+from answers import answer_of
+from trials import Trial
+
+
+def prompts(program: str, deck: Path) -> Iterator[Trial]:
+    """A prompt that is given is shown over a pipe, too."""
+    made = answer_of([program, str(deck), "--prompt", "@@"], input=b"where\n")
+    yield "a prompt over a pipe", b"@@#0 at 0.0\n@@", made.stdout[-14:]
+
+
+REFUSED = [  # lines, and the status of a batch of them
+    (["foo"], 1), (["b NONE"], 1), (["p 5A"], 1), (["step x"], 1), (["unwatch 1"], 1), (["unwatch A"], 1), (["finish"], 1),
+    (["source none"], 1), (["condition 1 (A,E,1)"], 1), (["b 1 if A"], 1), (["foo", "where"], 1), (["watch A"] * 9, 1),
+    (["where", "# foo", "", "help"], 0), (["watch A", "unwatch A"], 0), (["watch A"] * 8, 0), (["b 1 if (A,E,1)"], 0),
+]
+
+
+def batches(program: str, folder: Path) -> Iterator[Trial]:
+    """The status of a batch in which a line is refused, and of another session; and sessions that are saved."""
+    deck, commands, saved = folder / "nested.deck", folder / "my.commands", folder / "saved.commands"
+    for lines, status in REFUSED:
+        commands.write_text("".join(f"{line}\n" for line in lines), "utf-8")
+        made = answer_of([program, "--batch", "-x", str(commands), str(deck)], input=b"")
+        yield f"the status of a batch: {lines}", status, made.status
+    yield "the status of a session in which a line was refused", 0, answer_of([program, str(deck)], input=b"foo\n").status
+    given = f"b DEEP if (A,G,2)\ntb 3\nwatch B\ndisplay A\nc\nsave {saved}\ninfo\nstats\nsave\n"
+    first = answer_of([program, str(deck)], input=given.encode()).stdout
+    again = answer_of([program, str(deck)], input=f"source {saved}\ninfo\nstats\nsave\n".encode()).stdout
+    end = first.partition(b"Saved: source obeys the file\n")[2]
+    yield "a session that is saved", (True, True), (bool(end), again.endswith(end))
+    lines_saved = b"break DEEP\nwatch B\ndisplay A\ngoto 17\ntbreak DEEP+2\ncondition DEEP (A,G,2)\n"
+    yield "the lines that are saved", lines_saved, saved.read_bytes() if saved.exists() else b""

@@ -1,0 +1,114 @@
+// The reader's work: what is typed, with its input, options and place, is kept in the browser's store as one
+// types, and of the decks that were left the last ten. Where the browser refuses that, the page says so.
+
+const WORK = "l6.work";
+const DECKS = "l6.decks";
+const MOST_DECKS = 10;
+const MOST_CHARACTERS = 400_000; // of a deck that is kept
+const AFTER = 300;               // milliseconds without a key
+const TITLE = 40;                // characters
+
+/**
+ * A deck with all that belongs to it.
+ * @typedef {{deck: string, input: string, options: object, number?: number | null, breakpoints?: number[],
+ *   kinds?: string, exercise?: string, when?: number}} Work
+ */
+
+export class Keeper {
+  /**
+   * `source` answers the work as it is now, and `refused` is called once, where nothing can be kept.
+   * @param {{work: () => Work, refused: () => void}} source
+   */
+  constructor(source) {
+    this.source = source;
+    this.isKept = true; // whether the browser kept what was written last
+    this.isSaid = false;
+    /** @type {ReturnType<typeof setTimeout> | undefined} */
+    this.timer = undefined;
+  }
+
+  // Something was typed: it is kept in a moment.
+  typed() {
+    clearTimeout(this.timer);
+    this.timer = setTimeout(() => this.save(), AFTER);
+  }
+
+  // Keeps the work now.
+  save() {
+    clearTimeout(this.timer);
+    const work = this.source.work();
+    if (work.deck.length > MOST_CHARACTERS) return;
+    this.write(WORK, {...work, when: Date.now()});
+  }
+
+  // The work is done with: another deck was opened. It is among the last decks then.
+  leave() {
+    clearTimeout(this.timer);
+    const work = this.work();
+    if (work) this.write(DECKS, [work, ...this.decks().filter((it) => it.deck !== work.deck)].slice(0, MOST_DECKS));
+    this.remove(WORK);
+  }
+
+  /** @returns {Work | null} what was typed last, and not left since */
+  work() {
+    const work = this.read(WORK);
+    return isWork(work) ? work : null;
+  }
+
+  /** @returns {Work[]} the decks that were left, the latest first */
+  decks() {
+    const decks = this.read(DECKS);
+    return Array.isArray(decks) ? decks.filter(isWork) : [];
+  }
+
+  /**
+   * @param {string} name
+   * @returns {any}
+   */
+  read(name) {
+    try {
+      return JSON.parse(window.localStorage.getItem(name) ?? "null");
+    } catch {
+      return null;
+    }
+  }
+
+  /** @param {string} name */
+  remove(name) {
+    try {
+      window.localStorage.removeItem(name);
+    } catch {
+      this.isKept = false;
+    }
+  }
+
+  /**
+   * @param {string} name
+   * @param {unknown} value
+   */
+  write(name, value) {
+    try {
+      window.localStorage.setItem(name, JSON.stringify(value));
+      this.isKept = true;
+    } catch {
+      this.isKept = false;
+      if (!this.isSaid) this.source.refused();
+      this.isSaid = true;
+    }
+  }
+}
+
+/** @param {any} value */
+function isWork(value) {
+  return typeof value?.deck === "string" && typeof value?.input === "string";
+}
+
+/**
+ * What a deck is called in a menu: its first comment, or its first card.
+ * @param {Work} work
+ */
+export function titleOf({deck}) {
+  const lines = deck.split("\n").map((it) => it.trim()).filter((it) => it);
+  const title = (lines.find((it) => it.startsWith("*")) ?? lines[0] ?? "an empty deck").replace(/^\*\s*/, "");
+  return title.length > TITLE ? `${title.slice(0, TITLE - 2)}..` : title;
+}

@@ -1,7 +1,9 @@
 pub mod ChangeRows
+pub mod ClearedTests
 pub mod Kept
+pub mod LastStops
 pub mod NumberedMachines
 pub mod Rings
-pub mod Snapshots
 pub mod Sought
-pub mod Forgotten
+pub mod ValueLists
+pub mod Watched

@@ -10,43 +10,13 @@ use Rattle.l6_store.specs.Least.{least}
 use Rattle.l6_store.specs.Rule.{Rule}
 use Rattle.l6_steps.specs.Configuration.{state_at}
 use Rattle.l6_steps.specs.Numbering.{last_number}
-use Rattle.l6_steps.specs.RunState.{RunState}
 use Rattle.l6_steps.specs.State.{RunContext, State}
-use Rattle.l6_history.specs.History.{number_to, run_state_at}
+use Rattle.l6_history.specs.History.{number_to}
 use Rattle.l6_prog.specs.declared.condition.Test.{Test}
-use Rattle.l6_history.specs.Stop.{Stop, breaks_at, changes_between, differs, is_shallow, is_wanted, meets, some_differ, stops_at, stops_nowhere, value_of, values_of}
+use Rattle.l6_history.specs.Stop.{Stop, changes_between, meets, some_differ, stops_at, stops_nowhere, value_of, values_of}
 use Rattle.l6_history.specs.Seeking.{greatest, next_stop, previous_stop, stops_back, stops_forward}
-use Rattle.l6_history.specs.inner.Seeking.{ComesTo, IsLast, IsLastIn, NoneAfter, NoneIn, Snapshot, later_of, snapshot_of}
-use Rattle.l6_history.specs.inner.Watches.{ChainWatch, chains_changed}
-use Rattle.l6_history.proofs.Snapshots.{none_differ, same_values}
-
--- ---- what is seen
-pub snapshot_at : (rule : Rule) (context : RunContext) (number : ℕ) (stop : Stop) (there : RunState)
-    (snapshot : Snapshot) → there ≡ run_state_at rule context number →
-    snapshot ≡ snapshot_of stop there.configuration.state →
-    snapshot ≡ snapshot_of stop (state_at rule context number)
-snapshot_at rule context number stop there snapshot is seen =
-    seen ∙ ap (λ (s : RunState). snapshot_of stop s.configuration.state) is
-
--- as many values are seen as chains are watched
-pub snapshot_length : (stop : Stop) (state : State) (snapshot : Snapshot) → snapshot ≡ snapshot_of stop state →
-    length snapshot.values ≡ length stop.watched
-snapshot_length stop state snapshot seen =
-    ap (λ (s : Snapshot). length s.values) seen ∙ length-map stop.watched (value_of state.memory)
-
-pub back_is : (rule : Rule) (context : RunContext) (stop : Stop) (n : ℕ) (there following : Snapshot)
-    (differ : Bool) → there ≡ snapshot_of stop (state_at rule context n) →
-    following ≡ snapshot_of stop (state_at rule context (n + 1)) →
-    differ ≡ some_differ there.values following.values →
-    stops_back rule context stop n ≡ (there.stops || differ)
-unfolding stops_back
-back_is rule context stop n there following differ seen seen_following is =
-    ap (λ (s : Snapshot). s.stops || changes_between stop (state_at rule context n)
-    (state_at rule context (n + 1))) (sym seen)
-    ∙ ap (λ (b : Bool). there.stops || b)
-    (sym (is ∙ ap (λ (s : Snapshot). some_differ s.values following.values) seen
-    ∙ ap (λ (s : Snapshot). some_differ (values_of stop.watched (state_at rule context n).memory)
-    s.values) seen_following))
+use Rattle.l6_history.specs.inner.Seeking.{ComesTo, IsLast, IsLastIn, NoneAfter, NoneIn, later_of}
+use Rattle.l6_history.proofs.ValueLists.{none_differ}
 
 -- ---- forward
 pub none_yet : (test : ℕ → Bool) (from : ℕ) → NoneAfter test from from
@@ -183,37 +153,6 @@ none_nearer test begin end number first rest k from below =
       | inl earlier ↦ first k from earlier
       | inr not_earlier ↦ rest k not_earlier below
     ]
-
--- ---- a step
--- a state more, which is the next one, and what is seen of it
-pub record StepsOn (rule : Rule) (context : RunContext) (stop : Stop) (from number : ℕ)
-    (snapshot : Snapshot) : Type 0 where
-  pub on : number ≡ from + 1
-  pub below : from < last_number rule context
-  pub seen : snapshot ≡ snapshot_of stop (state_at rule context number)
-
-pub steps_on : (rule : Rule) (context now there : RunContext) (stop : Stop) (from number : ℕ)
-    (run_state : RunState) (snapshot : Snapshot) → now ≡ context → there ≡ now →
-    number ≡ number_to rule now (from + 1) → from < last_number rule now →
-    run_state ≡ run_state_at rule there number → snapshot ≡ snapshot_of stop run_state.configuration.state →
-    StepsOn rule context stop from number snapshot
-steps_on rule context now there stop from number run_state snapshot same same_there is below at seen =
-    record {
-      on = omega (arith, is, below);
-      below = subst (λ (w : RunContext). from < last_number rule w) same below;
-      seen = snapshot_at rule there number stop run_state snapshot at seen
-          ∙ ap (λ (w : RunContext). snapshot_of stop (state_at rule w number)) (same_there ∙ same);
-    }
-
-pub last_next : (test : ℕ → Bool) (begin from next number : ℕ) (last answer : Option ℕ)
-    (passes : Bool) → begin ≤ from → next ≡ from + 1 → number ≡ from →
-    answer ≡ later_of passes number last → test from ≡ passes → IsLastIn test begin from last →
-    IsLastIn test begin next answer
-last_next test begin from next number last answer passes on next_is number_is is passed before =
-    subst (λ (o : Option ℕ). IsLastIn test begin next o)
-    (sym (is ∙ ap (λ (n : ℕ). later_of passes n last) number_is))
-    (subst (λ (n : ℕ). IsLastIn test begin n (later_of passes from last)) (sym next_is)
-    (last_more test begin from last passes on before passed))
 
 -- ---- to what is watched for
 -- the values of watched chains, as they were at first
@@ -370,61 +309,8 @@ comes_alike one other from last number comes alike = record {
       (let seen = comes.stops below in (seen.0, alike number ∙ seen.1));
 }
 
-pub none_watched : (stop : Stop) (chains : List (List ℕ)) → chains ≡ stop.watched →
-    length chains ≡ 0 → stop.watched ≡ []
-none_watched stop [] same none = sym same
-none_watched stop (chain ∷ chains) same none = absurd (omega (arith, none))
-
--- without chains the places alone are seen
-pub seen_by_place : (rule : Rule) (context : RunContext) (stop : Stop) (from n : ℕ) →
-    stop.watched ≡ [] →
-    is_seen rule context stop from n ≡ stops_at stop (state_at rule context n)
-seen_by_place rule context stop from n none =
-    let there = state_at rule context n in
-    ap (λ (chains : List (List ℕ)). stops_at stop there
-    || some_differ (values_of chains (state_at rule context from).memory)
-    (values_of chains there.memory)) none
-    ∙ or-false (stops_at stop there)
-
--- without chains, depth, and stops at each statement, breakpoints alone are seen
-not_shallow : (depth : Option ℕ) (state : State) → is_some depth ≡ false →
-    is_shallow depth state ≡ false
-not_shallow None state none = refl
-not_shallow (Some depth) state none = absurd (cc)
-
-not_further : (each : Bool) (depth : Option ℕ) (state : State) → (each || is_some depth) ≡ false →
-    is_wanted each depth state ≡ false
-not_further true depth state none = absurd (true≢false none)
-not_further false depth state none = not_shallow depth state none
-
-pub seen_by_breakpoint : (rule : Rule) (context : RunContext) (stop : Stop) (from n : ℕ) →
-    stop.watched ≡ [] → (stop.each || is_some stop.depth) ≡ false →
-    is_seen rule context stop from n ≡ breaks_at stop (state_at rule context n)
-seen_by_breakpoint rule context stop from n none no_further =
-    let there = state_at rule context n in
-    seen_by_place rule context stop from n none
-    ∙ ap (λ b. breaks_at stop there || b) (not_further stop.each stop.depth there no_further)
-    ∙ or-false (breaks_at stop there)
-
--- and where a bug alone is watched, what it holds is seen
-pub seen_by_bug : (rule : Rule) (context : RunContext) (stop : Stop) (from n bug word : ℕ) →
-    stop.watched ≡ (bug ∷ []) ∷ [] →
-    Some word ≡ value_of (state_at rule context from).memory (bug ∷ []) →
-    is_seen rule context stop from n
-    ≡ (stops_at stop (state_at rule context n)
-    || differs (Some word) (value_of (state_at rule context n).memory (bug ∷ [])))
-seen_by_bug rule context stop from n bug word alone held =
-    let there = state_at rule context n in
-    let value = value_of there.memory (bug ∷ []) in
-    ap (λ (chains : List (List ℕ)). stops_at stop there
-    || some_differ (values_of chains (state_at rule context from).memory)
-    (values_of chains there.memory)) alone
-    ∙ ap (λ (kept : Option ℕ). stops_at stop there || some_differ (kept ∷ []) (value ∷ []))
-    (sym held)
-    ∙ ap (λ (b : Bool). stops_at stop there || b) (or-false (differs (Some word) value))
-
--- where one stops at no state, the chains alone are seen
-none_breakpoint : (breakpoints : List Bool) (statement : ℕ) →
+-- no statement has a breakpoint
+pub none_breakpoint : (breakpoints : List Bool) (statement : ℕ) →
     list_any (λ breakpoint. breakpoint) breakpoints ≡ false →
     slice_index_or breakpoints statement false ≡ false
 none_breakpoint [] statement none = refl
@@ -432,39 +318,6 @@ none_breakpoint (true ∷ breakpoints) statement none = cc
 none_breakpoint (false ∷ breakpoints) zero none = refl
 none_breakpoint (false ∷ breakpoints) (suc statement) none =
     none_breakpoint breakpoints statement none
-
-no_place : (stop : Stop) (state : State) →
-    (list_any (λ breakpoint. breakpoint) stop.breakpoints || (stop.each || is_some stop.depth)) ≡ false →
-    stops_at stop state ≡ false
-no_place stop state none =
-    let parts = or_parts (list_any (λ breakpoint. breakpoint) stop.breakpoints)
-    (stop.each || is_some stop.depth) none in
-    let further = is_wanted stop.each stop.depth state in
-    ap (λ b. ((state.at.action == 0 && b) && meets stop.tests state) || further)
-    (none_breakpoint stop.breakpoints state.at.statement parts.0)
-    ∙ ap (λ b. (b && meets stop.tests state) || further) (and-false (state.at.action == 0))
-    ∙ not_further stop.each stop.depth state parts.1
-
-pub seen_by_change : (rule : Rule) (context : RunContext) (stop : Stop) (from n : ℕ) →
-    (list_any (λ breakpoint. breakpoint) stop.breakpoints || (stop.each || is_some stop.depth)) ≡ false →
-    is_seen rule context stop from n
-    ≡ some_differ (values_of stop.watched (state_at rule context from).memory)
-    (values_of stop.watched (state_at rule context n).memory)
-seen_by_change rule context stop from n none =
-    ap (λ (b : Bool). b
-    || some_differ (values_of stop.watched (state_at rule context from).memory)
-    (values_of stop.watched (state_at rule context n).memory))
-    (no_place stop (state_at rule context n) none)
-
--- chains that are watched from a state on have not changed there
-pub first_unchanged : (stop : Stop) (watch : ChainWatch) (state : State) → watch.stop ≡ stop →
-    watch.values ≡ values_of stop.watched state.memory → chains_changed watch state ≡ false
-first_unchanged stop watch state same read =
-    ap (λ (values : List (Option ℕ)). some_differ values (values_of watch.stop.watched state.memory))
-    read
-    ∙ ap (λ (s : Stop). some_differ (values_of stop.watched state.memory)
-    (values_of s.watched state.memory)) same
-    ∙ same_values (values_of stop.watched state.memory)
 
 -- ---- a stretch
 pub found_back : (rule : Rule) (context there now : RunContext) (stop : Stop)

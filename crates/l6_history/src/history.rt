@@ -171,32 +171,34 @@ impl<S: Places> History<S> {
         ran
     }
 
-    /// Goes on to the next state that is watched for, to the last one, or to the next one at which a
-    /// checkpoint is tried, where that comes first. Answers whether one goes on from there. The caller
-    /// owes a watch for this program, for which nothing has changed.
-    pub(crate) fn stretch_until<W: Watch<S>>(&mut self, alloc: Global, watch: &W) -> bool
+    /// Goes on to the next state that is watched for, to that of a number, to the last one, or to the
+    /// next one at which a checkpoint is tried, where that comes first. Answers whether one goes on from
+    /// there. The caller owes a watch for this program, for which nothing has changed.
+    pub(crate) fn stretch_until<W: Watch<S>>(&mut self, alloc: Global, watch: &W, end: u64) -> bool
     where
         S: Drop,
+        requires before { self.old.number ≤ end }
         requires suits { W.suits watch.now self.old.context.program }
         requires unchanged { W.changed watch.now
             (state_at S.rule self.old.context self.old.number) ≡ false }
         ensures context { self.new.context ≡ self.old.context }
         ensures on { self.old.number ≤ self.new.number }
-        ensures within { self.new.number ≤ last_number S.rule self.old.context }
+        ensures within { self.new.number ≤ number_to S.rule self.old.context end }
         ensures unseen { (k : ℕ) → self.old.number < k → k < self.new.number →
             sees (W.stops watch.now) (W.changed watch.now) (state_at S.rule self.old.context k)
             ≡ false }
         ensures goes_on { result ≡ true → (self.old.number < self.new.number)
             × (sees (W.stops watch.now) (W.changed watch.now)
             (state_at S.rule self.old.context self.new.number) ≡ false) }
-        ensures stops { result ≡ false → self.new.number < last_number S.rule self.old.context →
+        ensures stops { result ≡ false → self.new.number < number_to S.rule self.old.context end →
             (self.old.number < self.new.number)
             × (sees (W.stops watch.now) (W.changed watch.now)
             (state_at S.rule self.old.context self.new.number) ≡ true) }
+        ensures bound { last_number S.rule self.old.context ≤ most_steps }
     {
         let here = self.number();
         let next = here - here % STRIDE + STRIDE;
-        if self.present.forward_until(watch, next) == 0 {
+        if self.present.forward_until(watch, next.min(end)) == 0 {
             return false;
         }
         self.keep(alloc);

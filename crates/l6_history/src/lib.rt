@@ -6,10 +6,11 @@ mod history;
 mod laws;
 mod numbered_machine;
 mod ring;
+mod seeker;
 mod seeking;
-mod snapshot;
 mod stop;
 mod testing;
+mod values;
 mod watches;
 
 pub use history::History;

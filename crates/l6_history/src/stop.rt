@@ -150,7 +150,7 @@ impl Stop {
         ensures { self.new ≡ nowhere (length self.old.breakpoints) }
     {
         self.breakpoints.fill(false);
-        forget(self.tests.as_mut_slice());
+        clear_tests(self.tests.as_mut_slice());
         self.each = false;
         self.watched.clear();
         self.depth = None;
@@ -280,7 +280,7 @@ impl Stop {
 }
 
 /// Takes the tests of all statements away.
-fn forget(tests: &mut [Option<Test>])
+fn clear_tests(tests: &mut [Option<Test>])
     ensures { tests.new ≡ replicate (length tests.old) None }
 {
     let mut index: usize = 0;

@@ -1,15 +1,17 @@
 //! What one watches for on the way to where one stops.
 //!
-//! What a chain reads as is compared with what it read as at first: up to a stop it never changes.
+//! What a chain reads as is compared with what it read as where the watch began: up to a stop it never
+//! changes.
 
-ghost use Rattle.std.specs.Prelude.{◌≡◌, ◌≤◌, ◌∷◌, [], Some};
+ghost use Rattle.std.specs.Prelude.{◌≡◌, ◌≤◌};
 ghost use Rattle.l6_prog.specs.Numerals.{first_letter};
-ghost use Rattle.l6_history.specs.Stop.{value_of, values_of};
+ghost use Rattle.l6_history.specs.Stop.{values_of};
 ghost use Rattle.l6_history.specs.inner.Changing.{IsTable};
 
 use crate::changing::ChangeTable;
-use crate::snapshot::{differ, values_of};
+use crate::seeker::Seeker;
 use crate::stop::{MAX_WATCHED, Stop};
+use crate::values::{differ, see, values_of};
 use arrayvec::ArrayVec;
 use l6_machine::{Machine, Watch};
 use l6_prog::Name;
@@ -59,6 +61,14 @@ impl<'a, S: Places> Watch<S> for BreakpointWatch<'a> {
     }
 }
 
+impl<'a, S: Places> Seeker<S> for BreakpointWatch<'a> {
+    ghost use Rattle.l6_history.specs.inner.Watches.{IsForBreakpoints};
+
+    ghost IsFor = { λ w stop _. IsForBreakpoints w.stop.now stop };
+
+    fn begin(&mut self, _: &Stop, _: &Machine<S>) {}
+}
+
 /// One watches for breakpoints, for statements, and for how many calls wait.
 #[derive(Drop)]
 pub(crate) struct StateWatch<'a> {
@@ -100,12 +110,20 @@ impl<'a, S: Places> Watch<S> for StateWatch<'a> {
     }
 }
 
+impl<'a, S: Places> Seeker<S> for StateWatch<'a> {
+    ghost use Rattle.l6_history.specs.inner.Watches.{IsForStates};
+
+    ghost IsFor = { λ w stop _. IsForStates w.stop.now stop };
+
+    fn begin(&mut self, _: &Stop, _: &Machine<S>) {}
+}
+
 /// One watches what a bug holds, too.
 #[derive(Drop)]
 pub(crate) struct BugWatch<'a> {
     stop: &'a Stop,
     bug: Name,
-    /// What it holds at first.
+    /// What it held where the watch began.
     word: Word,
 }
 
@@ -122,17 +140,16 @@ impl<'a> Model for BugWatch<'a> {
 }
 
 impl<'a> BugWatch<'a> {
-    /// By a stop and a bug, as a machine has it. The caller owes a letter.
-    pub(crate) fn new<S: Places>(stop: &'a Stop, bug: Name, machine: &Machine<S>) -> Self
+    /// By a stop and a bug. The caller owes a letter.
+    pub(crate) fn new(stop: &'a Stop, bug: Name) -> Self
         requires { first_letter ≤ bug }
         ensures stop { result.stop ≡ stop.now }
         ensures bug { result.bug ≡ bug }
-        ensures word { Some result.word ≡ value_of machine.now.configuration.state.memory (bug ∷ []) }
     {
         BugWatch {
             stop,
             bug,
-            word: machine.bug(bug),
+            word: Word::default(),
         }
     }
 }
@@ -165,11 +182,21 @@ impl<'a, S: Places> Watch<S> for BugWatch<'a> {
     }
 }
 
+impl<'a, S: Places> Seeker<S> for BugWatch<'a> {
+    ghost use Rattle.l6_history.specs.inner.Watches.{IsForBug};
+
+    ghost IsFor = { λ w stop _. IsForBug w stop };
+
+    fn begin(&mut self, _: &Stop, machine: &Machine<S>) {
+        self.word = machine.bug(self.bug);
+    }
+}
+
 /// One watches what chains read as, too.
 #[derive(Drop)]
 pub(crate) struct ChainWatch<'a> {
     stop: &'a Stop,
-    /// What each watched chain reads as at first, if it can be followed.
+    /// What each watched chain read as where the watch began, if it could be followed.
     values: ArrayVec<Option<Word>, MAX_WATCHED>,
     /// For each action of the program, whether it may change that.
     table: ChangeTable,
@@ -232,6 +259,16 @@ impl<'a, S: Places> Watch<S> for ChainWatch<'a> {
     }
 }
 
+impl<'a, S: Places> Seeker<S> for ChainWatch<'a> {
+    ghost use Rattle.l6_history.specs.inner.Watches.{IsForChains};
+
+    ghost IsFor = { IsForChains };
+
+    fn begin(&mut self, _: &Stop, machine: &Machine<S>) {
+        see(self.values.as_mut_slice(), self.stop.watched(), machine);
+    }
+}
+
 /// One watches what chains read as alone: there is no state at which one stops.
 #[derive(Drop)]
 pub(crate) struct ChangeWatch<'a> {
@@ -278,5 +315,15 @@ impl<'a, S: Places> Watch<S> for ChangeWatch<'a> {
     #[inline(always)]
     fn has_changed(&self, machine: &Machine<S>) -> bool {
         self.chains.has_changed(machine)
+    }
+}
+
+impl<'a, S: Places> Seeker<S> for ChangeWatch<'a> {
+    ghost use Rattle.l6_history.specs.inner.Watches.{IsForChanges};
+
+    ghost IsFor = { IsForChanges };
+
+    fn begin(&mut self, stop: &Stop, machine: &Machine<S>) {
+        self.chains.begin(stop, machine);
     }
 }

@@ -1,17 +1,16 @@
 -- How far seeking has come.
 use Rattle.std.specs.Prelude.{◌≡◌, ℕ, ◌+◌, ◌<◌, ◌≤◌, Bool, true, false, List, Option, Some, None, if◌then◌else◌}
-use Rattle.l6_steps.specs.State.{State}
-use Rattle.l6_history.specs.Stop.{Stop, stops_at, values_of}
+use Rattle.l6_store.specs.Rule.{Rule}
+use Rattle.l6_steps.specs.State.{RunContext}
+use Rattle.l6_history.specs.Seeking.{next_stop, previous_stop}
+use Rattle.l6_history.specs.Stop.{Stop}
+use Rattle.l6_history.specs.declared.seeking.Direction.{Direction}
+use Rattle.l6_history.specs.declared.seeking.Direction.TheVariants.{Forward, Back}
 
--- what is seen of a state: whether one stops there wherever one comes from, and what the watched
--- chains read as
-pub record Snapshot : Type 0 where
-  pub stops : Bool
-  pub values : List (Option ℕ)
-
-abbrev pub snapshot_of : Stop → State → Snapshot
-snapshot_of stop state =
-    record { stops = stops_at stop state; values = values_of stop.watched state.memory }
+-- the number of the nearest state in a direction at which one stops, or of the last state or the start
+abbrev pub stop_to : Rule → RunContext → Stop → Direction → ℕ → ℕ
+stop_to rule context stop Forward number = next_stop rule context stop number
+stop_to rule context stop Back number = previous_stop rule context stop number
 
 -- no number after one, up to another, passes a test
 pub record NoneAfter (test : ℕ → Bool) (from number : ℕ) : Type 0 where

@@ -1,39 +1,130 @@
-use Rattle.std.proofs.Common.{◌≡◌, ◌+◌, ◌<◌, sym, ap, ◌∙◌, arith}
-use Rattle.std.specs.Prelude.{◌||◌}
+use Rattle.std.proofs.Common.{◌≡◌, ℕ, ◌-◌, ◌<◌, ◌≤◌, Bool, false, true, Option, sym, ap, ◌∙◌, subst, arith}
 use Rattle.l6_steps.specs.Configuration.{state_at}
 use Rattle.l6_steps.specs.Numbering.{last_number}
+use Rattle.l6_steps.specs.RunState.{RunState}
+use Rattle.l6_steps.specs.State.{RunContext}
+use Rattle.l6_machine.specs.Later.{sees}
 use Rattle.l6_history.specs.Seeking.{stops_back}
-use Rattle.l6_history.specs.inner.Seeking.{snapshot_of}
-use Rattle.l6_history.proofs.Sought.{back_is, last_next, steps_on}
+use Rattle.l6_history.specs.Stop.{changes_between, stops_at}
+use Rattle.l6_history.specs.inner.Seeking.{IsLast, IsLastIn, later_of}
+use Rattle.l6_history.proofs.LastStops.{last_changed, last_unchanged, moves, unseen}
+use Rattle.l6_history.proofs.Watched.{changes_alike, none_changed}
 use Rattle.l6_history.proofs.history.History.last_stop.Goals as goal
 
+-- nothing has changed where a stretch begins
+pub stretch_until-requires-clause-unchanged : goal.stretch_until-requires-clause-unchanged
+stretch_until-requires-clause-unchanged g c =
+    let rule = g.S.Places.rule in
+    let number = c.states.self.number in
+    let here = state_at rule c.args.self.now.context number in
+    ap (λ w. g.W.Watch.changed c.states.watch (state_at rule w number)) c.states.invariant.context
+    ∙ c.states.invariant.changed here
+    ∙ none_changed c.args.stop.now here
+
+-- one more stretch is looked through, at whose end nothing has changed
 pub states-preserved : goal.states-preserved
 states-preserved g c =
     let rule = g.S.Places.rule in
     let context = c.args.self.now.context in
     let stop = c.args.stop.now in
-    let number = c.states.self.number in
-    let same = ap (last_number rule) c.states.invariant.context in
-    let below : number < last_number rule c.states.self.context =
-    omega (arith, same, c.number.ensures.value, c.states-test.true, c.requires.within) in
-    let next = steps_on rule context c.states.self.context c.step.new.self.context stop number
-    c.step.new.self.number c.machine-in-states.result.now c.look-differ.new.self
-    c.states.invariant.context c.step.ensures.context c.step.ensures.number
-    below c.machine-in-states.ensures.value c.look-differ.ensures.snapshot in
-    let seen : c.look-differ.new.self ≡ snapshot_of stop (state_at rule context (number + 1)) =
-    next.seen ∙ ap (λ n. snapshot_of stop (state_at rule context n)) next.on in
-    let passes : stops_back rule context stop number ≡ (c.states.snapshot.stops || c.look-differ.result) =
-    back_is rule context stop number c.states.snapshot c.look-differ.new.self c.look-differ.result
-    c.states.invariant.seen seen c.look-differ.ensures.differ in
-    let passed : stops_back rule context stop number ≡ (c.stops-stops.result || c.look-differ.result) =
-    passes ∙ ap (λ b. b || c.look-differ.result) (sym c.stops-stops.ensures) in
+    let begin = c.args.self.now.number in
+    let from = c.states.self.number in
+    let to = c.stretch_until.new.self.number in
+    let watch = c.states.watch in
+    let test = stops_back rule context stop in
+    let known = c.states.invariant in
+    let ran = c.stretch_until.ensures in
+    let here = state_at rule context from in
+    let there = state_at rule context to in
+    let seen : RunContext → ℕ → Bool =
+    λ w n. sees (g.W.Watch.stops watch) (g.W.Watch.changed watch) (state_at rule w n) in
+    let further : from < to = moves c.stretch_until.result from to c.args.end
+    (last_number rule c.states.self.context)
+    (omega (arith, c.number.ensures.value, c.states-test.true))
+    (subst (λ (w : RunContext). c.args.end ≤ last_number rule w) (sym known.context) c.requires.within)
+    (λ is. (ran.goes_on is).0) (λ is below. (ran.stops is below).0) in
+    let between = unseen rule context stop (g.W.Watch.stops watch) (g.W.Watch.changed watch) from to
+    known.stops known.changed
+    (subst (λ w. (k : ℕ) → from < k → k < to → seen w k ≡ false) known.context ran.unseen) in
+    let same = ran.context ∙ known.context in
+    let held : c.has_changed.result ≡ changes_between stop here there =
+    c.has_changed.ensures
+    ∙ ap (λ (s : RunState). g.W.Watch.changed watch s.configuration.state) c.machine-in-states-2.ensures.value
+    ∙ ap (λ (w : RunContext). g.W.Watch.changed watch (state_at rule w to)) same
+    ∙ known.changed there in
+    let unchanged : changes_between stop here there ≡ false = sym held ∙ c.if-has_changed.false in
+    let placed : c.is_at_stop.result ≡ stops_at stop here =
+    c.is_at_stop.ensures
+    ∙ ap (λ (s : RunState). g.W.Watch.stops watch s.configuration.state) c.machine-in-states.ensures.value
+    ∙ ap (λ (w : RunContext). g.W.Watch.stops watch (state_at rule w from)) known.context
+    ∙ known.stops here in
+    let last : c.later_of-last.result ≡ later_of (stops_at stop here) from c.states.last =
+    c.later_of-last.ensures
+    ∙ ap (λ b. later_of b c.number-in-states.result c.states.last) placed
+    ∙ ap (λ n. later_of (stops_at stop here) n c.states.last) c.number-in-states.ensures.value in
     record {
-      context = c.step.ensures.context ∙ c.states.invariant.context;
-      from = omega (arith, c.states.invariant.from, next.on);
-      on = omega (arith, next.on, c.number.ensures.value, c.states-test.true);
-      seen = next.seen;
-      last = last_next (stops_back rule context stop) c.args.self.now.number number
-          c.step.new.self.number c.number-number.result c.states.last c.later_of-last.result
-          (c.stops-stops.result || c.look-differ.result) c.states.invariant.from next.on
-          c.number-number.ensures.value c.later_of-last.ensures passed c.states.invariant.last;
+      context = same;
+      made = known.made;
+      suits = known.suits;
+      stops = known.stops;
+      changed = λ state. known.changed state ∙ sym (changes_alike stop here there state unchanged);
+      from = omega (arith, known.from, ran.on);
+      on = omega (arith, ran.within);
+      last = subst (λ (o : Option ℕ). IsLastIn test begin to o) (sym last)
+          (last_unchanged rule context stop begin from to c.states.last known.from further between
+          known.last unchanged);
+    }
+
+-- one more, at whose end something has; there the watch begins again
+pub states-preserved-then-has_changed : goal.states-preserved-then-has_changed
+states-preserved-then-has_changed g c =
+    let rule = g.S.Places.rule in
+    let context = c.args.self.now.context in
+    let stop = c.args.stop.now in
+    let begin = c.args.self.now.number in
+    let from = c.states.self.number in
+    let to = c.stretch_until.new.self.number in
+    let watch = c.states.watch in
+    let test = stops_back rule context stop in
+    let known = c.states.invariant in
+    let ran = c.stretch_until.ensures in
+    let here = state_at rule context from in
+    let there = state_at rule context to in
+    let seen : RunContext → ℕ → Bool =
+    λ w n. sees (g.W.Watch.stops watch) (g.W.Watch.changed watch) (state_at rule w n) in
+    let further : from < to = moves c.stretch_until.result from to c.args.end
+    (last_number rule c.states.self.context)
+    (omega (arith, c.number.ensures.value, c.states-test.true))
+    (subst (λ (w : RunContext). c.args.end ≤ last_number rule w) (sym known.context) c.requires.within)
+    (λ is. (ran.goes_on is).0) (λ is below. (ran.stops is below).0) in
+    let between = unseen rule context stop (g.W.Watch.stops watch) (g.W.Watch.changed watch) from to
+    known.stops known.changed
+    (subst (λ w. (k : ℕ) → from < k → k < to → seen w k ≡ false) known.context ran.unseen) in
+    let same = ran.context ∙ known.context in
+    let held : c.has_changed.result ≡ changes_between stop here there =
+    c.has_changed.ensures
+    ∙ ap (λ (s : RunState). g.W.Watch.changed watch s.configuration.state) c.machine-in-states-2.ensures.value
+    ∙ ap (λ (w : RunContext). g.W.Watch.changed watch (state_at rule w to)) same
+    ∙ known.changed there in
+    let is : changes_between stop here there ≡ true = sym held ∙ c.if-has_changed.true in
+    let new = c.begin-then-has_changed.new.self in
+    let begun = c.begin-then-has_changed.ensures in
+    let at = c.machine-then-has_changed.ensures.value in
+    let back : c.number-then-has_changed.result - 1 ≡ to - 1 =
+    ap (λ n. n - 1) c.number-then-has_changed.ensures.value in
+    record {
+      context = same;
+      made = subst (λ (w : RunContext). g.W.Seeker.IsFor new stop w.program) same
+          (subst (λ (s : RunState). g.W.Seeker.IsFor new stop s.context.program) at begun.made);
+      suits = subst (λ (w : RunContext). g.W.Watch.suits new w.program) same
+          (subst (λ (s : RunState). g.W.Watch.suits new s.context.program) at begun.suits);
+      stops = begun.stops;
+      changed = λ state. begun.changed state
+          ∙ ap (λ (s : RunState). changes_between stop s.configuration.state state) at
+          ∙ ap (λ (w : RunContext). changes_between stop (state_at rule w to) state) same;
+      from = omega (arith, known.from, ran.on);
+      on = omega (arith, ran.within);
+      last = subst (λ n. IsLast test begin to n) (sym back)
+          (last_changed rule context stop begin from to c.states.last known.from further between
+          known.last is);
     }

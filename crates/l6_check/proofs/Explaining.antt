@@ -8,7 +8,6 @@ use Rattle.l6_card.specs.declared.objection.Reason.{Reason as Kind}
 use Rattle.l6_card.specs.declared.objection.Reason.TheVariants as kind
 use Rattle.l6_asm.specs.AssemblyFault.{unread}
 use Rattle.l6_check.specs.declared.finding.Finding.{Finding}
-use Rattle.l6_check.specs.declared.finding.Span.{Span}
 use Rattle.l6_check.specs.declared.findings.Findings.{Findings}
 use Rattle.l6_check.specs.declared.reason.FormReason.{FormReason}
 use Rattle.l6_check.specs.declared.reason.FormReason.TheVariants as no_form
@@ -16,7 +15,8 @@ use Rattle.l6_check.specs.declared.reason.LimitReason.{LimitReason}
 use Rattle.l6_check.specs.declared.reason.LimitReason.TheVariants as too_much
 use Rattle.l6_check.specs.declared.reason.Reason.{Reason}
 use Rattle.l6_check.specs.declared.reason.Reason.TheVariants.{Form, Limit, TwiceLabelled, NoLabel, Warning}
-use Rattle.l6_check.specs.Faults.{fault_on, fault_of_finding, form_kind, limit_kind, kind_of, AreColumnsOf, Explains}
+use Rattle.l6_check.specs.Faults.{fault_on, fault_of_finding, form_kind, limit_kind, kind_of}
+use Rattle.l6_check.specs.Explains.{Explains}
 use Rattle.l6_check.specs.Kept.{most_findings, are_full, IsSkipped, HasNone, IsAdded, Say, Match, AreOf}
 use Rattle.l6_check.specs.Statements.{objected}
 
@@ -163,6 +163,9 @@ form_is_no_limit no_form.NoThen k same =
 form_is_no_limit no_form.Unfinished k same =
     let is_one : kind.Unfinished ≡ k = cc in
     ap is_limit (sym is_one)
+form_is_no_limit no_form.UnfinishedBeforeThen k same =
+    let is_one : kind.Unfinished ≡ k = cc in
+    ap is_limit (sym is_one)
 form_is_no_limit no_form.Unread k same = absurd (cc)
 
 limit_is_one : (reason : LimitReason) → is_limit (limit_kind reason) ≡ true
@@ -218,26 +221,3 @@ faults_said objections findings are = record {
       ∙ ap (map Some) (take_map most_findings objections);
   counted = are.counted ∙ sym (map_count objections);
 }
-
--- all columns of a piece are columns of it
-pub whole_piece : (k : Kind) (span : Span) → AreColumnsOf k span span
-whole_piece kind.Column span = refl
-whole_piece kind.ContinuesNothing span = refl
-whole_piece kind.LabelTooLong span = refl
-whole_piece kind.LabelBarred span = refl
-whole_piece kind.Unclosed span = refl
-whole_piece kind.Unopened span = refl
-whole_piece kind.NoOperation span = (omega arith, omega arith)
-whole_piece kind.TestForOperation span = refl
-whole_piece kind.NoTest span = (omega arith, omega arith)
-whole_piece kind.OperationForTest span = refl
-whole_piece kind.ThenMissing span = refl
-whole_piece kind.SecondTest span = refl
-whole_piece kind.NoCondition span = refl
-whole_piece kind.AfterExit span = refl
-whole_piece kind.NoExit span = refl
-whole_piece kind.NoThen span = refl
-whole_piece kind.Unfinished span = refl
-whole_piece kind.TooManyStatements span = refl
-whole_piece kind.TooManyContinuations span = refl
-whole_piece kind.TooManyGroups span = refl

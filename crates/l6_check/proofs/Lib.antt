@@ -1,4 +1,5 @@
 pub mod CardSteps
+pub mod Ending
 pub mod FieldSteps
 pub mod Flat
 pub mod Indenting

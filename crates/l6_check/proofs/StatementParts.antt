@@ -1,9 +1,21 @@
 -- The first part of a deck, and the others.
-use Rattle.std.proofs.Common.{◌≡◌, ℕ, ◌+◌, ◌∙◌, Bool, true, false, cond, zero, suc, List, [], ◌∷◌, ◌++◌, length, take, drop, arith, append_assoc, refl, sym, ap}
+use Rattle.std.proofs.Common.{◌≡◌, ℕ, ◌+◌, ◌≤◌, ◌∙◌, Bool, true, false, cond, zero, suc, List, [], ◌∷◌, ◌++◌, length, take, drop, arith, append_assoc, refl, sym, ap}
 use native.Mathlib.Numerals.{unary_clauses}
-use Rattle.l6_card.specs.Role.{role_of}
+use Rattle.std.proofs.lemmas.List.{length-map}
+use Rattle.std.proofs.lemmas.List.Filters.{length-filter_both}
+use Rattle.std.specs.List.{filter}
+use Rattle.std.specs.Prelude.{not}
+use Rattle.l6_word.specs.Code.{character_of}
+use Rattle.l6_group.specs.Character.{is_blank, spelled}
 use Rattle.l6_card.specs.declared.objection.Objection.{Objection}
 use Rattle.l6_check.specs.Statements.{belongs, further_count, most_of_statement, objections_from, objections_in, onto_part, parts_of}
+
+-- no more characters are spelled than there are columns
+pub spelled_short : (columns : List ℕ) → length (spelled columns) ≤ length columns
+spelled_short columns =
+    let solid : ℕ → Bool = λ given. not (is_blank given) in
+    let all = length-filter_both solid (λ given. not (solid given)) (λ given. refl) columns in
+    omega (arith, length-map (filter solid columns) character_of, all)
 
 -- the part that a line begins, and what follows it
 abbrev split_after : List ℕ → List (List ℕ) → ℕ → List (List (List ℕ))
@@ -26,7 +38,7 @@ first_part line (next ∷ more) =
     let count = further_count more in
     let split : parts_of (next ∷ more) ≡ split_after next more count = first_part next more in
     ap (onto_part line) split
-    ∙ joined (belongs (role_of next)) line next more count split
+    ∙ joined (belongs next) line next more count split
 
 -- what is left after one more line
 pub drop_next : (count : ℕ) (all : List (List ℕ)) (line : List ℕ) (others : List (List ℕ)) →
@@ -45,10 +57,10 @@ counted_next false count holds = absurd (cc)
 
 -- one more line belongs to the statement
 pub count_next : {all : List (List ℕ)} (line : List ℕ) (others : List (List ℕ)) →
-    all ≡ line ∷ others → belongs (role_of line) ≡ true →
+    all ≡ line ∷ others → belongs line ≡ true →
     further_count all ≡ further_count others + 1
 count_next line others split holds =
-    ap further_count split ∙ counted_next (belongs (role_of line)) (further_count others) holds
+    ap further_count split ∙ counted_next (belongs line) (further_count others) holds
 
 counted_taken : (holds : Bool) (line : List ℕ) (lines : List (List ℕ)) →
     length (take (further_count lines) lines) ≡ further_count lines →
@@ -61,7 +73,7 @@ counted_taken false line lines same = refl
 pub count_taken : (lines : List (List ℕ)) →
     length (take (further_count lines) lines) ≡ further_count lines
 count_taken [] = refl
-count_taken (line ∷ lines) = counted_taken (belongs (role_of line)) line lines (count_taken lines)
+count_taken (line ∷ lines) = counted_taken (belongs line) line lines (count_taken lines)
 
 pub taken_part : {all others : List (List ℕ)} (line : List ℕ) (count : ℕ) → all ≡ line ∷ others →
     take (count + 1) all ≡ line ∷ take count others

@@ -34,13 +34,14 @@ counted deck (Some finding) errors verdict count = record {
   some = λ some. verdict.unspelled.nothing;
 }
 
-verdict_of : (deck : List ℕ) (report : Report) (first : Option Finding) → ErrorsOf deck report first →
-    IsVerdict deck first
-verdict_of deck report None clean = (clean.spelled.assembly, clean.spelled.spelled)
-verdict_of deck report (Some first) faulty = faulty.error
+verdict_of : (deck text : List ℕ) (report : Report) (first : Option Finding) →
+    ErrorsOf deck text report first → IsVerdict deck first
+verdict_of deck text report None clean = (clean.spelled.assembly, clean.spelled.spelled)
+verdict_of deck text report (Some first) faulty = faulty.error
 
 -- a count that is none exactly if a report has no first error says what the report's verdict says
-pub verdict_counted : (deck : List ℕ) (report : Report) (errors : ℕ) → ErrorsOf deck report report.first →
-    MatchOption report.first (errors ≡ 0) (λ _. 0 < errors) → CountsErrors deck errors
-verdict_counted deck report errors found count =
-    counted deck report.first errors (verdict_of deck report report.first found) count
+pub verdict_counted : (deck text : List ℕ) (report : Report) (errors : ℕ) →
+    ErrorsOf deck text report report.first → MatchOption report.first (errors ≡ 0) (λ _. 0 < errors) →
+    CountsErrors deck errors
+verdict_counted deck text report errors found count =
+    counted deck report.first errors (verdict_of deck text report report.first found) count

@@ -46,8 +46,7 @@ abbrev pub warnings_of : Report → ℕ
 warnings_of report =
     let cards = report.cards in
     let program = report.program in
-    added (added (added (added (added (added (added cards.columns.count cards.marks.count) cards.image.count)
-    program.conditions.count) program.unnamed.count) program.unreached.count) program.trapping.count)
+    added (added (added (added (added (added cards.columns.count cards.image.count) program.conditions.count) program.unnamed.count) program.unreached.count) program.trapping.count)
     program.fields.count
 
 -- findings are in the order of their cards

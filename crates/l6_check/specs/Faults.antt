@@ -47,6 +47,7 @@ form_kind no_form.NoCondition = Some kind.NoCondition
 form_kind no_form.NoExit = Some kind.NoExit
 form_kind no_form.NoThen = Some kind.NoThen
 form_kind no_form.Unfinished = Some kind.Unfinished
+form_kind no_form.UnfinishedBeforeThen = Some kind.Unfinished
 form_kind no_form.Unread = None
 
 -- the kind of a reason why there is too much of something
@@ -72,16 +73,3 @@ on_card from to =
 -- columns are some of these
 abbrev pub ArePartOf : Span → Span → Type 0
 ArePartOf span part = (span.from ≤ part.from) × (part.to ≤ span.to)
-
--- a piece that objects for a reason of this kind is at these columns: a finding is about them; but about
--- some of them where a group has no reading, those that are wrong in it
-abbrev pub AreColumnsOf : Kind → Span → Span → Type 0
-AreColumnsOf kind.NoOperation piece span = ArePartOf piece span
-AreColumnsOf kind.NoTest piece span = ArePartOf piece span
-AreColumnsOf other piece span = span ≡ piece
-
--- the finding says an objection: its card, its columns and the kind of its reason
-pub record Explains (finding : Finding) (objection : Objection) : Type 0 where
-  pub card : finding.card ≡ objection.card
-  pub kind_is : kind_of finding.reason ≡ Some objection.reason
-  pub columns : AreColumnsOf objection.reason (on_card objection.from objection.to) finding.span

@@ -1,7 +1,6 @@
 -- Labels that stand in another column than 1.
-use Rattle.std.specs.Prelude.{ℕ, ◌+◌, ◌==◌, Bool, false, List, [], ◌∷◌, length, take, Option, Some, None, if◌then◌else◌}
+use Rattle.std.specs.Prelude.{ℕ, ◌+◌, ◌==◌, List, [], ◌∷◌, length, take, Option, Some, None, if◌then◌else◌}
 use Rattle.l6_word.specs.Lines.{lines_of}
-use Rattle.l6_group.specs.Character.{is_blank}
 use Rattle.l6_group.specs.declared.label.Label.{Label}
 use Rattle.l6_group.specs.Label.{label_of}
 use Rattle.l6_card.specs.Card.{columns_of}
@@ -11,11 +10,7 @@ use Rattle.l6_card.specs.declared.objection.Reason.{Reason}
 use Rattle.l6_card.specs.declared.objection.Reason.TheVariants.{NoCondition}
 use Rattle.l6_check.specs.Labels.{labels_given, with_label}
 use Rattle.l6_check.specs.Statements.{parts_of}
-
--- columns begin with a blank
-abbrev pub begin_blank : List ℕ → Bool
-begin_blank [] = false
-begin_blank (column ∷ columns) = is_blank column
+use Rattle.l6_check.specs.Warnings.{begin_blank}
 
 -- the label that so many columns spell, if the first one is blank
 abbrev pub label_in_front : List ℕ → ℕ → Option Label

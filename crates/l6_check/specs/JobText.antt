@@ -1,15 +1,14 @@
--- What is no deck: marks of a job, and images.
+-- What is no deck: what follows a line that separates the parts of a job, and images.
 use Rattle.std.specs.Prelude.{ℕ, ◌||◌, Bool, List, [], ◌∷◌, codes, Option, Some, None, if◌then◌else◌}
 use Rattle.std.specs.Str.{bytes_eq}
 use Rattle.l6_word.specs.Lines.{lines_of, without_return}
 use Rattle.l6_word.specs.Octal.{is_octal12}
 use Rattle.l6_group.specs.Character.{spelled}
 use Rattle.l6_card.specs.Card.{columns_of}
-use Rattle.l6_check.specs.Warnings.{cards_where}
 use Rattle.l6_check.specs.declared.finding.Finding.{Finding}
 use Rattle.l6_check.specs.declared.reason.Reason.{Reason}
 use Rattle.l6_check.specs.declared.reason.Reason.TheVariants.{Warning}
-use Rattle.l6_check.specs.declared.reason.WarningReason.TheVariants.{JobMark, ImageText}
+use Rattle.l6_check.specs.declared.reason.WarningReason.TheVariants.{ImageText}
 
 -- the characters are those of a line that separates the parts of a job
 abbrev pub are_mark : List ℕ → Bool
@@ -20,9 +19,10 @@ are_mark characters =
 abbrev pub is_mark : List ℕ → Bool
 is_mark line = are_mark (spelled (columns_of line))
 
--- the cards of a deck that are such lines
-abbrev pub mark_cards : List ℕ → List ℕ
-mark_cards deck = cards_where is_mark 1 (lines_of deck)
+-- lines up to the first that reads so, with it
+abbrev pub lines_to_mark : List (List ℕ) → List (List ℕ)
+lines_to_mark [] = []
+lines_to_mark (line ∷ lines) = if is_mark line then line ∷ [] else line ∷ lines_to_mark lines
 
 -- the line looks like one of an image: twelve octal digits, and nothing else
 abbrev pub is_image_line : List ℕ → Bool
@@ -36,14 +36,6 @@ image_in (line ∷ lines) = if is_image_line line then 1 ∷ [] else []
 -- the first card of a deck, if it begins as the text of an image does
 abbrev pub image_cards : List ℕ → List ℕ
 image_cards deck = image_in (lines_of deck)
-
--- the card that a finding says to be a mark
-abbrev pub mark_said : ℕ → Reason → Option ℕ
-mark_said card (Warning JobMark) = Some card
-mark_said card other = None
-
-abbrev pub mark_card : Finding → Option ℕ
-mark_card finding = mark_said finding.card finding.reason
 
 -- the card that a finding says to be of an image
 abbrev pub image_said : ℕ → Reason → Option ℕ

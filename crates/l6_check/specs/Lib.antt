@@ -2,6 +2,8 @@ pub mod Numerals
 pub mod Kept
 pub mod OnCard
 pub mod Faults
+pub mod Marked
+pub mod Explains
 pub mod Statements
 pub mod Labels
 pub mod Indented

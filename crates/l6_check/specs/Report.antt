@@ -1,5 +1,6 @@
 -- What a report says of a deck.
 use Rattle.std.specs.Prelude.{◌≡◌, ℕ, List, Option, Some, None}
+use Rattle.l6_word.specs.Lines.{lines_of}
 use Rattle.l6_prog.specs.Statement.{Parts}
 use Rattle.l6_check.specs.declared.finding.Finding.{Finding}
 use Rattle.l6_check.specs.declared.report.Report.{Report}
@@ -7,13 +8,14 @@ use Rattle.l6_check.specs.declared.cards.CardWarnings.{CardWarnings}
 use Rattle.l6_check.specs.declared.report.ProgramWarnings.{ProgramWarnings}
 use Rattle.l6_check.specs.Kept.{HasNone, Say, AreOf}
 use Rattle.l6_check.specs.OnCard.{AreOnTheirCards}
-use Rattle.l6_check.specs.Faults.{fault_of_finding, Explains}
+use Rattle.l6_check.specs.Faults.{fault_of_finding}
+use Rattle.l6_check.specs.Explains.{Explains}
 use Rattle.l6_check.specs.Statements.{statement_faults, statement_objections}
 use Rattle.l6_check.specs.Labels.{twice_labelled, twice_said}
 use Rattle.l6_check.specs.Indented.{labels_meant}
 use Rattle.l6_check.specs.Missing.{SayMissing}
 use Rattle.l6_check.specs.Warnings.{condition_card, condition_cards, past_card, past_cards}
-use Rattle.l6_check.specs.JobText.{image_card, image_cards, mark_card, mark_cards}
+use Rattle.l6_check.specs.JobText.{image_card, image_cards, lines_to_mark}
 use Rattle.l6_check.specs.Certain.{trapping_card}
 use Rattle.l6_check.specs.Ways.{trapping_cards, SayUnnamed, SayUnreached}
 use Rattle.l6_check.specs.Fields.{field_said, undefined_fields}
@@ -58,25 +60,27 @@ pub record HasErrors (deck : List ℕ) (first : Finding) (cards : CardWarnings) 
   pub missing_places : AreOnTheirCards report.missing
   pub cards_are : report.cards ≡ cards
 
--- the report of a deck whose first error is this
-pub record IsFaulty (deck : List ℕ) (first : Finding) (report : Report) : Type 0 where
+-- the report of a deck whose first error is this; its errors are those of the text
+pub record IsFaulty (deck text : List ℕ) (first : Finding) (report : Report) : Type 0 where
   pub error : IsErrorOf deck first
-  pub others : HasErrors deck first report.cards report
+  pub others : HasErrors text first report.cards report
 
 -- the errors of a report whose first error is this
-abbrev pub ErrorsOf : List ℕ → Report → Option Finding → Type 0
-ErrorsOf deck report None = IsClean deck report
-ErrorsOf deck report (Some first) = IsFaulty deck first report
+abbrev pub ErrorsOf : List ℕ → List ℕ → Report → Option Finding → Type 0
+ErrorsOf deck text report None = IsClean deck report
+ErrorsOf deck text report (Some first) = IsFaulty deck text first report
 
--- the warnings are those of the deck's cards: of what is past the columns that count, of lines that
--- separate the parts of a job, and of a beginning as that of an image
-pub record WarnsOfCards (deck : List ℕ) (warnings : CardWarnings) : Type 0 where
-  pub columns : Say past_card (past_cards deck) warnings.columns
-  pub marks : Say mark_card (mark_cards deck) warnings.marks
-  pub image : Say image_card (image_cards deck) warnings.image
+-- the warnings are those of the cards of a text: of what is past the columns that count, and of a beginning as
+-- that of an image
+pub record WarnsOfCards (text : List ℕ) (warnings : CardWarnings) : Type 0 where
+  pub columns : Say past_card (past_cards text) warnings.columns
+  pub image : Say image_card (image_cards text) warnings.image
 
 -- the report of a deck: its first error, and then the others, or that it spells a program, and then the
--- warnings of that; and the warnings of its cards
+-- warnings of that; and the warnings of its cards. The text is the deck up to its first line that reads as one
+-- which separates the parts of a job: what follows that is not looked at.
 pub record IsReport (deck : List ℕ) (report : Report) : Type 0 where
-  pub errors : ErrorsOf deck report report.first
-  pub cards : WarnsOfCards deck report.cards
+  pub text : List ℕ
+  pub lines : lines_of text ≡ lines_to_mark (lines_of deck)
+  pub errors : ErrorsOf deck text report report.first
+  pub cards : WarnsOfCards text report.cards

@@ -63,3 +63,17 @@ equality_slips =
 
 abbrev pub test_slip : List ℕ → List ℕ
 test_slip characters = unwrap_or (find_spelled equality_slips characters) (order_slip characters)
+
+-- the same of a test between points, as Fortran has them
+abbrev pub pointed_slips : List (Line (List ℕ))
+pointed_slips =
+    ".EQ." means equal
+    ∷ ".NE." means not_equal
+    ∷ ".GT." means greater
+    ∷ ".LT." means less
+    ∷ ".GE." means not_less
+    ∷ ".LE." means not_greater
+    ∷ []
+
+abbrev pub pointed_slip : List ℕ → List ℕ
+pointed_slip characters = unwrap_or (find_spelled pointed_slips characters) []

@@ -1,10 +1,13 @@
 -- The errors of statements, each read by itself.
-use Rattle.std.specs.Prelude.{ℕ, zero, suc, ◌+◌, ◌-◌, ◌==◌, Bool, true, false, List, [], ◌∷◌, ◌++◌, map, codes, drop, length, nat_lt, replicate, take, Option, Some, None, option_to_list, if◌then◌else◌}
+use Rattle.std.specs.Prelude.{ℕ, zero, suc, ◌+◌, ◌-◌, ◌==◌, ◌&&◌, ◌||◌, is_some, Bool, true, false, List, [], ◌∷◌, ◌++◌, map, codes, drop, length, nat_lt, replicate, take, Option, Some, None, option_to_list, if◌then◌else◌}
 use Rattle.std.specs.List.{flat_map}
 use Rattle.std.specs.Str.{byte}
 use Rattle.l6_word.specs.Lines.{lines_of}
+use Rattle.l6_group.specs.Character.{spelled}
+use Rattle.l6_group.specs.Word.{after_then}
 use Rattle.l6_card.specs.declared.role.Role.{Role}
 use Rattle.l6_card.specs.declared.role.Role.TheVariants.{Skipped, First, Further, Unknown}
+use Rattle.l6_card.specs.Card.{columns_of}
 use Rattle.l6_card.specs.Role.{role_of}
 use Rattle.l6_card.specs.declared.objection.Objection.{Objection}
 use Rattle.l6_card.specs.declared.objection.Reason.{Reason}
@@ -12,25 +15,34 @@ use Rattle.l6_card.specs.declared.objection.Reason.TheVariants.{NoOperation, NoT
 use Rattle.l6_card.specs.Objection.{fault_in}
 use Rattle.l6_card.specs.ReadAlone.{objection_to_lines}
 use Rattle.l6_asm.specs.AssemblyFault.{AssemblyFault, unread}
+use Rattle.l6_check.specs.Warnings.{begin_blank}
 
--- a card of this role belongs to the statement before it
-abbrev pub belongs : Role → Bool
-belongs Skipped = true
-belongs First = false
-belongs Further = true
-belongs Unknown = false
+-- a card of this role continues the statement before it, or is not read
+abbrev pub continues : Role → Bool
+continues Skipped = true
+continues First = false
+continues Further = true
+continues Unknown = false
+
+-- the columns begin with a blank, and then with THEN
+abbrev pub begin_with_then : List ℕ → Bool
+begin_with_then columns = begin_blank columns && is_some (after_then (spelled columns))
+
+-- the card of a line belongs to the statement before it: it says so, or begins with THEN and lacks its `+`
+abbrev pub belongs : List ℕ → Bool
+belongs line = continues (role_of line) || begin_with_then (columns_of line)
 
 -- how many of these lines, from the first on, belong to the statement before them
 abbrev pub further_count : List (List ℕ) → ℕ
 further_count [] = 0
-further_count (line ∷ lines) = if belongs (role_of line) then further_count lines + 1 else 0
+further_count (line ∷ lines) = if belongs line then further_count lines + 1 else 0
 
 -- a line in front of parts: it is a part of its own, unless the line after it belongs to it
 abbrev pub onto_part : List ℕ → List (List (List ℕ)) → List (List (List ℕ))
 onto_part line [] = (line ∷ []) ∷ []
 onto_part line ([] ∷ parts) = (line ∷ []) ∷ parts
 onto_part line ((next ∷ part) ∷ parts) =
-    if belongs (role_of next) then (line ∷ next ∷ part) ∷ parts
+    if belongs next then (line ∷ next ∷ part) ∷ parts
     else (line ∷ []) ∷ (next ∷ part) ∷ parts
 
 -- the parts of lines: each is a line, and those after it that belong to its statement

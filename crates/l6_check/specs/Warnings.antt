@@ -23,6 +23,11 @@ is_comment (column ∷ columns) = column == byte "*"
 abbrev pub past_of : List ℕ → List ℕ
 past_of line = drop card_width (without_return line)
 
+-- columns begin with a blank
+abbrev pub begin_blank : List ℕ → Bool
+begin_blank [] = false
+begin_blank (column ∷ columns) = is_blank column
+
 -- how many blanks columns begin with
 abbrev pub blanks_before : List ℕ → ℕ
 blanks_before [] = 0

@@ -2,13 +2,17 @@
 
 ghost use Rattle.std.specs.Prelude.{◌≡◌, Some};
 ghost use Rattle.l6_card.specs.declared.objection.Reason.TheVariants as kind;
-ghost use Rattle.l6_check.specs.Faults.{form_kind, kind_of, Explains};
+ghost use Rattle.l6_check.specs.Faults.{form_kind, kind_of};
+ghost use Rattle.l6_check.specs.Explains.{Explains};
 ghost use Rattle.l6_check.specs.OnCard.{IsOnCard, IsOnItsCard};
 
 use crate::conditions::gives_condition;
 use crate::finding::{Finding, Span};
-use crate::parts::Part;
+use crate::forms::first_of;
+use crate::marked::marked_columns;
+use crate::parts::{Part, begin_with_then};
 use crate::reason::{FormReason, LimitReason, Reason};
+use crate::spelling_advice::begins_with_slip;
 use l6_card::{Objection, Reason as Kind, columns_of};
 use l6_group::{GroupFault, GroupObjection, operation_objection, test_objection};
 use l6_word::first_line;
@@ -22,7 +26,7 @@ pub(crate) fn reading_error(objection: Objection, part: Part<'_>) -> Finding<'_>
     let piece = Span::on_card(objection.from, objection.to);
     match objection.reason {
         Kind::NoOperation => {
-            let why = known(operation_objection(inside(columns_of(line), piece)));
+            let why = operation_reason(inside(columns_of(line), piece));
             let span = piece.part(why.start, why.length);
             let reason = FormReason::NoOperation(why.fault);
             found(objection.card, line, span, Reason::Form(reason))
@@ -37,7 +41,37 @@ pub(crate) fn reading_error(objection: Objection, part: Part<'_>) -> Finding<'_>
             let reason = Reason::Form(test_reason(part));
             found(objection.card, line, piece, reason)
         }
-        kind => found(objection.card, line, piece, piece_reason(kind)),
+        Kind::Unfinished => {
+            let reason = Reason::Form(unfinished_reason(part, objection.card));
+            found(objection.card, line, piece, reason)
+        }
+        kind => {
+            let marked = marked_columns(kind, columns_of(line), piece);
+            found(objection.card, line, marked, piece_reason(kind))
+        }
+    }
+}
+
+/// Why a group is no operation, and where: at its first element, if that is the word of an operation in other
+/// languages.
+fn operation_reason(columns: &[u8]) -> GroupObjection {
+    let why = known(operation_objection(columns));
+    match why.fault {
+        GroupFault::Spelling | GroupFault::TooFew | GroupFault::TooMany => {
+            if begins_with_slip(columns) {
+                return GroupObjection {
+                    start: 0,
+                    length: first_of(columns).len(),
+                    fault: GroupFault::Spelling,
+                };
+            }
+            why
+        }
+        GroupFault::EmptyElement
+        | GroupFault::CommaInText
+        | GroupFault::WordFirst
+        | GroupFault::FieldFirst
+        | GroupFault::Element(_) => why,
     }
 }
 
@@ -62,6 +96,17 @@ fn test_reason(part: Part<'_>) -> FormReason
         Some((line, _)) if gives_condition(line) => FormReason::ConditionInColumn1,
         _ => FormReason::TestForOperation,
     }
+}
+
+/// Why a statement of a part may not end on this card: the next one may have its THEN.
+fn unfinished_reason(part: Part<'_>, card: u32) -> FormReason
+    ensures { form_kind result ≡ Some kind.Unfinished }
+{
+    let next = part.line_on(card.saturating_add(1));
+    if begin_with_then(columns_of(next)) {
+        return FormReason::UnfinishedBeforeThen;
+    }
+    FormReason::Unfinished
 }
 
 /// The reason of an objection for which nothing more is looked at.
@@ -97,6 +142,7 @@ fn found(card: u32, line: &[u8], span: Span, reason: Reason) -> Finding<'_>
     ensures card { result.card ≡ card }
     ensures reason { result.reason ≡ reason }
     ensures span { result.span ≡ span }
+    ensures line { result.line.now ≡ line.now }
 {
     Finding {
         card,

@@ -1,12 +1,15 @@
 //! Where a deck uses fields first.
 
+ghost use Rattle.std.specs.Prelude.{◌≡◌, None, get_or, is_some};
+ghost use Rattle.l6_check.specs.inner.Places as spec;
+
 use crate::columns::is_comment;
 use crate::element::nth_element;
 use crate::label_places::body_start;
 use crate::scan::columns_from;
 use l6_card::{Token, columns_of, first_item};
 use l6_group::{Shape, chain_of, shapes_as_operation, shapes_as_test};
-use l6_prog::{NAMES, Name};
+use l6_prog::NAMES;
 use l6_word::{first_line, without_return};
 
 /// Columns of a card.
@@ -52,14 +55,6 @@ impl<'a> FieldPlaces<'a> {
         }
     }
 
-    /// Adds the place of a field, unless it has an earlier one.
-    fn add(&mut self, field: Name, place: Place<'a>) {
-        let number = usize::from(field.number());
-        if number < self.places.len() && self.places[number].is_none() {
-            self.places[number] = Some(place);
-        }
-    }
-
     /// Adds the place of a chain's fields, if this is the place of a chain.
     fn add_chain(&mut self, place: Place<'a>) {
         let Some(chain) = chain_of(place.text) else {
@@ -67,7 +62,7 @@ impl<'a> FieldPlaces<'a> {
         };
         if let Some((_, fields)) = chain.names().split_first() {
             for field in fields {
-                self.add(*field, place);
+                keep_first(&mut self.places, usize::from(field.number()), place);
             }
         }
     }
@@ -108,6 +103,28 @@ impl<'a> FieldPlaces<'a> {
                 }
             }
         }
+    }
+}
+
+/// Keeps the place of the field of this number, unless it has an earlier one.
+fn keep_first<'a>(places: &mut [Option<Place<'a>>], number: usize, place: Place<'a>)
+    ensures { places.new ≡ spec.with_place places.old number place.entry }
+{
+    if has(places, number) {
+        return;
+    }
+    if number < places.len() {
+        places[number] = Some(place);
+    }
+}
+
+/// Whether the field of this number has a place.
+fn has(places: &[Option<Place<'_>>], number: usize) -> bool
+    ensures { result ≡ is_some (get_or places.now number None) }
+{
+    match places.get(number) {
+        None => false,
+        Some(place) => place.is_some(),
     }
 }
 

@@ -5,6 +5,8 @@ ghost use Rattle.l6_check.specs.Faults as spec;
 ghost use Rattle.l6_check.specs.OnCard.{IsOnCard};
 
 use crate::reason::Reason;
+use crate::scan::{after_last, without_blanks};
+use l6_word::split_once;
 
 /// How many columns of a card count.
 pub(crate) const WIDTH: usize = 72;
@@ -86,10 +88,38 @@ impl<'a> Finding<'a> {
         &self.line[..self.span.from.min(self.line.len())]
     }
 
+    /// What is on its card from these columns on.
+    pub(crate) fn rest(&self) -> &'a [u8] {
+        &self.line[self.span.from.min(self.line.len())..]
+    }
+
+    /// What is on its card after these columns, without blanks at its front.
+    pub(crate) fn following(&self) -> &'a [u8] {
+        without_blanks(&self.line[self.span.to.min(self.line.len())..])
+    }
+
     /// Whether these columns are between the parentheses of a group, all of them.
     pub(crate) fn is_whole_group(&self) -> bool {
-        let after = &self.line[self.span.to.min(self.line.len())..];
-        self.before().last() == Some(&b'(') && after.first() == Some(&b')')
+        self.before().last() == Some(&b'(') && self.following().first() == Some(&b')')
+    }
+
+    /// The columns of the group that these columns are in, between its parentheses.
+    pub(crate) fn group(&self) -> &'a [u8] {
+        let front = self.before();
+        let start = front.len().saturating_sub(after_last(front, b'(').len());
+        let rest = &self.line[start.min(self.line.len())..];
+        match split_once(rest, b')') {
+            None => rest,
+            Some((group, _)) => group,
+        }
+    }
+
+    /// How many elements of that group are before these columns.
+    pub(crate) fn element_number(&self) -> usize {
+        after_last(self.before(), b'(')
+            .iter()
+            .filter(|byte| **byte == b',')
+            .count()
     }
 
     /// How bad it is.

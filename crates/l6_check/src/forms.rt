@@ -1,6 +1,7 @@
 //! How operations and tests are written: for what a group has to be in place of what it is.
 
-use crate::advice::known_spelling;
+use crate::element::nth_element;
+use crate::scan::{begins_with, has_digits_alone, letter_count};
 use l6_group::{Spelling, spelled};
 use l6_word::split_once;
 
@@ -9,13 +10,52 @@ const MAX_SPELLING: usize = 2;
 
 /// What to write in place of a group with these columns, whose number of elements is wrong.
 pub(crate) fn form_advice(columns: &[u8]) -> &'static str {
-    let slip = known_spelling(first_of(columns), false);
-    if !slip.is_empty() && first_of(columns).len() > 1 {
-        return slip;
+    if has_parted_number(columns) {
+        return "a number has no commas: (A,E,1000)";
     }
     match split_once(columns, b',') {
         None => word_advice(columns),
         Some((_, others)) => word_advice(first_of(others)),
+    }
+}
+
+/// Whether a group with too many elements seems to have a number that commas part.
+fn has_parted_number(columns: &[u8]) -> bool {
+    let is_parted = match (nth_element(columns, 2), nth_element(columns, 3)) {
+        (Some(front), Some(back)) => {
+            has_digits_alone(front.text) && has_digits_alone(back.text) && back.text.len() == 3
+        }
+        _ => false,
+    };
+    is_parted && !is_definition_without_d(columns)
+}
+
+/// Whether a group with too many elements seems to be a definition without its D.
+pub(crate) fn is_definition_without_d(columns: &[u8]) -> bool {
+    match (
+        nth_element(columns, 0),
+        nth_element(columns, 1),
+        nth_element(columns, 3),
+    ) {
+        (Some(word), Some(field), Some(_)) => {
+            has_digits_alone(word.text) && letter_count(field.text) == 1
+        }
+        _ => false,
+    }
+}
+
+/// What to write in place of a number where a chain must stand, in a group with these columns and after so
+/// many elements.
+pub(crate) fn chain_place_advice(columns: &[u8], before: usize) -> &'static str {
+    if before == 0 {
+        return "what is changed or tested comes first, and then the number: (A,E,5)";
+    }
+    match nth_element(columns, 1) {
+        Some(word) if begins_with(word.text, b"I") => {
+            "(c,I,c) exchanges the contents of two chains; (A,E,5) makes A equal to 5"
+        }
+        Some(word) => word_advice(word.text),
+        None => "",
     }
 }
 

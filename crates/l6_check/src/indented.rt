@@ -13,8 +13,9 @@ ghost use Rattle.l6_check.specs.inner.Parts.{lines_in};
 use crate::fault::OutOfMemory;
 use crate::labels::Labels;
 use crate::parts::{Part, Parts};
+use crate::scan::begin_blank;
 use l6_card::{Objection, Reason, columns_of};
-use l6_group::{Label, is_blank, label_of};
+use l6_group::{Label, label_of};
 use l6_word::first_line;
 use std::alloc::{AllocError, Global};
 
@@ -104,14 +105,4 @@ fn label_in_front(columns: &[u8], count: usize) -> Option<Label>
         return None;
     }
     label_of(&columns[..count.min(columns.len())])
-}
-
-/// Whether columns begin with a blank.
-fn begin_blank(columns: &[u8]) -> bool
-    ensures { result ≡ spec.begin_blank columns.now }
-{
-    match columns.first() {
-        None => false,
-        Some(column) => is_blank(*column),
-    }
 }

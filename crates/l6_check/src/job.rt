@@ -1,6 +1,7 @@
-//! The warnings of what is no deck: marks of a job, and images.
+//! What is no deck: what follows a line that separates the parts of a job, and images.
 
-ghost use Rattle.std.specs.Prelude.{◌≡◌, false, Some, IfOk};
+ghost use Rattle.std.specs.Prelude.{◌≡◌, ◌≤◌, false, length, Some, IfOk};
+ghost use Rattle.l6_word.specs.Lines.{lines_of};
 ghost use Rattle.l6_group.specs.Character.{spelled};
 ghost use Rattle.l6_check.specs.Kept.{Say};
 ghost use Rattle.l6_check.specs.JobText as spec;
@@ -8,10 +9,9 @@ ghost use Rattle.l6_check.specs.JobText as spec;
 use crate::finding::{Finding, Span};
 use crate::findings::Findings;
 use crate::reason::{Reason, WarningReason};
-use crate::scan::without_last_blanks;
 use l6_card::columns_of;
 use l6_group::{Spelling, is_blank, spelled};
-use l6_word::{OCTALS, first_line, read_octal12, without_return};
+use l6_word::{OCTALS, first_line, read_octal12, split_line, without_return};
 use std::alloc::{AllocError, Global};
 
 /// How many characters the longest mark has.
@@ -57,18 +57,21 @@ fn are_mark(characters: &[u8]) -> bool
     }
 }
 
-/// The warning of a card that is such a line.
-pub(crate) fn mark_on(card: u32, line: &[u8]) -> Finding<'_>
-    ensures { spec.mark_card result ≡ Some card }
+/// A deck up to its first line that reads so, with it: what follows was not meant to be of the deck.
+pub(crate) fn up_to_mark(deck: &[u8]) -> &[u8]
+    ensures lines { lines_of result.now ≡ spec.lines_to_mark (lines_of deck.now) }
+    ensures shorter { length result.now ≤ length deck.now }
 {
-    let text = without_last_blanks(columns_of(line));
-    Finding {
-        card,
-        span: Span::on_card(0, text.len()),
-        text,
-        line: without_return(line),
-        reason: Reason::Warning(WarningReason::JobMark),
+    let mut rest = deck;
+    let mut count = 0;
+    while let Some((line, following)) = split_line(rest) {
+        count += line.len() + 1;
+        if is_mark(line) {
+            return &deck[..count];
+        }
+        rest = following;
     }
+    deck
 }
 
 /// The warning of a deck that begins as the text of an image does, if it does.

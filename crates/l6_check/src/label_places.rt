@@ -1,6 +1,7 @@
 //! Where cards name labels.
 
-ghost use Rattle.std.specs.Prelude.{IfSome};
+ghost use Rattle.std.specs.Prelude.{◌≡◌, ◌≤◌, length, IfSome};
+ghost use Rattle.l6_check.specs.Marked as spec;
 ghost use Rattle.l6_check.specs.OnCard.{IsOnCard};
 
 use crate::element::nth_element;
@@ -35,7 +36,10 @@ pub(crate) fn span_of(columns: &[u8], label: &Label) -> Span
 }
 
 /// How many columns are before the body of a card.
-pub(crate) fn body_start(columns: &[u8]) -> usize {
+pub(crate) fn body_start(columns: &[u8]) -> usize
+    ensures value { result ≡ spec.body_start columns.now }
+    ensures few { result ≤ length columns.now }
+{
     match columns.first() {
         None => 0,
         Some(column) => {

@@ -2,14 +2,16 @@
 
 ghost use Rattle.std.specs.Prelude.{◌≡◌, ◌+◌, ◌≤◌, [], drop, length, MatchOption, IfOk};
 ghost use Rattle.l6_word.specs.Lines.{lines_of};
-ghost use Rattle.l6_card.specs.Numerals.{most_deck_bytes};
+ghost use Rattle.l6_card.specs.Numerals.{card_width, most_deck_bytes};
 ghost use Rattle.l6_card.specs.ReadAlone.{objection_to_lines};
-ghost use Rattle.l6_card.specs.Role.{role_of};
 ghost use Rattle.l6_check.specs.Statements as spec;
 ghost use Rattle.l6_check.specs.inner.Parts.{lines_in, IsNextPart};
 
 use crate::fault::OutOfMemory;
-use l6_card::{Objection, ReadError, Role, read_part, role_of};
+use crate::finding::WIDTH;
+use crate::scan::begin_blank;
+use l6_card::{Objection, ReadError, Role, columns_of, read_part, role_of};
+use l6_group::{Spelling, after_then, spelled};
 use l6_word::{first_line, without_return};
 use std::alloc::Global;
 
@@ -134,12 +136,35 @@ fn past_statement(text: &[u8]) -> Following<'_>
     }
 }
 
-/// Whether the card of a line belongs to the statement before it.
+/// Whether the card of a line belongs to the statement before it: it says so, or begins with THEN and lacks
+/// its `+`.
 fn belongs(line: &[u8]) -> bool
-    ensures { result ≡ spec.belongs (role_of line.now) }
+    ensures { result ≡ spec.belongs line.now }
 {
-    match role_of(line) {
+    continues(role_of(line)) || begin_with_then(columns_of(line))
+}
+
+/// Whether a card of this role continues the statement before it, or is not read.
+fn continues(role: Role) -> bool
+    ensures { result ≡ spec.continues role }
+{
+    match role {
         Role::Skipped | Role::Further => true,
         Role::First | Role::Unknown => false,
+    }
+}
+
+/// Whether columns begin with a blank, and then with THEN.
+pub(crate) fn begin_with_then(columns: &[u8]) -> bool
+    requires { length columns.now ≤ card_width }
+    ensures { result ≡ spec.begin_with_then columns.now }
+{
+    if !begin_blank(columns) {
+        return false;
+    }
+    let characters: Option<Spelling<'_, WIDTH>> = spelled(columns);
+    match characters {
+        None => false,
+        Some(characters) => after_then(characters.as_slice()).is_some(),
     }
 }

@@ -3,7 +3,8 @@
 ghost use Rattle.std.specs.Prelude.{◌≡◌, ◌+◌, ◌*◌, ◌≤◌, ◌^◌, ◌<◌, ◌++◌, [], ◌∷◌, List, length, IfOk, OnOk};
 ghost use Rattle.l6_card.specs.Numerals.{most_deck_bytes};
 ghost use Rattle.l6_card.specs.declared.objection.Objection.{Objection};
-ghost use Rattle.l6_check.specs.Faults.{fault_of_finding, Explains};
+ghost use Rattle.l6_check.specs.Faults.{fault_of_finding};
+ghost use Rattle.l6_check.specs.Explains.{Explains};
 ghost use Rattle.l6_check.specs.Kept.{Say, AreOf};
 ghost use Rattle.l6_check.specs.OnCard.{AreOnTheirCards, StayOnTheirCards};
 ghost use Rattle.l6_check.specs.Missing.{SayMissing};

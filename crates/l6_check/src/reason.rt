@@ -74,6 +74,8 @@ pub enum FormReason {
     NoThen,
     /// The statement ends after its tests.
     Unfinished,
+    /// The same, and the next card begins with THEN.
+    UnfinishedBeforeThen,
     /// Nothing more is known.
     Unread,
 }
@@ -119,8 +121,6 @@ pub enum WarningReason {
     LaterTraps(CertainTrap),
     /// Nothing in the deck defines the field whose name has this number, from 0 to 35.
     UndefinedField(u8),
-    /// The card is a line that separates the parts of a job.
-    JobMark,
     /// The deck begins as the text of an image does.
     ImageText,
 }

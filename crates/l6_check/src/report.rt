@@ -6,10 +6,11 @@ ghost use Rattle.l6_check.specs.Report as spec;
 
 use crate::cards::{CardWarnings, card_warnings};
 use crate::fault::OutOfMemory;
-use crate::fields::undefined_fields;
+use crate::field_warnings::undefined_fields;
 use crate::finding::Finding;
 use crate::findings::Findings;
 use crate::indented::add_indented;
+use crate::job::up_to_mark;
 use crate::labels::labels_of;
 use crate::reading::{StatementErrors, statement_errors};
 use crate::verdict::plain;
@@ -59,13 +60,14 @@ pub fn check<'a>(alloc: Global, deck: &'a [u8]) -> Result<Report<'a>, OutOfMemor
     requires { length deck.now ≤ most_deck_bytes }
     ensures { IfOk result (spec.IsReport deck.now) }
 {
-    let cards = card_warnings(alloc, deck)?;
+    let text = up_to_mark(deck);
+    let cards = card_warnings(alloc, text)?;
     match assemble(alloc, deck) {
         Ok(assembly) => {
             let warnings = program_warnings(alloc, assembly.program(), deck)?;
             Ok(without_errors(alloc, cards, warnings))
         }
-        Err(fault) => with_errors(alloc, deck, plain(deck, fault)?, cards),
+        Err(fault) => with_errors(alloc, text, plain(deck, fault)?, cards),
     }
 }
 
@@ -115,7 +117,7 @@ fn without_errors<'a>(
     }
 }
 
-/// The report of a deck whose assembly stops at this error.
+/// The report of a deck whose assembly stops at this error, up to the line at which it ends.
 fn with_errors<'a>(
     alloc: Global,
     deck: &'a [u8],

@@ -1,16 +1,29 @@
 //! Scans of columns: blanks, and words.
 
-ghost use Rattle.std.specs.Prelude.{◌≡◌, ◌+◌, length};
-ghost use Rattle.l6_check.specs.Warnings.{blanks_before};
+ghost use Rattle.std.specs.Prelude.{◌≡◌, ◌+◌, ◌≤◌, drop, length};
+ghost use Rattle.l6_check.specs.Warnings.{begin_blank, blanks_before};
 
 use l6_group::is_blank;
 
 /// Columns from one of them on.
-pub(crate) fn columns_from(columns: &[u8], start: usize) -> &[u8] {
+pub(crate) fn columns_from(columns: &[u8], start: usize) -> &[u8]
+    ensures value { result.now ≡ drop start columns.now }
+    ensures few { length result.now ≤ length columns.now }
+{
     if start <= columns.len() {
         &columns[start..]
     } else {
         &[]
+    }
+}
+
+/// Whether columns begin with a blank.
+pub(crate) fn begin_blank(columns: &[u8]) -> bool
+    ensures { result ≡ begin_blank columns.now }
+{
+    match columns.first() {
+        None => false,
+        Some(column) => is_blank(*column),
     }
 }
 
@@ -86,4 +99,82 @@ pub(crate) fn has_word(text: &[u8], word: &[u8]) -> bool {
         rest = following;
     }
     false
+}
+
+/// The first of the words that blanks part.
+pub(crate) fn first_word(text: &[u8]) -> &[u8] {
+    let mut count: usize = 0;
+    for byte in text {
+        if is_blank(*byte) {
+            return &text[..count.min(text.len())];
+        }
+        count = count.saturating_add(1);
+    }
+    text
+}
+
+/// The last of the words that blanks part.
+pub(crate) fn last_word(text: &[u8]) -> &[u8] {
+    after_last(text, b' ')
+}
+
+/// Whether a text has a byte.
+pub(crate) fn has(text: &[u8], byte: u8) -> bool {
+    text.iter().any(|one| *one == byte)
+}
+
+/// Whether a text has a blank between other characters.
+pub(crate) fn has_blank_inside(text: &[u8]) -> bool {
+    let mut is_begun = false;
+    let mut is_parted = false;
+    for byte in text {
+        if is_blank(*byte) {
+            is_parted = is_begun;
+        } else {
+            if is_parted {
+                return true;
+            }
+            is_begun = true;
+        }
+    }
+    false
+}
+
+/// How many letters and digits a text has.
+pub(crate) fn letter_count(text: &[u8]) -> usize {
+    text.iter()
+        .filter(|byte| byte.is_ascii_alphanumeric())
+        .count()
+}
+
+/// How many digits a text has.
+pub(crate) fn digit_count(text: &[u8]) -> usize {
+    text.iter().filter(|byte| byte.is_ascii_digit()).count()
+}
+
+/// Whether a text has nothing but digits and blanks, and is not empty.
+pub(crate) fn has_digits_alone(text: &[u8]) -> bool {
+    !text.is_empty()
+        && text
+            .iter()
+            .all(|byte| byte.is_ascii_digit() || is_blank(*byte))
+}
+
+/// Whether a text begins with a digit.
+pub(crate) fn begins_with_digit(text: &[u8]) -> bool {
+    match text.first() {
+        None => false,
+        Some(byte) => byte.is_ascii_digit(),
+    }
+}
+
+/// What follows the last place of a byte in a text, or all of the text.
+pub(crate) fn after_last(text: &[u8], byte: u8) -> &[u8] {
+    let mut start: usize = 0;
+    for (at, one) in text.iter().enumerate() {
+        if *one == byte {
+            start = at.saturating_add(1);
+        }
+    }
+    &text[start.min(text.len())..]
 }

@@ -1,12 +1,12 @@
 //! The texts of findings, in one table.
 
-use crate::advice::{
-    column_advice, condition_advice, exit_advice, label_advice, then_advice, unclosed_advice,
-};
+use crate::advice::{is_statement, label_advice};
 use crate::finding::{Finding, Severity};
+use crate::form_words::form_words;
 use crate::forms::plain_word_advice;
-use crate::group_words::{operation_words, test_words};
-use crate::reason::{FormReason, LabelText, LimitReason, Reason, WarningReason};
+use crate::reason::{LabelText, LimitReason, Reason, WarningReason};
+use crate::scan::letter_count;
+use crate::spelling_advice::known_operation;
 use crate::warning_words::warning_words;
 use l6_prog::{DIGITS, NAMES};
 use std::{fmt, str};
@@ -95,7 +95,7 @@ fn write_sentence<W: fmt::Write>(
             let name = char::from(character_of(field));
             write!(f, "{name}, which nothing defines")
         }
-        _ => Ok(()),
+        Reason::Form(_) | Reason::Limit(_) | Reason::NoLabel(_) | Reason::Warning(_) => Ok(()),
     }
 }
 
@@ -136,10 +136,21 @@ fn write_hint<W: fmt::Write>(
     match &finding.reason {
         Reason::NoLabel(missing) => write_nearest(f, &missing.near, words.advice, signs),
         Reason::Warning(WarningReason::UndefinedField(_)) => {
-            write_field_advice(f, words.advice, plain_word_advice(finding.text), signs)
+            write_field_advice(f, words.advice, word_form(finding.text), signs)
         }
-        _ => write_advice(f, words.advice, signs),
+        Reason::Form(_) | Reason::Limit(_) | Reason::TwiceLabelled(_) | Reason::Warning(_) => {
+            write_advice(f, words.advice, signs)
+        }
     }
+}
+
+/// How an operation is written that a chain is the word of, here or in other languages.
+fn word_form(chain: &[u8]) -> &'static str {
+    let form = plain_word_advice(chain);
+    if form.is_empty() && letter_count(chain) > 1 {
+        return known_operation(chain);
+    }
+    form
 }
 
 /// Writes advice on a line of its own after these signs, if there is any.
@@ -219,107 +230,25 @@ fn shown(text: &[u8]) -> &str {
 fn words_of(finding: &Finding<'_>) -> Words {
     let text = finding.text;
     match finding.reason {
-        Reason::Form(reason) => form_words(reason, text, finding),
+        Reason::Form(reason) => form_words(reason, finding),
         Reason::Limit(reason) => limit_words(reason),
         Reason::TwiceLabelled(_) => row("the label `", "` is given by card ", ""),
-        Reason::NoLabel(_) => row("no card gives the label `", "`", label_advice(text)),
-        Reason::Warning(reason) => warning_words(reason, text),
+        Reason::NoLabel(missing) => missing_words(text, missing.near.is_some()),
+        Reason::Warning(reason) => warning_words(reason),
     }
 }
 
-/// The words of what has no reading.
-fn form_words(reason: FormReason, text: &[u8], finding: &Finding<'_>) -> Words {
-    match reason {
-        FormReason::Column => column_words(text, finding.line),
-        FormReason::ContinuesNothing => {
-            row("`", "` in column 1, but no statement is there to go on", "")
-        }
-        FormReason::LabelTooLong => {
-            row(
-                "the label `",
-                "` has more than 6 characters",
-                "a statement without a label has a blank in column 1",
-            )
-        }
-        FormReason::LabelBarred => {
-            row(
-                "`",
-                "` is an exit, and no label",
-                "a statement without a label has a blank in column 1",
-            )
-        }
-        FormReason::Unclosed => { row("no ) closes `", "`", unclosed_advice(text)) }
-        FormReason::Unopened => row(
-            "no ( is there for this `",
+/// The words of a label that no card gives.
+fn missing_words(text: &[u8], is_near: bool) -> Words {
+    let advice = label_advice(text);
+    if !is_near && is_statement(text) {
+        return row(
             "`",
-            "each group has one ( before it and one ) after it, as (A,E,5)",
-        ),
-        FormReason::NoOperation(fault) => operation_words(fault, text, finding.is_whole_group()),
-        FormReason::NoTest(fault) => test_words(fault, text),
-        FormReason::NoCondition => row(
-            "`",
-            "` follows a word that is no condition",
-            condition_advice(finding.before()),
-        ),
-        _ => order_words(reason, text),
+            "` is read as an exit to a label, and no card gives it",
+            advice,
+        );
     }
-}
-
-/// The words of an item that stands where it cannot.
-fn order_words(reason: FormReason, text: &[u8]) -> Words {
-    match reason {
-        FormReason::AfterExit => row("`", "` follows an exit, and nothing can", ""),
-        FormReason::NoExit => row(
-            "`",
-            "` is no exit: no label, DONE or FAIL",
-            exit_advice(text),
-        ),
-        _ => condition_words(reason, text),
-    }
-}
-
-/// The words of a condition, its tests or THEN.
-fn condition_words(reason: FormReason, text: &[u8]) -> Words {
-    match reason {
-        FormReason::TestForOperation => {
-            row(
-                "`",
-                "` is a test, and no condition is before it",
-                "a condition is IF, NOT, IFALL, IFANY, IFNONE or IFNALL; THEN follows its tests",
-            )
-        }
-        FormReason::ConditionInColumn1 => {
-            row(
-                "`",
-                "` is a test, but the condition before it is read as a label",
-                "put a blank in column 1",
-            )
-        }
-        FormReason::OperationForTest => {
-            row(
-                "`",
-                "` is an operation, where a test stands",
-                "a test is (c,E,cd), or has N, G, L, O or Z in place of E",
-            )
-        }
-        FormReason::ThenMissing => row("THEN is missing before `", "`", ""),
-        FormReason::SecondTest => {
-            row(
-                "IF and NOT have one test, and `",
-                "` is a second one",
-                "if it is an operation, THEN is missing; IFALL, IFANY, IFNONE and IFNALL have several tests",
-            )
-        }
-        FormReason::NoThen => row("`", "` stands where THEN must stand", then_advice(text)),
-        FormReason::Unfinished => {
-            row(
-                "the statement `",
-                "` ends without THEN",
-                "THEN follows the tests of a condition",
-            )
-        }
-        _ => row("`", "` has no reading", ""),
-    }
+    row("no card gives the label `", "`", advice)
 }
 
 /// The words of what there is too much of.
@@ -346,30 +275,5 @@ fn limit_words(reason: LimitReason) -> Words {
                 "",
             )
         }
-    }
-}
-
-/// The words of what cannot be in column 1.
-fn column_words(text: &[u8], line: &[u8]) -> Words {
-    match text {
-        [byte] => {
-            if byte.is_ascii() {
-                row(
-                    "`",
-                    "` in column 1 begins no card",
-                    column_advice(text, line),
-                )
-            } else {
-                unquoted(
-                    "column 1 is no ASCII character",
-                    "if it cannot be seen, it is a byte-order mark: save the file without it",
-                )
-            }
-        }
-        _ => row(
-            "`",
-            "` in column 1 begins no card",
-            column_advice(text, line),
-        ),
     }
 }

@@ -1,11 +1,10 @@
 //! The texts of warnings, in one table.
 
-use crate::advice::mark_advice;
 use crate::reason::{CertainTrap, WarningReason};
 use crate::texts::{Words, row};
 
 /// The words of a warning.
-pub(crate) fn warning_words(reason: WarningReason, text: &[u8]) -> Words {
+pub(crate) fn warning_words(reason: WarningReason) -> Words {
     match reason {
         WarningReason::PastColumns => {
             row(
@@ -42,7 +41,6 @@ pub(crate) fn warning_words(reason: WarningReason, text: &[u8]) -> Words {
                 "a bug is one letter, and what follows it are fields: (cd,Df,cd,cd) defines the field f",
             )
         }
-        WarningReason::JobMark => row("`", "` separates the parts of a job", mark_advice(text)),
         WarningReason::ImageText => {
             row(
                 "`",

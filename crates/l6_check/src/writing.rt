@@ -134,7 +134,6 @@ fn text_of(
     add_all(&mut findings, &report.twice)?;
     add_all(&mut findings, &report.missing)?;
     add_all(&mut findings, &report.cards.columns)?;
-    add_all(&mut findings, &report.cards.marks)?;
     add_all(&mut findings, &report.cards.image)?;
     add_all(&mut findings, &report.program.conditions)?;
     add_all(&mut findings, &report.program.unnamed)?;
@@ -195,7 +194,6 @@ fn warning_count(report: &Report<'_>) -> u32
     cards
         .columns
         .count
-        .saturating_add(cards.marks.count)
         .saturating_add(cards.image.count)
         .saturating_add(program.conditions.count)
         .saturating_add(program.unnamed.count)

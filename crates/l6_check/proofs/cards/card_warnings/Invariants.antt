@@ -1,15 +1,12 @@
 use Rattle.std.proofs.Common.{◌+◌, ◌≤◌, length}
-use Rattle.l6_check.specs.declared.cards.CardTest.TheVariants.{PastColumns, JobMark}
 use Rattle.l6_check.proofs.CardSteps.{SaysSoFar}
 use Rattle.l6_check.proofs.cards.card_warnings.Given as goal
 
 -- the cards that are said so far, with those of the lines that are left, are those of all
 abbrev pub invariant-loop-line : goal.invariant-loop-line
 invariant-loop-line l = record {
-  columns : SaysSoFar PastColumns l.columns l.card l.rest l.deck;
-  marks : SaysSoFar JobMark l.marks l.card l.rest l.deck;
+  columns : SaysSoFar l.columns l.card l.rest l.deck;
   few : l.columns.count ≤ l.card;
-  few_marks : l.marks.count ≤ l.card;
   numbers : l.card + length l.rest ≤ length l.deck;
 }
 

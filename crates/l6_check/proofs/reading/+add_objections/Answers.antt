@@ -2,7 +2,7 @@ use Rattle.std.proofs.Common.{rules, ◌≡◌, ℕ, ◌+◌, ◌-◌, ◌++◌,
 use Rattle.l6_word.specs.Lines.{lines_of}
 use Rattle.l6_card.specs.ReadAlone.{objection_to_lines}
 use Rattle.l6_card.specs.declared.objection.Objection.{Objection}
-use Rattle.l6_check.specs.Faults.{Explains}
+use Rattle.l6_check.specs.Explains.{Explains}
 use Rattle.l6_check.specs.Kept.{AreOf}
 use Rattle.l6_check.specs.Statements.{objections_in}
 use Rattle.l6_check.specs.inner.Mending.{AreMended}

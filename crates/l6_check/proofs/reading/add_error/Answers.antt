@@ -1,6 +1,6 @@
 use Rattle.std.proofs.Common.{sym, ◌∙◌}
 use Rattle.l6_check.specs.OnCard.{IsOnItsCard}
-use Rattle.l6_check.specs.Faults.{Explains}
+use Rattle.l6_check.specs.Explains.{Explains}
 use Rattle.l6_check.proofs.Keeping.{on_ok, added_all}
 use Rattle.l6_check.proofs.Explaining.{matched_one, matched_skipped}
 use Rattle.l6_check.proofs.reading.add_error.Goals as goal

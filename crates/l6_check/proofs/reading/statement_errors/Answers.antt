@@ -1,7 +1,8 @@
 use Rattle.std.proofs.Common.{arith, ◌≡◌, refl, ℕ, ◌+◌, ◌++◌, List, [], map, append_assoc, append-nil, sym, ap, ◌∙◌, subst}
 use Rattle.l6_word.specs.Lines.{lines_of}
 use Rattle.l6_card.specs.declared.objection.Objection.{Objection}
-use Rattle.l6_check.specs.Faults.{fault_of_finding, Explains}
+use Rattle.l6_check.specs.Faults.{fault_of_finding}
+use Rattle.l6_check.specs.Explains.{Explains}
 use Rattle.l6_check.specs.Kept.{Say, AreOf}
 use Rattle.l6_check.specs.Missing.{MissingFrom, missing_said}
 use Rattle.l6_group.specs.declared.label.Label.{Label}

@@ -1,7 +1,7 @@
 use Rattle.std.proofs.Common.{◌≡◌, ℕ, ◌+◌, ◌*◌, ◌≤◌, ◌++◌, List, length}
 use Rattle.l6_word.specs.Lines.{lines_of}
 use Rattle.l6_card.specs.declared.objection.Objection.{Objection}
-use Rattle.l6_check.specs.Faults.{Explains}
+use Rattle.l6_check.specs.Explains.{Explains}
 use Rattle.l6_group.specs.declared.label.Label.{Label}
 use Rattle.l6_check.specs.Missing.{MissingFrom, missing_said}
 use Rattle.l6_check.specs.inner.Names.{most_names}

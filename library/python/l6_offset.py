@@ -38,11 +38,12 @@ class _Raw(ctypes.Structure):
 
 
 _CALLS = {"open": 3, "close": 0, "get": 1, "find": 1, "reserve": 2, "free": 1, "level": 1, "next": 1, "largest": 0,
-          "free_places": 0, "reset": 0}  # and how many numbers each is given
+          "free_places": 0, "most": 0, "piece": 1, "reset": 0}  # and how many numbers each is given
 _library = ctypes.PyDLL(os.environ.get("L6_OFFSET_SO", str(Path(__file__).with_name("libl6_offset.so"))))
 for _name, _count in _CALLS.items():
     _function = getattr(_library, f"l6_offset_{_name}")
     _function.restype, _function.argtypes = ctypes.c_int64, [ctypes.POINTER(_Raw), *[ctypes.c_uint32] * _count]
+_library.l6_offset_version.restype, _library.l6_offset_version.argtypes = ctypes.c_int64, []
 _library.l6_offset_level_for.restype, _library.l6_offset_level_for.argtypes = ctypes.c_int64, [ctypes.c_uint32]
 
 
@@ -58,6 +59,12 @@ def _checked(number: int) -> int:
     if not 0 <= number < 1 << 32:
         raise OverflowError(f"{number} is no number of 32 bits")
     return number
+
+
+def version() -> str:
+    """The version of the library, as 1.1.0."""
+    number: int = _library.l6_offset_version()
+    return f"{number // 10000}.{number // 100 % 100}.{number % 100}"
 
 
 def level_for(places: int) -> int:
@@ -128,6 +135,14 @@ class Offset:
     def largest(self) -> int:
         """The level of the largest open piece."""
         return self._call("largest")
+
+    def piece(self, place: int) -> int:
+        """The level of the largest open piece that has a place."""
+        return self._call("piece", place)
+
+    def most(self) -> int:
+        """The most places that blocks had at once, since it was opened or reset."""
+        return self._call("most")
 
     def free_places(self) -> int:
         """How many places lie in no block."""

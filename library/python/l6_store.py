@@ -50,6 +50,7 @@ _library = ctypes.PyDLL(os.environ.get("L6_STORE_SO", str(Path(__file__).with_na
 for _name, _types in _CALLS.items():
     _function = getattr(_library, f"l6_store_{_name}")
     _function.restype, _function.argtypes = ctypes.c_int64, [_POINTER, *_types]
+_library.l6_store_version.restype, _library.l6_store_version.argtypes = ctypes.c_int64, []
 _library.l6_store_level_for.restype, _library.l6_store_level_for.argtypes = ctypes.c_int64, [_NUMBER]
 
 
@@ -58,6 +59,12 @@ def _answer(code: int) -> int:
     if code < 0:
         raise StoreError(code)
     return code
+
+
+def version() -> str:
+    """The version of the library, as 1.1.0."""
+    number: int = _library.l6_store_version()
+    return f"{number // 10000}.{number // 100 % 100}.{number % 100}"
 
 
 def level_for(words: int) -> int:

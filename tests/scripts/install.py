@@ -39,6 +39,14 @@ DEBUGGER = (
 )
 
 
+LIBRARIES = {  # what is installed with the archives, beside them
+    **{f"include/{name}.h": f"library/{name}.h" for name in ("l6_store", "l6_offset")},
+    **{f"lib/pkgconfig/{name}.pc": f"library/{name}.pc" for name in ("l6_store", "l6_offset")},
+    **{f"share/l6/library/{it.name}": f"library/{it.name}" for it in (TOP / "library").glob("*.c")},
+    **{f"share/l6/library/{name}": f"library/{name}" for name in ("record.py", "shared")},
+    **{f"share/l6/library/python/{it.name}": f"library/python/{it.name}" for it in (TOP / "library/python").glob("*.py")},
+}
+
 NOT_SHIPPED = {"examples/traced.c"}  # files of those folders that stay in the repository
 
 
@@ -50,9 +58,11 @@ def announced(place: str, debugger: str = "") -> str:
 def shipped() -> Iterator[Trial]:
     """The list of what is shipped has each file of the folders that are shipped, once, with its mode."""
     rows = [line.split() for line in (TOP / "tools/shipped").read_text().splitlines() if line[:1] not in ("#", "")]
-    found = {row[3]: sorted(str(it.relative_to(TOP)) for it in TOP.glob(row[3])) for row in rows if row[3] != "PROGRAM"}
+    found = {row[3]: sorted(str(it.relative_to(TOP)) for it in TOP.glob(row[3]))
+             for row in rows if row[3] not in ("PROGRAM", "ARCHIVE")}
     listed = [name for names in found.values() for name in names]
-    folders = ("examples/*", "licenses/*", "completions/*", "docs/*.1", "terminal/*", "LICENSE-*", "THIRD-PARTY.md")
+    folders = ("examples/*", "licenses/*", "completions/*", "docs/*.1", "terminal/*", "library/*", "library/python/*.py", "LICENSE-*",
+               "THIRD-PARTY.md")
     there = {str(it.relative_to(TOP)) for pattern in folders for it in TOP.glob(pattern) if it.is_file()}
     yield "what is shipped", sorted(there - NOT_SHIPPED), sorted(listed)
     yield "what is not shipped is there", [], sorted(NOT_SHIPPED - there)
@@ -60,10 +70,14 @@ def shipped() -> Iterator[Trial]:
     yield "programs that are shipped", [("l6db", "lib/l6/l6db"), ("l6", "bin/l6")], [
         (of, place) for of, _, place, files in rows if files == "PROGRAM"
     ]
-    may_run = ("PROGRAM", "terminal/l6db.sh")
+    may_run = ("PROGRAM", "terminal/l6db.sh", "library/shared")
     yield "modes", [], [row for row in rows if row[1] != ("755" if row[3] in may_run else "644")]
     own = [row for row in rows if ("l6db" in row[2] or "terminal" in row[2]) != (row[0] == "l6db")]
     yield "what belongs to l6db", [], own
+    archives = [(of, place) for of, _, place, files in rows if files == "ARCHIVE"]
+    yield "archives that are shipped", [("lib", f"lib/libl6_{name}.a") for name in ("offset", "store")], archives
+    its = [row for row in rows if row[3].startswith("library/") and row[0] != "lib"]
+    yield "what belongs to the libraries", [], its
 
 
 def modes_of(place: Path) -> dict[str, int]:
@@ -146,6 +160,31 @@ def debuggers(checkout: Checkout) -> Iterator[Trial]:
     debugger.unlink()
     actual = checkout.run("install", "--uninstall", "/usr", has_rt=False, DESTDIR=str(folder))
     yield "its removal", (0, []), (actual.status, names_in(folder))
+
+
+def libraries(checkout: Checkout) -> Iterator[Trial]:
+    """Where there are archives for the program's processor, they are installed with what belongs to them, and removed."""
+    for kind, named in (("", "l6-static"), ("-aarch64", "l6-aarch64")):
+        folder = checkout.folder / f"with libraries{kind}"
+        words = ["--program", str(checkout.top / "dist" / named), "/usr"]
+        for name in ("l6_store", "l6_offset"):
+            archive = checkout.top / f"dist/{name}{kind}.a"
+            actual = checkout.run("install", *words, has_rt=False, DESTDIR=str(folder))
+            yield f"without {archive.name}", announced(f"{folder}/usr"), actual.stdout
+            archive.write_text(f"an archive{kind} of {name}\n")
+        actual = checkout.run("install", *words, has_rt=False, DESTDIR=str(folder))
+        said = announced(f"{folder}/usr").replace("licences\n", "licences, and the libraries for C\n")
+        yield f"what is said of libraries{kind}", (0, said, ""), (actual.status, actual.stdout, actual.stderr)
+        expected = (*INSTALLED, *LIBRARIES, "lib/libl6_store.a", "lib/libl6_offset.a")
+        yield f"libraries{kind}", sorted(f"usr/{name}" for name in expected), names_in(folder)
+        yield f"the archive{kind}", f"an archive{kind} of l6_store\n", (folder / "usr/lib/libl6_store.a").read_text()
+        for name, source in LIBRARIES.items():
+            placed, own = folder / "usr" / name, TOP / source
+            yield f"{name}{kind}", own.read_bytes(), placed.read_bytes()
+            yield f"the mode of {name}{kind}", own.name == "shared", bool(
+                placed.stat().st_mode & 0o111)
+    actual = checkout.run("install", "--uninstall", "/usr", has_rt=False, DESTDIR=str(checkout.folder / "with libraries"))
+    yield "their removal", (0, []), (actual.status, names_in(checkout.folder / "with libraries"))
 
 
 def removals(checkout: Checkout) -> Iterator[Trial]:
@@ -250,7 +289,7 @@ def trials() -> Iterator[Trial]:
     """All trials, each group on a checkout of its own."""
     yield from shipped()
     for group in (
-        arguments, installations, staged, debuggers, removals, running_program, refusals, damaged_program,
+        arguments, installations, staged, debuggers, libraries, removals, running_program, refusals, damaged_program,
     ):
         with tempfile.TemporaryDirectory() as folder:
             for name, expected, actual in group(Checkout(Path(folder) / "checkout")):

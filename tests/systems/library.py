@@ -19,6 +19,7 @@ from pathlib import Path
 
 sys.path.insert(0, str(Path(__file__).resolve().parents[1] / "harness"))
 import offset_library
+import other_libraries
 from trials import Trial, report
 
 TOP = Path(__file__).resolve().parents[2]
@@ -106,15 +107,15 @@ def in_rust(archive: Path, room: Path) -> Iterator[Trial]:
 def in_python(archive: Path, room: Path) -> Iterator[Trial]:
     """The module, with the table of eight calls."""
     shared = room / "libl6_store.so"
-    heap = room / "heap-pic.o"
-    run(["cc", "-c", "-fPIC", LIBRARY / "heap.c", "-o", heap])
-    whole: list[str | Path] = ["-Wl,--whole-archive", archive, "-Wl,--no-whole-archive"]
-    exports = room / "exports"
-    exports.write_text("{ global: l6_store_*; local: *; };\n", "ascii")
-    options = ["-Wl,-z,text", f"-Wl,--version-script={exports}", "-Wl,-soname,libl6_store.so.1"]
-    yield "a shared object", (0, ""), run(["cc", "-shared", *whole, heap, *options, "-o", shared])
+    archives = room / "archives"
+    archives.mkdir()
+    shutil.copy(archive, archives / "l6_store.a")
+    shutil.copy(Path(str(archive).replace("l6_store", "l6_offset")), archives / "l6_offset.a")
+    yield "a shared object", (0, ""), run([LIBRARY / "shared", room, archives])
     seen = run(["nm", "-D", "--defined-only", shared])[1]
     yield "the heap is not exported", {True}, {line.split()[-1].startswith("l6_store_") for line in seen.splitlines()}
+    names = re.findall(r"SONAME.*\[(.*)\]", run(["readelf", "-d", shared])[1])
+    yield "the name of the shared object", ["libl6_store.so.1"], names
     known = {**os.environ, "L6_STORE_SO": str(shared), "PYTHONPATH": str(LIBRARY / "python")}
     actual = run([sys.executable, "-B", LIBRARY / "python/first.py"], env=known)
     yield "first.py", (0, f"{FIRST}freed, joined 7\nfreed again: NO_BLOCK\n"), actual
@@ -191,7 +192,7 @@ def faults_of_calls() -> Iterator[Trial]:
         for comment, call in re.findall(r"/\*((?:[^*]|\*(?!/))*)\*/\nint64_t (l6_store_\w+)\(", text)
     }
     yield "the faults of each call in the header", expected, found
-    yield "the calls that answer IS_CLOSED", set(expected) - {"l6_store_open", "l6_store_level_for"}, closed
+    yield "the calls that answer IS_CLOSED", set(expected) - {"l6_store_open", "l6_store_level_for", "l6_store_version"}, closed
 
 
 CONSTANTS = {"LARGEST_LEVEL": "10", "UNIT": "1024", "MOST_UNITS": "255"}  # of the language
@@ -215,6 +216,54 @@ def constants_and_texts() -> Iterator[Trial]:
     yield "how much memory a store takes, by the page and by its array", [(sizes[0][0].replace(",", ""), sizes[0][1])], arrays
 
 
+def versions() -> Iterator[Trial]:
+    """The version of each library is the same in its header, its source, its crate, and what pkg-config is told."""
+    for name, crate in (("l6_store", "rust"), ("l6_offset", "rust_offset")):
+        header = (LIBRARY / f"{name}.h").read_text("ascii")
+        version = re.findall(r'VERSION "(\d+)\.(\d+)\.(\d+)"', header)[0]
+        number = sum(int(part) * unit for part, unit in zip(version, (10_000, 100, 1)))
+        source = (TOP / f"crates/{name}_c/src/exports.rt").read_text("utf-8")
+        found = re.findall(r"_version\(\) -> i64\n.*\n\{\n    ([\d_]+)\n", source)
+        yield f"the number of {name}", [number], [int(it) for it in found]
+        yield f"the number in {name}.h", [number], [int(it) for it in re.findall(r"VERSION_NUMBER (\d+)", header)]
+        plain = ".".join(version)
+        cargo = (LIBRARY / crate / "Cargo.toml").read_text("ascii")
+        yield f"the version of the crate {name}", [plain], re.findall(r'^version = "(.*)"', cargo, re.MULTILINE)
+        yield f"the version in {name}.pc", [plain], re.findall(
+            "^Version: (.*)$", (LIBRARY / f"{name}.pc").read_text("ascii"), re.MULTILINE)
+
+
+def installed(archive: Path, room: Path) -> Iterator[Trial]:
+    """Programs that find an installed library by pkg-config, also where the folder of all is another by then."""
+    if not shutil.which("pkg-config"):
+        print("skipped: pkg-config is not installed")
+        return
+    prefix = room / "moved"
+    for folder in ("lib/pkgconfig", "include", "share/l6/library"):
+        (prefix / folder).mkdir(parents=True)
+    shutil.copy(LIBRARY / "heap.c", prefix / "share/l6/library")
+    for name, source, said in (("l6_store", "tree.c", TREE), ("l6_offset", "gpu.c", offset_library.GPU)):
+        shutil.copy(LIBRARY / f"{name}.h", prefix / "include")
+        shutil.copy(LIBRARY / f"{name}.pc", prefix / "lib/pkgconfig")
+        shutil.copy(Path(str(archive).replace("l6_store", name)), prefix / f"lib/lib{name}.a")
+        script = (f'cc "$1" $(pkg-config --variable=heap {name}) $(pkg-config --cflags --libs {name}) -o "$2" && "$2"')
+        known = {**os.environ, "PKG_CONFIG_PATH": str(prefix / "lib/pkgconfig")}
+        yield f"{source} by pkg-config", (0, said), run(
+            ["sh", "-c", script, "sh", LIBRARY / source, room / "by-pkg-config"], env=known)
+
+
+def sections(archive: Path) -> Iterator[Trial]:
+    """The archives have no tables for unwinding, no constructors and no thread's own data, and no names but the calls'."""
+    for name in ("l6_store", "l6_offset"):
+        file = Path(str(archive).replace("l6_store", name))
+        seen = set(re.findall(r"^ *\d+ (\.[a-z_]+)", run(["objdump", "-h", file])[1], re.MULTILINE))
+        yield f"sections of {name}.a", set(), seen & {".eh_frame", ".gcc_except_table", ".init_array", ".ctors", ".tbss", ".tdata"}
+        defined = re.findall(r" [TDBR] (\w+)$", run(["nm", file])[1], re.MULTILINE)
+        yield f"names of {name}.a", {True}, {it.startswith(f"{name}_") for it in defined}
+        needed = set(re.findall(r" U (\w+)$", run(["nm", file])[1], re.MULTILINE))
+        yield f"what {name}.a needs", set(), needed - {"memset", "memcpy", "memmove", "rattle_alloc", "rattle_dealloc"}
+
+
 def named_in_header(fault: str) -> str:
     """The name of a fault in the header."""
     return {"Closed": "IS_CLOSED", "Open": "IS_OPEN"}.get(fault, re.sub(r"(?<!^)([A-Z])", r"_\1", fault).upper())
@@ -229,6 +278,12 @@ def made_again(archive: Path) -> Iterator[Trial]:
         built = TOP / f"crates/{name}_c/out/lib{name}_c.a"
         there = [file.read_bytes() if file.exists() else b"" for file in (built, archive.with_name(f"{name}.a"))]
         yield f"the archive {name}.a of dist/ is that of these sources", True, there[0] == there[1] != b""
+    with tempfile.TemporaryDirectory(prefix="l6-library-") as room:
+        status, printed = run([TOP / "ports/libraries", room])
+        yield "the archives for other processors are made again", (0, ""), (status, "" if status == 0 else printed)
+        for name in (f"{library}-{kind}.a" for library in ("l6_store", "l6_offset") for kind in other_libraries.KINDS):
+            there = [file.read_bytes() if file.exists() else b"" for file in (Path(room, name), archive.with_name(name))]
+            yield f"the archive {name} of dist/ is that of these sources", True, there[0] == there[1] != b""
 
 
 def header() -> Iterator[Trial]:
@@ -248,16 +303,21 @@ def main(words: list[str]) -> int:
             yield from numbers()
             yield from faults_of_calls()
             yield from constants_and_texts()
+            yield from versions()
             if is_gate:
                 yield from made_again(archive)
             if not words or is_gate:
                 yield from header()
+            yield from sections(archive)
+            yield from installed(archive, Path(room))
             yield from in_c(archive, Path(room))
             yield from in_rust(archive, Path(room))
             yield from in_python(archive, Path(room))
             places = Path(str(archive).replace("l6_store", "l6_offset"))
-            (Path(room) / "places").mkdir()
+            for name in ("places", "others"):
+                (Path(room) / name).mkdir()
             yield from offset_library.trials(places, archive, Path(room) / "places")
+            yield from other_libraries.trials(archive.parent, Path(room) / "others")
 
         return report(trials())
 

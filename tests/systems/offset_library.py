@@ -57,6 +57,33 @@ int main(void) {
     return l6_store_close(&store) != 0;
 }
 """
+# By hand: blocks have 0 and 1, and 8 to 11, of 16 places; and then 2 and 3, too, for a moment.
+PIECES = r"""
+#include <inttypes.h>
+#include <stdio.h>
+#include "l6_offset.h"
+/* Prints each block and each free piece, places rising; it only looks. */
+static void report(const l6_offset *store, uint32_t end) {
+    for (uint32_t place = 0; place < end;) {
+        int64_t block = l6_offset_level(store, place), piece = l6_offset_piece(store, place);
+        printf("%" PRIu32 "%s%" PRId64 " ", place, block >= 0 ? "b" : "f", block >= 0 ? block : piece);
+        place += UINT32_C(1) << (block >= 0 ? block : piece);
+    }
+    printf("most %" PRId64 "\n", l6_offset_most(store));
+}
+int main(void) {
+    l6_offset store = L6_OFFSET_CLOSED;
+    if (l6_offset_version() != L6_OFFSET_VERSION_NUMBER || l6_offset_open(&store, 4, 0, 16) != 0)
+        return 1;
+    l6_offset_get(&store, 1);
+    l6_offset_reserve(&store, 2, 8);
+    l6_offset_free(&store, (uint32_t)l6_offset_get(&store, 1));
+    report(&store, 16);
+    l6_offset_reset(&store);
+    report(&store, 16);
+    return l6_offset_close(&store) != 0;
+}
+"""
 THREADS = """
 import threading
 from l6_offset import Offset
@@ -107,7 +134,7 @@ def numbers() -> Iterator[Trial]:
     for name, text in (("l6_offset.h", header), ("rust_offset/src/lib.rs", crate)):
         yield f"the calls of {name}", exports, sorted(set(re.findall(r"\b(l6_offset_\w+)\(", text)))
     table = module.partition("_CALLS = {")[2].partition("}")[0]
-    calls = [*re.findall(r'"(\w+)": \d', table), "level_for"]
+    calls = [*re.findall(r'"(\w+)": \d', table), "level_for", "version"]
     yield "the calls of l6_offset.py", exports, sorted(f"l6_offset_{name}" for name in calls)
 
 
@@ -122,11 +149,16 @@ def in_c(archive: Path, store: Path, room: Path) -> Iterator[Trial]:
     made = run(["cc", "-std=c11", *WARNINGS, f"-I{LIBRARY}", source, archive, store, "-o", program])
     yield "both libraries in one program", (0, ""), made
     yield "the bytes of L6_OFFSET_BYTES serve, and no call but open asks for more", (0, "0 1024\n"), run([program])
+    source = room / "pieces.c"
+    source.write_text(PIECES, "ascii")
+    made = run(["cc", "-std=c11", *WARNINGS, "-Wcast-qual", f"-I{LIBRARY}", source, heap, archive, "-o", program])
+    yield "a report by calls that only look", (0, ""), made
+    yield "blocks and free pieces, and the most places", (0, "0b1 2f1 4f2 8b2 12f2 most 8\n0f4 most 0\n"), run([program])
     bench = room / "bench"
     words: list[str | Path] = ["cc", "-std=c11", "-D_POSIX_C_SOURCE=199309L", *WARNINGS, TOP / "bench/places.c", heap, archive, "-o", bench]
     yield "bench/places.c compiles", (0, ""), run(words)
     for work in ("none", "all", "mix"):
-        for kind in ("proved", "lists"):
+        for kind in ("proved", "lists", "classes"):
             status, printed = run([bench, work, kind, "10", "20000"])
             yield f"bench/places.c: {work}, {kind}", (0, True), (status, bool(re.fullmatch(r"\d+\.\d\n", printed)))
     if not shutil.which("c++"):
@@ -141,14 +173,12 @@ def in_c(archive: Path, store: Path, room: Path) -> Iterator[Trial]:
 
 def in_python(archive: Path, room: Path) -> Iterator[Trial]:
     """The module: random calls beside a plain model, four threads, and numbers that do not fit."""
-    shared, heap = room / "libl6_offset.so", room / "heap-pic.o"
-    run(["cc", "-c", "-fPIC", LIBRARY / "heap.c", "-o", heap])
-    exports = room / "exports"
-    exports.write_text("{ global: l6_offset_*; local: *; };\n", "ascii")
-    whole: list[str | Path] = ["-Wl,--whole-archive", archive, "-Wl,--no-whole-archive", f"-Wl,--version-script={exports}"]
-    yield "a shared object", (0, ""), run(["cc", "-shared", *whole, heap, "-Wl,-z,text", "-o", shared])
+    shared = room / "libl6_offset.so"
+    yield "a shared object", (0, ""), run([LIBRARY / "shared", room, archive.parent])
     seen = run(["nm", "-D", "--defined-only", shared])[1]
     yield "no other name is exported", {True}, {line.split()[-1].startswith("l6_offset_") for line in seen.splitlines()}
+    names = re.findall(r"SONAME.*\[(.*)\]", run(["readelf", "-d", shared])[1])
+    yield "the name of the shared object", ["libl6_offset.so.1"], names
     known = {**os.environ, "L6_OFFSET_SO": str(shared), "PYTHONPATH": str(LIBRARY / "python")}
     yield "four threads", (0, "4096 12\n"), run([sys.executable, "-B", "-c", THREADS], env=known)
     code, expected = modelled(3000)
@@ -167,6 +197,7 @@ def modelled(count: int) -> tuple[str, list[str]]:
              "    try:", "        print(call(*numbers))", "    except OffsetError as error:", "        print(int(error.fault))"]
     expected: list[str] = []
     blocks: dict[int, int] = {}
+    most = 0
     for _ in range(count):
         level, place = chance.randint(0, 5), chance.randint(0, 255)
         kind = chance.randrange(4)
@@ -189,6 +220,11 @@ def modelled(count: int) -> tuple[str, list[str]]:
         if found is not None:
             blocks[found] = level
             judge.taken.update(range(found, found + 2**level))
+            most = max(most, sum(2**it for it in blocks.values()))
+    open_levels = [max((level for level in range(9) if judge.is_open(level, place // 2**level * 2**level)), default=-7)
+                   for place in range(256)]
+    lines += ["for place in range(256): t(p.piece, place)", "print(p.most())"]
+    expected += [*map(str, open_levels), str(most)]
     lines += ["print(p.free_places())", "print(*(it for block in p.blocks() for it in block))"]
     expected += [str(256 - len(judge.taken)), *(str(it) for block in sorted(blocks.items()) for it in block)]
     return "\n".join(lines), expected

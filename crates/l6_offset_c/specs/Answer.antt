@@ -30,3 +30,7 @@ IsAnswered (Some held) answers number =
 abbrev pub IsFault : ℤ → Type 0
 IsFault (pos value) = ⊥
 IsFault (negsuc below) = Unit {0}
+
+-- the version of the calls, as a number: 1.1.0
+abbrev pub version : ℕ
+version = 10100

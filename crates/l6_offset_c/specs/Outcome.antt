@@ -1,7 +1,7 @@
 -- What each call that may be refused answers of a board.
-use Rattle.std.specs.Prelude.{◌≡◌, ℕ, ◌^◌, ◌<◌, ◌≤◌, Option, Some, None, Result, Ok, Err, IsSome}
+use Rattle.std.specs.Prelude.{◌≡◌, ℕ, ◌^◌, ◌<◌, ◌≤◌, Option, Some, None, Result, Ok, Err}
 use Rattle.l6_places.specs.Numerals.{largest_top}
-use Rattle.l6_places.specs.Board.{Board, IsLargest, IsLowest, IsNextBlock, IsOpen, free_places, level_at}
+use Rattle.l6_places.specs.Board.{Board, IsLargest, IsLowest, IsNextBlock, IsOpen, IsOpenLevel, free_places, level_at}
 use Rattle.l6_places.specs.declared.board.Piece.{Piece}
 use Rattle.l6_offset_c.specs.declared.fault.CallFault.{CallFault}
 use Rattle.l6_offset_c.specs.declared.fault.CallFault.TheVariants.{BadLevel, NoBlock, NotOpen, Full}
@@ -52,6 +52,16 @@ IsLargestLevel board outcome =
 -- how many places lie in no block
 abbrev pub IsFreePlaces : Board → Result ℕ CallFault → Type 0
 IsFreePlaces board outcome = outcome ≡ Ok (free_places board)
+
+-- the most places that blocks had at once
+abbrev pub IsMost : Board → Result ℕ CallFault → Type 0
+IsMost board outcome = outcome ≡ Ok board.most
+
+-- the level of the largest open piece that has a place
+abbrev pub IsPiece : ℕ → Board → Result ℕ CallFault → Type 0
+IsPiece place board outcome =
+    (level : Option ℕ) × IsOpenLevel board board.top place level
+    × (outcome ≡ place_or NotOpen level)
 
 -- the least level whose blocks have at least so many places
 pub record IsLeastLevel (places level : ℕ) : Type 0 where

@@ -3,7 +3,7 @@
 ghost use Rattle.std.specs.Prelude.{◌≡◌, Ok, ◌<◌, ◌≤◌, ◌^◌, IfOk, OnErr, OnOk};
 ghost use Rattle.l6_places.specs.Board.{emptied, released, taken};
 ghost use Rattle.l6_places.specs.Numerals.{largest_top};
-ghost use Rattle.l6_offset_c.specs.Outcome.{IsFound, IsFreePlaces, IsFreed, IsLargestLevel, IsLevel, IsNext, IsReserved};
+ghost use Rattle.l6_offset_c.specs.Outcome.{IsFound, IsFreePlaces, IsFreed, IsLargestLevel, IsLevel, IsMost, IsNext, IsPiece, IsReserved};
 
 use crate::fault::CallFault;
 use l6_places::{Board, Level};
@@ -113,6 +113,25 @@ pub(crate) fn free_places(board: &Board) -> Result<u64, CallFault>
     ensures range { IfOk result (λ places. places < 2 ^ 32) }
 {
     Ok(u64::from(board.free_places()))
+}
+
+/// The most places that blocks had at once.
+pub(crate) fn most(board: &Board) -> Result<u64, CallFault>
+    ensures most { IsMost board.now result }
+    ensures range { IfOk result (λ places. places < 2 ^ 63) }
+{
+    Ok(board.most_used())
+}
+
+/// The level of the largest open piece that has a place.
+pub(crate) fn piece(board: &Board, place: u32) -> Result<u64, CallFault>
+    ensures piece { IsPiece place board.now result }
+    ensures range { IfOk result (λ level. level < 2 ^ 8) }
+{
+    match board.open_level(board.top(), place) {
+        Some(level) => Ok(u64::from(level)),
+        None => Err(CallFault::NotOpen),
+    }
 }
 
 /// Frees all blocks.

@@ -3,11 +3,13 @@
 ghost use Rattle.std.specs.Prelude.{ℕ, ◌≡◌, ◌<◌, ◌≤◌, ◌^◌, ◌⊎◌, pos, IfErr, IfNone, IfOk, IfSome, IsErrOf, None, Some, Ok, ◌↔◌};
 ghost use Rattle.l6_places.specs.Board.{emptied, fresh, released, taken};
 ghost use Rattle.l6_places.specs.Numerals.{largest_top};
-ghost use Rattle.l6_offset_c.specs.Answer.{code_of, number_of, IsAnswered, IsFault};
-ghost use Rattle.l6_offset_c.specs.Outcome.{IsFound, IsFreePlaces, IsFreed, IsLargestLevel, IsLeastLevel, IsLevel, IsNext, IsReserved};
+ghost use Rattle.l6_offset_c.specs.Answer.{code_of, number_of, version, IsAnswered, IsFault};
+ghost use Rattle.l6_offset_c.specs.Outcome.{IsFound, IsFreePlaces, IsFreed, IsLargestLevel, IsLeastLevel, IsLevel, IsMost, IsNext, IsPiece, IsReserved};
 
 use crate::calls;
 use crate::fault::CallFault;
+use crate::handle::Handle;
+use crate::loose::Loose;
 use crate::store::L6Offset;
 use l6_places::{Board, BoardFault, Level, MAX_TOP};
 use std::alloc::Global;
@@ -23,14 +25,17 @@ fn code(outcome: Result<u64, CallFault>) -> i64
     }
 }
 
-/// The number of what a call answers of the board that is held, or that of `Closed`.
+/// The number of what a call answers of the board that is held, or that of `Closed`. The handle alone is taken out and put
+/// back: the struct is open all the time.
 macro_rules! on_open {
     ($store:ident, $alloc:ident, $call:ident($($number:expr),*)) => {{
-        let Some(mut held) = $store.take($alloc) else {
+        if !$store.is_open() {
             return CallFault::Closed.code();
-        };
+        }
+        let handle = std::mem::replace(&mut $store.handle, Handle::none());
+        let mut held = handle.into_loose($alloc).into_box();
         let outcome = calls::$call(&mut held $(, $number)*);
-        $store.put(held);
+        $store.handle = Handle::of(Loose::of(held));
         code(outcome)
     }};
 }
@@ -180,6 +185,24 @@ pub extern "C" fn l6_offset_free_places(alloc: Global, store: &mut L6Offset) -> 
     on_open!(store, alloc, free_places())
 }
 
+/// The most places that blocks had at once, since the store was opened or reset.
+#[unsafe(no_mangle)]
+pub extern "C" fn l6_offset_most(alloc: Global, store: &mut L6Offset) -> i64
+    ensures places { IsAnswered store.old.handle.held IsMost result }
+    ensures still { store.new.handle.held ≡ store.old.handle.held }
+{
+    on_open!(store, alloc, most())
+}
+
+/// The level of the largest open piece that has a place.
+#[unsafe(no_mangle)]
+pub extern "C" fn l6_offset_piece(alloc: Global, store: &mut L6Offset, place: u32) -> i64
+    ensures level { IsAnswered store.old.handle.held (IsPiece place) result }
+    ensures still { store.new.handle.held ≡ store.old.handle.held }
+{
+    on_open!(store, alloc, piece(place))
+}
+
 /// Frees all blocks.
 #[unsafe(no_mangle)]
 pub extern "C" fn l6_offset_reset(alloc: Global, store: &mut L6Offset) -> i64
@@ -187,6 +210,14 @@ pub extern "C" fn l6_offset_reset(alloc: Global, store: &mut L6Offset) -> i64
     ensures after { IfSome store.old.handle.held (λ old. store.new.handle.held ≡ Some (emptied old)) }
 {
     on_open!(store, alloc, reset())
+}
+
+/// The version of the calls: 10,000 times the first number, 100 times the second, and the third.
+#[unsafe(no_mangle)]
+pub extern "C" fn l6_offset_version() -> i64
+    ensures { result ≡ pos version }
+{
+    10_100
 }
 
 /// The least level whose blocks have at least so many places.

@@ -2,8 +2,8 @@
 
 use crate::exports::{
     l6_offset_close, l6_offset_find, l6_offset_free, l6_offset_free_places, l6_offset_get,
-    l6_offset_largest, l6_offset_level, l6_offset_level_for, l6_offset_next, l6_offset_open,
-    l6_offset_reserve, l6_offset_reset,
+    l6_offset_largest, l6_offset_level, l6_offset_level_for, l6_offset_most, l6_offset_next,
+    l6_offset_open, l6_offset_piece, l6_offset_reserve, l6_offset_reset,
 };
 use crate::store::L6Offset;
 
@@ -24,6 +24,10 @@ fn sixteen_places(rt: HostRuntime) {
     assert_eq!(rt; l6_offset_reserve(heap, &mut store, 0, 11), -7);
     assert_eq!(rt; l6_offset_reserve(heap, &mut store, 1, 13), -7);
     assert_eq!(rt; l6_offset_largest(heap, &mut store), 2);
+    assert_eq!(rt; l6_offset_piece(heap, &mut store, 3), 1);
+    assert_eq!(rt; l6_offset_piece(heap, &mut store, 15), 2);
+    assert_eq!(rt; l6_offset_piece(heap, &mut store, 1), -7);
+    assert_eq!(rt; l6_offset_piece(heap, &mut store, 16), -7);
     assert_eq!(rt; l6_offset_find(heap, &mut store, 2), 4);
     assert_eq!(rt; l6_offset_find(heap, &mut store, 3), -8);
     assert_eq!(rt; l6_offset_free_places(heap, &mut store), 10);
@@ -36,7 +40,9 @@ fn sixteen_places(rt: HostRuntime) {
     assert_eq!(rt; l6_offset_free(heap, &mut store, 8), 0);
     assert_eq!(rt; l6_offset_free(heap, &mut store, 8), -6);
     assert_eq!(rt; l6_offset_find(heap, &mut store, 3), 8);
+    assert_eq!(rt; l6_offset_most(heap, &mut store), 6);
     assert_eq!(rt; l6_offset_reset(heap, &mut store), 0);
+    assert_eq!(rt; l6_offset_most(heap, &mut store), 0);
     assert_eq!(rt; l6_offset_free_places(heap, &mut store), 16);
     assert_eq!(rt; l6_offset_level_for(5), 3);
     assert_eq!(rt; l6_offset_level_for(16_777_217), -5);

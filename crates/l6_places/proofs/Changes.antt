@@ -6,10 +6,11 @@ use Rattle.std.proofs.lemmas.Nat.{pow_pos}
 use Rattle.std.proofs.lemmas.Bool.{cases_lt, eq-eqb, ne_eqb}
 use Rattle.std.proofs.lemmas.Bool.Decides.{eqb_tells}
 use Rattle.l6_places.specs.Board.{Board, Begins, IsAligned, Fits, IsOpen, taken, released}
-use Rattle.l6_places.specs.inner.Tree.{Node, start_of, joined, below, IsTold}
+use Rattle.l6_places.specs.inner.Tree.{Node, start_of, below, IsTold}
 use Rattle.l6_places.specs.inner.Settling.{Settles}
-use Rattle.l6_places.proofs.Nodes.{same_node, node_at}
-use Rattle.l6_places.proofs.Values.{value_open, value_block, leaf_is}
+use Rattle.l6_places.proofs.Multiples.{double}
+use Rattle.l6_places.proofs.Nodes.{lower_node, lower_start, node_at, same_node, upper_node, upper_start}
+use Rattle.l6_places.proofs.Values.{joined_full, leaf_is, value_block, value_open}
 
 -- what begins where, after a mark is set
 marked_other : (marks : List ℕ) (place mark at level : ℕ) → (at ≡ place → ⊥)
@@ -201,24 +202,62 @@ takes b tree level place node told small o at =
           ];
     }
 
--- the value of a node below which nothing but its block was taken
-abbrev pub freed : Board → List ℕ → ℕ → ℕ → ℕ
-freed b tree zero node = 1
-freed b tree (suc level) node =
-    joined (suc level) (slice_index tree (2 * node)) (slice_index tree (2 * node + 1))
+-- no smaller block begins where one is
+none_below : (b : Board) (level place l m : ℕ) → Fits b → Begins b.marks place level → l < level
+    → place ≤ start_of b.top l m → start_of b.top l m + 2 ^ l ≤ place + 2 ^ level
+    → Begins b.marks (start_of b.top l m) l → ⊥
+none_below b level place l m fits begins less from under other =
+    elim (cases_lt place (start_of b.top l m)) as (λ _. ⊥) [
+      | inl behind ↦
+          omega (arith, pow_pos l, under, fits.apart place (start_of b.top l m) level l begins other behind)
+      | inr same ↦
+          let at : place ≡ start_of b.top l m = omega (arith, from, same) in
+          omega (arith, less, sym begins ∙ ap (slice_index b.marks) at ∙ other)
+    ]
 
-freed_below : (b : Board) (tree : List ℕ) (level place node : ℕ) → IsAligned b level place
-    → start_of b.top level node ≡ place → freed b tree level node ≡ below b tree level node
-freed_below b tree zero place node is at =
-    sym (leaf_is b (start_of b.top 0 node) (omega (arith, is.above, at))
-    (omega (arith, is.within, at)))
-freed_below b tree (suc level) place node is at = refl
+-- below a block nothing is taken: each node there is open as a whole
+full_below : (b : Board) (tree : List ℕ) (level place l m : ℕ) → IsTold b tree → Begins b.marks place level
+    → l < level → Node b.top l m → place ≤ start_of b.top l m
+    → start_of b.top l m + 2 ^ l ≤ place + 2 ^ level → slice_index tree m ≡ suc l
+full_below b tree level place zero m told begins less is from under =
+    let its = told.fits.each place level begins in
+    told.each 0 m is
+    ∙ value_open b tree 0 m (none_below b level place 0 m told.fits begins less from under)
+    ∙ leaf_is b (start_of b.top 0 m) (omega (arith, its.above, from))
+    (omega (arith, its.within, under))
+full_below b tree level place (suc l) m told begins less is from under =
+    let low = lower_start b.top l m in
+    let high = upper_start b.top l m is in
+    let d = double l in
+    told.each (suc l) m is
+    ∙ value_open b tree (suc l) m (none_below b level place (suc l) m told.fits begins less from under)
+    ∙ joined_full (suc l) (slice_index tree (2 * m)) (slice_index tree (2 * m + 1))
+    (full_below b tree level place l (2 * m) told begins (omega arith) (lower_node b.top l m is)
+    (omega (arith, low, from)) (omega (arith, low, d, under)))
+    (full_below b tree level place l (2 * m + 1) told begins (omega arith) (upper_node b.top l m is)
+    (omega (arith, high, from)) (omega (arith, high, d, under)))
+
+-- so the node of a block has the value of the whole once the block is out
+freed_below : (b : Board) (tree : List ℕ) (level place node : ℕ) → IsTold b tree → Begins b.marks place level
+    → Node b.top level node → start_of b.top level node ≡ place → below b tree level node ≡ suc level
+freed_below b tree zero place node told begins is at =
+    let its = told.fits.each place 0 begins in
+    leaf_is b (start_of b.top 0 node) (omega (arith, its.above, at)) (omega (arith, its.within, at))
+freed_below b tree (suc level) place node told begins is at =
+    let low = lower_start b.top level node in
+    let high = upper_start b.top level node is in
+    let d = double level in
+    joined_full (suc level) (slice_index tree (2 * node)) (slice_index tree (2 * node + 1))
+    (full_below b tree (suc level) place level (2 * node) told begins (omega arith)
+    (lower_node b.top level node is) (omega (arith, low, at)) (omega (arith, low, at, d)))
+    (full_below b tree (suc level) place level (2 * node + 1) told begins (omega arith)
+    (upper_node b.top level node is) (omega (arith, high, at)) (omega (arith, high, at, d)))
 
 -- the tree above the board with one block fewer
-pub releases : (b : Board) (tree : List ℕ) (level place node value : ℕ) → IsTold b tree
+pub releases : (b : Board) (tree : List ℕ) (level place node : ℕ) → IsTold b tree
     → Begins b.marks place level → node ≡ (2 ^ b.top + place) / 2 ^ level
-    → value ≡ freed b tree level node → Settles (released b place) tree level node value
-releases b tree level place node value told begins at worth =
+    → Settles (released b place) tree level node (suc level)
+releases b tree level place node told begins at =
     let its = told.fits.each place level begins in
     let lt : place < 2 ^ b.top = omega (arith, told.low, its.within, pow_pos level) in
     let in_marks : place < length b.marks = omega (arith, told.marked, lt) in
@@ -262,7 +301,7 @@ releases b tree level place node value told begins at worth =
             ])
             (sym (below_released b tree place l m));
       };
-      is = worth ∙ freed_below b tree level place node its n.1
+      is = sym (freed_below b tree level place node told begins n.0 n.1)
           ∙ sym (below_released b tree place level node)
           ∙ sym (value_open (released b place) tree level node none);
       uncovered = λ q upper first larger low high.
@@ -278,19 +317,3 @@ releases b tree level place node value told begins at worth =
                 ]
           ];
     }
-
-pub freed_zero : (b : Board) (tree : List ℕ) (level node : ℕ) → level ≡ 0 → freed b tree level node ≡ 1
-freed_zero b tree level node is = ap (λ (l : ℕ). freed b tree l node) is
-
-pub freed_more : (b : Board) (tree : List ℕ) (level node : ℕ) → (level ≡ 0 → ⊥)
-    → freed b tree level node ≡ joined level (slice_index tree (2 * node)) (slice_index tree (2 * node + 1))
-freed_more b tree zero node not = absurd (not refl)
-freed_more b tree (suc level) node not = refl
-
--- the node of a block
-pub block_node : (b : Board) (tree : List ℕ) (level place node : ℕ) → IsTold b tree
-    → Begins b.marks place level → node ≡ (2 ^ b.top + place) / 2 ^ level → Node b.top level node
-block_node b tree level place node told begins at =
-    let its = told.fits.each place level begins in
-    (node_at b.top level place node its.small its.aligned
-    (omega (arith, told.low, its.within, pow_pos level)) at).0

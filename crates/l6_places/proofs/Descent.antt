@@ -1,6 +1,6 @@
 -- The way down the tree.
 use Rattle.std.proofs.Common.{◌≡◌, ℕ, suc, ◌+◌, ◌-◌, ◌*◌, ◌%◌, ◌^◌, ◌<◌, ◌≤◌, List, slice_index, Some, None, ap, sym, ◌∙◌, subst, arith, inl, inr}
-use Rattle.std.proofs.lemmas.Nat.{pow_pos, one_shl}
+use Rattle.std.proofs.lemmas.Nat.{pow_pos}
 use Rattle.std.proofs.Math.Nat.{mod-eq_of_lt}
 use Rattle.std.proofs.lemmas.Bool.{cases_lt}
 use Rattle.l6_places.specs.Board.{Board, Begins, IsOpen, IsLowest}
@@ -212,14 +212,13 @@ step_upper b tree told wanted now node child other less down is other_is none =
     (subst (λ (c : ℕ). slice_index tree c ≤ wanted) is none))
 
 -- how the machine computes where a node begins
-pub start_shifted : (top level node : ℕ) → top ≤ 24 → Node top level node
-    → node * 2 ^ level % 2 ^ 64 - 1 * 2 ^ top % 2 ^ 64 ≡ start_of top level node
-start_shifted top level node small is =
+pub start_shifted : (top level node leaves : ℕ) → top ≤ 24 → Node top level node → leaves ≡ 2 ^ top
+    → node * 2 ^ level % 2 ^ 64 - leaves ≡ start_of top level node
+start_shifted top level node leaves small is all =
     let most : 2 ^ top ≤ 2 ^ 24 = size_le top 24 small in
     let a : node * 2 ^ level % 2 ^ 64 ≡ node * 2 ^ level
     = mod-eq_of_lt (omega (arith, is.under, most)) in
-    let c : 1 * 2 ^ top % 2 ^ 64 ≡ 2 ^ top = one_shl top 64 (omega arith) in
-    omega (arith, a, c)
+    omega (arith, a, all)
 
 pub start_small : (top level node : ℕ) → top ≤ 24 → Node top level node
     → start_of top level node < 2 ^ 24

@@ -222,3 +222,10 @@ pub children_within : (top level node : ℕ) → Node top level node → (level 
 children_within top zero node is not = absurd (not refl)
 children_within top (suc level) node is not =
     node_within top level (2 * node + 1) (upper_node top level node is)
+
+-- the node that stands for the places from one on
+pub node_of_start : (top level node place : ℕ) → Node top level node → place ≡ start_of top level node
+    → node ≡ (2 ^ top + place) / 2 ^ level
+node_of_start top level node place is at =
+    let sum : node * 2 ^ level ≡ 2 ^ top + place = omega (arith, at, is.from) in
+    sym (shl-shr node level) ∙ ap (λ (n : ℕ). n / 2 ^ level) sum

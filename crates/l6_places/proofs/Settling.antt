@@ -1,17 +1,17 @@
 -- The way up the tree.
-use Rattle.std.proofs.Common.{◌≡◌, ℕ, zero, suc, ◌+◌, ◌-◌, ◌*◌, ◌/◌, ◌^◌, ◌<◌, Bool, ◌==◌, List, length, slice_index, if◌then◌else◌, ap, sym, ◌∙◌, subst, refl, arith, inl, inr, get_or-set_other, get_or-set_same, ◌≢◌}
-use Rattle.std.specs.Prelude.{slice_set}
+use Rattle.std.proofs.Common.{◌≡◌, ℕ, zero, suc, ◌+◌, ◌-◌, ◌*◌, ◌/◌, ◌^◌, ◌<◌, ◌≤◌, Bool, ◌==◌, List, length, slice_index, if◌then◌else◌, ap, sym, ◌∙◌, subst, refl, arith, inl, inr, get_or-set_other, get_or-set_same, ◌≢◌}
+use Rattle.std.specs.Prelude.{max, slice_set, ◌⊎◌}
 use Rattle.std.proofs.Math.ListN.{length-set}
 use Rattle.std.proofs.lemmas.Nat.{pow_pos}
 use Rattle.std.proofs.lemmas.Bool.{cases_lt}
 use Rattle.std.proofs.lemmas.Bool.Decides.{eqb_tells}
 use Rattle.l6_places.specs.Board.{Board, Fits}
-use Rattle.l6_places.specs.inner.Tree.{Node, start_of, joined, value_of, AreRightBut, IsTold}
+use Rattle.l6_places.specs.inner.Tree.{Node, start_of, joined, value_of, AreRightBut, IsTold, buddy_of}
 use Rattle.l6_places.specs.inner.Descent.{IsUncovered}
-use Rattle.l6_places.specs.inner.Settling.{Settles}
+use Rattle.l6_places.specs.inner.Settling.{AreSmall, Merges, Settles, Spreads, Written}
 use Rattle.l6_places.proofs.Multiples.{double, size_le, multiple_down, multiple_next, apart}
-use Rattle.l6_places.proofs.Nodes.{node_from, node_below, below_top, node_within, parent_node, parent_start, start_aligned}
-use Rattle.l6_places.proofs.Values.{value_open}
+use Rattle.l6_places.proofs.Nodes.{node_from, node_below, below_top, node_within, lower_node, parent_node, parent_start, start_aligned, upper_node}
+use Rattle.l6_places.proofs.Values.{joined_full, joined_larger, joined_other, larger_most, value_open}
 
 -- a node has one level
 level_order : (top one other node : ℕ) → Node top one node → Node top other node → one < other → ⊥
@@ -152,3 +152,132 @@ written_root b tree level node value s one =
       fits = s.fits;
       each = λ l m is. r.each l m is (λ z. omega (arith, z, node_from b.top l m is, pow_pos (b.top - l)));
     }
+
+-- of two nodes below the same one, the one is the lower half and the other the upper one
+which : (node parent : ℕ) → parent ≡ node / 2
+    → ((node ≡ 2 * parent) × (buddy_of node ≡ 2 * parent + 1))
+    ⊎ ((node ≡ 2 * parent + 1) × (buddy_of node ≡ 2 * parent))
+which node parent at =
+    elim (cases_lt node (2 * parent + 1)) as (λ _. ((node ≡ 2 * parent) × (buddy_of node ≡ 2 * parent + 1))
+    ⊎ ((node ≡ 2 * parent + 1) × (buddy_of node ≡ 2 * parent))) [
+      | inl less ↦ inl (omega (arith, at, less), omega (arith, at, less))
+      | inr more ↦ inr (omega (arith, at, more), omega (arith, at, more))
+    ]
+
+pub buddy_node : (top level node : ℕ) → Node top level node → (node ≡ 1 → ⊥) → Node top level (buddy_of node)
+buddy_node top level node is not =
+    let above = parent_node top level node (node / 2) is (below_top top level node is not) refl in
+    elim (which node (node / 2) refl) as (λ _. Node top level (buddy_of node)) [
+      | inl low ↦
+          subst (λ (n : ℕ). Node top level n) (sym low.1) (upper_node top level (node / 2) above)
+      | inr high ↦
+          subst (λ (n : ℕ). Node top level n) (sym high.1) (lower_node top level (node / 2) above)
+    ]
+
+other_buddy : (node : ℕ) → buddy_of node ≡ node → ⊥
+other_buddy node same = omega (arith, same)
+
+wrote : (b : Board) (tree : List ℕ) (level node value : ℕ) → Settles b tree level node value
+    → slice_index (slice_set tree node value) node ≡ value
+wrote b tree level node value s =
+    let lt : node < length tree
+    = omega (arith, s.right.count, node_within b.top level node s.is_node) in
+    rw get_or-set_same refl
+
+-- a small value that is written leaves all small
+small_written : (b : Board) (tree : List ℕ) (level node value : ℕ) → Settles b tree level node value
+    → AreSmall b tree → value ≤ suc level → AreSmall b (slice_set tree node value)
+small_written b tree level node value s small low =
+    λ l m is.
+    elim (eqb_tells m node) as (λ _. slice_index (slice_set tree node value) m ≤ suc l) [
+      | inl t ↦
+          let here : Node b.top l node = subst (λ (n : ℕ). Node b.top l n) t.1 is in
+          omega (
+            arith,
+            ap (slice_index (slice_set tree node value)) t.1 ∙ wrote b tree level node value s,
+            same_level b.top l level node here s.is_node,
+            low,
+          )
+      | inr f ↦ omega (arith, at_other tree m node value f.1, small l m is)
+    ]
+
+-- the value of the node above, from those of a node and its buddy
+above_value : (b : Board) (tree : List ℕ) (level node value parent next : ℕ)
+    → Settles b tree level node value → parent ≡ node / 2
+    → next ≡ joined (suc level) value (slice_index tree (buddy_of node))
+    → next ≡ joined (suc level) (slice_index tree (buddy_of node)) value
+    → next ≡ joined (suc level) (slice_index (slice_set tree node value) (2 * parent))
+    (slice_index (slice_set tree node value) (2 * parent + 1))
+above_value b tree level node value parent next s at is also =
+    let new = slice_set tree node value in
+    let here = wrote b tree level node value s in
+    let beside = at_other tree (buddy_of node) node value (other_buddy node) in
+    elim (which node parent at) as (λ _. next ≡ joined (suc level) (slice_index new (2 * parent)) (slice_index new (2 * parent + 1))) [
+      | inl low ↦
+          is ∙ ap (λ (v : ℕ). joined (suc level) v (slice_index tree (buddy_of node)))
+          (sym here ∙ ap (slice_index new) low.0)
+          ∙ ap (λ (v : ℕ). joined (suc level) (slice_index new (2 * parent)) v)
+          (sym beside ∙ ap (slice_index new) low.1)
+      | inr high ↦
+          also ∙ ap (λ (v : ℕ). joined (suc level) (slice_index tree (buddy_of node)) v)
+          (sym here ∙ ap (slice_index new) high.0)
+          ∙ ap (λ (v : ℕ). joined (suc level) v (slice_index new (2 * parent + 1)))
+          (sym beside ∙ ap (slice_index new) high.1)
+    ]
+
+-- one step up, where the two halves are not both whole
+pub spread : (b : Board) (tree : List ℕ) (node value parent next : ℕ) → Spreads b tree node value
+    → (node ≡ 1 → ⊥) → parent ≡ node / 2
+    → next ≡ max value (slice_index (slice_set tree node value) (buddy_of node))
+    → Spreads b (slice_set tree node value) parent next
+spread b tree node value parent next up not at is =
+    let level = up.level in
+    let s = up.settles in
+    let beside = at_other tree (buddy_of node) node value (other_buddy node) in
+    let larger : next ≡ max value (slice_index tree (buddy_of node)) = is ∙ ap (max value) beside in
+    let part = λ (v : value ≡ suc level) (w : slice_index tree (buddy_of node) ≡ suc level). up.part not v w in
+    let most = larger_most value (slice_index tree (buddy_of node)) (suc level) up.low
+    (up.small level (buddy_of node) (buddy_node b.top level node s.is_node not)) in
+    record {
+      level = suc level;
+      settles = written b tree level node value parent next s not at
+          (above_value b tree level node value parent next s at
+          (larger ∙ sym (joined_larger (suc level) value (slice_index tree (buddy_of node)) part))
+          (larger ∙ sym (joined_other (suc level) (slice_index tree (buddy_of node)) value part)));
+      small = small_written b tree level node value s up.small up.low;
+      low = omega (arith, larger, most);
+      part = λ _ full _. omega (arith, larger, most, full);
+    }
+
+-- and where they are
+pub merged : (b : Board) (tree : List ℕ) (level node parent : ℕ) → Merges b tree level node
+    → (node ≡ 1 → ⊥) → parent ≡ node / 2 → slice_index tree (buddy_of node) ≡ suc level
+    → Merges b (slice_set tree node (suc level)) (suc level) parent
+merged b tree level node parent up not at whole =
+    let full = sym (joined_full (suc level) (suc level) (slice_index tree (buddy_of node)) refl whole) in
+    let also = sym (joined_full (suc level) (slice_index tree (buddy_of node)) (suc level) whole refl) in
+    record {
+      settles = written b tree level node (suc level) parent (suc (suc level)) up.settles not at
+          (above_value b tree level node (suc level) parent (suc (suc level)) up.settles at full also);
+      small = small_written b tree level node (suc level) up.settles up.small (omega arith);
+    }
+
+-- a small value that is not that of the whole
+pub spread_part : (b : Board) (tree : List ℕ) (level node value : ℕ) → Settles b tree level node value
+    → AreSmall b tree → value ≤ suc level → (value ≡ suc level → ⊥) → Spreads b tree node value
+spread_part b tree level node value settles small low part = record {
+  level = level;
+  settles = settles;
+  small = small;
+  low = low;
+  part = λ _ full _. part full;
+}
+
+-- one step up from a node that has its value
+pub spread_up : (b : Board) (tree : List ℕ) (node value parent next : ℕ) → Written b tree node value
+    → (node ≡ 1 → ⊥) → parent ≡ node / 2 → next ≡ max value (slice_index tree (buddy_of node))
+    → Spreads b tree parent next
+spread_up b tree node value parent next w not at is =
+    subst (λ (t : List ℕ). Spreads b t parent next) (sym w.same)
+    (spread b w.before node value parent next w.spreads not at
+    (is ∙ ap (λ (t : List ℕ). max value (slice_index t (buddy_of node))) w.same))

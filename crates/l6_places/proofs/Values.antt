@@ -1,5 +1,6 @@
 -- What the values of nodes say of the board.
 use Rattle.std.proofs.Common.{◌≡◌, ℕ, zero, suc, ◌+◌, ◌*◌, ◌^◌, ◌<◌, ◌≤◌, Bool, ◌==◌, List, slice_index, if◌then◌else◌, ap, sym, ◌∙◌, subst, arith, inl, inr}
+use Rattle.std.specs.Prelude.{max}
 use Rattle.std.proofs.lemmas.Nat.{pow_pos}
 use Rattle.std.proofs.lemmas.Bool.{cases_lt, eq-eqb, ne_eqb}
 use Rattle.std.proofs.lemmas.Bool.Decides.{nat_tests}
@@ -20,6 +21,19 @@ joined_upper level a b p q = grind (arith, nat_tests)
 
 pub joined_full : (level a b : ℕ) → a ≡ level → b ≡ level → joined level a b ≡ suc level
 joined_full level a b p q = grind (arith, nat_tests)
+
+-- the larger one, where not both are whole
+pub joined_larger : (level a b : ℕ) → (a ≡ level → b ≡ level → ⊥) → joined level a b ≡ max a b
+joined_larger level a b not = grind (arith, nat_tests)
+
+pub joined_other : (level a b : ℕ) → (b ≡ level → a ≡ level → ⊥) → joined level a b ≡ max b a
+joined_other level a b not = grind (arith, nat_tests)
+
+pub larger_most : (a b most : ℕ) → a ≤ most → b ≤ most → max a b ≤ most
+larger_most a b most p q = grind (arith, nat_tests)
+
+pub larger_right : (a b : ℕ) → b ≤ max a b
+larger_right a b = grind (arith, nat_tests)
 
 -- and as large as the whole only if both are
 pub joined_whole : (level a b : ℕ) → a ≤ level → b ≤ level → joined level a b ≡ suc level

@@ -1,7 +1,7 @@
 -- A board: the places that an allocator has, and the blocks that are at them. What the places hold plays no
 -- part.
 use Rattle.std.specs.Coded.{Coded, code_by, coded×, coded_ℕ, coded_list}
-use Rattle.std.specs.Prelude.{refl, zero, replicate, slice_set, ◌≡◌, ℕ, suc, ◌+◌, ◌-◌, ◌*◌, ◌/◌, ◌%◌, ◌^◌, ◌<◌, ◌≤◌, List, [], ◌∷◌, slice_index, Option, Some, None, IsSome}
+use Rattle.std.specs.Prelude.{refl, zero, max, replicate, slice_set, ◌≡◌, ℕ, suc, ◌+◌, ◌-◌, ◌*◌, ◌/◌, ◌%◌, ◌^◌, ◌<◌, ◌≤◌, List, [], ◌∷◌, slice_index, Option, Some, None, IsSome}
 use Rattle.l6_places.specs.declared.board.Piece.{Piece}
 
 -- the places from the first one up to the end are given out, and no block has more than 2^top of them
@@ -11,13 +11,15 @@ pub record Board : Type 0 where
   pub end : ℕ
   -- for each place 0 if no block begins there, and one more than its level if one does
   pub marks : List ℕ
+  -- the most places that its blocks had at once, since there were none
+  pub most : ℕ
 
 abbrev pub board_code : Coded Board
 board_code =
-    code_by (ℕ × (ℕ × (ℕ × List ℕ)))
-    (coded× coded_ℕ (coded× coded_ℕ (coded× coded_ℕ (coded_list coded_ℕ))))
-    (λ b. (b.top, (b.first, (b.end, b.marks))))
-    (λ p. record { top = p.0; first = p.1.0; end = p.1.1.0; marks = p.1.1.1 })
+    code_by (ℕ × (ℕ × (ℕ × (List ℕ × ℕ))))
+    (coded× coded_ℕ (coded× coded_ℕ (coded× coded_ℕ (coded× (coded_list coded_ℕ) coded_ℕ))))
+    (λ b. (b.top, (b.first, (b.end, (b.marks, b.most)))))
+    (λ p. record { top = p.0; first = p.1.0; end = p.1.1.0; marks = p.1.1.1.0; most = p.1.1.1.1 })
     (λ _. refl)
 
 -- a block of a level begins at a place
@@ -53,16 +55,30 @@ IsLowest b size (Some place) =
     IsOpen b size place × ((lower : ℕ) → lower < place → IsOpen b size lower → ⊥)
 IsLowest b size None = (place : ℕ) → IsOpen b size place → ⊥
 
+-- how many places the block has that a mark tells of, and how many all blocks have together
+abbrev pub places_of : ℕ → ℕ
+places_of zero = 0
+places_of (suc level) = 2 ^ level
+
+abbrev pub places_in : List ℕ → ℕ
+places_in [] = 0
+places_in (mark ∷ marks) = places_of mark + places_in marks
+
+-- the board with other blocks: there may be more places in blocks than ever before
+abbrev pub with_marks : Board → List ℕ → Board
+with_marks b marks = record b { marks = marks; most = max b.most (places_in marks) }
+
 -- the board with a block of a level at a place, and without the block at a place
 abbrev pub taken : Board → ℕ → ℕ → Board
-taken b level place = record b { marks = slice_set b.marks place (suc level) }
+taken b level place = with_marks b (slice_set b.marks place (suc level))
 
 abbrev pub released : Board → ℕ → Board
 released b place = record b { marks = slice_set b.marks place 0 }
 
 -- a board without blocks
 abbrev pub fresh : ℕ → ℕ → ℕ → Board
-fresh top first end = record { top = top; first = first; end = end; marks = replicate (2 ^ top) 0 }
+fresh top first end =
+    record { top = top; first = first; end = end; marks = replicate (2 ^ top) 0; most = 0 }
 
 -- the same board without its blocks
 abbrev pub emptied : Board → Board
@@ -108,15 +124,6 @@ IsOpenLevel b limit place (Some level) =
     → IsOpen b (2 ^ upper) (piece_start upper place) → ⊥)
 IsOpenLevel b limit place None =
     (level : ℕ) → level ≤ limit → IsOpen b (2 ^ level) (piece_start level place) → ⊥
-
--- how many places the block has that a mark tells of, and how many all blocks have together
-abbrev pub places_of : ℕ → ℕ
-places_of zero = 0
-places_of (suc level) = 2 ^ level
-
-abbrev pub places_in : List ℕ → ℕ
-places_in [] = 0
-places_in (mark ∷ marks) = places_of mark + places_in marks
 
 -- how many of the places that are given out lie in no block
 abbrev pub free_places : Board → ℕ

@@ -1,8 +1,8 @@
 //! Boards: the places that an allocator has, without their words.
 
-ghost use Rattle.std.specs.Prelude.{◌≡◌, ◌↔◌, ◌⊎◌, true, false, ◌<◌, ◌≤◌, ◌^◌, IfOk, IfNone, IfSome, IsErrOf, IsSome};
+ghost use Rattle.std.specs.Prelude.{◌≡◌, ◌↔◌, ◌⊎◌, true, false, ◌+◌, ◌*◌, ◌/◌, ◌<◌, ◌≤◌, ◌^◌, IfOk, IfNone, IfSome, IsErrOf, IsSome};
 ghost use Rattle.l6_places.specs.Numerals.{largest_top};
-ghost use Rattle.l6_places.specs.Board.{IsLargest, IsLowest, IsNextBlock, IsOpen, IsOpenLevel, after_get, emptied, free_places, fresh, level_at, released, taken};
+ghost use Rattle.l6_places.specs.Board.{IsLargest, IsLowest, IsNextBlock, IsOpen, IsOpenLevel, after_get, emptied, free_places, fresh, level_at, places_in, released, taken};
 ghost use Rattle.l6_places.specs.Hindrance.{Hinders};
 
 use crate::tree::Tree;
@@ -85,7 +85,7 @@ impl Model for Board {
 
     ghost coded = { board_code };
 
-    ghost use Rattle.std.specs.Prelude.{◌≡◌, ◌≤◌};
+    ghost use Rattle.std.specs.Prelude.{◌≡◌, ◌*◌, ◌≤◌, ◌^◌};
     ghost use Rattle.l6_places.specs.Numerals.{largest_top};
     ghost use Rattle.l6_places.specs.Board.{places_in};
     ghost use Rattle.l6_places.specs.inner.Tree.{IsTold};
@@ -94,7 +94,8 @@ impl Model for Board {
     ghost view = { λ b. board_of b.tree };
 
     ghost invariant = { λ b. IsTold (board_of b.tree) b.tree.nodes.items × (b.tree.top ≤ largest_top)
-        × (b.used ≡ places_in b.tree.marks.items) };
+        × (b.used ≡ places_in b.tree.marks.items) × (b.used ≤ b.tree.most)
+        × (b.tree.most ≤ 2 ^ largest_top * 2 ^ largest_top) };
 }
 
 impl Board {
@@ -191,8 +192,8 @@ impl Board {
         ensures lowest { IsLowest self.old (2 ^ level) result }
         ensures after { self.new ≡ after_get self.old level result }
     {
-        let place = self.tree.find(level)?;
-        self.take(level, place);
+        let (node, place) = self.tree.lowest(level)?;
+        self.take(level, node, place);
         Some(place)
     }
 
@@ -206,18 +207,21 @@ impl Board {
         if !self.tree.is_open(level, place) {
             return false;
         }
-        self.take(level, place);
+        let node = self.tree.node_at(level, place);
+        self.take(level, node, place);
         true
     }
 
-    /// Puts a block of a level at an open place.
-    fn take(&mut self, level: Level, place: Place)
+    /// Puts a block of a level at an open place, for which a node of the tree stands.
+    fn take(&mut self, level: Level, node: usize, place: Place)
         requires level { level ≤ self.old.top }
         requires is_open { IsOpen self.old (2 ^ level) place }
+        requires node { node ≡ (2 ^ self.old.top + place) / 2 ^ level }
         ensures { self.new ≡ taken self.old level place }
     {
-        self.tree.take(level, place);
-        self.used += size_of(level);
+        let used = self.used + size_of(level);
+        self.tree.take(level, node, place, used);
+        self.used = used;
     }
 
     /// The level of the block that begins at a place, if one does.
@@ -263,6 +267,15 @@ impl Board {
         ensures { IsOpenLevel self.now limit place result }
     {
         self.tree.open_level(limit, place)
+    }
+
+    /// The most places that the blocks had at once, since the board was made or reset.
+    pub fn most_used(&self) -> u64
+        ensures value { result ≡ self.now.most }
+        ensures now { places_in self.now.marks ≤ result }
+        ensures few { result ≤ 2 ^ largest_top * 2 ^ largest_top }
+    {
+        self.tree.most()
     }
 
     /// How many of the places that are given out lie in no block.

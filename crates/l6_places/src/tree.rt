@@ -1,12 +1,13 @@
 //! The tree above a board: for each node the largest level that is open below it. Node 1 stands for all places,
 //! and below node n are 2n and 2n + 1. What lies below a block keeps its values, so a get and a free change one path.
 
-ghost use Rattle.std.specs.Prelude.{◌≡◌, ◌↔◌, ◌⊎◌, ◌%◌, true, ◌+◌, ◌/◌, ◌<◌, ◌≤◌, ◌^◌, IfOk, IsSome, length, slice_index};
+ghost use Rattle.std.specs.Prelude.{◌≡◌, ◌↔◌, ◌⊎◌, ◌%◌, true, ◌+◌, ◌*◌, ◌/◌, ◌<◌, ◌≤◌, ◌^◌, IfOk, IfSome, IsSome, length, max, slice_index};
+ghost use Rattle.std.specs.Option.{option_map};
 ghost use Rattle.l6_places.specs.Numerals.{largest_top};
 ghost use Rattle.l6_places.specs.Board as spec;
-ghost use Rattle.l6_places.specs.Board.{Begins, IsLargest, IsLowest, IsOpen, IsOpenLevel, emptied, fresh, level_at, released, taken};
-ghost use Rattle.l6_places.specs.inner.Settling.{Settles};
-ghost use Rattle.l6_places.specs.inner.Tree.{IsTold};
+ghost use Rattle.l6_places.specs.Board.{Begins, IsLargest, IsLowest, IsOpen, IsOpenLevel, emptied, fresh, level_at, places_in, released, taken};
+ghost use Rattle.l6_places.specs.inner.Settling.{Merges, Settles, Spreads};
+ghost use Rattle.l6_places.specs.inner.Tree.{IsTold, buddy_of};
 ghost use Rattle.l6_places.specs.inner.View.{board_of};
 ghost use Rattle.l6_places.specs.inner.Ways.{IsCover, IsFirstBlock, IsInTheWay};
 
@@ -20,8 +21,17 @@ pub(crate) struct Tree {
     top: u8,
     first: u32,
     end: u32,
+    // the most places that its blocks ever had at once
+    most: u64,
     nodes: Vec<u8>,
     marks: Vec<u8>,
+}
+
+/// The other node below the same one.
+fn buddy(node: usize) -> usize
+    ensures { result ≡ buddy_of node }
+{
+    node ^ 1
 }
 
 /// Where the aligned piece of a level that has a place begins.
@@ -50,6 +60,7 @@ impl Tree {
             top,
             first,
             end,
+            most: 0,
             nodes,
             marks,
         })
@@ -65,6 +76,7 @@ impl Tree {
         fill(&mut self.nodes, 1 << self.top, self.first, self.end);
         build(&mut self.nodes, self.top);
         self.marks.fill(0);
+        self.most = 0;
     }
 
     /// The same tree once more.
@@ -76,6 +88,7 @@ impl Tree {
             top: self.top,
             first: self.first,
             end: self.end,
+            most: self.most,
             nodes: self.nodes.clone()?,
             marks: self.marks.clone()?,
         })
@@ -93,6 +106,13 @@ impl Tree {
         ensures { result ≡ (self.now.first, self.now.end) }
     {
         (self.first, self.end)
+    }
+
+    /// The most places that its blocks ever had at once.
+    pub(crate) fn most(&self) -> u64
+        ensures { result ≡ self.now.most }
+    {
+        self.most
     }
 
     /// Whether the places of a block of a level are open, from one on.
@@ -136,6 +156,21 @@ impl Tree {
         ensures lowest { IsLowest (board_of self.now) (2 ^ level) result }
         ensures some { level < slice_index self.now.nodes.items 1 → IsSome result }
     {
+        match self.lowest(level) {
+            Some((_, place)) => Some(place),
+            None => None,
+        }
+    }
+
+    /// The node of the lowest open place of a level, and the place, if one is open.
+    pub(crate) fn lowest(&self, level: u8) -> Option<(usize, u32)>
+        requires told { IsTold (board_of self.now) self.now.nodes.items }
+        requires top { self.now.top ≤ largest_top }
+        requires level { level ≤ self.now.top }
+        ensures lowest { IsLowest (board_of self.now) (2 ^ level) (option_map (λ found. found.1) result) }
+        ensures node { IfSome result (λ found. found.0 ≡ (2 ^ self.now.top + found.1) / 2 ^ level) }
+        ensures some { level < slice_index self.now.nodes.items 1 → IsSome result }
+    {
         if self.value(1) <= level {
             return None;
         }
@@ -148,7 +183,7 @@ impl Tree {
                 node += 1;
             }
         }
-        Some(((node << level) - (1 << self.top)) as u32)
+        Some((node, ((node << level) - self.leaves()) as u32))
     }
 
     /// The largest open piece, at the lowest place that one of its level has.
@@ -181,46 +216,82 @@ impl Tree {
         None
     }
 
+    /// How many leaves there are.
+    fn leaves(&self) -> usize
+        ensures { result ≡ length self.now.marks.items }
+    {
+        self.marks.len()
+    }
+
     /// The node of a level that stands for the places from one on.
-    fn node_at(&self, level: u8, place: u32) -> usize
+    pub(crate) fn node_at(&self, level: u8, place: u32) -> usize
         requires top { self.now.top ≤ largest_top }
         requires level { level ≤ self.now.top }
         requires small { place < 2 ^ self.now.top }
+        requires marked { length self.now.marks.items ≡ 2 ^ self.now.top }
         ensures { result ≡ (2 ^ self.now.top + place) / 2 ^ level }
     {
-        ((1 << self.top) + place as usize) >> level
+        (self.leaves() + place as usize) >> level
     }
 
-    /// Gives a node its value, and the nodes above it theirs.
-    fn settle(&mut self, mut level: u8, mut node: usize, mut value: u8)
+    /// Gives a node its value, and the nodes above it theirs, up to the first one that has it. The node and the one beside
+    /// it are not both open as a whole, so the value of the node above is the larger one of theirs.
+    fn settle(&mut self, mut node: usize, mut value: u8)
         requires top { self.old.top ≤ largest_top }
-        requires settles { Settles (board_of self.old) self.old.nodes.items level node value }
+        requires spreads { Spreads (board_of self.old) self.old.nodes.items node value }
         ensures told { IsTold (board_of self.new) self.new.nodes.items }
         ensures same { board_of self.new ≡ board_of self.old }
     {
-        while self.value(node) != value {
-            self.nodes[node] = value;
-            if node == 1 {
+        self.nodes[node] = value;
+        while node != 1 {
+            value = value.max(self.value(buddy(node)));
+            node /= 2;
+            if self.value(node) == value {
                 return;
             }
-            node /= 2;
-            level += 1;
-            value = join(level, self.value(2 * node), self.value(2 * node + 1));
+            self.nodes[node] = value;
         }
     }
 
-    /// Puts a block of a level at an open place.
-    pub(crate) fn take(&mut self, level: u8, place: u32)
+    /// Gives a node that is open as a whole its value, and the nodes above it theirs: where the node beside one is open as
+    /// a whole, too, so is the one above.
+    fn merge(&mut self, mut level: u8, mut node: usize)
+        requires top { self.old.top ≤ largest_top }
+        requires merges { Merges (board_of self.old) self.old.nodes.items level node }
+        ensures told { IsTold (board_of self.new) self.new.nodes.items }
+        ensures same { board_of self.new ≡ board_of self.old }
+    {
+        while node != 1 && self.value(buddy(node)) == level + 1 {
+            self.nodes[node] = level + 1;
+            node /= 2;
+            level += 1;
+        }
+        self.settle(node, level + 1);
+    }
+
+    /// Notes that so many places are in blocks.
+    fn remember(&mut self, used: u64)
+        ensures { self.new ≡ record self.old { most = max self.old.most used } }
+    {
+        if self.most < used {
+            self.most = used;
+        }
+    }
+
+    /// Puts a block of a level at an open place, for which a node stands. So many places are in blocks then.
+    pub(crate) fn take(&mut self, level: u8, node: usize, place: u32, used: u64)
         requires told { IsTold (board_of self.old) self.old.nodes.items }
         requires top { self.old.top ≤ largest_top }
         requires level { level ≤ self.old.top }
         requires is_open { IsOpen (board_of self.old) (2 ^ level) place }
+        requires node { node ≡ (2 ^ self.old.top + place) / 2 ^ level }
+        requires used { used ≡ places_in (taken (board_of self.old) level place).marks }
         ensures told { IsTold (board_of self.new) self.new.nodes.items }
         ensures taken { board_of self.new ≡ taken (board_of self.old) level place }
     {
-        let node = self.node_at(level, place);
+        self.remember(used);
         self.marks[place as usize] = level + 1;
-        self.settle(level, node, 0);
+        self.settle(node, 0);
     }
 
     /// Takes out the block of a level at a place.
@@ -233,21 +304,26 @@ impl Tree {
     {
         let node = self.node_at(level, place);
         self.marks[place as usize] = 0;
-        let value = if level == 0 {
-            1
-        } else {
-            join(level, self.value(2 * node), self.value(2 * node + 1))
-        };
-        self.settle(level, node, value);
+        self.merge(level, node);
+    }
+
+    /// One more than the level of the block that begins at a place, or 0.
+    pub(crate) fn mark(&self, place: u32) -> u8
+        ensures { result ≡ slice_index self.now.marks.items place }
+    {
+        match self.marks.get(place as usize) {
+            Some(mark) => *mark,
+            None => 0,
+        }
     }
 
     /// The level of the block that begins at a place, if one does.
     pub(crate) fn level_at(&self, place: u32) -> Option<u8>
         ensures { result ≡ level_at (board_of self.now) place }
     {
-        match self.marks.get(place as usize) {
-            Some(mark) if *mark != 0 => Some(*mark - 1),
-            _ => None,
+        match self.mark(place) {
+            0 => None,
+            mark => Some(mark - 1),
         }
     }
 

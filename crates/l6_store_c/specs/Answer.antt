@@ -42,3 +42,7 @@ place_or_0 None = 0
 abbrev pub Holds : Option BuddyStore → Store → Type 0
 Holds (Some held) store = held.store ≡ store
 Holds None store = ⊥
+
+-- the version of the calls, as a number: 1.1.0
+abbrev pub version : ℕ
+version = 10100

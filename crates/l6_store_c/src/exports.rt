@@ -7,11 +7,13 @@ ghost use Rattle.l6_store.specs.Blocks.{block_at};
 ghost use Rattle.l6_store.specs.Buddy.{IsLargestFree, buddy_rule, first_of, free_words, listed, next_in};
 ghost use Rattle.l6_store.specs.Numerals.{most_units};
 ghost use Rattle.l6_store.specs.Store.{after_free, after_get, fresh, picked, with_block};
-ghost use Rattle.l6_store_c.specs.Answer.{answered, code_of, number_of, place_or_0, Holds, IsFault};
+ghost use Rattle.l6_store_c.specs.Answer.{answered, code_of, number_of, place_or_0, version, Holds, IsFault};
 ghost use Rattle.l6_store_c.specs.Outcome.{IsLeastLevel, at_level, copy_outcome, free_outcome, live_outcome, read_outcome, write_outcome};
 
 use crate::calls;
 use crate::fault::CallFault;
+use crate::handle::Handle;
+use crate::loose::Loose;
 use crate::store::L6Store;
 use l6_store::{Buddy, StoreFault, level_for};
 use std::alloc::Global;
@@ -27,14 +29,17 @@ fn code(outcome: Result<u64, CallFault>) -> i64
     }
 }
 
-/// The number of what a call answers of the store that is held, or that of `Closed`.
+/// The number of what a call answers of the store that is held, or that of `Closed`. The handle alone is taken out and put
+/// back: the struct is open all the time.
 macro_rules! on_open {
     ($store:ident, $alloc:ident, $call:ident($($number:expr),*)) => {{
-        let Some(mut held) = $store.take($alloc) else {
+        if !$store.is_open() {
             return CallFault::Closed.code();
-        };
+        }
+        let handle = std::mem::replace(&mut $store.handle, Handle::none());
+        let mut held = handle.into_loose($alloc).into_box();
         let outcome = calls::$call(&mut held $(, $number)*);
-        $store.put(held);
+        $store.handle = Handle::of(Loose::of(held));
         code(outcome)
     }};
 }
@@ -255,6 +260,14 @@ pub extern "C" fn l6_store_pieces(alloc: Global, store: &mut L6Store, level: u32
     ensures still { store.new.handle.held ≡ store.old.handle.held }
 {
     on_open!(store, alloc, pieces(level))
+}
+
+/// The version of the calls: 10,000 times the first number, 100 times the second, and the third.
+#[unsafe(no_mangle)]
+pub extern "C" fn l6_store_version() -> i64
+    ensures { result ≡ pos version }
+{
+    10_100
 }
 
 /// The least level whose blocks have at least so many words.

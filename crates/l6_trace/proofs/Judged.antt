@@ -1,5 +1,5 @@
 -- Lines that are judged, and one line more.
-use Rattle.std.proofs.Common.{◌≡◌, ℕ, ◌+◌, ◌<◌, List, [], ◌∷◌, ◌++◌, length, get_or, drop, Option, Some, None, refl, ap, sym, ◌∙◌, subst, drop-cons, add-one, arith}
+use Rattle.std.proofs.Common.{◌≡◌, ℕ, ◌+◌, ◌<◌, List, [], ◌∷◌, ◌++◌, length, get_or, drop, Option, refl, ap, ◌∙◌, subst, drop-cons, add-one}
 use Rattle.l6_trace.specs.Judging.{Judging, IsAnswered, IsJudged, findings_in, findings_of}
 use Rattle.l6_trace.specs.declared.finding.Finding.{Finding}
 use Rattle.l6_trace.specs.declared.call.Line.{Line}

@@ -1,10 +1,6 @@
 -- A store's open places are those of its board.
-use Rattle.std.proofs.Common.{◌≡◌, ℕ, ◌+◌, ◌^◌, ◌<◌, ◌≤◌, List, length, arith}
-use Rattle.std.specs.Prelude.{◌↔◌}
-use Rattle.l6_store.specs.Blocks.{Blocks}
-use Rattle.l6_store.specs.Open as store
-use Rattle.l6_places.specs.Board as board
-use Rattle.l6_trace.specs.Boards.{AreMarks, SameOpen, store_board}
+use Rattle.std.proofs.Common.{arith}
+use Rattle.l6_trace.specs.Boards.{SameOpen}
 
 pub same_open : SameOpen
 same_open units blocks marks size place m = (

@@ -1,5 +1,5 @@
 -- Any allocator's answers, judged by where blocks may be alone: its rule of choice plays no part.
-use Rattle.std.specs.Prelude.{◌≡◌, ℕ, ◌+◌, ◌-◌, ◌*◌, ◌^◌, ◌<◌, ◌≤◌, ◌==◌, if◌then◌else◌, List, [], ◌∷◌, length, replicate, slice_get, slice_set, Option, Some, None, refl}
+use Rattle.std.specs.Prelude.{◌≡◌, ℕ, ◌+◌, ◌-◌, ◌*◌, ◌^◌, ◌<◌, ◌≤◌, ◌==◌, if◌then◌else◌, List, [], ◌∷◌, replicate, slice_get, slice_set, Option, Some, None, refl}
 use Rattle.std.specs.Coded.{Coded, code_by, coded×, coded_ℕ, coded_list, coded_option}
 use Rattle.std.specs.Option.{option_map}
 use Rattle.l6_places.specs.Board.{Board, board_code, IsLowest, IsOpen, IsOpenLevel, fresh, level_at, released, taken}
@@ -194,10 +194,11 @@ abbrev pub findings_in : List (Option Finding) → ℕ
 findings_in [] = 0
 findings_in (found ∷ founds) = findings_in founds + findings_of found
 
--- what is found of the lines of a trace and of its end, by a pool that is empty at first: so many findings
-abbrev pub IsJudgement : Pool → List Line → Option End → ℕ → Type 0
-IsJudgement pool lines end count =
-    (names : ℕ) × (first : Judging) × (last : Judging) × (founds : List (Option Finding))
+-- what is found of the lines of a trace of so many names and of its end, by a pool that is empty at first: so many
+-- findings
+abbrev pub IsJudgement : Pool → ℕ → List Line → Option End → ℕ → Type 0
+IsJudgement pool names lines end count =
+    (first : Judging) × (last : Judging) × (founds : List (Option Finding))
     × IsEmpty pool.largest pool.units pool.first names first
     × IsJudged first lines founds last
     × (count ≡ findings_in founds + ending_findings (ending_of lines end))

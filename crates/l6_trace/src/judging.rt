@@ -1,6 +1,7 @@
 //! The answers of a trace, judged one after another.
 
 ghost use Rattle.std.specs.Prelude.{◌≡◌, ◌≤◌, IfErr, IfOk, length};
+ghost use Rattle.indexmap.specs.IndexSet.{index_set_len};
 ghost use Rattle.l6_trace.specs.Limits.{IsPastLimit};
 ghost use Rattle.l6_trace.specs.Judging as spec;
 ghost use Rattle.l6_trace.specs.Judging.{IsJudged, IsJudgement};
@@ -38,7 +39,7 @@ pub fn judge_trace(
     names: &IndexSet<&[u8]>,
     end: Option<End>,
 ) -> Result<Judgement, TraceFault>
-    ensures judged { IfOk result (λ judgement. IsJudgement pool lines.now end judgement.findings) }
+    ensures judged { IfOk result (λ judgement. IsJudgement pool (index_set_len names.now) lines.now end judgement.findings) }
     ensures limits { IfErr result IsPastLimit }
 {
     let mut judge = Judge::new(alloc, pool, names.len())?;

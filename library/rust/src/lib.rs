@@ -2,6 +2,7 @@
 //! each call does; every method here is one of them.
 #![deny(unsafe_op_in_unsafe_fn)]
 
+use std::cell::UnsafeCell;
 use std::ffi::c_void;
 use std::fmt;
 
@@ -13,23 +14,24 @@ struct Raw {
 }
 
 extern "C" {
+    fn l6_store_version() -> i64;
     fn l6_store_open(store: *mut Raw, units: u32) -> i64;
     fn l6_store_close(store: *mut Raw) -> i64;
     fn l6_store_get(store: *mut Raw, level: u32) -> i64;
-    fn l6_store_peek(store: *mut Raw, level: u32) -> i64;
+    fn l6_store_peek(store: *const Raw, level: u32) -> i64;
     fn l6_store_free(store: *mut Raw, place: u32) -> i64;
-    fn l6_store_live(store: *mut Raw, place: u32) -> i64;
+    fn l6_store_live(store: *const Raw, place: u32) -> i64;
     fn l6_store_reset(store: *mut Raw) -> i64;
-    fn l6_store_read(store: *mut Raw, place: u32, index: u32) -> i64;
+    fn l6_store_read(store: *const Raw, place: u32, index: u32) -> i64;
     fn l6_store_write(store: *mut Raw, place: u32, index: u32, word: u64) -> i64;
     fn l6_store_copy(store: *mut Raw, from: u32, to: u32) -> i64;
-    fn l6_store_moves(store: *mut Raw) -> i64;
-    fn l6_store_units(store: *mut Raw) -> i64;
-    fn l6_store_free_words(store: *mut Raw) -> i64;
-    fn l6_store_largest(store: *mut Raw) -> i64;
-    fn l6_store_pieces(store: *mut Raw, level: u32) -> i64;
-    fn l6_store_first(store: *mut Raw, level: u32) -> i64;
-    fn l6_store_next(store: *mut Raw, level: u32, place: u32) -> i64;
+    fn l6_store_moves(store: *const Raw) -> i64;
+    fn l6_store_units(store: *const Raw) -> i64;
+    fn l6_store_free_words(store: *const Raw) -> i64;
+    fn l6_store_largest(store: *const Raw) -> i64;
+    fn l6_store_pieces(store: *const Raw, level: u32) -> i64;
+    fn l6_store_first(store: *const Raw, level: u32) -> i64;
+    fn l6_store_next(store: *const Raw, level: u32, place: u32) -> i64;
     fn l6_store_level_for(words: u32) -> i64;
 
     fn malloc(size: usize) -> *mut u8;
@@ -126,94 +128,95 @@ fn level(code: i64) -> Result<u32, Fault> {
 }
 
 /// A store. It is open as long as it lives, and may be sent to another thread.
-pub struct Store(Raw);
+pub struct Store(UnsafeCell<Raw>);
 
 // SAFETY: a store has no part in any thread: its memory is its own, and two stores share the heap alone, which is that of
 // malloc.
 unsafe impl Send for Store {}
 
 // SAFETY, of all calls below: the struct began closed, no bytes of it are changed or copied but by calls (a move
-// is fine, since nothing points to it), and `&mut self` lets one call at a time have it.
+// is fine, since nothing points to it), and one call at a time has it: an `UnsafeCell` is not `Sync`, so no two
+// threads have a `&` to it, and no call calls back.
 impl Store {
     /// A store of 1 to 255 units of 1,024 words, without blocks.
     pub fn new(units: u32) -> Result<Self, Fault> {
         let mut raw = Raw { is_open: 0, held: std::ptr::null_mut() };
         answer(unsafe { l6_store_open(&mut raw, units) })?;
-        Ok(Store(raw))
+        Ok(Store(UnsafeCell::new(raw)))
     }
 
     /// Gets a block of zeros of a level: its place, or `None` if no place is open.
     pub fn get(&mut self, level: u32) -> Result<Option<u32>, Fault> {
-        place(unsafe { l6_store_get(&mut self.0, level) })
+        place(unsafe { l6_store_get(self.0.get(), level) })
     }
 
     /// The place that a get would give.
-    pub fn peek(&mut self, level: u32) -> Result<Option<u32>, Fault> {
-        place(unsafe { l6_store_peek(&mut self.0, level) })
+    pub fn peek(&self, level: u32) -> Result<Option<u32>, Fault> {
+        place(unsafe { l6_store_peek(self.0.get(), level) })
     }
 
     /// Frees the block that begins at a place.
     pub fn free(&mut self, place: u32) -> Result<(), Fault> {
-        answer(unsafe { l6_store_free(&mut self.0, place) }).map(drop)
+        answer(unsafe { l6_store_free(self.0.get(), place) }).map(drop)
     }
 
     /// The level of the block that begins at a place.
-    pub fn live(&mut self, place: u32) -> Result<u32, Fault> {
-        level(unsafe { l6_store_live(&mut self.0, place) })
+    pub fn live(&self, place: u32) -> Result<u32, Fault> {
+        level(unsafe { l6_store_live(self.0.get(), place) })
     }
 
     /// Frees all blocks.
     pub fn reset(&mut self) {
-        let _ = answer(unsafe { l6_store_reset(&mut self.0) });
+        let _ = answer(unsafe { l6_store_reset(self.0.get()) });
     }
 
     /// The word of an index in the block that begins at a place.
-    pub fn read(&mut self, place: u32, index: u32) -> Result<u64, Fault> {
-        answer(unsafe { l6_store_read(&mut self.0, place, index) })
+    pub fn read(&self, place: u32, index: u32) -> Result<u64, Fault> {
+        answer(unsafe { l6_store_read(self.0.get(), place, index) })
     }
 
     /// Writes such a word.
     pub fn write(&mut self, place: u32, index: u32, word: u64) -> Result<(), Fault> {
-        answer(unsafe { l6_store_write(&mut self.0, place, index, word) }).map(drop)
+        answer(unsafe { l6_store_write(self.0.get(), place, index, word) }).map(drop)
     }
 
     /// Copies the words of a block into another of its size.
     pub fn copy(&mut self, from: u32, to: u32) -> Result<(), Fault> {
-        answer(unsafe { l6_store_copy(&mut self.0, from, to) }).map(drop)
+        answer(unsafe { l6_store_copy(self.0.get(), from, to) }).map(drop)
     }
 
     /// How often the last get halved a piece, or the last free joined two.
-    pub fn moves(&mut self) -> u64 {
-        answer(unsafe { l6_store_moves(&mut self.0) }).unwrap_or(0)
+    pub fn moves(&self) -> u64 {
+        answer(unsafe { l6_store_moves(self.0.get()) }).unwrap_or(0)
     }
 
     /// How many units there are.
-    pub fn units(&mut self) -> u64 {
-        answer(unsafe { l6_store_units(&mut self.0) }).unwrap_or(0)
+    pub fn units(&self) -> u64 {
+        answer(unsafe { l6_store_units(self.0.get()) }).unwrap_or(0)
     }
 
     /// How many words lie in no block.
-    pub fn free_words(&mut self) -> u64 {
-        answer(unsafe { l6_store_free_words(&mut self.0) }).unwrap_or(0)
+    pub fn free_words(&self) -> u64 {
+        answer(unsafe { l6_store_free_words(self.0.get()) }).unwrap_or(0)
     }
 
     /// The largest level with a free piece.
-    pub fn largest(&mut self) -> Option<u32> {
-        level(unsafe { l6_store_largest(&mut self.0) }).ok()
+    pub fn largest(&self) -> Option<u32> {
+        level(unsafe { l6_store_largest(self.0.get()) }).ok()
     }
 
     /// How many free pieces a level has.
-    pub fn pieces(&mut self, level: u32) -> Result<u64, Fault> {
-        answer(unsafe { l6_store_pieces(&mut self.0, level) })
+    pub fn pieces(&self, level: u32) -> Result<u64, Fault> {
+        answer(unsafe { l6_store_pieces(self.0.get(), level) })
     }
 
     /// The free pieces of a level, in the order in which gets take them.
-    pub fn list(&mut self, level: u32) -> Result<Vec<u32>, Fault> {
+    pub fn list(&self, level: u32) -> Result<Vec<u32>, Fault> {
         let mut places = Vec::new();
-        let mut next = place(unsafe { l6_store_first(&mut self.0, level) })?;
+        let mut next = place(unsafe { l6_store_first(self.0.get(), level) })?;
         while let Some(piece) = next {
             places.push(piece);
-            next = place(unsafe { l6_store_next(&mut self.0, level, piece) })?;
+            next = place(unsafe { l6_store_next(self.0.get(), level, piece) })?;
         }
         Ok(places)
     }
@@ -221,8 +224,14 @@ impl Store {
 
 impl Drop for Store {
     fn drop(&mut self) {
-        unsafe { l6_store_close(&mut self.0) };
+        unsafe { l6_store_close(self.0.get()) };
     }
+}
+
+/// The version of the archive: 10,000 times the first number, 100 times the second, and the third.
+pub fn version() -> u32 {
+    // SAFETY: it may be called at any time.
+    level(unsafe { l6_store_version() }).unwrap_or(0)
 }
 
 /// The least level whose blocks have at least so many words.

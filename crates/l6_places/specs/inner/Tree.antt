@@ -1,7 +1,7 @@
 -- The tree above a board. A node of a level stands for 2^level places; node 1 stands for all, and below
 -- node n are 2n and 2n+1. Its value is 0 if no place below it is open, and otherwise one more than the
 -- largest level of an open block below it. At a block it is 0.
-use Rattle.std.specs.Prelude.{◌≡◌, ℕ, zero, suc, nat_le, nat_lt, ◌+◌, ◌-◌, ◌*◌, ◌^◌, ◌<◌, ◌≤◌, max, ◌&&◌, ◌==◌, List, length, slice_index, if◌then◌else◌}
+use Rattle.std.specs.Prelude.{◌≡◌, ℕ, zero, suc, nat_le, nat_lt, ◌+◌, ◌-◌, ◌*◌, ◌%◌, ◌^◌, ◌<◌, ◌≤◌, max, ◌&&◌, ◌==◌, List, length, slice_index, if◌then◌else◌}
 use Rattle.l6_places.specs.Board.{Board, Fits}
 
 -- a node of a level
@@ -9,6 +9,10 @@ pub record Node (top level node : ℕ) : Type 0 where
   pub small : level ≤ top
   pub from : 2 ^ top ≤ node * 2 ^ level
   pub under : node * 2 ^ level < 2 ^ top + 2 ^ top
+
+-- the other node below the same one
+abbrev pub buddy_of : ℕ → ℕ
+buddy_of node = node + 1 - 2 * (node % 2)
 
 -- the first place that it stands for
 abbrev pub start_of : ℕ → ℕ → ℕ → ℕ

@@ -1,5 +1,5 @@
-use Rattle.std.proofs.Common.{List, [], ◌∷◌, ◌++◌, get_or, take, Option, None, sym, ap, ◌∙◌, subst, arith}
-use Rattle.std.proofs.lemmas.List.{take_more, take_all}
+use Rattle.std.proofs.Common.{List, [], ◌∷◌, ◌++◌, get_or, take, Option, None, sym, subst}
+use Rattle.std.proofs.lemmas.List.{take_more}
 use Rattle.l6_trace.specs.Judging.{IsJudged}
 use Rattle.l6_trace.specs.declared.call.Call.TheVariants.{Get}
 use Rattle.l6_trace.specs.declared.call.Line.{Line}

@@ -8,4 +8,6 @@ invariant_of-result c = (
   c.in_ok-new.ensures.told,
   omega (arith, ap (λ (b : Board). b.top) c.in_ok-new.ensures.fresh, c.if-top-gt-MAX_TOP.false),
   sym (ap (λ (b : Board). places_in b.marks) c.in_ok-new.ensures.fresh ∙ no_places (2 ^ c.args.top)),
+  omega (arith, ap (λ (b : Board). b.most) c.in_ok-new.ensures.fresh),
+  omega (arith, ap (λ (b : Board). b.most) c.in_ok-new.ensures.fresh),
 )

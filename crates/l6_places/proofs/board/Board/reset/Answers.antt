@@ -8,4 +8,6 @@ invariant_of-self c = (
   c.reset.ensures.told,
   omega (arith, ap (λ (b : Board). b.top) c.reset.ensures.emptied, c.self.invariant.1),
   sym (ap (λ (b : Board). places_in b.marks) c.reset.ensures.emptied ∙ no_places (2 ^ c.self.inside.tree.top)),
+  omega (arith, ap (λ (b : Board). b.most) c.reset.ensures.emptied),
+  omega (arith, ap (λ (b : Board). b.most) c.reset.ensures.emptied),
 )

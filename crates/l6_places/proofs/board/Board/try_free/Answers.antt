@@ -29,7 +29,9 @@ overflow_sub-self c =
 pub invariant_of-self : goal.invariant_of-self
 invariant_of-self c =
     let mark = slice_index c.self.inside.tree.marks.items c.args.place in
-    let begins = level_tells mark c.in-Some.level (sym c.level_at.ensures ∙ c.in-Some.is) in (
+    let begins = level_tells mark c.in-Some.level (sym c.level_at.ensures ∙ c.in-Some.is) in
+    let count = count_released (board_of c.self.inside.tree) c.self.inside.tree.nodes.items
+    c.self.invariant.0 c.in-Some.level c.args.place begins in (
       c.release.ensures.told,
       omega (arith, ap (λ (b : Board). b.top) c.release.ensures.released, c.self.invariant.1),
       omega (
@@ -37,7 +39,15 @@ invariant_of-self c =
         ap (λ (b : Board). places_in b.marks) c.release.ensures.released,
         c.size_of.ensures,
         c.self.invariant.2,
-        count_released (board_of c.self.inside.tree) c.self.inside.tree.nodes.items c.self.invariant.0
-            c.in-Some.level c.args.place begins,
+        count,
       ),
+      omega (
+        arith,
+        ap (λ (b : Board). b.most) c.release.ensures.released,
+        c.size_of.ensures,
+        c.self.invariant.2,
+        c.self.invariant.3,
+        count,
+      ),
+      omega (arith, ap (λ (b : Board). b.most) c.release.ensures.released, c.self.invariant.4),
     )

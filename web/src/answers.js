@@ -2,7 +2,7 @@
 // Nothing leaves the machine.
 
 import {byId, make} from "./dom.js";
-import {save} from "./papers.js";
+import {save} from "./download.js";
 import {verdictOf} from "./verify.js";
 
 const MOST_BYTES = 2_000_000; // of a file

@@ -9,7 +9,17 @@ const SLIM = 10;             // a cell in which not even a name has room
 const BESIDE = 14;           // the room that a name needs beside its cell
 const ROUND = 5;             // the radius of a card's corners
 
-// What a block is made of, seen from its upper left corner.
+/** @typedef {import("./graph.js").Block} Block */
+/** @typedef {import("./shape.js").Cell} Cell */
+/** @typedef {import("./shape.js").Row} Row */
+/** @typedef {import("./shape.js").Shape} Shape */
+
+/**
+ * What a block is made of, seen from its upper left corner.
+ * @param {Block} block
+ * @param {(name: string) => string} colourOf
+ * @returns {Element[]}
+ */
 export function partsOfBlock(block, colourOf) {
   const {shape} = block;
   const size = {width: shape.width, height: shape.height, rx: ROUND};
@@ -32,14 +42,22 @@ export function partsOfBlock(block, colourOf) {
   ];
 }
 
-// How many blocks below are not drawn.
+/**
+ * How many blocks below are not drawn.
+ * @param {Block} block
+ * @returns {Element[]}
+ */
 function foldOf({isFolded, below, shape}) {
   if (!isFolded) return [];
   const says = shape.isChip ? `▲${withCommas(below)}` : `▲ ${count(below, "block")}`;
   return [middleText("folded", shape.width / 2, shape.height + 13, says)];
 }
 
-// A freed block to which something still leads.
+/**
+ * A freed block to which something still leads.
+ * @param {Block} block
+ * @returns {Element[]}
+ */
 function ghostTexts({place, dead, shape}) {
   const middle = shape.width / 2;
   const title = svg("title", {}, `The block at ${place} was freed: state ${dead}`);
@@ -48,6 +66,10 @@ function ghostTexts({place, dead, shape}) {
   return [middleText("place", middle, 16, place), middleText("value", middle, 36, "freed"), title];
 }
 
+/**
+ * @param {Block} block
+ * @returns {Element[]}
+ */
 function headOf({place, size, isLost, shape}) {
   if (shape.isBox) return [middleText("place", shape.width / 2, 16, place)];
   const words = count(size, "word");
@@ -60,10 +82,22 @@ function headOf({place, size, isLost, shape}) {
   ];
 }
 
+/**
+ * @param {string} kind
+ * @param {number} x
+ * @param {number} y
+ * @param {string | number | undefined} text
+ */
 function middleText(kind, x, y, text) {
   return svg("text", {x, y, class: kind, "text-anchor": "middle"}, text);
 }
 
+/**
+ * @param {Row} row
+ * @param {Shape} shape
+ * @param {(name: string) => string} colourOf
+ * @returns {Element[]}
+ */
 function partsOfRow(row, shape, colourOf) {
   const middle = shape.width / 2;
   if (row.note) return [middleText("rest", middle, row.y + 16, row.note)];
@@ -73,6 +107,11 @@ function partsOfRow(row, shape, colourOf) {
   return [svg("line", {class: "between", x1: 0, x2: shape.width, y1: row.y, y2: row.y}), ...cells];
 }
 
+/**
+ * @param {Cell} cell
+ * @param {Row} row
+ * @param {(name: string) => string} colourOf
+ */
 function cellElement(cell, row, colourOf) {
   const kinds = ["cell", cell.name ? colourOf(cell.name) : "plain", cell.isChanged && "changed"];
   const window = {
@@ -90,7 +129,12 @@ function cellElement(cell, row, colourOf) {
   );
 }
 
-// The texts of a cell: its field's name and the value; where there is room for one alone, the value.
+/**
+ * The texts of a cell: its field's name and the value; where there is room for one alone, the value.
+ * @param {Cell} cell
+ * @param {Row} row
+ * @returns {Element[]}
+ */
 function textsOfCell(cell, row) {
   const {y} = row;
   const middle = {x: cell.x + cell.width / 2, y: y + 16, "text-anchor": "middle"};
@@ -106,7 +150,7 @@ function textsOfCell(cell, row) {
       svg("text", {x: cell.x + cell.width - 2, y: y + 16, class: "value", "text-anchor": "end"}, cell.text)
     ];
   }
-  const leavesLeft = cell.link && cell.window.first === 0 && cell.window.last !== 35;
+  const leavesLeft = cell.link && cell.window?.first === 0 && cell.window.last !== 35;
   return [
     svg("text", {x: cell.x + (leavesLeft ? 13 : 5), y: y + 16, class: "name"}, cell.name),
     svg(
@@ -121,17 +165,26 @@ function textsOfCell(cell, row) {
   ];
 }
 
-// Whether a narrow cell has room for its name on its right.
+/**
+ * Whether a narrow cell has room for its name on its right.
+ * @param {Cell} cell
+ * @param {Row} row
+ */
 function hasRoomBeside(cell, row) {
   const end = cell.x + cell.width;
   const next = Math.min(WORD_BITS * BIT, ...row.cells.map((it) => it.x).filter((x) => x >= end));
   return next - end >= BESIDE;
 }
 
+/**
+ * @param {Cell} cell
+ * @param {number} y
+ */
 function nameBeside(cell, y) {
   return svg("text", {x: cell.x + cell.width + 3, y: y + 16, class: "name"}, cell.name.slice(0, 1));
 }
 
+/** @param {{width: number, height: number}} size */
 function topOf({width, height}) {
   const bottom = height > HEAD ?
     `V${HEAD}H0V5` :
@@ -139,9 +192,13 @@ function topOf({width, height}) {
   return `M0 5Q0 0 5 0H${width - 5}Q${width} 0 ${width} 5${bottom}Z`;
 }
 
-// The sign of a bug, seen from the corner of its block. A click calls `hide` with its name.
+/**
+ * The sign of a bug, seen from the corner of its block. A click calls `hide` with its name.
+ * @param {string} name
+ * @param {(name: string) => void} hide
+ */
 export function pillOf(name, hide) {
-  const pick = (event) => {
+  const pick = (/** @type {Event} */ event) => {
     event.stopPropagation();
     hide(name);
   };

@@ -4,11 +4,14 @@
 import {byId, make} from "./dom.js";
 import {byCalls} from "./frames.js";
 import {hintOf} from "./panels.js";
-import {count} from "./word.js";
+import {count, withCommas} from "./word.js";
 
 const MOST_SHOWN = 500; // calls of one branch of the tree
 
 /** @typedef {import("./chronicle.js").Call} Call */
+/** @typedef {import("./frames.js").Entry} Entry */
+/** @typedef {import("./view.js").View} View */
+/** @typedef {import("./deck.js").Reading} Reading */
 /** @typedef {{goTo: (number: number) => void, block: (place: number) => void}} Ask */
 
 // ---- The calls that wait
@@ -16,9 +19,9 @@ const MOST_SHOWN = 500; // calls of one branch of the tree
 /**
  * The calls that wait and what is saved, newest first.
  * @param {HTMLElement} frame
- * @param {any} found
- * @param {any} view
- * @param {any} deck
+ * @param {import("./frames.js").Found} found
+ * @param {View} view
+ * @param {Reading} deck
  * @param {Ask} ask
  */
 export function showFrames(frame, found, view, deck, ask) {
@@ -37,23 +40,23 @@ export function showFrames(frame, found, view, deck, ask) {
 
 /**
  * A call with what it saved, or, where there is none, what was saved outside of calls.
- * @param {any} frame
- * @param {any} view
- * @param {any} deck
+ * @param {import("./frames.js").Frame} frame
+ * @param {View} view
+ * @param {Reading} deck
  * @param {Ask} ask
  */
 function frameInWords({call, contents, definitions}, view, deck, ask) {
   const saved = [
-    ...contents.map((/** @type {any} */ it) => contentInWords(it, view, ask)),
-    ...definitions.map((/** @type {any} */ it) => definitionInWords(it))
+    ...contents.map((it) => contentInWords(it, view, ask)),
+    ...definitions.map(definitionInWords)
   ];
   return [...(call ? callInWords(call, deck, ask) : [make("b", {}, "outside of calls")]), ...saved];
 }
 
 /**
  * Which call waits: what it called, from which statement, and where its return leads.
- * @param {any} call
- * @param {any} deck
+ * @param {Entry} call
+ * @param {Reading} deck
  * @param {Ask} ask
  */
 function callInWords({number, spot, operation}, deck, ask) {
@@ -68,21 +71,22 @@ function callInWords({number, spot, operation}, deck, ask) {
 }
 
 /**
- * @param {any} content
- * @param {any} view
+ * @param {Entry} entry
+ * @param {View} view
  * @param {Ask} ask
  */
-function contentInWords({number, operation, value}, view, ask) {
+function contentInWords({number, operation, content}, view, ask) {
   const chain = operation.elements[2];
   const title = `Saved in state ${number}`;
   return make(
-    "span", {class: "saved", title}, make("b", {}, chain), ` = ${value ?? "?"} `, hintOf(value ?? 0, view, ask.block)
+    "span", {class: "saved", title}, make("b", {}, chain), ` = ${content ?? "?"} `,
+    hintOf(content ?? 0, view, ask.block)
   );
 }
 
-/** @param {any} definition */
-function definitionInWords({number, operation, value}) {
-  const says = value ? `word ${value.word}, bits ${value.first}–${value.last}` : "no definition";
+/** @param {Entry} entry */
+function definitionInWords({number, operation, definition}) {
+  const says = definition ? `word ${definition.word}, bits ${definition.first}–${definition.last}` : "no definition";
   const title = `Saved in state ${number}`;
   return make("span", {class: "saved", title}, "field ", make("b", {}, operation.elements[2]), ` = ${says}`);
 }
@@ -93,10 +97,11 @@ function definitionInWords({number, operation, value}) {
  * All calls of a run as a tree. Those that wait in a state are open.
  * @param {HTMLElement} frame
  * @param {Call[]} calls
+ * @param {number | null} last the state up to which they are known, or null where these are all
  * @param {number} number of the state
  * @param {(number: number) => void} goTo
  */
-export function showCallTree(frame, calls, number, goTo) {
+export function showCallTree(frame, calls, last, number, goTo) {
   const branches = branchesOf(calls);
   const partsOf = (/** @type {Branch[]} */ all) => {
     const more = all.length - MOST_SHOWN;
@@ -124,7 +129,7 @@ export function showCallTree(frame, calls, number, goTo) {
     return make("li", {class: waits ? "waits" : ""}, fold);
   };
   frame.replaceChildren(
-    make("h3", {}, "All calls of the run ", make("small", {}, String(calls.length))),
+    make("h3", {}, last === null ? "All calls of the run " : `Calls up to state ${withCommas(last)} `, make("small", {}, String(calls.length))),
     make("ul", {}, ...partsOf(branches))
   );
 }

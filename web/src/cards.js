@@ -24,7 +24,7 @@ export class Cards {
   /**
    * Shows a deck, with the statements that have breakpoints, and where the run is.
    * @param {string} text
-   * @param {any} deck
+   * @param {import("./deck.js").Reading} deck
    * @param {Set<number>} breakpoints
    * @param {Spot | null} spot
    */

@@ -7,10 +7,10 @@ export const CHAIN = /^[A-Z][A-Z0-9]{0,5}$/;
 /**
  * A state as far as a chain needs it: `wordsAt` answers the words of the block that begins at a place, null
  * where none begins, and undefined where that is not known.
- * @typedef {{bugs: Map<string, number>, fields: Map<string, any>,
- *   wordsAt: (place: number) => any}} Glimpse
+ * @typedef {{bugs: Map<string, number>, fields: Map<string, import("./transcript.js").Field>,
+ *   wordsAt: (place: number) => number[] | null | undefined}} Glimpse
  * @typedef {{name: string, text: string, value: number, place: number | null,
- *   window: object | null}} ChainStep
+ *   window: import("./transcript.js").Field | null}} ChainStep
  * @typedef {{number: number, name: string, value: number, text: string}} ChainTrap
  * @typedef {{steps: ChainStep[], trap?: ChainTrap, wrong?: string, missing?: number}} Followed
  */
@@ -19,7 +19,7 @@ export const CHAIN = /^[A-Z][A-Z0-9]{0,5}$/;
  * The steps of a chain: each has the name, what it is, and the value. `trap` says why the next can't be
  * taken, `wrong` why it is no chain; `missing` is a place whose words must be asked for first.
  * @param {string} chain
- * @param {any} state
+ * @param {Glimpse} state
  * @returns {Followed}
  */
 export function follow(chain, state) {
@@ -27,6 +27,7 @@ export function follow(chain, state) {
   if (!CHAIN.test(chain.toUpperCase()))
     return {steps: [], wrong: "a chain is 1 to 6 names, the first a letter"};
   let value = state.bugs.get(names[0]) ?? 0;
+  /** @type {ChainStep[]} */
   const steps = [{name: names[0], text: `bug ${names[0]}`, value, place: null, window: null}];
   for (const name of names.slice(1)) {
     const trap = (/** @type {number} */ number, /** @type {string} */ text) =>
@@ -48,7 +49,7 @@ export function follow(chain, state) {
 /**
  * The value of a chain or a number, or null where there is none.
  * @param {string} text
- * @param {any} state
+ * @param {Glimpse} state
  * @returns {number | null}
  */
 export function valueOf(text, state) {

@@ -8,13 +8,19 @@ import {count, seenThrough, UNIT, withCommas} from "./word.js";
 const MOST_TOLD = 7;
 const MOST_FOUND = 1000; // blocks that are told one by one
 
+/** @typedef {import("./view.js").View} View */
+/** @typedef {import("./store.js").Store} Store */
+/** @typedef {import("./store.js").Piece} Piece */
+/** @typedef {import("./transcript.js").State} State */
+/** @typedef {{operation: import("./deck.js").Group | null}} Step */
+
 /**
  * The sentences. Of one step, which has the operation that was done or null, they also say how often the
  * store halved or joined pieces.
- * @param {any} before
- * @param {any} view
+ * @param {View | null} before
+ * @param {View} view
  * @param {string} input
- * @param {{operation: any} | null} step
+ * @param {Step | null} step
  */
 export function changesOf(before, view, input, step = null) {
   if (!before) return [];
@@ -28,23 +34,30 @@ export function changesOf(before, view, input, step = null) {
 }
 
 // As many of them as a reader takes in.
+/** @param {string[]} changes */
 export function shortened(changes) {
   if (changes.length <= MOST_TOLD) return changes;
   return [...changes.slice(0, MOST_TOLD - 1), `and ${changes.length - MOST_TOLD + 1} more changes`];
 }
 
+/** @type {Record<string, string>} */
 const ENDINGS = {
   DONE: "the run is done",
   FAIL: "the run has failed",
   LIMIT: "the run has made all the steps it may"
 };
 
-// How the run has ended in this state, in a sentence, or "".
+/**
+ * How the run has ended in this state, in a sentence, or "".
+ * @param {{state: State}} view
+ * @returns {string}
+ */
 export function endingOf({state}) {
   if (state.ending === "TRAP") return TRAPS[/TRAP (\d+)/.exec(state.line)?.[1] ?? ""];
   return ENDINGS[state.ending] ?? "";
 }
 
+/** @type {Record<string, string>} */
 const TRAPS = {
   1: "trap 1: a chain names a field that has no definition",
   2: "trap 2: no block begins at the place to which the chain has come",
@@ -62,10 +75,17 @@ const TRAPS = {
   14: "trap 14: the output would pass its limit",
 };
 
+/**
+ * @param {View} before
+ * @param {View} view
+ * @param {Step | null} step
+ * @returns {string[]}
+ */
 function blocksOf(before, view, step) {
+  /** @type {string[]} */
   const found = [];
   let more = 0;
-  const tell = (text) => (found.length < MOST_FOUND ? found.push(text()) : more++);
+  const tell = (/** @type {() => string} */ text) => (found.length < MOST_FOUND ? found.push(text()) : more++);
   eachBlock(before.store, view.store, (was, is) => {
     if (is && was?.size !== is.size)
       tell(() => `got ${count(is.size, "word")} at ${is.place}${step ? gotHow(before, is, step) : ""}`);
@@ -77,12 +97,18 @@ function blocksOf(before, view, step) {
   return more ? [...found, `and ${count(more, "more block", "more blocks")}`] : found;
 }
 
-// Calls with the block of one store and that of another at each place where one has a block that the other
-// has not, or not so.
+/**
+ * Calls with the block of one store and that of another at each place where one has a block that the other
+ * has not, or not so.
+ * @param {Store} one
+ * @param {Store} other
+ * @param {(was: Piece | null, is: Piece | null) => void} call
+ */
 function eachBlock(one, other, call) {
   const [a, b] = [one.places, other.places];
   let [i, j] = [0, 0];
-  const block = (store, index) => (store.kinds[index] === KINDS.free ? null : store.piece(index));
+  const block = (/** @type {Store} */ store, /** @type {number} */ index) =>
+    (store.kinds[index] === KINDS.free ? null : store.piece(index));
   while (i < a.length || j < b.length) {
     const isSame = a[i] === b[j];
     if (isSame && one.sizes[i] === other.sizes[j] && one.kinds[i] === other.kinds[j]) {
@@ -97,7 +123,12 @@ function eachBlock(one, other, call) {
   }
 }
 
-// How often a free piece was halved for a block that was got, and how many of its words were not asked for.
+/**
+ * How often a free piece was halved for a block that was got, and how many of its words were not asked for.
+ * @param {View} before
+ * @param {Piece} block
+ * @param {Step} step
+ */
 function gotHow(before, block, {operation}) {
   const wanted = operation?.elements[1] === "GT" ? valueOf(operation.elements[2], before) : null;
   const wasted = wanted === null ? 0 : block.size - wanted;
@@ -111,7 +142,11 @@ function gotHow(before, block, {operation}) {
                      ` (${waste}a free piece of this size was there: none was halved)`;
 }
 
-// How often the words of a freed block were joined with their buddies, and why not once more.
+/**
+ * How often the words of a freed block were joined with their buddies, and why not once more.
+ * @param {View} view
+ * @param {Piece} block
+ */
 function joined(view, block) {
   const size = view.store.freePieceWith(block.place);
   if (!size) return "";
@@ -126,13 +161,22 @@ function joined(view, block) {
     `the buddy of that piece ${why})`;
 }
 
+/**
+ * @param {Store} store
+ * @param {number} place
+ * @param {number} size
+ */
 function whyNoMore(store, place, size) {
   const buddy = place % (2 * size) === 0 ? place + size : place - size;
   const piece = store.pieceWith(buddy);
-  const isBlock = !piece.isFree && piece.place === buddy && piece.size === size;
+  const isBlock = piece && !piece.isFree && piece.place === buddy && piece.size === size;
   return `at ${buddy} is ${isBlock ? "a block" : "not free as a whole"}`;
 }
 
+/**
+ * @param {View} before
+ * @param {View} view
+ */
 function bugsOf(before, view) {
   const names = [...new Set([...before.bugs.keys(), ...view.bugs.keys()])].sort();
   return names.flatMap((name) => {
@@ -141,9 +185,14 @@ function bugsOf(before, view) {
   });
 }
 
+/**
+ * @param {View} before
+ * @param {View} view
+ */
 function fieldsOf(before, view) {
   const names = [...new Set([...before.fields.keys(), ...view.fields.keys()])].sort();
-  const tell = (it) => it && `word ${it.word}, bits ${it.first} to ${it.last}`;
+  const tell = (/** @type {import("./transcript.js").Field | undefined} */ it) =>
+    it && `word ${it.word}, bits ${it.first} to ${it.last}`;
   return names.flatMap((name) => {
     const [was, is] = [tell(before.fields.get(name)), tell(view.fields.get(name))];
     if (was === is) return [];
@@ -151,8 +200,13 @@ function fieldsOf(before, view) {
   });
 }
 
+/**
+ * @param {View} before
+ * @param {View} view
+ */
 function wordsOf(before, view) {
   const windows = windowsOf(view.fields);
+  /** @type {string[]} */
   const found = [];
   for (const [place, words] of view.words) {
     const old = before.words.get(place);
@@ -172,10 +226,15 @@ function wordsOf(before, view) {
   return found;
 }
 
+/**
+ * @param {View} before
+ * @param {View} view
+ * @param {string} input
+ */
 function amountsOf(before, view, input) {
   const [was, is] = [before.amounts, view.amounts];
   const found = [];
-  const change = (name, one) => {
+  const change = (/** @type {"contents" | "definitions"} */ name, /** @type {string} */ one) => {
     const more = is[name] - was[name];
     if (more) found.push(more > 0 ? `saved ${count(more, one)}` : `restored ${count(-more, one)}`);
   };
@@ -188,7 +247,12 @@ function amountsOf(before, view, input) {
   return found;
 }
 
-// The characters that were taken: of each line 80.
+/**
+ * The characters that were taken: of each line 80.
+ * @param {string} input
+ * @param {number} from
+ * @param {number} to
+ */
 function takenOf(input, from, to) {
   if (to - from > 20) return count(to - from, "character");
   const lines = input.split("\n");
@@ -199,6 +263,7 @@ function takenOf(input, from, to) {
   return quoted(text.toUpperCase());
 }
 
+/** @param {string} text */
 function quoted(text) {
   const line = text.replaceAll("\n", "⏎");
   return line.length > 30 ? `“${line.slice(0, 28)}..”` : `“${line}”`;

@@ -5,6 +5,7 @@ import {bytesOf} from "./bytes.js";
 import {linesOf} from "./deck.js";
 import {byId, make} from "./dom.js";
 import {job} from "./job.js";
+import {errorOf} from "./thrown.js";
 
 const CHECK_AFTER = 300;  // milliseconds without a key, until the deck is checked
 const BLAME_AFTER = 1500; // and until what is wrong with the card that is being typed is shown
@@ -13,8 +14,18 @@ const CARD = /^ *\d+ \| (.*)$/;          // a card, as `check --long` shows it
 const SIGNS = /^ *\| ( *(\^+))$/;        // the signs under its columns
 const ADVICE = /^ {4} *(?:= )?(.*)$/;
 
+/**
+ * What the program finds: on which card and columns, what is wrong, what to write, and the card as it is shown.
+ * @typedef {{card: number, from: number, to: number, isError: boolean, says: string, advice: string,
+ *   shown: string}} Finding
+ */
+
 export class Checker {
   // `check` has the engine check a deck; while something else is done, `isBusy`, the deck waits.
+  /**
+   * @param {{editor: import("./editor.js").Editor, check: (input: Uint8Array) => Promise<any>,
+   *   isBusy: () => boolean, tell: (text: string) => void}} ask
+   */
   constructor({editor, check, isBusy, tell}) {
     this.editor = editor;
     this.ask = check;
@@ -22,6 +33,8 @@ export class Checker {
     this.tell = tell;
     this.typed = -BLAME_AFTER;
     this.shown = "";
+    /** @type {ReturnType<typeof setTimeout> | undefined} */
+    this.timer = undefined;
   }
 
   // The deck was changed by the reader.
@@ -30,6 +43,7 @@ export class Checker {
     this.later(CHECK_AFTER);
   }
 
+  /** @param {number} milliseconds */
   later(milliseconds) {
     clearTimeout(this.timer);
     this.timer = setTimeout(() => this.check(), milliseconds);
@@ -46,7 +60,7 @@ export class Checker {
       this.show(ready, answer.errors.trim(), ready.length < found.length ? "" : countsOf(answer.output));
       if (ready.length < found.length) this.later(BLAME_AFTER);
     } catch (error) {
-      this.tell(error.message);
+      this.tell(errorOf(error).message);
     }
   }
 
@@ -55,6 +69,7 @@ export class Checker {
   }
 
   // A job was refused, with this line: the program says more of it, if it is about the deck.
+  /** @param {string} line */
   refused(line) {
     this.typed = -BLAME_AFTER;
     this.show([], line);
@@ -66,7 +81,12 @@ export class Checker {
     this.show(this.editor.findings.filter((it) => !it.isError));
   }
 
-  // Shows what was found, or a line of the program, and how much there is.
+  /**
+   * Shows what was found, or a line of the program, and how much there is.
+   * @param {Finding[]} findings
+   * @param {string} line
+   * @param {string} counts
+   */
   show(findings, line = "", counts = "") {
     const fault = byId("fault");
     const what = JSON.stringify([findings, line, counts]);
@@ -84,6 +104,7 @@ export class Checker {
   }
 
   // A finding as a line of its own: where, what and what to write in its place.
+  /** @param {Finding} finding */
   lineOf({card, from, isError, says, advice}) {
     const place = `${card + 1}:${from + 1}`;
     const words = {
@@ -99,9 +120,15 @@ export class Checker {
   }
 }
 
-// What the program finds in a deck with these lines, cards and columns counted from 0: with the card and the
-// signs under it, if the program shows them.
+/**
+ * What the program finds in a deck with these lines, cards and columns counted from 0: with the card and the
+ * signs under it, if the program shows them.
+ * @param {string} output
+ * @param {string[]} lines
+ * @returns {Finding[]}
+ */
 export function findingsOf(output, lines) {
+  /** @type {Finding[]} */
   const found = [];
   for (const line of output.split("\n")) {
     const [, card, column, kind, says] = FINDING.exec(line) ?? [];
@@ -124,12 +151,21 @@ export function findingsOf(output, lines) {
   return found;
 }
 
-// The card of a finding with signs under its columns: the sentence has both in words.
+/**
+ * The card of a finding with signs under its columns: the sentence has both in words.
+ * @param {Finding} finding
+ * @returns {Element[]}
+ */
 function cardOf({shown}) {
   return shown ? [make("pre", {"aria-hidden": "true"}, shown)] : [];
 }
 
-// The column after those that a sentence is about: it has what is there between two marks.
+/**
+ * The column after those that a sentence is about: it has what is there between two marks.
+ * @param {string} line
+ * @param {number} from
+ * @param {string} says
+ */
 function endOf(line, from, says) {
   const quoted = [...says.matchAll(/`([^`]+)`/g)].map((it) => it[1]);
   const lengths = quoted.filter((it) => line.startsWith(it, from)).map((it) => it.length);
@@ -137,6 +173,7 @@ function endOf(line, from, says) {
 }
 
 // The last line: how many errors and warnings there are.
+/** @param {string} output */
 function countsOf(output) {
   return output.trimEnd().split("\n").at(-1) ?? "";
 }

@@ -8,6 +8,10 @@ const MOST_WORDS = 20_000; // of all blocks that are shown
 
 /** @typedef {import("./transcript.js").Drawn} Drawn */
 /** @typedef {{place: number, size: number, links: {field: string, target: number}[]}} DrawnBlock */
+/**
+ * What is drawn: the bugs that lead to blocks, those that the reader hid, and the blocks by their places.
+ * @typedef {{bugs: Map<string, number>, hiddenBugs: [string, number][], blocks: Map<number, DrawnBlock>}} Chosen
+ */
 
 /**
  * Of what `draw` and `store` answered: the bugs that lead to blocks, the blocks that are shown with their

@@ -27,6 +27,8 @@
  *   evidence: Map<string, {number: number, isPointer: boolean}[]>}} Told
  */
 
+export const MOST_CALLS = 5000; // that are noted
+
 export class Chronicle {
   /** @param {Told} told */
   constructor({last, isWhole, calls = [], lives, held, links, windows, evidence}) {
@@ -38,6 +40,12 @@ export class Chronicle {
     this.links = links;
     this.windows = windows;
     this.evidence = evidence;
+  }
+
+  // The state up to which calls are known, or null where all are.
+  get callsUntil() {
+    if (this.calls.length >= MOST_CALLS) return this.calls[this.calls.length - 1].number;
+    return this.isWhole ? null : this.last;
   }
 
   // Whether a state was read.

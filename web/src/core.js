@@ -9,21 +9,31 @@ import {Stopped} from "./engine.js";
 import {memoryChosen, optionsChosen, sayWrongOptions} from "./options.js";
 import {Refused, Session} from "./session.js";
 import {isSilent, nextShown} from "./steps.js";
+import {errorOf} from "./thrown.js";
 
 const RUNNING = "running ..";
 const MOST_WAIT = 700;  // milliseconds that a first picture waits for the run to be read
 
+/** @typedef {import("./view.js").View} View */
+/** @typedef {import("./transcript.js").State} State */
+
+// A part of the page that is made later, by page.js.
+/** @returns {any} */
+function later() {
+  return null;
+}
+
 export class Core {
   constructor() {
-    /** @type {any} */
+    /** @type {Session | null} */
     this.session = null;
     this.sessionKey = "";
     /** @type {Promise<void> | null} */
     this.telling = null; // the run that is being read
-    /** @type {any} */
+    /** @type {((session: Session) => unknown) | null} */
     this.waiting = null; // what is to be done once the engine has answered
     this.isBusy = false;
-    this.isForeseeing = false; // whether a state is asked for ahead
+    this.foreseeing = 0;       // how often states are being asked for ahead
     this.isFilling = false;    // whether the page itself puts a deck into its box
     this.kindsWanted = "";     // what fields hold, as a link says
     this.noteBefore = "";
@@ -34,32 +44,32 @@ export class Core {
     /** @type {string | null} */
     this.readText = null; // the deck as it was read last
     // (the parts of the page, which page.js makes)
-    /** @type {any} */
-    this.engine = null;
-    /** @type {any} */
-    this.surveyor = null;
-    /** @type {any} */
-    this.editor = null;
-    /** @type {any} */
-    this.viewer = null;
-    /** @type {any} */
-    this.library = null;
-    /** @type {any} */
-    this.player = null;
-    /** @type {any} */
-    this.panes = null;
-    /** @type {any} */
-    this.papers = null;
-    /** @type {any} */
-    this.tasks = null;
-    /** @type {any} */
-    this.answers = null;
-    /** @type {any} */
-    this.checker = null;
-    /** @type {any} */
-    this.keeper = null;
-    /** @type {any} */
-    this.pictures = null;
+    /** @type {import("./engine.js").Engine} */
+    this.engine = later();
+    /** @type {import("./engine.js").Engine} */
+    this.surveyor = later();
+    /** @type {import("./editor.js").Editor} */
+    this.editor = later();
+    /** @type {import("./viewer.js").Viewer} */
+    this.viewer = later();
+    /** @type {import("./library.js").Library} */
+    this.library = later();
+    /** @type {import("./player.js").Player} */
+    this.player = later();
+    /** @type {import("./panes.js").Panes} */
+    this.panes = later();
+    /** @type {import("./papers.js").Papers} */
+    this.papers = later();
+    /** @type {import("./tasks.js").TaskMaker} */
+    this.tasks = later();
+    /** @type {import("./answers.js").Answers} */
+    this.answers = later();
+    /** @type {import("./checker.js").Checker} */
+    this.checker = later();
+    /** @type {import("./keep.js").Keeper} */
+    this.keeper = later();
+    /** @type {import("./pictures.js").Pictures} */
+    this.pictures = later();
   }
 
   // ---- The job
@@ -68,7 +78,12 @@ export class Core {
     return {deck: byId("deck").value, input: byId("input").value, options: optionsChosen()};
   }
 
-  ask(words, input, digest) {
+  /**
+   * @param {string[]} words
+   * @param {Uint8Array} input
+   * @param {object | null} digest
+   */
+  ask(words, input, digest = null) {
     return this.engine.run(words, input, memoryChosen(), digest);
   }
 
@@ -80,7 +95,8 @@ export class Core {
     const key = [now.deck, now.input, ...Object.values(now.options)].join("\u0000");
     if (!this.session || this.sessionKey !== key) {
       this.readDeck();
-      const ask = (words, input, digest) => this.ask(words, input, digest);
+      /** @type {import("./session.js").Ask} */
+      const ask = (words, input, digest = null) => this.ask(words, input, digest);
       this.session = new Session(ask, now, this.editor.deck);
       this.sessionKey = key;
       this.telling = null;
@@ -93,12 +109,14 @@ export class Core {
 
   // Waits a moment until the run is read, so that its first picture is the lasting one. A large run is shown
   // at once, and its drawing made anew once it is read.
+  /** @param {Session} session */
   async told(session) {
     this.telling ??= this.survey(session);
     if (this.viewer.session === session) return; // (there is a picture)
     await Promise.race([this.telling, new Promise((resolve) => setTimeout(resolve, MOST_WAIT))]);
   }
 
+  /** @param {Session} session */
   async survey(session) {
     try {
       const told = await this.surveyor.survey({...session.survey, limit: memoryChosen()});
@@ -112,6 +130,7 @@ export class Core {
   // ---- What the reader asks for
 
   // Has something done with the session, if nothing else is. Else it is done next, in place of what waited.
+  /** @param {(session: Session) => unknown} what */
   async act(what) {
     if (this.isBusy) {
       this.waiting = what;
@@ -129,6 +148,11 @@ export class Core {
     if (next) await this.act(next);
   }
 
+  get isForeseeing() {
+    return this.foreseeing > 0;
+  }
+
+  /** @param {boolean} isBusy */
   setBusy(isBusy) {
     this.isBusy = isBusy;
     this.showBusy();
@@ -153,6 +177,7 @@ export class Core {
     this.note(RUNNING);
   }
 
+  /** @param {unknown} error */
   trouble(error) {
     this.pause();
     if (error instanceof Stopped) {
@@ -162,8 +187,9 @@ export class Core {
       this.clear(error.message);
       this.reveal("fault");
     } else {
-      this.tell(error.message);
-      this.clear(error.message);
+      const {message} = errorOf(error);
+      this.tell(message);
+      this.clear(message);
     }
   }
 
@@ -174,33 +200,47 @@ export class Core {
   }
 
   // Where the run is in a state that has a next step: the step that is shown next.
+  /**
+   * @param {State} state
+   * @returns {import("./steps.js").Place}
+   */
   nextOf(state) {
     const {deck} = this.editor;
     if (state.ending || this.stopsAtEvery || !isSilent(deck, state)) return state;
     return nextShown(deck, state);
   }
 
+  /**
+   * @param {View} view
+   * @param {View | null} before
+   * @param {boolean} isStep
+   */
   show(view, before, isStep = false) {
     this.checker.ran();
-    this.viewer.show(view, before, this.session, isStep);
+    const {session} = this;
+    if (!session) return;
+    this.viewer.show(view, before, session, isStep);
     if (this.library.hasWork) this.keeper.typed(); // (with the place)
     if (!this.player.isPlaying) this.viewer.story.speak();
-    showNumber(view.state.number, this.session.last);
-    this.library.checkExercise(view, this.session);
+    showNumber(view.state.number, session.last);
+    this.library.checkExercise(view, session);
   }
 
   // Shows nothing of a run, and says why not.
+  /** @param {string} why */
   clear(why) {
     this.viewer.clear(why);
     clearNumber();
   }
 
+  /** @param {string} text */
   tell(text) {
     this.note(text);
     byId("spoken").textContent = text;
   }
 
   // Shows a note for a moment.
+  /** @param {string} text */
   note(text) {
     const note = byId("run-note");
     note.textContent = text;
@@ -212,6 +252,7 @@ export class Core {
   }
 
   // Brings what a run has answered into sight, where all is in one column.
+  /** @param {string} id */
   reveal(id) {
     if (this.panes.isColumn) byId(id).scrollIntoView({block: "nearest"});
   }

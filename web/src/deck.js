@@ -8,9 +8,21 @@ import {groupOf} from "./group.js";
 
 export const COLUMNS = 72; // of a card that count
 
+/**
+ * A part of a statement: its card, its columns, and its text; of a group without the parentheses.
+ * @typedef {{isGroup: boolean, card: number, from: number, to: number, text: string}} Item
+ * @typedef {Item & {elements: string[]}} Group
+ *
+ * What is read in a deck: of each card the number of its statement or -1, the statements, and whether each card
+ * that says something is of a statement. Other scripts keep here what they found in it.
+ * @typedef {{cards: number[], statements: Statement[], isWhole: boolean, hasStacks?: boolean,
+ *   texts?: Set<string>}} Reading
+ */
+
 const CONDITIONS = ["IF", "NOT", "IFALL", "IFANY", "IFNONE", "IFNALL"];
 
 // The lines of a text: a last one without a line feed counts if it has a character.
+/** @param {string} text */
 export function linesOf(text) {
   const lines = text.split("\n");
   if (lines[lines.length - 1] === "") lines.pop();
@@ -18,12 +30,16 @@ export function linesOf(text) {
 }
 
 // The columns of a card that count.
+/** @param {string} line */
 export function columnsOf(line) {
   return (line.endsWith("\r") ? line.slice(0, -1) : line).slice(0, COLUMNS);
 }
 
-// What a deck says: its cards, each with the number of its statement or -1, and its statements; and whether
-// each card that says something is of a statement.
+/**
+ * What a deck says.
+ * @param {string} text
+ * @returns {Reading}
+ */
 export function readDeck(text) {
   const reader = new DeckReader(linesOf(text));
   reader.read();
@@ -32,9 +48,11 @@ export function readDeck(text) {
 }
 
 class DeckReader {
+  /** @param {string[]} lines */
   constructor(lines) {
     this.lines = lines;
     this.cards = lines.map(() => -1);
+    /** @type {Statement[]} */
     this.statements = [];
     this.isWhole = true;
   }
@@ -44,6 +62,10 @@ class DeckReader {
     this.statements.at(-1)?.end();
   }
 
+  /**
+   * @param {string} columns
+   * @param {number} card
+   */
   card(columns, card) {
     const first = columns[0];
     if (/^[ \t]*$/.test(columns) || first === "*") return;
@@ -55,6 +77,10 @@ class DeckReader {
       this.isWhole = false;
   }
 
+  /**
+   * @param {string} columns
+   * @param {number} card
+   */
   begin(columns, card) {
     this.statements.at(-1)?.end();
     const label = (/^[A-Za-z0-9]*/.exec(columns)?.[0] ?? "").toUpperCase();
@@ -62,6 +88,11 @@ class DeckReader {
     this.body(columns, Math.max(1, label.length), card);
   }
 
+  /**
+   * @param {string} columns
+   * @param {number} from
+   * @param {number} card
+   */
   body(columns, from, card) {
     const statement = this.statements.at(-1);
     if (!statement) {
@@ -80,19 +111,29 @@ class DeckReader {
 
 // A statement: its condition word, tests, operations and exit, each with its card and columns.
 class Statement {
+  /**
+   * @param {string} label
+   * @param {number} card
+   */
   constructor(label, card) {
     this.label = label;
     this.card = card;
     this.phase = "begin";
-    this.first = null;
+    /** @type {Item | null} */
+    this.first = null; // the word before all groups
+    /** @type {Item | null} */
     this.condition = null;
+    /** @type {Group[]} */
     this.tests = [];
+    /** @type {Group[]} */
     this.operations = [];
+    /** @type {Item | null} */
     this.exit = null;
   }
 
+  /** @param {Item} item */
   group(item) {
-    if (this.phase === "word" && CONDITIONS.includes(this.first.text)) {
+    if (this.phase === "word" && this.first && CONDITIONS.includes(this.first.text)) {
       this.condition = this.first;
       this.phase = "tests";
     }
@@ -105,6 +146,7 @@ class Statement {
     }
   }
 
+  /** @param {Item} item */
   word(item) {
     if (this.phase === "begin") {
       this.first = item;
@@ -118,17 +160,24 @@ class Statement {
 
   // The statement has no further card: a word alone is its exit.
   end() {
-    if (this.phase === "word") this.leaveBy(this.first);
+    if (this.phase === "word" && this.first) this.leaveBy(this.first);
   }
 
+  /** @param {Item} item */
   leaveBy(item) {
     this.exit = item;
     this.phase = "done";
   }
 }
 
-// The items of a body: groups, and the words between them with their blanks taken out. What follows a
-// parenthesis that is not closed, or not opened, is none.
+/**
+ * The items of a body: groups, and the words between them with their blanks taken out. What follows a parenthesis
+ * that is not closed, or not opened, is none.
+ * @param {string} columns
+ * @param {number} from
+ * @param {number} card
+ * @returns {Generator<Item>}
+ */
 function* itemsOf(columns, from, card) {
   let place = from;
   while (place < columns.length) {
@@ -142,6 +191,13 @@ function* itemsOf(columns, from, card) {
   }
 }
 
+/**
+ * @param {string} columns
+ * @param {number} from
+ * @param {number} to
+ * @param {number} card
+ * @returns {Generator<Item>}
+ */
 function* wordOf(columns, from, to, card) {
   const raw = columns.slice(from, to);
   const text = raw.replace(/[ \t]/g, "").toUpperCase();

@@ -5,6 +5,8 @@ import {choose} from "./choice.js";
 import {Store} from "./store.js";
 import {stateOf, Transcript} from "./transcript.js";
 
+const BYTES = 9; // that are kept of each block and each run of free words
+
 export const DIGESTS = {
   views,
   trail,
@@ -27,10 +29,12 @@ function views(text, {skip, count, hidden, mostOutput}) {
     if (state > 0) transcript.line();
     const begun = transcript.place;
     const shown = {...transcript.show(), fields: transcript.fields()};
+    const seen = transcript.place;
     const draw = transcript.draw();
     const store = transcript.store();
     if (found.at(-1)?.state.number === shown.state.number) continue;
-    found.push({...shown, ...choose(draw, store, hidden), store, cost: transcript.place - begun});
+    const cost = seen - begun + store.places.length * BYTES;
+    found.push({...shown, ...choose(draw, store, hidden), store, cost});
   }
   const output = transcript.out();
   const from = Math.max(0, found[0].amounts.output - mostOutput);

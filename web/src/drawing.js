@@ -24,6 +24,7 @@ const MOST_NAMED = 4;   // lost blocks that are named
 /** @typedef {import("./graph.js").Graph} Graph */
 /** @typedef {import("./plan.js").Plan} Plan */
 /** @typedef {import("./chain.js").ChainStep} ChainStep */
+/** @typedef {import("./view.js").View} View */
 /** @typedef {{choose: (place: number) => void, hide: (name: string) => void,
  *   told: (warnings: string[], notes: string[]) => void}} Ask */
 
@@ -48,9 +49,9 @@ export class Drawing {
     this.plan = null;
     /** @type {Graph | null} */
     this.graph = null;
-    /** @type {any} */
+    /** @type {View | null} */
     this.view = null;
-    /** @type {any} */
+    /** @type {View | null} */
     this.before = null;
     this.isTidy = false;  // whether the plan is of one state alone
     this.isFresh = false; // whether it was not shown yet
@@ -96,7 +97,7 @@ export class Drawing {
 
   /**
    * The run was read: the drawing is made anew of all of it.
-   * @param {any} reading
+   * @param {import("./deck.js").Reading} reading
    * @param {import("./chronicle.js").Chronicle | null} chronicle
    */
   learn(reading, chronicle) {
@@ -113,22 +114,28 @@ export class Drawing {
 
   /** @param {import("./chronicle.js").Window} window */
   kindOf(window) {
-    return this.kinds.of(window, this.view.state.number);
+    return this.kinds.of(window, this.number);
+  }
+
+  // The number of the state that is shown.
+  get number() {
+    return this.view?.state.number ?? 0;
   }
 
   /**
-   * Shows a view; what is another than before is marked.
-   * @param {any} view
-   * @param {any} before
+   * Shows a view; what is another than before is marked. Where all blocks are new, since the reader comes from far
+   * away, none is, or the colours of the links could not be seen.
+   * @param {View} view
+   * @param {View | null} before
    */
   show(view, before) {
     this.view = view;
-    this.before = before;
+    this.before = before && (before.store.blocks > 0 || view.store.blocks === 1) ? before : null;
     for (const name of view.fields.keys()) this.colourOf(name);
-    const plan = this.plan ?? this.makePlan();
+    const plan = this.plan ?? this.makePlan(view);
     const {folded} = this;
     const {chronicle} = this.kinds;
-    const graph = graphOf(view, before, {plan, chronicle, folded, kindOf: (it) => this.kindOf(it)});
+    const graph = graphOf(view, this.before, {plan, chronicle, folded, kindOf: (it) => this.kindOf(it)});
     this.graph = graph;
     this.place(graph, plan);
     this.figures.draw(graph, arrowsOf(graph, plan), this.chosen, this.focused);
@@ -145,8 +152,7 @@ export class Drawing {
    * @param {Plan} plan
    */
   aim(graph, plan) {
-    const {camera} = this;
-    const {number} = this.view.state;
+    const {camera, number} = this;
     if (this.isFresh)
       camera.start(plan, plan.most, plan.legible, plan.places.get(plan.first ?? -1));
     else if (camera.size.width !== plan.width || camera.size.height !== plan.height)
@@ -158,22 +164,19 @@ export class Drawing {
     camera.remember(number);
   }
 
-  get isLecture() {
-    return document.body.classList.contains("lecture");
-  }
-
-  makePlan() {
-    const {kinds, view} = this;
+  /** @param {View} view */
+  makePlan(view) {
+    const {kinds} = this;
     const isRun = this.isTidy ? null : kinds.chronicle;
     const material = isRun || snapshotOf(view, (it) => this.kindOf(it) === "link");
     const texts = new Set();
     for (const {key, names} of material.windows.values())
-      if (kinds.of({key, names}, view.state.number) === "text") for (const name of names) texts.add(name);
+      if (kinds.of({key, names}, this.number) === "text") for (const name of names) texts.add(name);
     this.plan = planOf(material, {
       directions: this.directions,
       detail: this.detail,
       frame: {width: this.frame.clientWidth - EDGE, height: this.frame.clientHeight - EDGE},
-      isLecture: this.isLecture,
+      isLecture: document.body.classList.contains("lecture"),
       isLink: (key) => kinds.mayLink(key),
       texts
     });
@@ -244,21 +247,27 @@ export class Drawing {
   // Tells which pointers dangle, what is not drawn, and whether there is more than one sees.
   tell() {
     if (!this.view || !this.graph) return;
-    const notes = [...this.hiddenInWords(this.graph), ...this.seenInWords(this.graph)];
+    const notes = [...this.hiddenInWords(this.graph, this.view), ...this.seenInWords(this.graph)];
     this.ask.told(danglingInWords(this.graph.dangling), notes);
   }
 
-  /** @param {Graph} graph */
-  hiddenInWords({blocks}) {
-    const {hidden, hiddenLost, places} = this.view.shown;
+  /**
+   * @param {Graph} graph
+   * @param {View} view
+   */
+  hiddenInWords({blocks}, view) {
+    const {hidden, hiddenLost, places} = view.shown;
     const folded = places.length - blocks.length;
     const lost = blocks.filter((it) => it.isLost).map((it) => it.place);
     const more = lost.length > MOST_NAMED ? " .." : "";
+    const {chronicle} = this.kinds;
+    const isPast = chronicle && !chronicle.knows(this.number);
     return [
       lost.length ? `Lost: nothing leads to ${lost.slice(0, MOST_NAMED).join(", ")}${more}` : "",
       hidden ? `Not drawn: ${count(hidden, "block")} further from the bugs` : "",
       hiddenLost ? `Not drawn: ${withCommas(hiddenLost)} lost` : "",
-      folded ? `Folded: ${count(folded, "block")}` : ""
+      folded ? `Folded: ${count(folded, "block")}` : "",
+      isPast ? `The run is read up to state ${withCommas(chronicle.last)}; past it no use after free is told` : ""
     ].filter((it) => it);
   }
 
@@ -277,7 +286,7 @@ export class Drawing {
   // Folds what is below a block, or unfolds it.
   /** @param {number} place */
   fold(place) {
-    if (!this.plan?.below.get(place)?.length) return;
+    if (!this.view || !this.plan?.below.get(place)?.length) return;
     if (!this.folded.delete(place)) this.folded.add(place);
     this.show(this.view, this.before);
   }
@@ -288,7 +297,7 @@ export class Drawing {
    * Lights the way of a chain: the blocks that it comes to, and the arrows along which. Where it traps, the
    * block at which it ends is marked.
    * @param {ChainStep[]} steps
-   * @param {any} trap
+   * @param {import("./chain.js").ChainTrap | null | undefined} trap
    */
   light(steps, trap = null) {
     const fields = steps.filter((it) => it.place !== null);

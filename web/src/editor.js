@@ -2,14 +2,24 @@
 // and the numbers of cards and statements beside it; of both only what is in sight is made.
 
 import {Cards} from "./cards.js";
-import {COLUMNS, linesOf} from "./deck.js";
+import {COLUMNS, linesOf, readDeck} from "./deck.js";
 import {make} from "./dom.js";
 
 const PAD = 4; // above the first line, in pixels
 const INDENT = 2;
 
+/** @typedef {import("./deck.js").Reading} Reading */
+/** @typedef {import("./cards.js").Spot} Spot */
+/** @typedef {import("./checker.js").Finding} Finding */
+/** @typedef {{deck: Reading, lines: string[]}} Base */
+
 export class Editor {
-  // `cards` shows the deck wrapped, too, where the editor is not seen.
+  /**
+   * `cards` shows the deck wrapped, too, where the editor is not seen.
+   * @param {{text: HTMLTextAreaElement, under: HTMLElement, gutter: HTMLElement, ruler: HTMLElement,
+   *   cards: HTMLElement}} parts
+   * @param {(statement: number, runs: boolean) => void} toggle
+   */
   constructor({text, under, gutter, ruler, cards}, toggle) {
     this.cards = new Cards(cards, toggle);
     this.text = text;
@@ -22,13 +32,12 @@ export class Editor {
     this.above = 0;    // of the ruler
     /** @type {Set<number>} */
     this.breakpoints = new Set();
-    /** @type {any} */
+    /** @type {Spot | null} */
     this.spot = null; // where the run is
-    /** @type {any[]} */
+    /** @type {Finding[]} */
     this.findings = []; // what the program finds in the deck
-    /** @type {any} */
-    this.deck = null; // as it was read
-    /** @type {any} */
+    this.deck = readDeck(""); // as it was read
+    /** @type {Base | null} */
     this.base = null; // the latest deck that was read whole, to whose statements the breakpoints belong
     this.measure();
     text.addEventListener("scroll", () => this.draw());
@@ -51,7 +60,11 @@ export class Editor {
     this.draw();
   }
 
-  // Begins with another deck, and its breakpoints.
+  /**
+   * Begins with another deck, and its breakpoints.
+   * @param {Reading} deck
+   * @param {number[]} breakpoints
+   */
   begin(deck, breakpoints) {
     this.breakpoints = new Set(breakpoints);
     this.base = null;
@@ -60,6 +73,7 @@ export class Editor {
   }
 
   // The deck was read again after an edit. Breakpoints stay on their cards.
+  /** @param {Reading} deck */
   read(deck) {
     this.deck = deck;
     if (deck.isWhole) {
@@ -72,13 +86,12 @@ export class Editor {
 
   // Draws what is in sight.
   draw() {
-    if (!this.deck) return;
     if (this.cards.frame.offsetHeight) this.drawCards();
     const {scrollTop, scrollLeft, clientHeight} = this.text;
     const first = Math.max(0, Math.floor((scrollTop - PAD) / this.row));
     const last =
       Math.min(Math.max(this.deck.cards.length, 1), first + Math.ceil(clientHeight / this.row) + 2);
-    const top = (card) => PAD + card * this.row - scrollTop;
+    const top = (/** @type {number} */ card) => PAD + card * this.row - scrollTop;
     const beside = [];
     for (let card = first; card < last; card++) beside.push(...this.numbersOf(card, top(card)));
     this.gutter.replaceChildren(...beside);
@@ -90,8 +103,9 @@ export class Editor {
     this.cards.show(this.text.value, this.deck, this.breakpoints, this.spot);
   }
 
+  /** @param {number} left */
   lanes(left) {
-    const lane = (name, from, width) => {
+    const lane = (/** @type {string} */ name, /** @type {number} */ from, /** @type {number} */ width) => {
       const element = make("div", {class: name});
       element.style.left = `${INDENT + from * this.column - left}px`;
       if (width) element.style.width = `${width * this.column}px`;
@@ -100,11 +114,19 @@ export class Editor {
     return [lane("first", 0, 1), lane("last", COLUMNS, 0)];
   }
 
+  /**
+   * @param {number} first
+   * @param {number} last
+   * @param {(card: number) => number} top
+   * @param {number} left
+   */
   shades(first, last, top, left) {
     const found = [];
+    /** @type {[string, Spot][]} */
     const marks = this.findings.map((it) => [it.isError ? "bad" : "odd", it]);
-    for (const [kind, spot] of [["at", this.spot], ...marks]) {
-      if (!spot || spot.card < first || spot.card >= last) continue;
+    if (this.spot) marks.unshift(["at", this.spot]);
+    for (const [kind, spot] of marks) {
+      if (spot.card < first || spot.card >= last) continue;
       const line = make("div", {class: `line ${kind}`});
       line.style.top = `${top(spot.card)}px`;
       const mark = make("div", {class: `spot ${kind}`});
@@ -116,6 +138,10 @@ export class Editor {
     return found;
   }
 
+  /**
+   * @param {number} card
+   * @param {number} top
+   */
   numbersOf(card, top) {
     const number = make("span", {class: "card"}, String(card + 1));
     number.style.top = `${this.above + top}px`;
@@ -131,7 +157,7 @@ export class Editor {
         "aria-label": `Breakpoint at statement ${statement}`,
         title: `Statement ${statement}: ${
           hasBreakpoint ? "remove the breakpoint" : "set a breakpoint"} (Shift and click: run to it)`,
-        onclick: (event) => this.toggle(statement, event.shiftKey),
+        onclick: (/** @type {MouseEvent} */ event) => this.toggle(statement, event.shiftKey),
       },
       String(statement)
     );
@@ -140,6 +166,7 @@ export class Editor {
   }
 
   // Marks where the run is, and brings it into sight.
+  /** @param {Spot | null} spot */
   point(spot) {
     this.spot = spot;
     if (spot && spot.card >= 0) this.reveal(spot.card);
@@ -153,16 +180,19 @@ export class Editor {
   }
 
   // The text of a card.
+  /** @param {number} card */
   lineOf(card) {
     return linesOf(this.text.value)[card] ?? "";
   }
 
   // Marks what the program finds in the deck.
+  /** @param {Finding[]} findings */
   mark(findings) {
     this.findings = findings;
     this.draw();
   }
 
+  /** @param {number} card */
   reveal(card) {
     const {scrollTop, clientHeight} = this.text;
     const top = PAD + card * this.row;
@@ -185,7 +215,7 @@ export class Editor {
   // The card and the column of the cursor, counted from 0.
   cursor() {
     const before = this.text.value.slice(0, this.text.selectionStart).split("\n");
-    return {card: before.length - 1, column: before.at(-1).length};
+    return {card: before.length - 1, column: before[before.length - 1].length};
   }
 
   // The statement with the cursor, or the one after it.
@@ -196,7 +226,11 @@ export class Editor {
     return this.deck.statements.length; // the DONE that every deck gets
   }
 
-  // Puts the cursor on a card.
+  /**
+   * Puts the cursor on a card.
+   * @param {number} card
+   * @param {number} column
+   */
   goTo(card, column) {
     const before = this.text.value.split("\n").slice(0, card).join("\n").length + (card > 0 ? 1 : 0);
     this.text.focus();
@@ -205,8 +239,13 @@ export class Editor {
   }
 }
 
-// The statements of an edited deck on the cards of those that had breakpoints: on cards before the edit,
-// after it, or in it where it has as many cards as before.
+/**
+ * The statements of an edited deck on the cards of those that had breakpoints: on cards before the edit,
+ * after it, or in it where it has as many cards as before.
+ * @param {Set<number>} breakpoints
+ * @param {Base} was
+ * @param {Base} is
+ */
 function breakpointsAfter(breakpoints, was, is) {
   const [old, now] = [was.lines, is.lines];
   const more = now.length - old.length;

@@ -1,6 +1,9 @@
-// The engine: its worker does the jobs, so that the page always answers, and the reader can stop them.
+// The engine: its workers do the jobs, so that the page always answers, and the reader can stop them. There is
+// one, until jobs take so long that several at a time are worth their memory.
 
 import {textOfBytes} from "./bytes.js";
+
+/** @typedef {{resolve: (answer: any) => void, reject: (error: Error) => void, worker: Worker}} Job that waits */
 
 // Why a job has no answer: the reader stopped it.
 export class Stopped extends Error {}
@@ -17,10 +20,13 @@ export class Engine {
     this.module = module;
     this.changed = changed;
     this.address = URL.createObjectURL(new Blob([script], {type: "text/javascript"}));
-    /** @type {Map<number, {resolve: (answer: any) => void, reject: (error: Error) => void}>} */
+    /** @type {Map<number, Job>} */
     this.waiting = new Map();
     this.number = 0;
+    this.most = 1; // workers
     this.worker = this.begin();
+    /** @type {Worker[]} */
+    this.others = [];
   }
 
   begin() {
@@ -29,6 +35,17 @@ export class Engine {
     worker.onerror = (event) => this.fail(new Error(event.message));
     worker.postMessage({module: this.module});
     return worker;
+  }
+
+  // A worker that has nothing to do; another one, as long as there may be more; else that with the fewest jobs.
+  idle() {
+    const jobs = new Map([this.worker, ...this.others].map((it) => [it, 0]));
+    for (const {worker} of this.waiting.values()) jobs.set(worker, (jobs.get(worker) ?? 0) + 1);
+    const [[worker, count]] = [...jobs].sort((a, b) => a[1] - b[1]);
+    if (count === 0 || jobs.size >= this.most) return worker;
+    const other = this.begin();
+    this.others.push(other);
+    return other;
   }
 
   // Has a job done: the words of the command line, and what standard input has, as bytes. With a digest the
@@ -42,10 +59,11 @@ export class Engine {
    */
   run(words, input, limit, digest = null) {
     const number = ++this.number;
+    const worker = this.idle();
     return new Promise((resolve, reject) => {
-      this.waiting.set(number, {resolve, reject});
+      this.waiting.set(number, {resolve, reject, worker});
       this.changed();
-      this.worker.postMessage({number, words, input, limit, digest});
+      worker.postMessage({number, words, input, limit, digest});
     });
   }
 
@@ -57,9 +75,10 @@ export class Engine {
    */
   survey(survey) {
     const number = ++this.number;
+    const {worker} = this;
     return new Promise((resolve, reject) => {
-      this.waiting.set(number, {resolve, reject});
-      this.worker.postMessage({number, survey});
+      this.waiting.set(number, {resolve, reject, worker});
+      worker.postMessage({number, survey});
     });
   }
 
@@ -88,7 +107,8 @@ export class Engine {
 
   /** @param {Error} error */
   fail(error) {
-    this.worker.terminate();
+    for (const worker of [this.worker, ...this.others]) worker.terminate();
+    this.others = [];
     const jobs = [...this.waiting.values()];
     this.waiting.clear();
     this.worker = this.begin();

@@ -9,6 +9,7 @@ import {blockInWords} from "./spoken.js";
 
 const COLOURS = 8;
 const CROSS = 5; // pixels, of the mark on a broken arrow
+const PILL_HALF = 11; // of the sign of a bug
 
 /** @typedef {import("./graph.js").Graph} Graph */
 /** @typedef {import("./graph.js").Block} Block */
@@ -153,7 +154,7 @@ export class Figures {
         kept.set(bug.name, element);
         const kind = `pill${bug.isChanged ? " changed" : ""}${bug.isBroken ? " broken" : ""}`;
         element.setAttribute("class", kind);
-        element.style.transform = `translate(${block.x + index * PILL_STEP}px, ${block.y}px)`;
+        element.style.transform = `translate(${pillAt(block, index)}px, ${block.y}px)`;
         if (element.parentNode !== this.layer.pills) this.layer.pills.append(element);
       }
     for (const [name, element] of this.pills) if (!kept.has(name)) element.remove();
@@ -258,4 +259,14 @@ export function arrowHeads() {
 /** @param {number} index */
 export function colourNumber(index) {
   return index % COLOURS;
+}
+
+/**
+ * Where a bug above a block begins: from its left on, or at one of its corners.
+ * @param {Block} block
+ * @param {number} index
+ */
+function pillAt({x, width, side = 0}, index) {
+  if (side < 0) return x - PILL_HALF - index * PILL_STEP;
+  return x + (side > 0 ? width - PILL_HALF : 0) + index * PILL_STEP;
 }

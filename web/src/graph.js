@@ -15,8 +15,8 @@ import {seenThrough} from "./word.js";
  * @typedef {{key: string, name: string, names: string[], from: number, target: number, down?: boolean,
  *   side?: number, isBack?: boolean, isBroken?: boolean, isChanged?: boolean}} Link
  * @typedef {{place: number, size: number, isLost?: boolean, isNew?: boolean, isChanged?: boolean,
- *   isGhost?: boolean, dead?: number, words?: number[], links: Link[], shape: any, width: number,
- *   height: number, below: number, isFolded: boolean, x: number, y: number}} Block
+ *   isGhost?: boolean, dead?: number, words?: number[], links: Link[], shape: import("./shape.js").Shape,
+ *   side?: number, width: number, height: number, below: number, isFolded: boolean, x: number, y: number}} Block
  * @typedef {{name: string, place: number, isChanged: boolean, isBroken: boolean}} Bug
  * @typedef {{windows: Window[], blocks: Block[], ghosts: Block[], bugs: Bug[], dangling: Dangling[],
  *   ways: Plan["ways"], isBox: boolean}} Graph
@@ -25,8 +25,8 @@ import {seenThrough} from "./word.js";
 /**
  * The drawing of a view by the plan of its run. `kindOf` says what a window holds, `folded` has the blocks of
  * which nothing below is drawn.
- * @param {any} view
- * @param {any} before
+ * @param {import("./view.js").View} view
+ * @param {import("./view.js").View | null} before
  * @param {{plan: Plan, kindOf: (window: Window) => Kind, chronicle?: Chronicle | null,
  *   folded?: Set<number>}} wishes
  * @returns {Graph}
@@ -44,7 +44,7 @@ export function graphOf(view, before, {plan, kindOf, chronicle = null, folded = 
   const blocks = shown.map((/** @type {number} */ place) => {
     const block = blockOf(view, place, windows, links.get(place) ?? [], plan);
     block.isFolded = folded.has(place) && block.below > 0;
-    block.isNew = Boolean(before) && before.store.block(place)?.size !== block.size;
+    block.isNew = before !== null && before.store.block(place)?.size !== block.size;
     if (before) markChanges(block, before, windows);
     return block;
   });
@@ -60,7 +60,7 @@ export function graphOf(view, before, {plan, kindOf, chronicle = null, folded = 
 }
 
 /**
- * @param {any} view
+ * @param {import("./view.js").View} view
  * @param {number} place
  * @param {Window[]} windows
  * @param {Link[]} links
@@ -68,8 +68,8 @@ export function graphOf(view, before, {plan, kindOf, chronicle = null, folded = 
  * @returns {Block}
  */
 function blockOf(view, place, windows, links, plan) {
-  const {size, isLost} = view.store.block(place);
-  const words = view.words.get(place);
+  const {size = 0, isLost = false} = view.store.block(place) ?? {};
+  const words = view.words.get(place) ?? undefined;
   for (const link of links)
     Object.assign(link, plan.ways.get(link.key) ?? {down: false, side: 0, isBack: false});
   const shape = shapeOf({place, size}, words, windows, links, plan.detail, plan.chip);
@@ -120,7 +120,7 @@ function ghostOf({place, size, dead}, plan) {
 /**
  * Where the windows of a block lead. The debugger gives it for blocks that are reached; lost ones are read
  * here.
- * @param {any} view
+ * @param {import("./view.js").View} view
  * @param {number} place
  * @param {Window[]} windows
  * @returns {Link[]}
@@ -133,7 +133,7 @@ export function linksOf(view, place, windows) {
   for (const {key, name, names, ...window} of windows) {
     let target = null;
     if (drawn) {
-      target = drawn.links.find((/** @type {any} */ it) => names.includes(it.field))?.target ?? null;
+      target = drawn.links.find((it) => names.includes(it.field))?.target ?? null;
     } else if (words && window.word < words.length) {
       const value = seenThrough(words[window.word], window);
       if (view.store.block(value)) target = value;
@@ -195,8 +195,8 @@ function isLinkedBothWays(used, links) {
 
 /**
  * The bugs that lead to blocks, and those that dangle. Those that only hold the number of a place do not lead.
- * @param {any} view
- * @param {any} before
+ * @param {import("./view.js").View} view
+ * @param {import("./view.js").View | null} before
  * @param {Chronicle | null} chronicle
  * @param {Dangling[]} dangling
  * @returns {Bug[]}
@@ -216,18 +216,18 @@ function bugsLeading(view, before, chronicle, dangling) {
   return [...leading].map(([name, place]) => ({
     name,
     place,
-    isChanged: Boolean(before) && (before.bugs.get(name) ?? 0) !== place,
+    isChanged: before !== null && (before.bugs.get(name) ?? 0) !== place,
     isBroken: broken.has(name)
   }));
 }
 
 /**
  * @param {Block} block
- * @param {any} before
+ * @param {import("./view.js").View} before
  * @param {Window[]} windows
  */
 function markChanges(block, before, windows) {
-  const old = before.words?.get(block.place);
+  const old = before.words.get(block.place);
   const {words} = block;
   if (!old || block.isNew || !words) return;
   const isOther = (/** @type {Window | null | undefined} */ window, /** @type {number} */ word) => {

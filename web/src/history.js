@@ -7,6 +7,11 @@ import {withCommas} from "./word.js";
 const SAMPLES = 60; // states that are asked for
 const WIDTH = 600;
 const HEIGHT = 90;
+/** @typedef {import("./view.js").View} View */
+/** @typedef {import("./session.js").Session} Session */
+/** @typedef {{number: number, used: number, free: number, largest: number}} Sample how a store is used in a state */
+
+/** @type {{key: "used" | "free" | "largest", name: string, kind: string}[]} */
 const LINES = [
   {key: "used", name: "words in blocks", kind: "used"},
   {key: "free", name: "free words", kind: "free"},
@@ -14,16 +19,30 @@ const LINES = [
 ];
 
 export class History {
-  // The graph is in `frame`, and is made while the box is checked.
+  /**
+   * The graph is in `frame`, and is made while the box is checked.
+   * @param {HTMLElement} frame
+   * @param {HTMLInputElement} box
+   * @param {{goTo: (number: number) => void, trouble: (error: unknown) => void}} ask
+   */
   constructor(frame, box, {goTo, trouble}) {
     this.frame = frame;
     this.box = box;
     this.goTo = goTo;
     this.trouble = trouble;
+    /** @type {Sample[] | null} */
     this.samples = null;
+    /** @type {View | null} */
+    this.view = null;
+    /** @type {Session | null} */
+    this.session = null;
     box.addEventListener("change", () => this.draw());
   }
 
+  /**
+   * @param {View} view
+   * @param {Session} session
+   */
   show(view, session) {
     if (this.session !== session) this.samples = null;
     this.view = view;
@@ -39,72 +58,85 @@ export class History {
   async draw() {
     const {session, view} = this;
     this.frame.hidden = !this.box.checked || !view;
-    if (this.frame.hidden) return;
+    if (!this.box.checked || !view || !session) return;
     try {
-      this.samples ??= await session.totals(await this.numbers());
+      this.samples ??= await session.totals(await numbersOf(session));
     } catch (error) {
       this.trouble(error);
       return;
     }
-    if (this.session === session && this.samples) this.put();
+    if (this.session === session && this.view && this.samples) this.put(this.samples, this.view.state.number);
   }
 
-  // The states that are asked for: evenly from the first to the last one.
-  async numbers() {
-    await this.session.run();
-    const {last} = this.session;
-    const count = Math.min(SAMPLES, last + 1);
-    const at = (index) => (count < 2 ? 0 : Math.round((index * last) / (count - 1)));
-    return [...new Set(Array.from({length: count}, (_, index) => at(index)))];
-  }
-
-  put() {
-    const {samples, view} = this;
-    const last = Math.max(1, samples.at(-1).number);
+  /**
+   * @param {Sample[]} samples
+   * @param {number} number of the state that is shown
+   */
+  put(samples, number) {
+    const last = Math.max(1, samples[samples.length - 1].number);
     const most = samples[0].used + samples[0].free;
-    const x = (number) => (number / last) * WIDTH;
-    const y = (words) => HEIGHT - 2 - (words / most) * (HEIGHT - 4);
-    const lineOf = ({key, kind}) => svg("polyline", {
+    const x = (/** @type {number} */ at) => (at / last) * WIDTH;
+    const y = (/** @type {number} */ words) => HEIGHT - 2 - (words / most) * (HEIGHT - 4);
+    const lineOf = (/** @type {typeof LINES[0]} */ {key, kind}) => svg("polyline", {
       class: kind,
       points: samples.map((it) => `${x(it.number).toFixed(1)},${y(it[key]).toFixed(1)}`).join(" ")
     });
     const now =
-      svg("line", {class: "now-line", x1: x(view.state.number), x2: x(view.state.number), y1: 0, y2: HEIGHT});
-    const title = `Over ${withCommas(last + 1)} states, of ${withCommas(most)} words: ${this.inWords()}`;
+      svg("line", {class: "now-line", x1: x(number), x2: x(number), y1: 0, y2: HEIGHT});
+    const title = `Over ${withCommas(last + 1)} states, of ${withCommas(most)} words: ${inWords(samples)}`;
     const picture = svg(
       "svg", {
         viewBox: `0 0 ${WIDTH} ${HEIGHT}`,
         preserveAspectRatio: "none",
         role: "img",
         "aria-label": title,
-        onclick: (event) => this.pick(event, last)
+        onclick: (/** @type {MouseEvent} */ event) => this.pick(event, last)
       },
       ...LINES.map(lineOf), now
     );
     const key = LINES.map(
       ({key: name, name: says, kind}) =>
-        make("span", {class: kind}, `${says}: ${withCommas(nearest(samples, view.state.number)[name])}`)
+        make("span", {class: kind}, `${says}: ${withCommas(nearest(samples, number)[name])}`)
     );
     this.frame.replaceChildren(picture, make("p", {class: "amounts"}, ...key));
   }
 
-  // The first, the greatest and the last of each line, for those who do not see it.
-  inWords() {
-    return LINES
-      .map(({key, name}) => {
-        const all = this.samples.map((it) => it[key]);
-        return `${name} from ${withCommas(all[0])} to ${withCommas(all.at(-1))}, between ${
-          withCommas(Math.min(...all))} and ${withCommas(Math.max(...all))}`;
-      })
-      .join("; ");
-  }
-
+  /**
+   * @param {MouseEvent} event
+   * @param {number} last
+   */
   pick(event, last) {
-    const {left, width} = event.currentTarget.getBoundingClientRect();
+    const {left, width} = /** @type {Element} */ (event.currentTarget).getBoundingClientRect();
     this.goTo(Math.round(((event.clientX - left) / width) * last));
   }
 }
 
+// The states that are asked for: evenly from the first to the last one.
+/** @param {Session} session */
+async function numbersOf(session) {
+  await session.run();
+  const last = session.last ?? 0;
+  const count = Math.min(SAMPLES, last + 1);
+  const at = (/** @type {number} */ index) => (count < 2 ? 0 : Math.round((index * last) / (count - 1)));
+  return [...new Set(Array.from({length: count}, (_, index) => at(index)))];
+}
+
+// The first, the greatest and the last of each line, for those who do not see it.
+/** @param {Sample[]} samples */
+function inWords(samples) {
+  return LINES
+    .map(({key, name}) => {
+      const all = samples.map((it) => it[key]);
+      return `${name} from ${withCommas(all[0])} to ${withCommas(all[all.length - 1])}, between ${
+        withCommas(Math.min(...all))} and ${withCommas(Math.max(...all))}`;
+    })
+    .join("; ");
+}
+
+/**
+ * @param {Sample[]} samples
+ * @param {number} number
+ */
 function nearest(samples, number) {
   return samples.reduce(
     (best, it) => (Math.abs(it.number - number) < Math.abs(best.number - number) ? it : best)

@@ -4,8 +4,8 @@ import {byId} from "./dom.js";
 
 // The keys that work everywhere.
 /**
- * @param {any} page
- * @param {any} target
+ * @param {import("./typing.js").Typing} page
+ * @param {HTMLElement} target
  * @param {boolean} isTyping
  * @returns {Record<string, () => void>}
  */
@@ -21,8 +21,8 @@ function everywhere(page, target, isTyping) {
 }
 
 /**
- * @param {any} page
- * @param {any} target
+ * @param {import("./typing.js").Typing} page
+ * @param {HTMLElement} target
  * @param {boolean} isTyping
  */
 function escape(page, target, isTyping) {
@@ -39,7 +39,7 @@ function escape(page, target, isTyping) {
 
 // Those that work where nothing is typed.
 /**
- * @param {any} page
+ * @param {import("./typing.js").Typing} page
  * @returns {Record<string, () => void>}
  */
 function outside(page) {
@@ -67,17 +67,18 @@ function outside(page) {
 }
 
 /**
- * @param {any} page
+ * @param {import("./typing.js").Typing} page
  * @param {KeyboardEvent} event
  */
 export function press(page, event) {
   const {key} = event;
-  const target = /** @type {any} */ (event.target);
+  const target = /** @type {HTMLElement} */ (event.target);
   if (document.querySelector("dialog[open]") || byId("manual-pane").contains(target)) return;
-  const isBox = target.tagName === "INPUT" && !/^(checkbox|range)$/.test(target.type);
+  const kind = target instanceof HTMLInputElement ? target.type : "";
+  const isBox = target.tagName === "INPUT" && !/^(checkbox|range)$/.test(kind);
   const isTyping = isBox || /^(TEXTAREA|SELECT)$/.test(target.tagName);
   // (arrows move the slider; Home and End go to the run's own, which it may not know yet)
-  const isControl = target.tagName === "INPUT" && target.type === "range" && /^Arrow/.test(key);
+  const isControl = kind === "range" && /^Arrow/.test(key);
   if (isControl) return;
   const isPressed = /^(BUTTON|SUMMARY)$/.test(target.tagName) && (key === " " || key === "Enter");
   const held =

@@ -25,7 +25,7 @@ export class Kinds {
 
   // Takes what is known of a run: what is read in its deck, and its chronicle or null.
   /**
-   * @param {any} reading
+   * @param {import("./deck.js").Reading} reading
    * @param {Chronicle | null} chronicle
    */
   begin(reading, chronicle) {

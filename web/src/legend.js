@@ -23,9 +23,8 @@ export class Legend {
 
   /** @param {string[]} hidden names of bugs */
   show(hidden) {
-    const {graph, kinds, view} = this.drawing;
+    const {graph, kinds, number} = this.drawing;
     if (!graph) return;
-    const {number} = view.state;
     const tell = (/** @type {Window} */ it) =>
       [it.name, it.key, kinds.of(it, number), kinds.chosen.has(it.key), graph.ways.get(it.key)];
     const sign = JSON.stringify([graph.windows.map(tell), hidden]);
@@ -75,11 +74,11 @@ export class Legend {
    * @param {import("./kinds.js").Kind} kind
    */
   kindOf(window, kind) {
-    const {kinds, view} = this.drawing;
+    const {kinds} = this.drawing;
     const why = kinds.chosen.has(window.key) ? "as you chose" : "as the run uses it";
     const title = `${window.name} holds ${MANY[kind]}, ${why}: click for another kind`;
     const turn = () => {
-      kinds.turn(window, view.state.number);
+      kinds.turn(window, this.drawing.number);
       this.changed();
     };
     const names = {id: `kind-${window.key}`, title, "aria-label": title};

@@ -1,28 +1,56 @@
 // Where decks come from and go to: the menu of examples and exercises, files, and links.
 
-import {textOfBytes} from "./bytes.js";
 import {byId, make} from "./dom.js";
-import {job, partsOf} from "./job.js";
+import {save} from "./download.js";
+import {readFile} from "./files.js";
+import {job} from "./job.js";
 import {titleOf} from "./keep.js";
 import {linkOf, readLink} from "./links.js";
 import {DEFAULTS} from "./options.js";
-import {save} from "./papers.js";
+import {differenceOf} from "./printouts.js";
 import {Solved} from "./solved.js";
-import {taskOf} from "./tasks.js";
-import {count, withCommas} from "./word.js";
+import {withCommas} from "./word.js";
 
-const MOST_JOB = 16_777_216; // bytes
-const MOST_PART = 1_048_576; // of a deck, an input, or commands
 const LAST = "last:"; // before the number of one of the reader's last decks
 const TO_BEGIN = "Beside this is what it is to print. Type, and press Run.";
 
+/** @typedef {import("./session.js").Session} Session */
+/** @typedef {import("./view.js").View} View */
+/** @typedef {import("./deck.js").Reading} Reading */
+/** @typedef {import("./keep.js").Work} Work */
+/** @typedef {import("./verify.js").Task} Task */
+/**
+ * A deck that is put into the page, with what may belong to it.
+ * @typedef {{deck: string, input?: string, commands?: string, options?: object, breakpoints?: number[],
+ *   bySize?: boolean, kinds?: string}} Own
+ *
+ * An exercise, which has a key, or a task.
+ * @typedef {Task & {key?: string, task: string}} Exercise
+ * @typedef {Own & {key: string, title: string, task?: string, printout?: string}} Example
+ * @typedef {{name: string, items: Example[]}} Group of the menu
+ *
+ * What the library needs of the page: the job, what is shown, and what may be done with it.
+ * @typedef {{job: () => import("./session.js").Job, put: (own: Own) => void, tell: (text: string) => void,
+ *   state: (number: number) => Promise<void>, shown: () => number | null, kinds: () => string,
+ *   breakpoints: () => number[], setBreakpoints: (statements: number[]) => void,
+ *   lecture: (isOn: boolean) => void, embed: () => void, isLecture: () => boolean,
+ *   keeper: import("./keep.js").Keeper, verdict: (exercise: Exercise) => Promise<string>,
+ *   handIn: (name: string) => void}} Desk
+ */
+
 export class Library {
-  // `desk` is what of the page the library may use: its job, its messages, its states.
+  /**
+   * `desk` is what of the page the library may use: its job, its messages, its states.
+   * @param {Desk} desk
+   * @param {Group[]} examples
+   */
   constructor(desk, examples) {
     this.desk = desk;
     this.examples = examples;
-    this.example = null;    // that was opened
-    this.exercise = null;   // with its task: one of the examples, or one that came with a link or a file
+    /** @type {Example | null} */
+    this.example = null; // that was opened
+    /** @type {Exercise | null} */
+    this.exercise = null; // one of the examples, or one that came with a link or a file
     this.isChanged = false; // whether the deck or the input was changed since it was opened, saved or linked
     this.hasWork = false;   // and whether since it was opened
     this.solved = new Solved();
@@ -30,9 +58,11 @@ export class Library {
   }
 
   fillMenu() {
-    const nameOf = ({key, title, task}) => `${task && this.solved.has(key) ? "✓ " : ""}${title}`;
+    const nameOf = (/** @type {Example} */ {key, title, task}) =>
+      `${task && this.solved.has(key) ? "✓ " : ""}${title}`;
     const last = this.desk.keeper.decks();
-    const lastOf = (work, index) => make("option", {value: `${LAST}${index}`}, titleOf(work));
+    const lastOf = (/** @type {Work} */ work, /** @type {number} */ index) =>
+      make("option", {value: `${LAST}${index}`}, titleOf(work));
     byId("example").replaceChildren(
       make("option", {value: ""}, "Examples and exercises .."),
       ...(last.length ? [make("optgroup", {label: "Your last decks"}, ...last.map(lastOf))] : []),
@@ -53,10 +83,12 @@ export class Library {
     return !this.isChanged || window.confirm("The deck was changed and not saved. Open another one?");
   }
 
+  /** @param {string} key */
   find(key) {
     return this.examples.flatMap((it) => it.items).find((it) => it.key === key);
   }
 
+  /** @param {string} key */
   chooseExample(key) {
     if (!key || !this.mayLeave()) {
       byId("example").value = this.example?.key ?? "";
@@ -68,6 +100,7 @@ export class Library {
   }
 
   // Opens one of the reader's last decks again.
+  /** @param {number} index */
   openLast(index) {
     const work = this.desk.keeper.decks()[index];
     if (work) this.openWork(work);
@@ -82,20 +115,26 @@ export class Library {
     return true;
   }
 
+  /** @param {Work} work */
   openWork(work) {
-    const exercise = work.exercise ? this.find(work.exercise) : null;
-    this.put(work, null, exercise?.task ? exercise : null);
+    this.put(work, null, exerciseOf(work.exercise ? this.find(work.exercise) : null));
     this.hasWork = true;
     this.desk.keeper.save();
     if (typeof work.number === "number") this.offerState(work.number, "These are your deck and your input.");
   }
 
+  /** @param {string} key */
   openExample(key) {
     const example = this.find(key);
-    this.put(example, example, example.task ? example : null);
+    if (example) this.put(example, example, exerciseOf(example));
   }
 
-  // Puts a job into the page: one of the examples, or null, and the exercise that it belongs to.
+  /**
+   * Puts a job into the page: one of the examples, or null, and the exercise that it belongs to.
+   * @param {Own} own
+   * @param {Example | null} example
+   * @param {Exercise | null} exercise
+   */
   put(own, example, exercise) {
     if (this.hasWork) {
       this.desk.keeper.save();
@@ -130,6 +169,7 @@ export class Library {
   }
 
   // The box of the input says whether the deck reads it.
+  /** @param {Reading} deck */
   deckRead(deck) {
     const reads =
       deck.statements.some(({operations}) => operations.some(({elements}) => elements[1] === "IN"));
@@ -138,6 +178,7 @@ export class Library {
   }
 
   // What is printed is right: the exercise is solved if the hidden inputs and the conditions are, too.
+  /** @param {Exercise} exercise */
   async solveIfRight(exercise) {
     const {tests = [], conditions = {}} = exercise;
     if (!tests.length && !Object.keys(conditions).length) return this.solve(exercise);
@@ -171,41 +212,47 @@ export class Library {
       make("pre", {tabindex: 0, "aria-label": "What it is to print"}, exercise.printout),
       make("div", {class: "verdict-row"}, make("p", {id: "verdict", role: "status"}), this.handIn())
     );
-    this.showVerdict("", TO_BEGIN, ...this.ownSolution());
+    this.showVerdict("", TO_BEGIN, ...this.ownSolution(exercise));
   }
 
+  /**
+   * @param {string} kind
+   * @param {(string | Node)[]} parts
+   */
   showVerdict(kind, ...parts) {
     byId("verdict").className = kind;
     byId("verdict").replaceChildren(...parts);
   }
 
   // A button that puts back the deck with which the reader has solved the exercise.
-  ownSolution() {
-    const {key} = this.exercise;
-    if (!key || !this.solved.has(key)) return [];
+  /** @param {Exercise} exercise */
+  ownSolution(exercise) {
+    const {key} = exercise;
+    const deck = key && this.solved.deckOf(key);
+    if (!deck) return [];
     const put = () => {
-      if (this.mayLeave()) this.put({...this.exercise, deck: this.solved.deckOf(key)}, null, this.exercise);
+      if (this.mayLeave()) this.put({...exercise, deck}, null, exercise);
     };
     return [" You have solved it. ", make("button", {type: "button", onclick: put}, "Show how")];
   }
 
-  // Whether the printout is that which the exercise asks for.
+  /**
+   * Whether the printout is that which the exercise asks for.
+   * @param {View} view
+   * @param {Session} session
+   */
   checkExercise(view, session) {
     const {exercise} = this;
     if (!exercise || !view.state.ending) return;
     const printed = session.printout?.printed ?? view.output;
-    const lines = printed.trimEnd().split("\n");
-    const wanted = exercise.printout.trimEnd().split("\n");
-    const wrong = wanted.findIndex((line, index) => line !== lines[index]);
-    const isRight = wrong < 0 && lines.length === wanted.length && view.state.ending === "DONE";
-    if (isRight) {
+    const why = differenceOf(printed, exercise.printout, view.state.ending, session.options.steps);
+    if (why)
+      this.showVerdict("wrong-answer", `Not yet: ${why}.`);
+    else
       this.solveIfRight(exercise);
-      return;
-    }
-    const found = {wrong, lines, wanted, ending: view.state.ending};
-    this.showVerdict("wrong-answer", `Not yet: ${difference(found, session.options.steps)}.`);
   }
 
+  /** @param {Exercise} exercise */
   solve(exercise) {
     if (exercise.key) {
       this.solved.add(exercise.key, this.desk.job().deck);
@@ -216,39 +263,33 @@ export class Library {
     const lost = exercise.key && !this.solved.isKept;
     this.showVerdict(
       "right-answer", "✓ Solved: just this is printed.",
-      lost ? " This browser keeps it only until the page is closed." : "", ...this.nextExercise()
+      lost ? " This browser keeps it only until the page is closed." : "", ...this.nextExercise(exercise)
     );
   }
 
   // A button that opens the exercise after this one, if there is one.
-  nextExercise() {
+  /** @param {Exercise} exercise */
+  nextExercise({key}) {
     const all = this.examples.flatMap(({items}) => items).filter((it) => it.task);
-    const next = this.exercise.key ? all[all.findIndex(({key}) => key === this.exercise.key) + 1] : null;
+    const next = key ? all[all.findIndex((it) => it.key === key) + 1] : null;
     if (!next) return [];
     return [
       make("button", {type: "button", onclick: () => this.chooseExample(next.key)}, `On to ${next.title}`)
     ];
   }
 
+  /** @param {Exercise & Own} task */
   openTask(task) {
     this.put(task, null, task);
   }
 
   // ---- Files
 
+  /** @param {File} file */
   async openFile(file) {
-    const tell = (text) => this.desk.tell(`${file.name} was not opened: ${text}`);
-    if (file.size > MOST_JOB)
-      return tell(`it has ${withCommas(file.size)} bytes, and a job has at most ${withCommas(MOST_JOB)}.`);
-    const text = textOfFile(new Uint8Array(await file.arrayBuffer()));
-    const task = taskOf(text);
-    const parts = task ?? partsOf(text);
-    const long = ["deck", "input", "commands"].find((it) => (parts[it]?.length ?? 0) > MOST_PART);
-    if (long)
-      return tell(
-        `its ${long} has ${withCommas(parts[long].length)} bytes, and ${withCommas(MOST_PART)} is the most.`
-      );
-    this.put(parts, null, task);
+    const {own, task, why} = await readFile(file);
+    if (!own) return this.desk.tell(`${file.name} was not opened: ${why}`);
+    this.put(own, null, task);
     return this.desk.tell(`opened ${file.name}`);
   }
 
@@ -261,6 +302,7 @@ export class Library {
   // ---- Links
 
   // A link to what the page shows.
+  /** @param {object} more */
   linkNow(more = {}) {
     const now = this.desk.job();
     const {example, exercise} = this;
@@ -329,14 +371,19 @@ export class Library {
     return true;
   }
 
+  /** @param {any} link */
   openOwn(link) {
     const own = link.exercise ? this.find(link.exercise) : null;
     const {task, printout, tests, conditions, input} = link;
-    this.put(link, null, own?.task ? own : task ? {task, printout, tests, conditions, input} : null);
+    this.put(link, null, exerciseOf(own) ?? (task ? {task, printout, tests, conditions, input} : null));
     if (link.number !== null) this.offerState(link.number, "This deck came with the link, and was not run.");
   }
 
-  // A button that goes to a state of what was opened.
+  /**
+   * A button that goes to a state of what was opened.
+   * @param {number} number
+   * @param {string} why
+   */
   offerState(number, why) {
     const go = make(
       "button", {type: "button", class: "main", onclick: () => this.desk.state(number)},
@@ -346,36 +393,8 @@ export class Library {
   }
 }
 
-// A file's bytes as a text: UTF-8, or else a character for each byte.
-function textOfFile(bytes) {
-  try {
-    return new TextDecoder("utf-8", {fatal: true, ignoreBOM: false}).decode(bytes);
-  } catch {
-    return textOfBytes(bytes);
-  }
-}
-
-// Where a printout first differs from the wanted one. That of a run that does not end is compared up to where
-// it was cut off.
-function difference({wrong, lines, wanted, ending}, steps) {
-  const printed = (index) => (lines[index] ? `“${shortened(lines[index])}”` : "empty");
-  const differs =
-    wrong < 0 ? "" : `line ${wrong + 1} is ${printed(wrong)}, and not “${shortened(wanted[wrong])}”`;
-  if (ending === "LIMIT") {
-    const isCut =
-      wrong >= lines.length || (wrong === lines.length - 1 && wanted[wrong].startsWith(lines[wrong]));
-    const isMore = wrong < 0 && lines.length > wanted.length;
-    const upTo = isMore  ? "more is printed than is wanted" :
-      wrong < 0 || isCut ? "up to there it is right" :
-                           differs;
-    return `the run does not end, and was stopped after ${count(steps, "step")}; ${upTo}`;
-  }
-  if (differs) return differs;
-  if (lines.length > wanted.length)
-    return `more is printed: line ${wanted.length + 1} is ${printed(wanted.length)}`;
-  return `all is printed, but the run does not end by DONE`;
-}
-
-function shortened(line) {
-  return line.length > 60 ? `${line.slice(0, 58)}..` : line;
+// An example as an exercise, or null where it is none.
+/** @param {Example | null | undefined} example */
+function exerciseOf(example) {
+  return example?.task ? /** @type {Exercise} */ (example) : null;
 }

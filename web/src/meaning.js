@@ -3,7 +3,22 @@
 import {COLUMNS} from "./deck.js";
 import {isSuffix} from "./group.js";
 
-// The action that comes next in a state: its card and columns, and what it is.
+/** @typedef {import("./deck.js").Reading} Reading */
+/** @typedef {import("./deck.js").Group} Group */
+/** @typedef {Reading["statements"][number]} Statement */
+/**
+ * What comes next: the kind of action, its text, where it is, and what it does.
+ * @typedef {{kind: "condition" | "operation" | "exit", text: string, card: number, from: number, to: number,
+ *   says: string}} Action
+ */
+
+/**
+ * The action that comes next in a state: its card and columns, and what it is.
+ * @param {Reading} deck
+ * @param {number} statement
+ * @param {number} action
+ * @returns {Action}
+ */
 export function actionAt(deck, statement, action) {
   const at = deck.statements[statement];
   if (!at)
@@ -24,6 +39,11 @@ export function actionAt(deck, statement, action) {
   return {kind: "exit", text: `statement ${statement}`, card, from: to, to: to + 1, says};
 }
 
+/**
+ * @param {Statement} at
+ * @param {number} statement
+ * @returns {Action}
+ */
 function conditionOf(at, statement) {
   if (!at.condition) {
     const first = at.operations[0] ?? at.exit ?? {card: at.card, from: Math.max(1, at.label.length)};
@@ -32,7 +52,7 @@ function conditionOf(at, statement) {
     return {kind: "condition", text: `statement ${statement}`, ...place, says: "begins; it has no condition"};
   }
   const {card, from, text} = at.condition;
-  const last = at.tests.at(-1);
+  const last = at.tests[at.tests.length - 1];
   return {
     kind: "condition",
     text: `${text} ${at.tests.map((it) => `(${it.text})`).join("")}`,
@@ -43,6 +63,7 @@ function conditionOf(at, statement) {
   };
 }
 
+/** @type {Record<string, string>} */
 const RELATIONS = {
   E: "is",
   N: "is not",
@@ -52,12 +73,20 @@ const RELATIONS = {
   Z: "has no bit of",
 };
 
-// What a test says, in a few words.
+/**
+ * What a test says, in a few words.
+ * @param {string[]} elements
+ * @param {string} text
+ */
 export function testMeaning(elements, text) {
   const [first, verb, third] = elements;
   return `${first} ${RELATIONS[verb[0]]} ${lastElement(verb, third, text)}`;
 }
 
+/**
+ * @param {string} word
+ * @param {Group[]} tests
+ */
 function conditionMeaning(word, tests) {
   const all = tests.map((it) => testMeaning(it.elements, it.text)).join("; ");
   switch (word) {
@@ -70,24 +99,36 @@ function conditionMeaning(word, tests) {
   }
 }
 
-// The last part of a group with a suffix: a text, an octal number, or a number or chain.
+/**
+ * The last part of a group with a suffix: a text, an octal number, or a number or chain.
+ * @param {string} verb
+ * @param {string} third
+ * @param {string} text
+ */
 function lastElement(verb, third, text) {
   if (verb[1] === "H") return `the text “${text.split(",")[2]}”`;
   return verb[1] === "O" ? `octal ${third}` : third;
 }
 
+/** @param {string} exit */
 function exitMeaning(exit) {
   if (exit === "DONE") return "returns from the latest call, or ends the run";
   if (exit === "FAIL") return "returns to the fail label of the latest call, or ends the run";
   return `goes to ${exit}`;
 }
 
-// The operation at a column of a card, or null.
+/**
+ * The operation at a column of a card, or null.
+ * @param {Reading} deck
+ * @param {number} card
+ * @param {number} column
+ */
 export function groupAt(deck, card, column) {
   const statement = deck.statements[deck.cards[card]];
   return statement?.operations.find((it) => it.card === card && it.from < column && column <= it.to) ?? null;
 }
 
+/** @type {Record<string, (chain: string, value: string) => string>} */
 const RESULTS = {
   E: (c, x) => `${c} becomes ${x}`,
   A: (c, x) => `adds ${x} to ${c}`,
@@ -103,7 +144,11 @@ const RESULTS = {
   R: (c, x) => `shifts ${c} right by ${x}`,
 };
 
-// What an operation does, in a few words.
+/**
+ * What an operation does, in a few words.
+ * @param {string[]} elements
+ * @param {string} text
+ */
 export function meaningOf(elements, text) {
   const [first, verb, third, fourth, fifth] = elements;
   if (first === "PL" && elements.length === 1) return "ends the line";
@@ -111,7 +156,8 @@ export function meaningOf(elements, text) {
     return `defines field ${verb[1]}: word ${first}, bits ${third} to ${fourth}`;
   if (verb.length <= 2 && verb[0] in RESULTS && elements.length === 3 && isSuffix(verb) && verb !== "DO")
     return RESULTS[verb[0]](first, lastElement(verb, third, text));
-  const orElse = (label, why) => (label ? `; goes to ${label} if ${why}` : "");
+  const orElse = (/** @type {string | undefined} */ label, /** @type {string} */ why) =>
+    (label ? `; goes to ${label} if ${why}` : "");
   switch (verb) {
     case "I": return `exchanges ${first} and ${third}`;
     case "FC":

@@ -15,7 +15,7 @@ import {Papers} from "./papers.js";
 import {Pictures} from "./pictures.js";
 import {Player} from "./player.js";
 import {referenceOf} from "./reference.js";
-import {Session} from "./session.js";
+import {Session, wordsOf} from "./session.js";
 import {TaskMaker} from "./tasks.js";
 import {Typing} from "./typing.js";
 import {unpacked} from "./unpack.js";
@@ -24,7 +24,13 @@ import {Viewer} from "./viewer.js";
 const LAST_STATE = 1_000_000_001;
 
 class Page extends Typing {
-  // The surveyor is an engine of its own, which reads runs while the other one answers.
+  /**
+   * The surveyor is an engine of its own, which reads runs while the other one answers.
+   * @param {Engine} engine
+   * @param {Engine} surveyor
+   * @param {import("./library.js").Group[]} examples
+   * @param {{name: string, title: string, markup: string}[]} manual
+   */
   constructor(engine, surveyor, examples, manual) {
     super();
     this.engine = engine;
@@ -37,6 +43,7 @@ class Page extends Typing {
       },
       (statement, runs) => this.markClicked(statement, runs)
     );
+    /** @type {Viewer} */
     this.viewer = new Viewer(this.editor, {
       trouble: (error) => this.trouble(error),
       goTo: (number) => this.state(number),
@@ -56,7 +63,7 @@ class Page extends Typing {
     this.papers = new Papers({
       job: () => this.job(),
       ask: (words, input) => this.ask(words, input),
-      words: (verb) => new Session(null, this.job(), this.editor.deck).words(verb),
+      words: (verb) => wordsOf(verb, this.job().options),
       exchanges: () => this.session?.exchanges ?? [],
     });
     this.checker = new Checker({
@@ -86,10 +93,12 @@ class Page extends Typing {
     this.tasks = new TaskMaker({
       job: () => this.job(),
       printed: () => this.session?.printout?.printed ?? this.view?.output ?? "",
-      open: (task) => this.library.openTask(task),
-      printoutOf: async (deck, input) => {
-        const session = new Session((...words) => this.ask(...words), {...this.job(), deck, input});
-        return (await session.run()).printed;
+      open: (/** @type {any} */ task) => this.library.openTask(task),
+      printoutOf: async (/** @type {string} */ deck, /** @type {string} */ input) => {
+        const session = new Session((words, bytes) => this.ask(words, bytes), {...this.job(), deck, input});
+        const {printed, ending} = await session.run();
+        if (ending.ending === "DONE") return printed;
+        throw new Error(`With a hidden input your own deck does not end by DONE: ${ending.line}`);
       },
     });
     this.answers = new Answers({
@@ -103,6 +112,7 @@ class Page extends Typing {
   }
 
   // What the library may do with the page.
+  /** @returns {import("./library.js").Desk} */
   desk() {
     return {
       job: () => this.job(),
@@ -116,7 +126,6 @@ class Page extends Typing {
       lecture: (isOn) => this.panes.lecture(isOn),
       embed: () => this.panes.embed(),
       isLecture: () => this.panes.isLecture,
-      reveal: (id) => this.reveal(id),
       keeper: this.keeper,
       verdict: (exercise) => this.answers.verdict(exercise, this.job().deck),
       handIn: (name) => this.answers.handIn(name),
@@ -124,6 +133,7 @@ class Page extends Typing {
   }
 
   // What the reader has typed, with where they are in it.
+  /** @returns {import("./keep.js").Work} */
   work() {
     return {
       ...this.job(),
@@ -137,7 +147,8 @@ class Page extends Typing {
   // ---- Events
 
   listen() {
-    const on = (id, event, what) => byId(id).addEventListener(event, what);
+    const on = (/** @type {string} */ id, /** @type {string} */ event, /** @type {() => void} */ what) =>
+      byId(id).addEventListener(event, what);
     const buttons = {
       run: () => this.run(),
       stop: () => this.stop(),
@@ -201,6 +212,7 @@ class Page extends Typing {
     return this.state(Math.max(0, Math.min(LAST_STATE, number)));
   }
 
+  /** @param {File | null | undefined} file */
   openFile(file) {
     if (file && this.library.mayLeave()) this.library.openFile(file);
   }

@@ -8,8 +8,23 @@ const MOST_BESIDE = 9_999_999; // the largest number with a text beside which oc
 const MOST_OF_BLOCK = 256;     // of a block that are shown
 const FULL_STOP = 14;          // the code with which most inputs end
 
-// The bugs that are not 0, or were not before. `choose` has what a click chooses: a `block`, or a bug or
-// field to `watch`.
+/** @typedef {import("./view.js").View} View */
+/** @typedef {import("./transcript.js").Field} Field */
+/** @typedef {import("./chronicle.js").Window} Window */
+/** @typedef {(watched: import("./values.js").Watched) => void} Watch */
+/** @typedef {{name: string, value: number, was: number, hint: Element | null}} Row */
+/** @typedef {{window: Window, text: string, isChanged: boolean, onclick: () => void}} Part of a word */
+/** @typedef {{colourOf: (name: string) => string, watch: Watch, place: number}} Choose */
+
+/**
+ * The bugs that are not 0, or were not before. `choose` has what a click chooses: a `block`, or a bug or
+ * field to `watch`.
+ * @param {HTMLElement} table
+ * @param {HTMLElement} amounts
+ * @param {View} view
+ * @param {View | null} before
+ * @param {{block: (place: number) => void, watch: Watch}} choose
+ */
 export function showBugs(table, amounts, view, before, choose) {
   const names = [...new Set([...view.bugs.keys(), ...(before?.bugs.keys() ?? [])])].sort();
   const rows = names.map((name) => {
@@ -23,12 +38,18 @@ export function showBugs(table, amounts, view, before, choose) {
   amounts.textContent = amountsInWords(view.amounts);
 }
 
-// The bugs in a line.
+/**
+ * The bugs in a line.
+ * @param {HTMLElement} frame
+ * @param {View} view
+ * @param {View | null} before
+ * @param {Watch} watch
+ */
 export function showBugStrip(frame, view, before, watch) {
   const names = [...new Set([...view.bugs.keys(), ...(before?.bugs.keys() ?? [])])].sort();
-  const partOf = (name) => {
+  const partOf = (/** @type {string} */ name) => {
     const value = view.bugs.get(name) ?? 0;
-    const isChanged = Boolean(before) && (before.bugs.get(name) ?? 0) !== value;
+    const isChanged = before !== null && (before.bugs.get(name) ?? 0) !== value;
     const title = `Bug ${name} is ${value}. A click follows its changes.`;
     return make(
       "button", {type: "button", class: isChanged ? "changed" : "", title, onclick: () => watch({chain: name})},
@@ -38,13 +59,17 @@ export function showBugStrip(frame, view, before, watch) {
   frame.replaceChildren(...names.map(partOf));
 }
 
-// The bugs as large cards, where there is no block to draw.
+/**
+ * The bugs as large cards, where there is no block to draw.
+ * @param {View} view
+ * @param {View | null} before
+ */
 export function bugCards(view, before) {
   const names = [...new Set([...view.bugs.keys(), ...(before?.bugs.keys() ?? [])])].sort();
   if (!names.length) return make("p", {}, "No block is in use, and all bugs are 0.");
-  const cardOf = (name) => {
+  const cardOf = (/** @type {string} */ name) => {
     const value = view.bugs.get(name) ?? 0;
-    const isChanged = Boolean(before) && (before.bugs.get(name) ?? 0) !== value;
+    const isChanged = before !== null && (before.bugs.get(name) ?? 0) !== value;
     const text = isLetter(value) ? characterOf(value) : likelyText(value);
     return make(
       "div", {class: isChanged ? "changed" : ""}, make("b", {}, name), make("span", {}, String(value)),
@@ -54,6 +79,11 @@ export function bugCards(view, before) {
   return make("div", {class: "bug-cards", "aria-label": "Bugs"}, ...names.map(cardOf));
 }
 
+/**
+ * @param {Row} row
+ * @param {boolean} hasOctal
+ * @param {Watch} watch
+ */
 function rowOfBug({name, value, was, hint}, hasOctal, watch) {
   const title = `${name} is ${octal(value)} in octal. A click chooses it: then ‹ Change and Change › ` +
     `go to the steps that changed it.`;
@@ -67,6 +97,7 @@ function rowOfBug({name, value, was, hint}, hasOctal, watch) {
 }
 
 // How much is saved, waits and was taken; what is 0 is left out.
+/** @param {View["amounts"]} amounts */
 function amountsInWords({contents, definitions, returns, input}) {
   const parts = [
     contents && `${count(contents, "content")} saved`,
@@ -77,7 +108,12 @@ function amountsInWords({contents, definitions, returns, input}) {
   return parts.length ? `${parts.join(", ")}.` : "";
 }
 
-// What a number may mean: the place of a block, which can be chosen, or a text.
+/**
+ * What a number may mean: the place of a block, which can be chosen, or a text.
+ * @param {number} value
+ * @param {View} view
+ * @param {(place: number) => void} choose
+ */
 export function hintOf(value, view, choose) {
   if (view.store.block(value)) {
     return make(
@@ -89,7 +125,13 @@ export function hintOf(value, view, choose) {
   return text ? make("span", {class: "text"}, `“${text}”`) : null;
 }
 
-// The fields, each as a window on the 36 bits of its word.
+/**
+ * The fields, each as a window on the 36 bits of its word.
+ * @param {HTMLElement} frame
+ * @param {View} view
+ * @param {View | null} before
+ * @param {{colourOf: (name: string) => string, watch: Watch}} choose
+ */
 export function showFields(frame, view, before, {colourOf, watch}) {
   const windows = windowsOf(view.fields);
   const rows = [];
@@ -104,7 +146,7 @@ export function showFields(frame, view, before, {colourOf, watch}) {
         lane.map((it) => ({
                    window: it,
                    text: it.name,
-                   isChanged: before && !it.names.every((name) => isSame(before.fields.get(name), it)),
+                   isChanged: before !== null && !it.names.every((name) => isSame(before.fields.get(name), it)),
                    onclick: () => watch({definition: it.names[0]})
                  })),
         colourOf
@@ -115,11 +157,19 @@ export function showFields(frame, view, before, {colourOf, watch}) {
   frame.replaceChildren(...rows);
 }
 
+/**
+ * @param {Field | undefined} one
+ * @param {Field} other
+ */
 function isSame(one, other) {
-  return Boolean(one) && one.word === other.word && one.first === other.first && one.last === other.last;
+  return one !== undefined && one.word === other.word && one.first === other.first && one.last === other.last;
 }
 
-// A word as a bar of 36 bits with windows on it.
+/**
+ * A word as a bar of 36 bits with windows on it.
+ * @param {Part[]} cells
+ * @param {(name: string) => string} colourOf
+ */
 function bitsOf(cells, colourOf) {
   const bar = make("div", {class: "bits"});
   for (const {window, text, isChanged, onclick} of cells) {
@@ -140,19 +190,26 @@ function bitsOf(cells, colourOf) {
   return bar;
 }
 
-// The words of a block: each in octal, and below it what the fields show of it now.
+/**
+ * The words of a block: each in octal, and below it what the fields show of it now.
+ * @param {HTMLElement} frame
+ * @param {number | null} place
+ * @param {View} view
+ * @param {View | null} before
+ * @param {Omit<Choose, "place">} choose
+ */
 export function showWords(frame, place, view, before, choose) {
   const words = place === null ? null : view.wordsAt(place);
-  if (!words) {
+  if (!words || place === null) {
     const why = place === null ?
       "Choose a block in the drawing or in the store, or type a place or a chain." :
       `No block begins at ${place}.`;
     frame.replaceChildren(make("p", {class: "amounts"}, why));
     return;
   }
-  const old = before?.words?.get(place) ?? [];
+  const old = before?.words.get(place) ?? [];
   const windows = windowsOf(view.fields);
-  const partsOf = (word, index) => {
+  const partsOf = (/** @type {number} */ word, /** @type {number} */ index) => {
     const own = windows.filter((it) => it.word === index);
     return partsOfWord(word, old[index], index, own, {...choose, place});
   };
@@ -161,13 +218,21 @@ export function showWords(frame, place, view, before, choose) {
   if (left > 0) frame.append(make("p", {class: "amounts"}, `and ${count(left, "more word", "more words")}`));
 }
 
+/**
+ * @param {number} word
+ * @param {number | undefined} old
+ * @param {number} index
+ * @param {Window[]} windows
+ * @param {Choose} choose
+ * @returns {Element[]}
+ */
 function partsOfWord(word, old, index, windows, {colourOf, watch, place}) {
   const shown = apart(windows.map((it) => tellOf(it, word)));
   const line = make(
     "div", {class: "wordline"}, make("span", {}, `${index}`), make("b", {}, octal(word)),
     make("span", {}, shown)
   );
-  const cellOfWord = (window) => {
+  const cellOfWord = (/** @type {Window} */ window) => {
     const value = seenThrough(word, window);
     const isChanged = old !== undefined && seenThrough(old, window) !== value;
     const onclick = () => watch({place, field: window.names[0]});
@@ -177,17 +242,29 @@ function partsOfWord(word, old, index, windows, {colourOf, watch, place}) {
 }
 
 // Texts one after another; a line may end between them, but not within one.
+/** @param {string[]} texts */
 function apart(texts) {
   return texts.map((it) => it.replaceAll(" ", "\u00a0")).join("  ");
 }
 
+/**
+ * @param {Window} window
+ * @param {number} word
+ */
 function tellOf(window, word) {
   const value = seenThrough(word, window);
   const text = widthOf(window) === 6 && value > 0 ? characterOf(value) : likelyText(value);
   return `${window.name} ${value}${text ? ` “${text}”` : ""}`;
 }
 
-// What a chain leads to: the answer, and the steps on the way.
+/**
+ * What a chain leads to: the answer, and the steps on the way.
+ * @param {HTMLElement} frame
+ * @param {HTMLElement} answer
+ * @param {import("./chain.js").Followed} followed
+ * @param {View} view
+ * @param {(place: number) => void} choose
+ */
 export function showChain(frame, answer, {steps = [], trap, wrong}, view, choose) {
   const last = steps.at(-1);
   answer.replaceChildren();

@@ -3,7 +3,9 @@
 
 import {bytesOf} from "./bytes.js";
 import {byId, make} from "./dom.js";
+import {save} from "./download.js";
 import {job} from "./job.js";
+import {errorOf} from "./thrown.js";
 
 const TABS = [
   {key: "printout", name: "Printout", file: "printout.txt"},
@@ -14,8 +16,16 @@ const TABS = [
 ];
 const MOST_SHOWN = 400_000; // characters
 
+/**
+ * What the papers need of the page: the job, the words that ask for something, and what was asked lately.
+ * @typedef {{job: () => import("./session.js").Job,
+ *   ask: (words: string[], input: Uint8Array) => Promise<any>, words: (verb: string) => string[],
+ *   exchanges: () => {asked: string, answered: string}[]}} Source
+ */
+
 export class Papers {
   // `source` has the job, its session and the engine's `ask`.
+  /** @param {Source} source */
   constructor(source) {
     this.source = source;
     this.text = "";
@@ -34,14 +44,16 @@ export class Papers {
     });
   }
 
+  /** @param {{key: string, name: string}} tab */
   buttonOf({key, name}) {
     const kind = {type: "button", role: "tab", id: `tab-${key}`, "aria-controls": "paper"};
     return make("button", {...kind, onclick: () => this.open(key)}, name);
   }
 
   // Arrow keys go from tab to tab.
+  /** @param {KeyboardEvent} event */
   key(event) {
-    const step = {ArrowRight: 1, ArrowLeft: -1}[event.key];
+    const step = event.key === "ArrowRight" ? 1 : event.key === "ArrowLeft" ? -1 : 0;
     if (!step) return;
     const at = TABS.findIndex(({key}) => key === this.tab);
     const {key} = TABS[(at + step + TABS.length) % TABS.length];
@@ -49,6 +61,7 @@ export class Papers {
     byId(`tab-${key}`).focus();
   }
 
+  /** @param {string} tab */
   async open(tab) {
     this.tab = tab;
     if (!this.dialog.open) this.dialog.showModal();
@@ -63,10 +76,14 @@ export class Papers {
       const {text, note} = await this.read(tab);
       if (tab === this.tab) this.put(text, note);
     } catch (error) {
-      this.put("", error.message);
+      this.put("", errorOf(error).message);
     }
   }
 
+  /**
+   * @param {string} text
+   * @param {string} note
+   */
   put(text, note) {
     this.text = text;
     byId("paper").textContent =
@@ -74,6 +91,7 @@ export class Papers {
     byId("paper-note").textContent = note;
   }
 
+  /** @param {string} tab */
   async read(tab) {
     if (tab === "asked") {
       const all = this.source.exchanges().map(({asked, answered}) => `${asked}\n----\n${answered}`);
@@ -83,6 +101,7 @@ export class Papers {
     return {text: answer.output, note: answer.errors.trim() || `exit status ${answer.status}`};
   }
 
+  /** @param {string} tab */
   answerFor(tab) {
     const {ask, words} = this.source;
     const {deck, input} = this.source.job();
@@ -98,11 +117,4 @@ export class Papers {
     await navigator.clipboard.writeText(this.text);
     byId("paper-note").textContent = "copied";
   }
-}
-
-// Has the browser save a text as a file: a byte for each character, or in UTF-8.
-export function save(name, text, isUnicode = false) {
-  const address = URL.createObjectURL(new Blob([isUnicode ? text : bytesOf(text)], {type: "text/plain"}));
-  make("a", {href: address, download: name}).click();
-  setTimeout(() => URL.revokeObjectURL(address), 10_000);
 }

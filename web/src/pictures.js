@@ -2,6 +2,7 @@
 // is printed with the deck, the states that were chosen, and the printout.
 
 import {byId, make, svg} from "./dom.js";
+import {saveBlob} from "./download.js";
 import {withCommas} from "./word.js";
 
 const STYLED = [
@@ -81,21 +82,11 @@ export async function pngOf(picture, size) {
   }
 }
 
-/**
- * Has the browser save a blob as a file.
- * @param {string} name
- * @param {Blob} blob
- */
-function saveBlob(name, blob) {
-  const address = URL.createObjectURL(blob);
-  make("a", {href: address, download: name}).click();
-  setTimeout(() => URL.revokeObjectURL(address), 10_000);
-}
-
 export class Pictures {
   /**
    * `source` has the drawing, the view and what the page says of it, a link to it, and `tell`.
-   * @param {{drawing: () => import("./drawing.js").Drawing, view: () => any, says: () => string,
+   * @param {{drawing: () => import("./drawing.js").Drawing, view: () => import("./view.js").View | null,
+   *   says: () => string,
    *   frameLink: () => Promise<string>, tell: (text: string) => void}} source
    */
   constructor(source) {
@@ -131,9 +122,9 @@ export class Pictures {
 
   // Keeps the state that is shown for the handout.
   keep() {
-    const found = this.drawn();
-    if (!found) return;
-    const {number} = this.source.view().state;
+    const [found, view] = [this.drawn(), this.source.view()];
+    if (!found || !view) return;
+    const {number} = view.state;
     const copy = standalone(found.picture, found.size);
     const title = `State ${withCommas(number)}: ${this.source.says()}`;
     byId("handout").append(make("figure", {}, make("figcaption", {}, title), copy));

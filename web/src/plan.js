@@ -40,9 +40,9 @@ const SCALES = {page: {most: 2, factor: 1}, lecture: {most: 3, factor: 1.5}};
  * Where all is: `places` are those of blocks in the drawing, `sizes` the largest that a block there ever has.
  * `scale` is the largest in which all fits into the frame, `legible` the least that can be read. `below` has
  * the places that hang below each, `bugs` how many bugs lead to each at most, `edges` all links by their
- * names.
- * @typedef {{detail: Detail, ways: import("./rows.js").Ways, chip: Chip | null, places: Map<number, Point>,
- *   width: number, height: number, scale: number, most: number, legible: number, below: Map<number, number[]>,
+ * names. Of a chip the bugs stand at the corner on its `side`.
+ * @typedef {{detail: Detail, ways: import("./rows.js").Ways, chip: Chip | null,
+ *   places: Map<number, Point & {side?: number}>, width: number, height: number, scale: number, most: number, legible: number, below: Map<number, number[]>,
  *   bugs: Map<number, number>, edges: Map<string, Edge>, frame: Size, first: number | undefined,
  *   sizes: (place: number) => Size | undefined, extra: Map<number, Size>}} Plan
  *
@@ -82,6 +82,7 @@ export function planOf(material, {directions, detail, frame, isLecture, isLink, 
     if (plan.scale >= legible) break;
   }
   if (!plan) throw new Error(`no drawing of ${detail}`);
+  if (plan.chip) putBugsAside(plan.places, edges);
   return {
     ...plan,
     ways,
@@ -92,6 +93,21 @@ export function planOf(material, {directions, detail, frame, isLecture, isLink, 
     first: rows[0]?.items[0].place,
     extra: new Map()
   };
+}
+
+/**
+ * Of chips, which are hardly wider than the sign of a bug, bugs stand at the corner to which no arrow comes from above.
+ * @param {Plan["places"]} places
+ * @param {Edge[]} edges
+ */
+function putBugsAside(places, edges) {
+  const weights = new Map();
+  for (const {from, to, weight} of edges) {
+    const [above, below] = [places.get(from), places.get(to)];
+    if (!above || !below || above.y >= below.y || weight <= (weights.get(to) ?? 0)) continue;
+    weights.set(to, weight);
+    below.side = above.x > below.x ? -1 : 1;
+  }
 }
 
 /**

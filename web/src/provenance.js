@@ -17,7 +17,7 @@ import {follow} from "./chain.js";
 /**
  * The pointers that dangle in a view, of bugs and of the blocks that are drawn, and the freed blocks to which
  * they lead where nothing is now.
- * @param {any} view
+ * @param {import("./view.js").View} view
  * @param {Chronicle | null} chronicle
  * @param {number[]} shown
  * @param {Window[]} windows
@@ -82,7 +82,7 @@ export function danglingInWords(pointers) {
  * The uses after free of one step: the chains that it follows through a pointer that dangles, in words.
  * `elements` are those of its operation, or of the tests of its condition; `view` is the state before it.
  * @param {string[][]} groups
- * @param {any} view
+ * @param {import("./view.js").View} view
  * @param {Chronicle | null} chronicle
  */
 export function usesAfterFree(groups, view, chronicle) {
@@ -100,7 +100,7 @@ export function usesAfterFree(groups, view, chronicle) {
 /**
  * @param {string} chain
  * @param {boolean} isFreed whether the block at its end is freed, too
- * @param {any} view
+ * @param {import("./view.js").View} view
  * @param {Chronicle} chronicle
  */
 function usesOf(chain, isFreed, view, chronicle) {

@@ -109,7 +109,7 @@ export class Recorder {
 
   /**
    * Other fields are defined: links of those that are gone end, and begin again with them.
-   * @param {Map<string, any>} fields
+   * @param {Map<string, import("./transcript.js").Field>} fields
    * @param {number} number
    */
   define(fields, number) {

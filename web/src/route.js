@@ -10,8 +10,24 @@ const LOWER = 0.001; // across, for each line further down, so that an arrow tha
 const DIRECTIONS = [[1, 0], [0, 1], [-1, 0], [0, -1]]; // right, down, left, up
 const BLOCKED = 255;
 
+/** @typedef {{x: number, y: number}} Point */
+/** @typedef {{x: number, y: number, width: number, height: number}} Box */
+/**
+ * A point at a block's side where an arrow may begin or end: the direction in which it runs there, what it costs to
+ * take it, and where in the block the arrow begins.
+ * @typedef {Point & {direction: number, cost?: number, inner?: Point | null}} Start
+ * @typedef {{index: number, column: number, line: number}} Cell
+ * @typedef {Start & {at: Cell}} Goal
+ * @typedef {Map<number, Goal>} Goals
+ */
+
 // A grid over a drawing, in which ways are found one after another.
 export class Router {
+  /**
+   * @param {number} width
+   * @param {number} height
+   * @param {Box[]} boxes
+   */
   constructor(width, height, boxes) {
     this.columns = Math.ceil(width / GRID);
     this.lines = Math.ceil(height / GRID);
@@ -25,6 +41,7 @@ export class Router {
     for (const box of boxes) this.block(box);
   }
 
+  /** @param {Box} box */
   block({x, y, width, height}) {
     const [left, top] = [Math.round(x / GRID), Math.round(y / GRID)];
     const [right, bottom] = [Math.round((x + width) / GRID), Math.round((y + height) / GRID)];
@@ -41,14 +58,24 @@ export class Router {
     }
   }
 
+  /**
+   * @param {number} column
+   * @param {number} line
+   */
   has(column, line) {
     return column > 0 && line > 0 && column < this.columns && line < this.lines; // (not on the edge)
   }
 
-  // The points of the way from one of the starts to one of the ends: each has a point at a block's side, the
-  // direction in which the arrow runs there, and what it costs to take it. Null where there is none.
+  /**
+   * The points of the way from one of the starts to one of the ends: each has a point at a block's side, the
+   * direction in which the arrow runs there, and what it costs to take it. Null where there is none.
+   * @param {Start[]} starts
+   * @param {Start[]} ends
+   * @returns {Point[] | null}
+   */
   way(starts, ends) {
     this.now++;
+    /** @type {Goals} */
     const goals = new Map();
     for (const end of ends) {
       const at = this.stepFrom(end, -1);
@@ -70,7 +97,12 @@ export class Router {
     return null;
   }
 
-  // The grid's point a step outside of the block.
+  /**
+   * The grid's point a step outside of the block.
+   * @param {Start} port
+   * @param {number} sign
+   * @returns {Cell | null}
+   */
   stepFrom({x, y, direction}, sign) {
     const [dx, dy] = DIRECTIONS[direction];
     const column = Math.round(x / GRID) + sign * dx;
@@ -78,6 +110,11 @@ export class Router {
     return this.has(column, line) ? {index: line * this.columns + column, column, line} : null;
   }
 
+  /**
+   * @param {Heap} heap
+   * @param {number} state
+   * @param {Goals} goals
+   */
   spread(heap, state, goals) {
     const direction = state % 4;
     const index = (state - direction) / 4;
@@ -96,12 +133,23 @@ export class Router {
     }
   }
 
-  // The price of the corner between a way and its end.
+  /**
+   * The price of the corner between a way and its end.
+   * @param {Goal | undefined} goal
+   * @param {number} direction
+   */
   lastTurn(goal, direction) {
     return goal && goal.direction !== direction ? TURN : 0;
   }
 
-  // Notes a way to a state if it is the cheapest so far. Marks are of this search where `round` says so.
+  /**
+   * Notes a way to a state if it is the cheapest so far. Marks are of this search where `round` says so.
+   * @param {Heap} heap
+   * @param {number} state
+   * @param {number} cost
+   * @param {number} from
+   * @param {Goals} goals
+   */
   offer(heap, state, cost, from, goals) {
     if (this.round[state] === this.now * 2 + 1) return;
     if (this.round[state] === this.now * 2 && this.cost[state] <= cost) return;
@@ -111,6 +159,10 @@ export class Router {
     heap.push(cost + this.guess(state, goals), state);
   }
 
+  /**
+   * @param {number} state
+   * @param {Goals} goals
+   */
   guess(state, goals) {
     const index = (state - (state % 4)) / 4;
     const [column, line] = [index % this.columns, Math.floor(index / this.columns)];
@@ -120,14 +172,21 @@ export class Router {
     return best;
   }
 
+  /** @param {number} state */
   isDone(state) {
     return this.round[state] === this.now * 2 + 1;
   }
 
+  /** @param {number} state */
   done(state) {
     this.round[state] = this.now * 2 + 1;
   }
 
+  /**
+   * @param {number} state
+   * @param {Start[]} starts
+   * @param {Goal} goal
+   */
   points(state, starts, goal) {
     const cells = [];
     let at = state;
@@ -145,6 +204,7 @@ export class Router {
 }
 
 // Points without those that lie on a straight line between their neighbours.
+/** @param {Point[]} points */
 function straight(points) {
   return points.filter((it, index) => {
     const [before, after] = [points[index - 1], points[index + 1]];
@@ -153,7 +213,11 @@ function straight(points) {
   });
 }
 
-// The path of an SVG through points, with round corners.
+/**
+ * The path of an SVG through points, with round corners.
+ * @param {Point[]} points
+ * @param {number} radius
+ */
 export function pathOf(points, radius = 7) {
   let path = `M${points[0].x} ${points[0].y}`;
   for (let index = 1; index < points.length - 1; index++) {
@@ -162,27 +226,43 @@ export function pathOf(points, radius = 7) {
     const [into, out] = [towards(at, before, r), towards(at, after, r)];
     path += `L${into.x} ${into.y}Q${at.x} ${at.y} ${out.x} ${out.y}`;
   }
-  const end = points.at(-1);
+  const end = points[points.length - 1];
   return `${path}L${end.x} ${end.y}`;
 }
 
+/**
+ * @param {Point} a
+ * @param {Point} b
+ */
 function distance(a, b) {
   return Math.abs(a.x - b.x) + Math.abs(a.y - b.y);
 }
 
+/**
+ * @param {Point} from
+ * @param {Point} to
+ * @param {number} by
+ * @returns {Point}
+ */
 function towards(from, to, by) {
   const length = Math.hypot(to.x - from.x, to.y - from.y) || 1;
-  const at = (a, b) => Math.round((a + ((b - a) * by) / length) * 10) / 10;
+  const at = (/** @type {number} */ a, /** @type {number} */ b) => Math.round((a + ((b - a) * by) / length) * 10) / 10;
   return {x: at(from.x, to.x), y: at(from.y, to.y)};
 }
 
 // A heap of numbers with the least price first.
 class Heap {
   constructor() {
+    /** @type {number[]} */
     this.prices = [];
+    /** @type {number[]} */
     this.states = [];
   }
 
+  /**
+   * @param {number} price
+   * @param {number} state
+   */
   push(price, state) {
     const {prices, states} = this;
     let at = prices.length;
@@ -201,7 +281,7 @@ class Heap {
     const {prices, states} = this;
     if (!states.length) return undefined;
     const first = states[0];
-    const [price, state] = [prices.pop(), states.pop()];
+    const [price, state] = [prices.pop() ?? 0, states.pop() ?? 0];
     const size = prices.length;
     if (size) {
       let at = 0;

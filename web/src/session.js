@@ -24,34 +24,65 @@ const LARGE_STORE = 32; // units from which on one state is asked for at first, 
 
 // Why there is no state: the program refused the job, or memory ran out in the midst.
 export class Refused extends Error {
+  /** @param {Answer} answer */
   constructor(answer) {
     super(answer.errors.trim() || `status ${answer.status}`);
     this.status = answer.status;
   }
 }
 
+/** @typedef {import("./deck.js").Reading} Reading */
+/** @typedef {import("./transcript.js").State} State */
+/** @typedef {import("./view.js").Known} Known */
+/** @typedef {{store: number, steps: number, output: number}} Options */
+/** @typedef {{deck: string, input: string, options: Options}} Job */
+/** @typedef {{status: number, output: string, errors: string, milliseconds: number, digest?: any}} Answer */
+/** @typedef {(words: string[], input: Uint8Array, digest?: object | null) => Promise<Answer>} Ask */
+/** @typedef {{text: string, printed: string, ending: State, milliseconds: number}} Printout */
+
+/**
+ * The words of the command line for a job.
+ * @param {string} verb
+ * @param {Options} options
+ * @returns {string[]}
+ */
+export function wordsOf(verb, {store, steps, output}) {
+  return [verb, "--store", String(store), "--steps", String(steps), "--output", String(output)];
+}
+
 export class Session {
-  // `ask` has the engine do a job: the words of the command line, the bytes of standard input, and what is to
-  // be made of the output. `reading` is what the page reads in the deck.
+  /**
+   * `ask` has the engine do a job: the words of the command line, the bytes of standard input, and what is to
+   * be made of the output. `reading` is what the page reads in the deck.
+   * @param {Ask} ask
+   * @param {Job} job
+   * @param {Reading} reading
+   */
   constructor(ask, {deck, input, options}, reading = readDeck(deck)) {
     this.ask = ask;
     this.deck = deck;
     this.input = input;
-    /** @type {{store: number, steps: number, output: number}} */
     this.options = options;
     this.reading = reading;
+    /** @type {Map<number, View>} */
     this.views = new Map();
     this.kept = 0;
+    /** @type {Map<number, Promise<void>>} */
     this.fetching = new Map(); // what is being asked for
-    this.printout = null;                                      // what `run` prints, once it was asked
-    this.last = null;                                          // the last state's number, once it is known
+    /** @type {Printout | null} */
+    this.printout = null; // what `run` prints, once it was asked
+    /** @type {number | null} */
+    this.last = null; // the last state's number, once it is known
     this.size = options.store > LARGE_STORE ? Infinity : 2000; // characters that a state took lately
-    this.exchanges = [];                                       // what was asked and answered last
-    this.hidden = [];                                          // bugs that the reader has hidden
+    /** @type {{asked: string, answered: string, milliseconds: number}[]} */
+    this.exchanges = []; // what was asked and answered last
+    /** @type {string[]} */
+    this.hidden = []; // bugs that the reader has hidden
     this.trail = new Trail((first, count) => this.trailFrom(first, count));
     this.steps = new Steps(reading, this.trail);
     this.values = new Values(this);
     this.frames = new Frames(this);
+    /** @type {import("./chronicle.js").Chronicle | null} */
     this.chronicle = null; // what happened to the blocks, once it was read
   }
 
@@ -65,8 +96,7 @@ export class Session {
    * @param {{steps?: number}} more
    */
   words(verb, more = {}) {
-    const {store, steps, output} = {...this.options, ...more};
-    return [verb, "--store", String(store), "--steps", String(steps), "--output", String(output)];
+    return wordsOf(verb, {...this.options, ...more});
   }
 
   // What `run` answers. It gives how many states there are, and all of the output.
@@ -88,20 +118,26 @@ export class Session {
     return this.printout;
   }
 
-  // The view of a state, or of the last one where the number is past it.
+  /**
+   * The view of a state, or of the last one where the number is past it.
+   * @param {number} number
+   * @returns {Promise<View>}
+   */
   async view(number) {
     const wanted = this.last === null ? number : Math.min(number, this.last);
     if (!this.views.has(wanted)) await this.fetchOnce(wanted);
-    const view = this.views.get(wanted) ?? this.views.get(this.last);
+    const view = this.views.get(wanted) ?? this.views.get(this.last ?? wanted);
     if (!view) throw new Error("the debugger has not answered with the state");
     return view;
   }
 
+  /** @param {number} number */
   has(number) {
     return this.views.has(number);
   }
 
   // Asks for a state, unless it is being asked for.
+  /** @param {number} number */
   async fetchOnce(number) {
     if (!this.fetching.has(number)) {
       const done = () => this.fetching.delete(number);
@@ -111,6 +147,7 @@ export class Session {
   }
 
   // Asks for the states around one, and keeps them.
+  /** @param {number} number */
   async fetch(number) {
     const room = Math.max(1, Math.min(number < FAR ? 6 : 60, Math.floor(MOST_ANSWER / this.size)));
     const before = Math.min(number, Math.floor(room / 4));
@@ -119,7 +156,11 @@ export class Session {
     views.forEach((view) => this.keep(view));
   }
 
-  // Looks at so many states from one on.
+  /**
+   * Looks at so many states from one on.
+   * @param {number} first
+   * @param {number} count
+   */
   async look(first, count) {
     const commands = [`step ${first}`];
     for (let state = 0; state < count; state++) {
@@ -130,10 +171,12 @@ export class Session {
     const more = {skip: 1, count, hidden: this.hidden, mostOutput: MOST_OUT};
     const {views, output, size} = await this.digest("views", commands, more);
     this.size = Math.max(500, size / views.length);
-    return views.map((it) => new View({...it, output, cost: it.cost + output.text.length / views.length}));
+    const printed = output.text.length / views.length;
+    return /** @type {Known[]} */ (views).map((it) => new View({...it, output, cost: it.cost + printed}));
   }
 
   // Asks for the words of the blocks that are shown of each view.
+  /** @param {View[]} views */
   async addWords(views) {
     const commands = [`step ${views[0].state.number}`];
     let at = views[0].state.number;
@@ -153,7 +196,11 @@ export class Session {
     });
   }
 
-  // The words of one more block of a view.
+  /**
+   * The words of one more block of a view.
+   * @param {View} view
+   * @param {number} place
+   */
   async addBlock(view, place) {
     if (view.words.has(place)) return;
     const transcript = await this.question([`step ${view.state.number}`, `block ${place}`]);
@@ -161,6 +208,7 @@ export class Session {
     view.words.set(place, transcript.block());
   }
 
+  /** @param {View} view */
   keep(view) {
     this.kept += view.cost;
     this.views.set(view.state.number, view);
@@ -172,6 +220,7 @@ export class Session {
   }
 
   // Hides a bug, or shows it again: what it alone leads to is not drawn.
+  /** @param {string} name */
   hide(name) {
     this.hidden =
       this.hidden.includes(name) ? this.hidden.filter((it) => it !== name) : [...this.hidden, name];
@@ -179,17 +228,26 @@ export class Session {
     this.kept = 0;
   }
 
+  /**
+   * @param {number} first
+   * @param {number} count
+   */
   trailFrom(first, count) {
     return this.digest("trail", [`step ${first}`, ...Array(count - 1).fill("step 1")], {});
   }
 
   // How the store's words are shared out in some states, whose numbers are in order.
+  /** @param {number[]} numbers */
   async totals(numbers) {
     const commands = numbers.flatMap((it, index) => [`step ${it - (numbers[index - 1] ?? 0)}`, "store"]);
     return this.digest("totals", commands, {count: numbers.length});
   }
 
-  // The view of the next state that is at the condition of one of these statements, or of the last state.
+  /**
+   * The view of the next state that is at the condition of one of these statements, or of the last state.
+   * @param {number} number
+   * @param {number[]} breakpoints
+   */
   async go(number, breakpoints) {
     const way = [`step ${number}`, ...breakpoints.map((it) => `break ${it}`), "go"];
     const transcript = await this.question(way);
@@ -203,8 +261,12 @@ export class Session {
     return this.view(state.number);
   }
 
-  // The view of the latest state before one that is at the condition of one of these statements, or of
-  // the first state. The limit of steps keeps each `go` from running past the state it is asked from.
+  /**
+   * The view of the latest state before one that is at the condition of one of these statements, or of
+   * the first state. The limit of steps keeps each `go` from running past the state it is asked from.
+   * @param {number} number
+   * @param {number[]} breakpoints
+   */
   async goBack(number, breakpoints) {
     let before = SHORT_WAY;
     for (;;) {
@@ -216,7 +278,12 @@ export class Session {
     }
   }
 
-  // The last state from one number on, and before another, that is at a breakpoint.
+  /**
+   * The last state from one number on, and before another, that is at a breakpoint.
+   * @param {number} from
+   * @param {number} to
+   * @param {number[]} breakpoints
+   */
   async breakpointsBetween(from, to, breakpoints) {
     let begin = from;
     let last = null;
@@ -227,7 +294,7 @@ export class Session {
       const way = [`step ${start}`, ...breakpoints.map((it) => `break ${it}`), ...Array(goes).fill("go")];
       const transcript = await this.question(way, {steps: Math.min(this.options.steps, to)});
       let state = stateOf(transcript.line());
-      if (start === 0 && state.action === 0 && breakpoints.includes(state.statement) && to > 0) last ??= 0;
+      if (start === 0 && state.action === 0 && breakpoints.includes(state.statement ?? -1) && to > 0) last ??= 0;
       for (let mark = 0; mark < breakpoints.length; mark++) transcript.line();
       for (let go = 0; go < goes && !state.ending; go++) {
         state = stateOf(transcript.line());
@@ -239,25 +306,42 @@ export class Session {
     }
   }
 
-  // The answers to commands.
-  async question(commands, more) {
+  /**
+   * The answers to commands.
+   * @param {string[]} commands
+   * @param {{steps?: number}} more
+   */
+  async question(commands, more = {}) {
     return new Transcript((await this.asked(commands, more)).output);
   }
 
-  // What the worker makes of the answers to commands.
+  /**
+   * What the worker makes of the answers to commands.
+   * @param {string} name
+   * @param {string[]} commands
+   * @param {object} more
+   */
   async digest(name, commands, more) {
     return (await this.asked(commands, {}, {name, begin: MOST_REMEMBERED, ...more})).digest;
   }
 
+  /**
+   * @param {string[]} commands
+   * @param {{steps?: number}} more
+   * @param {object | null} digest
+   */
   async asked(commands, more, digest = null) {
     const text = commands.join("\n") + "\n";
-    const answer =
-      await this.ask(this.words("debug", more), bytesOf(job(this.deck, text, this.input)), digest);
+    const answer = await this.ask(this.words("debug", more), bytesOf(job(this.deck, text, this.input)), digest);
     this.remember(text, answer);
     if (answer.status !== 0) throw new Refused(answer);
     return answer;
   }
 
+  /**
+   * @param {string} asked
+   * @param {Answer} answer
+   */
   remember(asked, answer) {
     this.exchanges.push({
       asked: asked.slice(0, 20_000),
@@ -265,10 +349,5 @@ export class Session {
       milliseconds: answer.milliseconds
     });
     if (this.exchanges.length > 2) this.exchanges.shift();
-  }
-
-  // The answers to a reader's own commands, as they are written.
-  async obey(commands) {
-    return this.ask(this.words("debug"), bytesOf(job(this.deck, commands, this.input)));
   }
 }

@@ -15,13 +15,33 @@ const CHIP_LETTER = 7.9;       // the width of a letter there
 const CHIP = {least: 20, height: 20, around: 6, unit: 4};
 export const NARROW = 40; // a cell that has room for a value or a name, but hardly for both
 
-// The windows of the fields, each once: names that are defined alike share one.
+/** @typedef {import("./chronicle.js").Window} Window */
+/** @typedef {import("./transcript.js").Field} Field */
+/** @typedef {{place: number, size: number}} Sized */
+/** @typedef {{key: string, name: string, target: number}} Linked */
+/**
+ * A cell of a row: what it shows of which window, and where in the row.
+ * @typedef {{key: string, name: string, window: Window | null, x: number, width: number, text: string,
+ *   value: number | null, link?: Linked, isChanged?: boolean}} Cell
+ * @typedef {{word: number, cells: Cell[], note?: string, y: number}} Row
+ *
+ * The size of chips, and the windows with links, which they do not show.
+ * @typedef {{width: number, height: number, keys: Set<string>}} Chip
+ * @typedef {{width: number, height: number, rows: Row[], isBox: boolean, isChip?: boolean, text?: string}} Shape
+ */
+
+/**
+ * The windows of the fields, each once: names that are defined alike share one.
+ * @param {Map<string, Field>} fields
+ * @returns {Window[]}
+ */
 export function windowsOf(fields) {
+  /** @type {Map<string, Window>} */
   const windows = new Map();
   for (const [name, {word, first, last}] of fields) {
     const key = `${word}.${first}.${last}`;
-    if (!windows.has(key)) windows.set(key, {key, word, first, last, names: []});
-    windows.get(key).names.push(name);
+    if (!windows.has(key)) windows.set(key, {key, word, first, last, names: [], name: ""});
+    windows.get(key)?.names.push(name);
   }
   const all = sortedWindows([...windows.values()]);
   all.forEach((it) => (it.name = it.names.join(" ")));
@@ -29,15 +49,21 @@ export function windowsOf(fields) {
 }
 
 // Windows from the first word on, and in each from the left.
+/** @param {Window[]} windows */
 export function sortedWindows(windows) {
   return windows.sort((a, b) => a.word - b.word || a.first - b.first || b.last - a.last);
 }
 
-// Windows in as few lanes as they need so that none covers another.
+/**
+ * Windows in as few lanes as they need so that none covers another.
+ * @param {Window[]} windows
+ * @returns {Window[][]}
+ */
 export function lanesOf(windows) {
+  /** @type {Window[][]} */
   const lanes = [];
   for (const window of [...windows].sort((a, b) => a.first - b.first || b.last - a.last)) {
-    const lane = lanes.find((it) => it.at(-1).last < window.first);
+    const lane = lanes.find((it) => it[it.length - 1].last < window.first);
     if (lane)
       lane.push(window);
     else
@@ -46,30 +72,57 @@ export function lanesOf(windows) {
   return lanes;
 }
 
-// The shape of a block: `rows` of cells with their place and size in it, and how large it is. In a box there
-// is one row for all, and a chip has one value alone; `chip` says how wide it is.
-export function shapeOf(block, words, windows, links, kind, chip = /** @type {any} */ (null)) {
-  if (kind === "chips") return chipShape(block, words, windows, chip);
+/**
+ * The shape of a block: `rows` of cells with their place and size in it, and how large it is. In a box there
+ * is one row for all, and a chip has one value alone; `chip` says how wide it is.
+ * @param {Sized} block
+ * @param {number[] | null | undefined} words
+ * @param {Window[]} windows
+ * @param {Linked[]} links
+ * @param {"cards" | "boxes" | "chips"} kind
+ * @param {Chip | null} chip
+ * @returns {Shape}
+ */
+export function shapeOf(block, words, windows, links, kind, chip = null) {
+  if (kind === "chips" && chip) return chipShape(block, words, windows, chip);
   return kind === "boxes" ? boxOf(block, words, windows, links) : cardOf(block, words, windows, links);
 }
 
 // ---- Chips
 
+/**
+ * @param {Sized} block
+ * @param {number[] | null | undefined} words
+ * @param {Window[]} windows
+ * @param {Chip} chip
+ * @returns {Shape}
+ */
 function chipShape(block, words, windows, {width, height, keys}) {
   return {width, height, rows: [], isBox: true, isChip: true, text: chipText(block, words, windows, keys)};
 }
 
-// The size of chips on which the longest of some texts has room. `keys` are the windows with links.
+/**
+ * The size of chips on which the longest of some texts has room. `keys` are the windows with links.
+ * @param {string[]} texts
+ * @param {Set<string>} keys
+ * @returns {Chip}
+ */
 export function chipFor(texts, keys) {
   const longest = Math.max(1, ...texts.map((it) => it.length));
   const width = Math.ceil((longest * CHIP_LETTER + CHIP.around) / CHIP.unit) * CHIP.unit;
   return {width: Math.max(CHIP.least, width), height: CHIP.height, keys};
 }
 
-// What the smallest drawing of a block says: the first value that is no link, or its place.
+/**
+ * What the smallest drawing of a block says: the first value that is no link, or its place.
+ * @param {Sized} block
+ * @param {number[] | null | undefined} words
+ * @param {Window[]} windows
+ * @param {Set<string>} keys
+ */
 export function chipText(block, words, windows, keys) {
-  const window = windows.find((it) => it.word < block.size && !keys.has(it.key) && words);
-  if (!window) return String(block.place);
+  const window = windows.find((it) => it.word < block.size && !keys.has(it.key));
+  if (!window || !words) return String(block.place);
   const value = seenThrough(words[window.word], window);
   const text = (window.isText && textHeld(value)) || String(value);
   return text.length > MOST_ON_CHIP ? `${text.slice(0, MOST_ON_CHIP - 1)}…` : text;
@@ -77,8 +130,13 @@ export function chipText(block, words, windows, keys) {
 
 // ---- Cards
 
-/** @typedef {{word: number, cells: any[], note?: string, y?: number}} Row */
-
+/**
+ * @param {Sized} block
+ * @param {number[] | null | undefined} words
+ * @param {Window[]} windows
+ * @param {Linked[]} links
+ * @returns {Shape}
+ */
 function cardOf(block, words, windows, links) {
   /** @type {Row[]} */
   const rows = [];
@@ -95,12 +153,13 @@ function cardOf(block, words, windows, links) {
       continue;
     }
     const content = words ? words[word] : null;
-    if (own.every((it) => widthOf(it) < LEGIBLE)) rows.push({word, cells: [plainCell(content, word)]});
-    for (const lane of lanesOf(own)) rows.push({word, cells: lane.map((it) => cellOf(it, content, links))});
+    if (own.every((it) => widthOf(it) < LEGIBLE)) rows.push({word, y: 0, cells: [plainCell(content, word)]});
+    for (const lane of lanesOf(own)) rows.push({word, y: 0, cells: lane.map((it) => cellOf(it, content, links))});
   }
   if (left > 0)
     rows.push({
       word: -1,
+      y: 0,
       cells: [],
       note: rows.length ? `${left} more ${left === 1 ? "word" : "words"}` : `${block.size} words`
     });
@@ -108,6 +167,11 @@ function cardOf(block, words, windows, links) {
   return {width: WORD_BITS * BIT, height: HEAD + rows.length * ROW, rows, isBox: false};
 }
 
+/**
+ * @param {number | null} content
+ * @param {number} word
+ * @returns {Cell}
+ */
 function plainCell(content, word) {
   return {
     key: `plain ${word}`,
@@ -120,6 +184,12 @@ function plainCell(content, word) {
   };
 }
 
+/**
+ * @param {Window} window
+ * @param {number | null} content
+ * @param {Linked[]} links
+ * @returns {Cell}
+ */
 function cellOf(window, content, links) {
   const value = content === null ? null : seenThrough(content, window);
   const link = links.find((it) => it.key === window.key);
@@ -135,8 +205,13 @@ function cellOf(window, content, links) {
   };
 }
 
-// What a cell shows of a value, as far as there is room for it: a character where the field holds texts, else
-// a number, with the letter beside it that it may be.
+/**
+ * What a cell shows of a value, as far as there is room for it: a character where the field holds texts, else
+ * a number, with the letter beside it that it may be.
+ * @param {{first: number, last: number, name: string, isText?: boolean}} window
+ * @param {number} value
+ * @param {Linked | null | undefined} link
+ */
 export function textOfCell(window, value, link) {
   const width = widthOf(window) * BIT;
   const room =
@@ -147,18 +222,26 @@ export function textOfCell(window, value, link) {
 }
 
 // The text that a field of texts holds, or "" where it holds none.
+/** @param {number} value */
 function textHeld(value) {
   return value > 0 && value < 64 ? characterOf(value) : likelyText(value);
 }
 
 // ---- Boxes
 
-// A box: what it holds besides links, in a row, and a stub for each link below.
+/**
+ * A box: what it holds besides links, in a row, and a stub for each link below.
+ * @param {Sized} block
+ * @param {number[] | null | undefined} words
+ * @param {Window[]} windows
+ * @param {Linked[]} links
+ * @returns {Shape}
+ */
 function boxOf(block, words, windows, links) {
   const values =
-    windows.filter((it) => it.word < block.size && !links.some((link) => link.key === it.key) && words)
+    windows.filter((it) => it.word < block.size && !links.some((link) => link.key === it.key))
       .filter((it) => !isCovered(it, windows))
-      .map((it) => ({window: it, value: seenThrough(words[it.word], it)}))
+      .map((it) => ({window: it, value: words ? seenThrough(words[it.word], it) : 0}))
       .filter(({value}) => value !== 0);
   const text =
     values
@@ -189,10 +272,15 @@ function boxOf(block, words, windows, links) {
   };
 }
 
+/** @param {Linked[]} links */
 function targetOf(links) {
   return links.length === 1 ? String(links[0].target) : "";
 }
 
+/**
+ * @param {{window: Window, value: number}[]} values
+ * @param {string} text
+ */
 function shortOf(values, text) {
   if (text.length <= 8) return text;
   const {window, value} = values[0];
@@ -200,7 +288,11 @@ function shortOf(values, text) {
   return (only.split(" ").at(-1) ?? "").slice(0, 6);
 }
 
-// Whether other fields show all bits of a window, so that it adds nothing.
+/**
+ * Whether other fields show all bits of a window, so that it adds nothing.
+ * @param {Window} window
+ * @param {Window[]} windows
+ */
 function isCovered(window, windows) {
   return windows.some(
     (it) => it !== window && it.word === window.word && it.first >= window.first && it.last <= window.last

@@ -5,7 +5,7 @@ import {windowsOf} from "./shape.js";
 
 /**
  * The blocks and links that a view shows.
- * @param {any} view
+ * @param {import("./view.js").View} view
  * @param {(window: import("./chronicle.js").Window) => boolean} isLink
  * @returns {import("./plan.js").Material}
  */
@@ -16,7 +16,7 @@ export function snapshotOf(view, isLink) {
   /** @type {import("./chronicle.js").Link[]} */
   const links = [];
   for (const place of view.shown.places) {
-    const {size} = view.store.block(place);
+    const size = view.store.block(place)?.size ?? 0;
     lives.set(place, [{place, size, words: view.words.get(place) ?? []}]);
     for (const {key, target} of linksOf(view, place, linked))
       links.push({key, from: place, to: target, since: 0, until: 1});

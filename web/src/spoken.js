@@ -12,8 +12,7 @@ const MOST_LINKS = 60; // that the text of a drawing names
 export function blockInWords(block, bugs) {
   const names = bugs.map((it) => it.name).join(" and ");
   const led = bugs.length ? `, ${names} ${bugs.length === 1 ? "leads" : "lead"} here` : "";
-  /** @type {any[]} */
-  const all = block.shape.isBox ? [] : block.shape.rows.flatMap((/** @type {any} */ row) => row.cells);
+  const all = block.shape.isBox ? [] : block.shape.rows.flatMap((row) => row.cells);
   const cells = all.filter((it) => it.name);
   const shown =
     cells.map((it) => (it.link ? `${it.name} leads to ${it.value}` : `${it.name} ${it.text || it.value}`));

@@ -7,12 +7,26 @@ import {usesAfterFree} from "./provenance.js";
 import {nextShown, operationAt} from "./steps.js";
 import {count, withCommas} from "./word.js";
 
+/** @typedef {import("./view.js").View} View */
+/** @typedef {import("./session.js").Session} Session */
+/** @typedef {import("./meaning.js").Action} Action */
+/** @typedef {import("./steps.js").Place} Place */
+
+/**
+ * A state that is shown: that with which it is compared, its session, and whether it is one step from there.
+ * @typedef {{view: View, before: View | null, session: Session, isStep: boolean}} Shown
+ */
+
 export class Story {
-  // The editor has the deck; `next` answers the step that is shown next from a state on.
+  /**
+   * The editor has the deck; `next` answers the step that is shown next from a state on.
+   * @param {import("./editor.js").Editor} editor
+   * @param {(state: import("./transcript.js").State) => Place} next
+   */
   constructor(editor, next) {
     this.editor = editor;
     this.next = next;
-    /** @type {any} */
+    /** @type {Action | null} */
     this.action = null; // that comes next
     /** @type {string[]} */
     this.changes = [];
@@ -22,23 +36,29 @@ export class Story {
   }
 
   forget() {
-    this.view = this.before = this.session = null;
-    this.isStep = false;
+    /** @type {Shown | null} */
+    this.shown = null;
   }
 
+  /**
+   * @param {View} view
+   * @param {View | null} before
+   * @param {Session} session
+   * @param {boolean} isStep
+   */
   show(view, before, session, isStep) {
-    Object.assign(this, {view, before, session, isStep});
+    this.shown = {view, before, session, isStep};
     this.showWhere();
   }
 
   // Where the run is, what comes next, and what changed.
   showWhere() {
-    if (!this.view) return;
-    const {state} = this.view;
+    if (!this.shown) return;
+    const {state} = this.shown.view;
     const hasNext = !state.ending || state.ending === "TRAP";
-    const spot = this.next(state);
-    this.action = hasNext ? actionAt(this.editor.deck, spot.statement, spot.action) : null;
-    this.editor.point(this.action && {...this.action, statement: spot.statement});
+    const {statement = -1, action = 0} = this.next(state);
+    this.action = hasNext ? actionAt(this.editor.deck, statement, action) : null;
+    this.editor.point(this.action && {...this.action, statement});
     byId("where").textContent = state.line;
     byId("now").classList.toggle("trapped", state.ending === "TRAP");
     this.showNext(state.ending ? "At: " : "Next: ", this.action);
@@ -48,34 +68,20 @@ export class Story {
 
   // What changed, and what of it used a block after it was freed.
   tellChanges() {
-    const [from, to] = this.isUndone ? [this.view, this.before] : [this.before, this.view];
-    const step = this.isStep && from ? this.stepFrom(from) : null;
-    this.changes = changesOf(from, to, this.session.input, step);
-    const uses = step ? this.usesIn(from) : [];
-    this.showChanges(this.changes, uses);
+    const {shown} = this;
+    if (!shown) return;
+    const {view, before, session, isStep} = shown;
+    const [from, to] = before && isUndone(shown) ? [view, before] : [before, view];
+    const step = isStep && from ? stepFrom(from, session.reading) : null;
+    this.changes = changesOf(from, to, session.input, step);
+    this.uses = step && from ? usesIn(from, session) : [];
+    this.showChanges(shown);
   }
 
-  // The uses after free of the step from a state on.
-  usesIn(from) {
-    const {reading, chronicle} = this.session;
-    const spot = nextShown(reading, from.state);
-    const operation = operationAt(reading, spot);
-    const tests = spot.action === 0 ? reading.statements[spot.statement]?.tests ?? [] : [];
-    const groups = operation ? [operation] : tests;
-    return usesAfterFree(groups.map((it) => it.elements), from, chronicle);
-  }
-
-  // The operation that the next step from a state does, or null.
-  stepFrom({state}) {
-    const {reading} = this.session;
-    return {operation: operationAt(reading, nextShown(reading, state))};
-  }
-
-  // Whether the state that is shown is before that with which it is compared.
-  get isUndone() {
-    return Boolean(this.before) && this.before.state.number > this.view.state.number;
-  }
-
+  /**
+   * @param {string} when
+   * @param {{text: string, says: string} | null} action
+   */
   showNext(when, action) {
     const next = action ? [when, make("code", {}, action.text), ` ${action.says}`] : [];
     byId("next").replaceChildren(...next);
@@ -85,9 +91,10 @@ export class Story {
   // The card of what comes next, for windows in which the deck is out of sight.
   showCard() {
     const {action} = this;
-    const text = action && action.card >= 0 ? this.editor.lineOf(action.card) : null;
-    byId("card").hidden = text === null;
-    if (text === null) return;
+    const isThere = action !== null && action.card >= 0;
+    byId("card").hidden = !isThere;
+    if (!isThere) return;
+    const text = this.editor.lineOf(action.card);
     const number = make("i", {}, `${action.card + 1} `);
     byId("card").replaceChildren(
       number, text.slice(0, action.from), make("b", {}, text.slice(action.from, action.to)),
@@ -101,42 +108,73 @@ export class Story {
   }
 
   // What the group does that the cursor is in, while nothing is run.
+  /** @param {import("./deck.js").Group | null} group */
   explain(group) {
     this.showNext("", group && {text: `(${group.text})`, says: meaningOf(group.elements, group.text)});
   }
 
   // Tells all of it to a screen reader.
   speak() {
-    const {action, changes, view} = this;
-    if (!view) return;
-    const {state} = view;
+    const {action, changes, shown} = this;
+    if (!shown) return;
+    const {state} = shown.view;
     const at = `Statement ${state.statement}, after ${count(state.steps, "step")}`;
     const where = state.ending ? state.line.replace("== ", "") : at;
     const next = action && !state.ending ? [`Next: ${action.text} ${action.says}`] : [];
-    const what = this.isUndone ? "Undone" : "Changed";
-    const used = this.uses?.length ? [`Use after free: ${this.uses.join("; ")}`] : [];
+    const what = isUndone(shown) ? "Undone" : "Changed";
+    const used = this.uses.length ? [`Use after free: ${this.uses.join("; ")}`] : [];
     const changed = changes.length ? [`${what}: ${shortened(changes).join("; ")}`] : [];
-    byId("spoken").textContent = [where, endingOf(view), ...used, ...next, ...changed].filter((it) => it).join(". ");
+    const all = [where, endingOf(shown.view), ...used, ...next, ...changed];
+    byId("spoken").textContent = all.filter((it) => it).join(". ");
   }
 
-  showChanges(changes, uses = []) {
-    const {before, view} = this;
+  /** @param {Shown} shown */
+  showChanges(shown) {
+    const {changes, uses} = this;
+    const {before, view, isStep} = shown;
     const parts = shortened(changes).flatMap((it, index) => [index ? " · " : "", it]);
-    const isFar = before && !this.isStep && Math.abs(before.state.number - view.state.number) > 1;
-    const since =
-      isFar ? `since state ${withCommas(Math.min(before.state.number, view.state.number))}: ` : "";
-    const undone = isFar ? `up to state ${withCommas(before.state.number)}: ` : "";
+    const [was, is] = [before?.state.number ?? 0, view.state.number];
+    const isFar = before !== null && !isStep && Math.abs(was - is) > 1;
+    const since = isFar ? `since state ${withCommas(Math.min(was, is))}: ` : "";
+    const undone = isFar ? `up to state ${withCommas(was)}: ` : "";
     const ending = endingOf(view);
     byId("changes").replaceChildren(
       ...(uses.length ? [make("b", {class: "misuse"}, `Use after free: ${uses.join("; ")}`), " "] : []),
       ...(ending ? [make("b", {class: "ending"}, ending), parts.length ? " " : ""] : []),
       ...(
         parts.length ?
-          [make("b", {}, this.isUndone ? "Undone: " : "Changed "), this.isUndone ? undone : since, ...parts] :
+          [make("b", {}, isUndone(shown) ? "Undone: " : "Changed "), isUndone(shown) ? undone : since, ...parts] :
           []
       )
     );
     byId("changes").title = [...uses, ...changes].slice(0, 60).join("\n");
-    this.uses = uses;
   }
+}
+
+// The uses after free of the step from a state on.
+/**
+ * @param {View} from
+ * @param {Session} session
+ */
+function usesIn(from, {reading, chronicle}) {
+  const spot = nextShown(reading, from.state);
+  const operation = operationAt(reading, spot);
+  const tests = spot.action === 0 ? reading.statements[spot.statement]?.tests ?? [] : [];
+  const groups = operation ? [operation] : tests;
+  return usesAfterFree(groups.map((it) => it.elements), from, chronicle);
+}
+
+// The operation that the next step from a state does, or null.
+/**
+ * @param {View} from
+ * @param {import("./deck.js").Reading} reading
+ */
+function stepFrom({state}, reading) {
+  return {operation: operationAt(reading, nextShown(reading, state))};
+}
+
+// Whether the state that is shown is before that with which it is compared.
+/** @param {Shown} shown */
+function isUndone({view, before}) {
+  return before !== null && before.state.number > view.state.number;
 }

@@ -12,7 +12,18 @@ const FEW = 90;            // pieces that can be drawn wider than to scale
 const LABEL = 34;          // pixels in which the place of a piece has room
 const MOST_SPOKEN = 40;    // pieces that the text of the picture names
 
+/** @typedef {import("./view.js").View} View */
+/** @typedef {import("./store.js").Store} Store */
+/** @typedef {import("./store.js").Piece} Piece */
+/** @typedef {import("./route.js").Box} Box */
+/** @typedef {{from: number, to: number}} Width from where to where a piece is drawn, in pixels */
+
 export class Strip {
+  /**
+   * @param {{text: HTMLElement, units: HTMLCanvasElement, strip: HTMLCanvasElement, levels: HTMLCanvasElement,
+   *   levelsText: HTMLElement, bySize: HTMLInputElement, unitBox: HTMLInputElement}} parts
+   * @param {(place: number) => void} choose
+   */
   constructor({text, units, strip, levels, levelsText, bySize, unitBox}, choose) {
     this.text = text;
     this.units = units;
@@ -21,16 +32,18 @@ export class Strip {
     this.levelsText = levelsText;
     this.bySize = bySize;
     this.unitBox = unitBox;
+    this.unitLabel = /** @type {HTMLElement} */ (unitBox.parentElement);
     this.choose = choose;
-    /** @type {any} */
+    /** @type {View | null} */
     this.view = null;
-    /** @type {any} */
+    /** @type {View | null} */
     this.before = null;
-    /** @type {any} */
-    this.part = null; // of the store that is drawn
-    /** @type {any[]} */
+    this.part = {unit: 0, begin: 0, end: 0}; // of the store that is drawn
+    /** @type {Piece[]} */
     this.pieces = [];
-    /** @type {any[]} */
+    /** @type {Set<string> | null} */
+    this.old = null; // the pieces before, by what there is to say of them
+    /** @type {Width[]} */
     this.widths = [];
     /** @type {number | null} */
     this.unit = null; // that the reader chose, or null
@@ -52,6 +65,10 @@ export class Strip {
     unitBox.addEventListener("input", () => unitBox.value && this.pickUnit(Number(unitBox.value) - 1));
   }
 
+  /**
+   * @param {View} view
+   * @param {View | null} before
+   */
   show(view, before) {
     this.view = view;
     this.before = before;
@@ -63,6 +80,7 @@ export class Strip {
     this.draw();
   }
 
+  /** @param {number | null} place */
   mark(place) {
     if (this.chosen === place) return;
     this.chosen = place;
@@ -80,27 +98,24 @@ export class Strip {
     this.before = null;
     this.chosen = null;
     this.text.textContent = "";
-    this.units.hidden = this.levelsText.hidden = this.levels.hidden = this.unitBox.parentElement.hidden =
-      true;
+    this.units.hidden = this.levelsText.hidden = this.levels.hidden = this.unitLabel.hidden = true;
     this.strip.hidden = false;
     new Pen(this.strip);
   }
 
   draw() {
     if (!this.view) return;
-    const {store} = this.view;
+    const {view: {store}, before} = this;
     this.begin = store.begin;
     this.count = (store.end - this.begin) / UNIT;
-    this.part = this.partShown();
+    this.part = this.partShown(store, before);
     this.pieces = store.piecesBetween(this.part.begin, this.part.end);
-    this.old = this.before ?
-      new Set(this.before.store.piecesBetween(this.part.begin, this.part.end).map(keyOf)) :
-      null;
-    this.units.hidden = this.unitBox.parentElement.hidden = this.count === 1;
-    this.unitBox.max = this.count;
-    this.unitBox.value = this.part.unit + 1;
-    const isSeen = this.strip.parentElement.offsetHeight > 0; // (else it is drawn once it is shown)
-    if (this.count > 1 && isSeen) this.drawUnits();
+    this.old = before && new Set(before.store.piecesBetween(this.part.begin, this.part.end).map(keyOf));
+    this.units.hidden = this.unitLabel.hidden = this.count === 1;
+    this.unitBox.max = String(this.count);
+    this.unitBox.value = String(this.part.unit + 1);
+    const isSeen = Boolean(this.strip.parentElement?.offsetHeight); // (else it is drawn once it is shown)
+    if (this.count > 1 && isSeen) this.drawUnits(store);
     this.text.textContent = this.amounts;
     this.text.title = "words used, words free, and the largest free piece";
     this.levels.hidden = this.levelsText.hidden = !this.bySize.checked;
@@ -115,9 +130,12 @@ export class Strip {
 
   // The unit that is shown, or the part of it that has all of its blocks: that of the reader, or that in
   // which something has changed last, or the first with a block.
-  partShown() {
-    const {store} = this.view;
-    const changed = this.unit === null && this.before ? this.before.store.firstChange(store) : null;
+  /**
+   * @param {Store} store
+   * @param {View | null} before
+   */
+  partShown(store, before) {
+    const changed = this.unit === null && before ? before.store.firstChange(store) : null;
     if (changed !== null) this.latest = Math.floor((changed - this.begin) / UNIT);
     const first = store.kinds.findIndex((it) => it !== KINDS.free);
     const fallback = first < 0 ? 0 : Math.floor((store.places[first] - this.begin) / UNIT);
@@ -131,13 +149,13 @@ export class Strip {
     return {unit, begin, end: begin + size};
   }
 
-  drawUnits() {
+  /** @param {Store} store */
+  drawUnits(store) {
     const pen = new Pen(this.units);
     const width = pen.width / this.count;
-    const {store} = this.view;
     pen.fill("--free", 0, 0, pen.width, 12);
     let from = 0;
-    const at = (place) => ((place - this.begin) / UNIT) * width;
+    const at = (/** @type {number} */ place) => ((place - this.begin) / UNIT) * width;
     for (let index = 0; index < store.places.length; index++) { // (thin neighbours are joined)
       if (store.kinds[index] === KINDS.free) continue;
       const isLost = store.kinds[index] === KINDS.lost;
@@ -171,6 +189,11 @@ export class Strip {
     pen.text("--soft", rest || String(this.part.end - 1), pen.width, 48, 10, "right");
   }
 
+  /**
+   * @param {Piece} piece
+   * @param {number} y
+   * @param {number} height
+   */
   boxOf(piece, y, height) {
     const x = Math.max(0, (piece.place - this.part.begin) * this.scale);
     const end = Math.min(
@@ -180,6 +203,11 @@ export class Strip {
     return {x, y, width: end - x, height};
   }
 
+  /**
+   * @param {Pen} pen
+   * @param {Piece} piece
+   * @param {Box} box
+   */
   drawPiece(pen, piece, {x, y, width, height}) {
     const gap = width > 3 ? 1 : 0;
     const colour = piece.isFree ? "--free" : piece.isLost ? "--lost" : "--block";
@@ -198,7 +226,7 @@ export class Strip {
     const pen = new Pen(this.levels);
     const height = LEVELS_HEIGHT / LEVELS;
     this.widths = widthsOf(this.pieces, pen.width - LEVELS_LEFT);
-    const line = (size) => (LEVELS - 1 - Math.log2(size)) * height + 1;
+    const line = (/** @type {number} */ size) => (LEVELS - 1 - Math.log2(size)) * height + 1;
     for (let size = 1; size <= UNIT; size *= 2)
       pen.text("--soft", withCommas(size), LEVELS_LEFT - 6, line(size) + height - 4.5, 10.5, "right");
     for (const [key, {from, to}] of halvedOf(this.pieces, this.widths)) {
@@ -220,12 +248,13 @@ export class Strip {
   }
 
   textOf() {
-    const kindOf = (it) => (it.isFree ? "free" : `${it.isLost ? "lost " : ""}block`);
+    const kindOf = (/** @type {Piece} */ it) => (it.isFree ? "free" : `${it.isLost ? "lost " : ""}block`);
     const parts = this.pieces.slice(0, MOST_SPOKEN).map((it) => `${it.place} ${kindOf(it)} of ${it.size}`);
     const more = this.pieces.length - MOST_SPOKEN;
     return `${parts.join(", ")}${more > 0 ? ` and ${count(more, "more piece", "more pieces")}` : ""}`;
   }
 
+  /** @param {MouseEvent} event */
   placeAt(event) {
     if (event.currentTarget === this.levels) {
       const at = event.offsetX - LEVELS_LEFT;
@@ -236,11 +265,13 @@ export class Strip {
     return this.part.begin + Math.floor((event.offsetX / this.strip.clientWidth) * words);
   }
 
+  /** @param {MouseEvent} event */
   pick(event) {
     const piece = this.view?.store.pieceWith(this.placeAt(event));
     if (piece && !piece.isFree) this.choose(piece.place);
   }
 
+  /** @param {MouseEvent} event */
   hint(event) {
     if (!this.view) return;
     const place = this.placeAt(event);
@@ -248,10 +279,11 @@ export class Strip {
     if (!piece) return;
     const free =
       piece.isFree ? `${place}: in a free piece of ${withCommas(this.view.store.freePieceWith(place))}` : "";
-    event.currentTarget.title =
+    /** @type {HTMLElement} */ (event.currentTarget).title =
       free || `block ${piece.place}, ${count(piece.size, "word")}${piece.isLost ? ", lost" : ""}`;
   }
 
+  /** @param {number} unit */
   pickUnit(unit) {
     if (!this.view || unit < 0 || unit >= this.count) return;
     this.unit = unit;
@@ -259,12 +291,17 @@ export class Strip {
   }
 }
 
-// From where to where each piece is drawn. Of a few, each has room for its place, if it can be.
+/**
+ * From where to where each piece is drawn. Of a few, each has room for its place, if it can be.
+ * @param {Piece[]} pieces
+ * @param {number} room
+ * @returns {Width[]}
+ */
 function widthsOf(pieces, room) {
   const slopes = [0.45, 0.2, 0.08, 0];
-  const lengthOf = (slope) => pieces.reduce((sum, it) => sum + 1 + slope * Math.log2(it.size), 0);
+  const lengthOf = (/** @type {number} */ slope) => pieces.reduce((sum, it) => sum + 1 + slope * Math.log2(it.size), 0);
   const slope = slopes.find((it) => room / lengthOf(it) >= LABEL) ?? slopes[0];
-  const weight = pieces.length <= FEW ? (piece) => 1 + slope * Math.log2(piece.size) : (piece) => piece.size;
+  const weight = (/** @type {Piece} */ {size}) => (pieces.length <= FEW ? 1 + slope * Math.log2(size) : size);
   const whole = pieces.reduce((sum, it) => sum + weight(it), 0);
   let at = 0;
   return pieces.map((piece) => {
@@ -274,31 +311,40 @@ function widthsOf(pieces, room) {
   });
 }
 
-// The pieces that were halved, by place and size: from where to where their parts are drawn.
+/**
+ * The pieces that were halved, by place and size: from where to where their parts are drawn.
+ * @param {Piece[]} pieces
+ * @param {Width[]} widths
+ * @returns {Map<string, Width>}
+ */
 function halvedOf(pieces, widths) {
+  /** @type {Map<string, Width>} */
   const halved = new Map();
   pieces.forEach((piece, index) => {
     for (let size = piece.size * 2; size <= UNIT; size *= 2) {
       const key = `${piece.place - (piece.place % size)} ${size}`;
-      const {from, to} = halved.get(key) ?? {from: widths[index].from};
-      halved.set(key, {from, to: widths[index].to ?? to});
+      const {from} = halved.get(key) ?? widths[index];
+      halved.set(key, {from, to: widths[index].to});
     }
   });
   return halved;
 }
 
+/** @param {Piece} piece */
 function keyOf(piece) {
   return `${piece.place} ${piece.size} ${piece.isFree ? "free" : piece.isLost ? "lost" : "block"}`;
 }
 
+/** @param {Piece} piece */
 function inkOf(piece) {
   if (piece.isFree) return "--soft";
   return piece.isLost ? "--lost-ink" : "--block-ink";
 }
 
 // How many blocks and free pieces there are of each size.
+/** @param {{blocks: number, free: number}[]} levels */
 function levelsInWords(levels) {
-  const tell = ({blocks, free}, level) => {
+  const tell = (/** @type {typeof levels[0]} */ {blocks, free}, /** @type {number} */ level) => {
     const parts = [blocks && count(blocks, "block"), free && `${withCommas(free)} free`].filter((it) => it);
     return parts.length ? [`of ${withCommas(2 ** level)}: ${parts.join(", ")}`] : [];
   };

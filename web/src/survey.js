@@ -4,6 +4,7 @@
 
 import {bytesOf, textOfBytes} from "./bytes.js";
 import {follow} from "./chain.js";
+import {MOST_CALLS} from "./chronicle.js";
 import {readDeck} from "./deck.js";
 import {DIGESTS} from "./digest.js";
 import {job} from "./job.js";
@@ -14,8 +15,8 @@ import {Transcript} from "./transcript.js";
 
 const MOST_STATES = 400_000; // of a run that are read
 const MOST_STEPS = 60_000;   // of them that the debugger is asked about
+const MOST_LOOKED = 30_000;  // steps in one question, whose commands may have 1,048,576 bytes
 const MOST_ASKED = 40_000;   // blocks in one question
-const MOST_CALLS = 5000;     // that are noted
 const STRETCH = 65_536;      // states of the trail in one question
 const ROUNDS = 8;            // chains have at most five fields
 const QUIET = ["DO", "PR", "PD", "PO", "PH"];
@@ -45,7 +46,7 @@ export class Surveyor {
   /**
    * `ask` answers commands of the debugger; `reading` is what is read in the deck.
    * @param {(commands: string[]) => string} ask
-   * @param {any} reading
+   * @param {import("./deck.js").Reading} reading
    */
   constructor(ask, reading) {
     this.ask = ask;
@@ -63,7 +64,7 @@ export class Surveyor {
   read() {
     const steps = this.findSteps();
     const asked = steps.filter((it) => it.made === undefined);
-    this.look(asked);
+    for (let from = 0; from < asked.length; from += MOST_LOOKED) this.look(asked.slice(from, from + MOST_LOOKED));
     for (let round = 0; round < ROUNDS; round++) {
       const missing = asked.flatMap((step) => this.missingOf(step));
       if (!missing.length) break;
@@ -132,8 +133,8 @@ export class Surveyor {
    * @param {Step[]} steps
    */
   look(steps) {
-    const commands = ["step 0", "show", "fields"];
-    let at = 0;
+    let at = steps[0].number - 1;
+    const commands = [`step ${at}`, "show", "fields"];
     for (const step of steps) {
       step.isApart = step.number - 1 > at;
       if (step.isApart) commands.push(`step ${step.number - 1 - at}`, "show");
@@ -161,7 +162,7 @@ export class Surveyor {
   /**
    * @param {number} number
    * @param {Map<string, number>} bugs
-   * @param {Map<string, any>} fields
+   * @param {Map<string, import("./transcript.js").Field>} fields
    * @returns {Moment}
    */
   moment(number, bugs, fields) {

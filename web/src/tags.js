@@ -4,6 +4,7 @@
 export const TAG = {width: 8, height: 9}; // of a name of one letter
 const OFF = [3, 12];                      // pixels from its arrow
 export const TIP = 11;                    // how long and wide an arrowhead is
+const LINE = 6;                           // how wide an arrow is with its round corners
 
 /** @typedef {{x: number, y: number}} Point */
 /** @typedef {{x: number, y: number, width: number, height: number}} Box */
@@ -17,6 +18,7 @@ export const TIP = 11;                    // how long and wide an arrowhead is
  */
 export function tagsOf(arrows, boxes) {
   const tips = arrows.map((it) => tipOf(it.points));
+  const lines = arrows.flatMap((it) => linesOf(it.points));
   const taken = [...boxes, ...tips];
   for (const arrow of arrows) {
     if (!arrow.tag) continue;
@@ -24,7 +26,8 @@ export function tagsOf(arrows, boxes) {
     const spots = spotsOf(arrow.points, width);
     const isFree = (/** @type {Box[]} */ all) => (/** @type {Point} */ it) =>
       !all.some((other) => isOver(boxAt(it, width), other));
-    const spot = spots.find(isFree(taken)) ?? spots.find(isFree(tips)) ?? spots[0];
+    const spot = spots.find(isFree([...taken, ...lines])) ?? spots.find(isFree(taken)) ??
+      spots.find(isFree(tips)) ?? spots[0];
     arrow.tag = spot;
     taken.push(boxAt(spot, width));
   }
@@ -41,6 +44,19 @@ export function tipOf(points) {
   const box = (/** @type {number} */ at, /** @type {number} */ step) =>
     (step > 0 ? at - TIP : step < 0 ? at : at - TIP / 2);
   return {x: box(to.x, dx), y: box(to.y, dy), width: TIP, height: TIP};
+}
+
+/**
+ * What the lines of an arrow cover.
+ * @param {Point[]} points
+ * @returns {Box[]}
+ */
+function linesOf(points) {
+  return points.slice(1).map((to, index) => {
+    const from = points[index];
+    const [x, y] = [Math.min(from.x, to.x) - LINE / 2, Math.min(from.y, to.y) - LINE / 2];
+    return {x, y, width: Math.abs(to.x - from.x) + LINE, height: Math.abs(to.y - from.y) + LINE};
+  });
 }
 
 /**

@@ -2,8 +2,9 @@
 // goes out as a link or a file.
 
 import {byId} from "./dom.js";
+import {save} from "./download.js";
 import {linkOf, numbersOf} from "./links.js";
-import {save} from "./papers.js";
+import {errorOf} from "./thrown.js";
 import {conditionsOf, testsOf} from "./verify.js";
 
 export class TaskMaker {
@@ -62,7 +63,7 @@ export class TaskMaker {
       const more = {tests: await this.tests(), conditions: this.conditions()};
       return {...whole, ...more};
     } catch (error) {
-      byId("task-note").textContent = error.message;
+      byId("task-note").textContent = errorOf(error).message;
       return null;
     }
   }

@@ -5,7 +5,7 @@
 const TEXT_VERBS = ["IN", "PR"];
 
 /**
- * @param {any} deck
+ * @param {import("./deck.js").Reading} deck
  * @returns {Set<string>} the names of bugs and fields; a chain is known by its last name
  */
 export function textNames(deck) {
@@ -13,7 +13,7 @@ export function textNames(deck) {
   return deck.texts;
 }
 
-/** @param {any} deck */
+/** @param {import("./deck.js").Reading} deck */
 function found(deck) {
   const texts = new Set();
   const moves = []; // pairs of names of which the first gets what the second holds

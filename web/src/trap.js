@@ -12,8 +12,32 @@ const MOST_FREES = 1024;
 
 const FULL = 1024; // entries of a pushdown, and calls that wait
 
-// Puts the explanation into a frame. Answers the chain that could not be followed, or {}; null where there is
-// nothing to be said beyond the trap's own text.
+/** @typedef {import("./view.js").View} View */
+/** @typedef {import("./session.js").Session} Session */
+/** @typedef {import("./deck.js").Reading} Reading */
+/** @typedef {import("./transcript.js").State} State */
+/** @typedef {import("./chain.js").ChainStep} ChainStep */
+/** @typedef {import("./chain.js").ChainTrap} ChainTrap */
+/** @typedef {(number: number) => void} GoTo */
+/** @typedef {{number: number, operation: import("./deck.js").Group}} Free */
+/**
+ * What is said of a trap, the chain that could not be followed, and the step that freed its block.
+ * @typedef {{text: (string | Node)[], steps?: ChainStep[], trap?: ChainTrap, freed?: Free}} Told
+ *
+ * What a trap is told by: `is` says what a chain or number is, `value` is its value.
+ * @typedef {{is: (text: string) => string, value: (text: string) => number | null, view: View,
+ *   session: Session}} By
+ */
+
+/**
+ * Puts the explanation into a frame. Answers the chain that could not be followed, or {}; null where there is
+ * nothing to be said beyond the trap's own text.
+ * @param {HTMLElement} frame
+ * @param {View} view
+ * @param {Session} session
+ * @param {GoTo} goTo
+ * @returns {Promise<Told | null>}
+ */
 export async function showTrap(frame, view, session, goTo) {
   const number = Number(/TRAP (\d+)/.exec(view.state.line)?.[1]);
   const told = number <= 3 ? await chainTrap(number, view, session) : await otherTrap(number, view, session);
@@ -23,6 +47,10 @@ export async function showTrap(frame, view, session, goTo) {
   return told;
 }
 
+/**
+ * @param {Free} free
+ * @param {GoTo} goTo
+ */
 function freedInWords({number, operation}, goTo) {
   const state = `state ${number + 1}`;
   return [
@@ -34,7 +62,13 @@ function freedInWords({number, operation}, goTo) {
 
 // ---- Chains
 
-// The chain that trapped: the first, in the order in which they are read, that can't be followed.
+/**
+ * The chain that trapped: the first, in the order in which they are read, that can't be followed.
+ * @param {number} number
+ * @param {View} view
+ * @param {Session} session
+ * @returns {Promise<Told | null>}
+ */
 async function chainTrap(number, view, session) {
   for (const chain of chainsAt(session.reading, view.state)) {
     const {steps, trap} = await followed(chain, view, session);
@@ -44,9 +78,14 @@ async function chainTrap(number, view, session) {
   if (!pointer) return null;
   const {steps} = await followed(pointer, view, session);
   const last = steps?.at(-1);
-  return last ? tellChain(pointer, steps, {number, name: "", value: last.value}, view, session) : null;
+  return last ? tellChain(pointer, steps, {number, name: "", value: last.value, text: ""}, view, session) : null;
 }
 
+/**
+ * @param {string} chain
+ * @param {View} view
+ * @param {Session} session
+ */
 async function followed(chain, view, session) {
   for (;;) {
     const answer = follow(chain, view);
@@ -55,14 +94,23 @@ async function followed(chain, view, session) {
   }
 }
 
+/**
+ * @param {string} chain
+ * @param {ChainStep[]} steps
+ * @param {ChainTrap} trap
+ * @param {View} view
+ * @param {Session} session
+ * @returns {Promise<Told>}
+ */
 async function tellChain(chain, steps, trap, view, session) {
-  const [last, code] = [steps.at(-1), make("code", {}, chain)];
+  const [last, code] = [steps[steps.length - 1], make("code", {}, chain)];
   const what = `${last.place === null ? last.name : last.text} is ${last.value}`;
   const way = trap.name ? [code, ` ends before ${trap.name}: `] : [];
   if (trap.number === 1) return {steps, trap, text: [code, `: ${trap.name} has no definition here`]};
-  if (trap.number === 3) {
-    const {size} = view.store.block(last.value);
-    const {word} = view.fields.get(trap.name);
+  const block = view.store.block(last.value);
+  if (trap.number === 3 && block) {
+    const {size} = block;
+    const word = view.fields.get(trap.name)?.word;
     const text = `${what}, a block of ${count(size, "word")}, and ${trap.name} is in word ${word}`;
     return {steps, trap, text: [...way, text, size === 1 ? ", counted from 0" : ""]};
   }
@@ -70,7 +118,13 @@ async function tellChain(chain, steps, trap, view, session) {
   return {steps, trap, freed, text: [...way, `${what}, ${text}`]};
 }
 
-// Why no block begins at a place.
+/**
+ * Why no block begins at a place.
+ * @param {number} place
+ * @param {View} view
+ * @param {Session} session
+ * @returns {Promise<{text: string, freed?: Free}>}
+ */
 async function whyNoBlock(place, view, session) {
   if (place === 0) return {text: "no block"};
   const piece = view.store.pieceWith(place);
@@ -81,12 +135,18 @@ async function whyNoBlock(place, view, session) {
   return {text: freed === null ? "which was never a block" : "where no block begins"};
 }
 
-// The latest step that freed the block at a place: null where there was none, undefined where that is not
-// known. A block is gone only by such a step.
+/**
+ * The latest step that freed the block at a place: null where there was none, undefined where that is not
+ * known. A block is gone only by such a step.
+ * @param {number} place
+ * @param {View} view
+ * @param {Session} session
+ */
 async function freeOf(place, view, session) {
   const {trail, reading, values} = session;
   const least = Math.max(0, view.state.steps - MOST_BACK);
   let size = FIRST_FREES;
+  /** @type {(Free & {chain: string})[]} */
   let frees = [];
   for (let number = view.state.steps - 1; number >= least; number--) {
     const spot = await trail.near(number, -4);
@@ -102,13 +162,21 @@ async function freeOf(place, view, session) {
   return least === 0 ? null : undefined;
 }
 
-// The chains that are read at a spot, in their order.
+/**
+ * The chains that are read at a spot, in their order.
+ * @param {Reading} deck
+ * @param {State} state
+ */
 function chainsAt(deck, state) {
   const operation = operationAt(deck, state);
-  const groups = operation ? [operation] : deck.statements[state.statement]?.tests ?? [];
+  const groups = operation ? [operation] : deck.statements[state.statement ?? -1]?.tests ?? [];
   return groups.flatMap(({elements}) => chainsOf(elements, !operation)).filter((it) => /^[A-Z]/.test(it));
 }
 
+/**
+ * @param {string[]} elements
+ * @param {boolean} isTest
+ */
 function chainsOf(elements, isTest) {
   const [first, verb = "", third = "", fourth = ""] = elements;
   if (isTest) return verb.length === 1 ? [first, third] : [first];
@@ -119,7 +187,11 @@ function chainsOf(elements, isTest) {
   return elements.length < 3 ? [first] : [first, third];
 }
 
-// The chain whose value must be the place of a block, or null.
+/**
+ * The chain whose value must be the place of a block, or null.
+ * @param {Reading} deck
+ * @param {State} state
+ */
 function pointerAt(deck, state) {
   const elements = operationAt(deck, state)?.elements ?? [];
   if (elements[1] === "FR") return elements[0];
@@ -128,19 +200,26 @@ function pointerAt(deck, state) {
 
 // ---- Other traps
 
+/**
+ * @param {number} number
+ * @param {View} view
+ * @param {Session} session
+ * @returns {Promise<Told | null>}
+ */
 async function otherTrap(number, view, session) {
   const operation = operationAt(session.reading, view.state);
   const elements = operation?.elements ?? [];
   for (const chain of elements.filter((it) => /^[A-Z][A-Z0-9]{0,5}$/.test(it)))
     await followed(chain, view, session);
-  const value = (text) => valueOf(text, view);
-  const is = (text) =>
+  const value = (/** @type {string} */ text) => valueOf(text, view);
+  const is = (/** @type {string} */ text) =>
     (/^[0-9]/.test(text) ? `${Number(text)}` : `${text} is ${withCommas(value(text) ?? 0)}`);
   const text = TELL[number]?.(elements, {is, value, view, session});
   return text ? {text: [text[0].toUpperCase() + text.slice(1)]} : null;
 }
 
-// What there is to say of a trap, by its number; `is` says what a chain or number is.
+// What there is to say of a trap, by its number.
+/** @type {Record<number, (elements: string[], by: By) => string>} */
 const TELL = {
   4: ([word, , first, last], {is}) =>
     `the word: ${is(word)}; the first bit: ${is(first)}; the last: ${is(last)}`,
@@ -158,14 +237,20 @@ const TELL = {
     withCommas(session.options.output)} is the most`,
 };
 
+/**
+ * @param {string[]} elements
+ * @param {(text: string) => number | null} value
+ * @param {View} view
+ */
 function storeFull([, verb, third], value, view) {
-  const wanted = verb === "DP" ? view.store.block(value(third))?.size : value(third);
+  const wanted = verb === "DP" ? view.store.block(value(third) ?? 0)?.size : value(third);
   const {free, largestFree} = view.store;
   const largest = largestFree ? `the largest free piece has ${withCommas(largestFree)}` : "none is free";
   return `${count(wanted ?? 0, "word")} asked for; ${count(free, "word")} free, and ${largest}`;
 }
 
 // How many characters an input has: each line has 80.
+/** @param {string} input */
 function charactersOf(input) {
   const lines = input.split("\n");
   if (lines.at(-1) === "") lines.pop();

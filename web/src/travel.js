@@ -6,7 +6,14 @@ import {Values} from "./values.js";
 import {count, withCommas} from "./word.js";
 
 const SHORT_RUN = 2_000_000; // steps of a run that is made ahead, to know how many states there are
-const LARGE_STATE = 1_000_000; // characters of answers from which on the next state is asked for ahead
+const LARGE_STATE = 1_000_000; // characters of answers from which on the next states are asked for ahead
+const AHEAD = 3; // states that are asked for ahead, each by a worker of its own
+
+/** @typedef {import("./session.js").Session} Session */
+/** @typedef {import("./view.js").View} View */
+/** @typedef {{view: View, before?: View, isStep?: boolean}} Step */
+/** @typedef {View | Step | null} Found */
+/** @typedef {(session: Session, at: number) => Found | Promise<Found>} Find */
 
 export class Travel extends Core {
   // Goes to the end of the run.
@@ -15,7 +22,7 @@ export class Travel extends Core {
     return this.act(async (session) => {
       const {ending, milliseconds} = await session.run();
       const told = this.told(session); // (meanwhile the state is asked for)
-      const view = await session.view(session.last);
+      const view = await session.view(ending.number);
       await told;
       if (session !== this.session) return; // (the deck was changed meanwhile)
       this.show(view, null);
@@ -27,6 +34,7 @@ export class Travel extends Core {
 
   // Goes to a state: `find` has the session and the number of the state that is shown, and answers a view; or
   // a view and that with which it is compared, and whether it is one step from there.
+  /** @param {Find} find */
   goTo(find) {
     return this.act(async (session) => {
       if (session.options.steps <= SHORT_RUN) await session.run();
@@ -35,29 +43,43 @@ export class Travel extends Core {
       const found = await find(session, shown.state.number);
       await told;
       if (session !== this.session || !found) return; // (the deck was changed meanwhile)
-      const {view, before = shown, isStep = undefined} = found.view ? found : {view: found};
+      /** @type {Step} */
+      const {view, before = shown, isStep} = "state" in found ? {view: found} : found;
       const isNear = Math.abs(view.state.number - before.state.number) <= 1;
       const isBack = view.state.number < before.state.number;
       this.show(view, this.view || isNear || isStep ? before : null, isStep ?? isNear);
-      if (session.size > LARGE_STATE) setTimeout(() => this.foresee(session, view.state.number, isBack), 0);
+      this.engine.most = session.size > LARGE_STATE ? AHEAD : 1;
+      if (this.engine.most > 1) setTimeout(() => this.foresee(session, view.state.number, isBack), 0);
     });
   }
 
-  // Of very large states the next one is asked for while the reader looks at this one.
+  /**
+   * Of very large states the next ones are asked for while the reader looks at this one, so that steps that follow
+   * at once do not wait for one another.
+   * @param {Session} session
+   * @param {number} number
+   * @param {boolean} isBack
+   */
   async foresee(session, number, isBack) {
-    if (this.isBusy || session !== this.session || this.player.isPlaying) return;
-    this.isForeseeing = true;
+    if (session !== this.session || this.view?.state.number !== number || this.player.isPlaying) return;
+    this.foreseeing++;
     try {
-      const next = [await session.steps.on(number), await session.steps.back(number)];
-      for (const one of isBack ? next.reverse() : next)
-        if (!this.isBusy && this.view?.state.number === number) await session.view(one);
+      const asked = [];
+      let at = number;
+      for (let ahead = 0; ahead < AHEAD; ahead++) {
+        at = isBack ? await session.steps.back(at) : await session.steps.on(at);
+        asked.push(session.view(at));
+      }
+      await Promise.all(asked);
     } catch {
       // (it is asked for again where it is wanted)
     }
-    this.isForeseeing = false;
+    this.foreseeing--;
+    this.showBusy();
   }
 
   // As `goTo`, asked for by the reader: what plays is paused.
+  /** @param {Find} find */
   leap(find) {
     this.pause();
     return this.goTo(find);
@@ -83,6 +105,7 @@ export class Travel extends Core {
     });
   }
 
+  /** @param {number} number */
   state(number) {
     return this.leap(async (session) => {
       const view = await session.view(number);
@@ -95,8 +118,7 @@ export class Travel extends Core {
 
   end() {
     return this.leap(async (session) => {
-      await session.run();
-      return session.view(session.last);
+      return session.view((await session.run()).ending.number);
     });
   }
 
@@ -117,6 +139,7 @@ export class Travel extends Core {
   }
 
   // Goes to the step that changed what the reader has chosen: the one before, or the next.
+  /** @param {boolean} isForward */
   change(isForward) {
     const {watched} = this.viewer;
     this.pause();
@@ -140,6 +163,7 @@ export class Travel extends Core {
     return this.withBreakpoints((session, at, breakpoints) => session.goBack(at, breakpoints));
   }
 
+  /** @param {(session: Session, at: number, breakpoints: number[]) => Found | Promise<Found>} find */
   withBreakpoints(find) {
     const {breakpoints, deck} = this.editor;
     const known = [...breakpoints].filter((it) => it <= deck.statements.length).sort((a, b) => a - b);
@@ -147,15 +171,21 @@ export class Travel extends Core {
     return this.leap((session, at) => find(session, at, known));
   }
 
+  /** @param {number} statement */
   runTo(statement) {
     return this.leap((session, at) => session.go(at, [statement]));
   }
 
+  /**
+   * @param {number} statement
+   * @param {boolean} runs
+   */
   markClicked(statement, runs) {
     this.pause();
     return runs ? this.runTo(statement) : this.toggle(statement);
   }
 
+  /** @param {number} statement */
   toggle(statement) {
     const {breakpoints} = this.editor;
     if (!breakpoints.delete(statement)) breakpoints.add(statement);
@@ -165,6 +195,7 @@ export class Travel extends Core {
     );
   }
 
+  /** @param {number[]} statements */
   setBreakpoints(statements) {
     this.editor.breakpoints = new Set(statements);
     this.editor.draw();
@@ -199,6 +230,7 @@ export class Travel extends Core {
   }
 
   // Hides a bug that leads to a block by chance, or shows it again.
+  /** @param {string} name */
   hideBug(name) {
     return this.leap(async (session, at) => {
       session.hide(name);

@@ -11,30 +11,51 @@ const LARGE_BLOCK = 16; // words; of a larger block fewer states are looked at a
 /**
  * What the reader follows through a run: a chain, the definition of a field, or a field of one block.
  * @typedef {{chain?: string, definition?: string, place?: number, field?: string}} Watched
+ *
+ * A state that was looked at, with the blocks that are known of it.
+ * @typedef {import("./chain.js").Glimpse & {number: number, state: import("./transcript.js").State,
+ *   known: Map<number, number[] | null>}} Looked
  */
 
 export class Values {
+  /** @param {import("./session.js").Session} session */
   constructor(session) {
     this.session = session;
   }
 
   // What is followed, in a few words.
+  /** @param {Watched} watched */
   static nameOf({chain, definition, place, field}) {
     if (definition) return `field ${definition}`;
-    return field ? `${field} of ${place}` : chain;
+    return field ? `${field} of ${place}` : chain ?? "";
   }
 
-  // The states with these numbers, which are in order, each with the blocks that `wants` asks for: it has a
-  // state and answers a place, or undefined where it needs none.
+  /**
+   * The states with these numbers, which are in order, each with the blocks that `wants` asks for: it has a
+   * state and answers a place, or undefined where it needs none.
+   * @param {number[]} numbers
+   * @param {(state: Looked) => number | undefined} wants
+   * @param {boolean} hasFields
+   */
   async look(numbers, wants, hasFields = true) {
     const states = await this.begin(numbers, hasFields);
     for (;;) {
-      const missing = states.map((it) => [it, wants(it)]).filter(([, place]) => place !== undefined);
+      /** @type {[Looked, number][]} */
+      const missing = [];
+      for (const state of states) {
+        const place = wants(state);
+        if (place !== undefined) missing.push([state, place]);
+      }
       if (!missing.length) return states;
       await this.addBlocks(missing);
     }
   }
 
+  /**
+   * @param {number[]} numbers
+   * @param {boolean} hasFields
+   * @returns {Promise<Looked[]>}
+   */
   async begin(numbers, hasFields) {
     const commands = [];
     let at = 0;
@@ -45,14 +66,16 @@ export class Values {
     const transcript = await this.session.question(commands);
     return numbers.map((number) => {
       transcript.line();
-      const {state, bugs, amounts} = transcript.show();
+      const {state, bugs} = transcript.show();
       if (state.ending) this.session.last = state.number;
+      /** @type {Looked["known"]} */
       const known = new Map();
       const fields = hasFields ? transcript.fields() : new Map();
-      return {number, state, bugs, amounts, fields, known, wordsAt: (place) => known.get(place)};
+      return {number, state, bugs, fields, known, wordsAt: (/** @type {number} */ place) => known.get(place)};
     });
   }
 
+  /** @param {[Looked, number][]} missing */
   async addBlocks(missing) {
     const commands = [];
     let at = 0;
@@ -68,9 +91,10 @@ export class Values {
   }
 
   // A chain's value in each of some states, whose numbers are in order: a number, or null where it traps.
+  /** @param {{number: number, chain: string}[]} wanted */
   async ofChains(wanted) {
     const chains = new Map(wanted.map(({number, chain}) => [number, chain]));
-    const followed = (state) => follow(chains.get(state.number), state);
+    const followed = (/** @type {Looked} */ state) => follow(chains.get(state.number) ?? "", state);
     const states = await this.look(wanted.map(({number}) => number), (state) => followed(state).missing);
     return states.map((state) => {
       const {steps, trap} = followed(state);
@@ -78,19 +102,21 @@ export class Values {
     });
   }
 
-  // What is followed, in each of some states, as a text.
+  /**
+   * What is followed, in each of some states, as a text.
+   * @param {Watched} watched
+   * @param {number[]} numbers
+   */
   async of(watched, numbers) {
-    const {chain, definition, place, field} = watched;
-    const lookUp = {
-      chain: (state) => follow(chain, state).missing,
-      definition: () => undefined,
-      field: (state) => (state.known.has(place) ? undefined : place),
+    const {chain = "", definition = "", place = -1, field = ""} = watched;
+    const wants = (/** @type {Looked} */ state) => {
+      if (chain) return follow(chain, state).missing;
+      return definition || state.known.has(place) ? undefined : place;
     };
-    const kind = chain ? "chain" : definition ? "definition" : "field";
-    const states = await this.look(numbers, lookUp[kind], !chain || chain.length > 1);
+    const states = await this.look(numbers, wants, chain.length !== 1);
     return states.map((state) => {
-      if (kind === "definition") return JSON.stringify(state.fields.get(definition) ?? null);
-      if (kind === "chain") {
+      if (definition) return JSON.stringify(state.fields.get(definition) ?? null);
+      if (chain) {
         const {steps, trap} = follow(chain, state);
         return trap ? `trap ${trap.number}` : String(steps.at(-1)?.value);
       }
@@ -101,8 +127,13 @@ export class Values {
     });
   }
 
-  // The number of the latest state before one, or of the first after it, in which what is followed differs
-  // from the state before that; null where there is none.
+  /**
+   * The number of the latest state before one, or of the first after it, in which what is followed differs
+   * from the state before that; null where there is none.
+   * @param {Watched} watched
+   * @param {number} number
+   * @param {boolean} isForward
+   */
   async change(watched, number, isForward) {
     const most = watched.field ? Math.max(FIRST_LOOK, MOST_LOOK / LARGE_BLOCK) : MOST_LOOK;
     const last = () => this.session.last ?? Infinity;
@@ -112,7 +143,7 @@ export class Values {
       const [from, to] = isForward ? [near, far] : [far, near - 1];
       const numbers = Array.from({length: to - from + 1}, (_, index) => from + index);
       const values = await this.of(watched, numbers);
-      const differs = (index) => index > 0 && values[index] !== values[index - 1];
+      const differs = (/** @type {number} */ index) => index > 0 && values[index] !== values[index - 1];
       const found = isForward ? values.findIndex((_, index) => differs(index)) : lastIndex(values, differs);
       if (found >= 0) return numbers[found];
       near = isForward ? far : far + 1;
@@ -121,6 +152,10 @@ export class Values {
   }
 }
 
+/**
+ * @param {string[]} values
+ * @param {(index: number) => boolean} isFound
+ */
 function lastIndex(values, isFound) {
   for (let index = values.length - 1; index >= 0; index--)
     if (isFound(index)) return index;

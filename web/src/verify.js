@@ -57,12 +57,12 @@ async function wrongAtEnd(session, {noLost, list, uses}) {
 
 /**
  * Whether a chain of a deck has a field.
- * @param {any} reading
+ * @param {import("./deck.js").Reading} reading
  * @param {string} field
  */
 export function isUsed(reading, field) {
   /** @type {{elements: string[]}[]} */
-  const groups = reading.statements.flatMap((/** @type {any} */ it) => [...it.tests, ...it.operations]);
+  const groups = reading.statements.flatMap((it) => [...it.tests, ...it.operations]);
   const isChainOf = (/** @type {string} */ it) =>
     /^[A-Z][A-Z0-9]{1,5}$/.test(it) && it.slice(1).includes(field);
   // (the second element is what is done)
@@ -72,7 +72,7 @@ export function isUsed(reading, field) {
 /**
  * How many blocks a list has, or null where it is a ring.
  * @param {Session} session
- * @param {any} view
+ * @param {import("./view.js").View} view
  * @param {{bug: string, field: string}} list
  */
 async function lengthOf(session, view, {bug, field}) {
@@ -83,7 +83,7 @@ async function lengthOf(session, view, {bug, field}) {
     met.add(place);
     await session.addBlock(view, place);
     const words = view.words.get(place);
-    if (!window || window.word >= words.length) break;
+    if (!window || !words || window.word >= words.length) break;
     place = seenThrough(words[window.word], window);
   }
   return met.size;

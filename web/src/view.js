@@ -7,7 +7,7 @@ import {Store} from "./store.js";
  * what was printed from a place on.
  * @typedef {{state: import("./transcript.js").State, bugs: Map<string, number>,
  *   amounts: import("./transcript.js").Amounts, fields: Map<string, import("./transcript.js").Field>,
- *   draw: any, shown: {places: number[], hidden: number, hiddenLost: number},
+ *   draw: import("./choice.js").Chosen, shown: {places: number[], hidden: number, hiddenLost: number},
  *   store: import("./transcript.js").StoreData, output: {from: number, text: string}, cost: number}} Known
  */
 
@@ -22,7 +22,7 @@ export class View {
     this.shown = shown;
     this.cost = cost;
     this.store = new Store(store);
-    /** @type {Map<number, number[]>} */
+    /** @type {Map<number, number[] | null>} */
     this.words = new Map(); // of blocks, by their places
     this.out = output;      // what was printed, from a place on, up to this state or some later one
   }

@@ -8,13 +8,25 @@ import {Stopped} from "./engine.js";
 import {History} from "./history.js";
 import {Legend} from "./legend.js";
 import {bugCards, showBugs, showBugStrip, showChain, showFields, showWords} from "./panels.js";
+import {showPrinted} from "./printed.js";
 import {hasStacks} from "./steps.js";
 import {Story} from "./story.js";
 import {Strip} from "./strip.js";
 import {showTrap} from "./trap.js";
 import {Values} from "./values.js";
 
-const MOST_IN_LINE = 300; // characters of a printout
+/** @typedef {import("./view.js").View} View */
+/** @typedef {import("./session.js").Session} Session */
+/** @typedef {import("./values.js").Watched} Watched */
+/** @typedef {import("./chain.js").ChainStep} ChainStep */
+/** @typedef {import("./chain.js").ChainTrap} ChainTrap */
+/**
+ * What the reader may ask for in what is shown: to go to a state, to hide a bug, to open the tables; where a
+ * question to the debugger fails; and the step that is shown next.
+ * @typedef {{goTo: (number: number) => void, hide: (name: string) => void, openTables: () => void,
+ *   trouble: (error: unknown) => void,
+ *   next: (state: import("./transcript.js").State) => import("./steps.js").Place}} Ask
+ */
 
 /** @type {import("./chain.js").Followed} */
 const NOWHERE = {
@@ -22,21 +34,34 @@ const NOWHERE = {
 }; // where no chain leads
 
 export class Viewer {
-  // The editor has the deck. `ask` has what the reader may ask for in what is shown: `goTo` a state, `hide` a
-  // bug, and `trouble` where a question to the debugger fails; and `next`, the step that is shown next.
+  /**
+   * The editor has the deck. `ask` has what the reader may ask for in what is shown: `goTo` a state, `hide` a
+   * bug, and `trouble` where a question to the debugger fails; and `next`, the step that is shown next.
+   * @param {import("./editor.js").Editor} editor
+   * @param {Ask} ask
+   */
   constructor(editor, ask) {
     this.editor = editor;
     this.ask = ask;
+    /** @type {Session | null} */
     this.session = null;
-    this.view = null;     // that is shown
-    this.before = null;   // that with which it is compared
-    this.isStep = false;  // whether it is one step from there
-    this.chosen = null;   // the place of a block
-    this.watched = null;  // whose changes the reader follows
+    /** @type {View | null} */
+    this.view = null; // that is shown
+    /** @type {View | null} */
+    this.before = null; // that with which it is compared
+    /** @type {number | null} */
+    this.chosen = null; // the place of a block
+    /** @type {Watched | null} */
+    this.watched = null; // whose changes the reader follows
+    /** @type {{steps?: ChainStep[], trap?: ChainTrap} | null} */
     this.followed = null; // the chain that is typed, and where it leads
+    /** @type {{steps?: ChainStep[], trap?: ChainTrap} | null} */
     this.trapTold = null; // the chain that trapped
-    const choose = (place) => this.chooseBlock(place);
-    const told = (warnings, notes) => this.tellDrawing(warnings, notes);
+    /** @type {ReturnType<typeof setTimeout> | undefined} */
+    this.resizeTimer = undefined;
+    const choose = (/** @type {number} */ place) => this.chooseBlock(place);
+    const told = (/** @type {string[]} */ warnings, /** @type {string[]} */ notes) =>
+      this.tellDrawing(warnings, notes);
     this.drawing = new Drawing(byId("drawing"), {choose, hide: (name) => this.ask.hide(name), told});
     this.legend = new Legend(this.drawing, {changed: () => this.redraw(), show: (name) => this.ask.hide(name)});
     const parts = {
@@ -92,43 +117,54 @@ export class Viewer {
     this.showWatched();
   }
 
-  // Shows a view; what is another than before is marked.
+  /**
+   * Shows a view; what is another than before is marked.
+   * @param {View} view
+   * @param {View | null} before
+   * @param {Session} session
+   * @param {boolean} isStep
+   */
   show(view, before, session, isStep) {
     const old = before && before.state.number !== view.state.number ? before : null;
     this.view = view;
     this.before = old;
     this.session = session;
-    this.isStep = isStep;
     this.drawing.learn(session.reading, session.chronicle);
     byId("board").classList.toggle("vacant", view.store.blocks === 0);
     byId("empty").replaceChildren(...(view.store.used ? [] : [bugCards(view, old)]));
-    this.showFrames();
+    this.showFrames(view, session);
     this.strip.show(view, old); // (before the drawing, whose frame is what the others leave)
     this.drawing.show(view, old);
     this.legend.show(session.hidden);
     this.history.show(view, session);
-    this.showTables();
+    this.showTables(view, old);
     this.showDetails();
-    this.showPrinted();
+    showPrinted(view, old, session);
     this.story.show(view, old, session, isStep);
-    this.showTrap();
+    this.showTrap(view, session);
   }
 
-  showTables() {
-    const {view, before} = this;
+  /**
+   * @param {View} view
+   * @param {View | null} before
+   */
+  showTables(view, before) {
     const choose = {
-      block: (place) => this.chooseBlock(place),
-      watch: (watched) => this.watch(watched),
-      colourOf: (name) => this.drawing.colourOf(name),
+      block: (/** @type {number} */ place) => this.chooseBlock(place),
+      watch: (/** @type {Watched} */ watched) => this.watch(watched),
+      colourOf: (/** @type {string} */ name) => this.drawing.colourOf(name),
     };
     showBugs(byId("bugs"), byId("amounts"), view, before, choose);
     showBugStrip(byId("bug-strip"), view, before, choose.watch);
     showFields(byId("fields"), view, before, choose);
   }
 
-  // Why a run has trapped, with values and what happened before; the chain that could not be followed is lit.
-  async showTrap() {
-    const {view, session} = this;
+  /**
+   * Why a run has trapped, with values and what happened before; the chain that could not be followed is lit.
+   * @param {View} view
+   * @param {Session} session
+   */
+  async showTrap(view, session) {
     this.trapTold = null;
     byId("trap").hidden = true;
     byId("trap").replaceChildren();
@@ -145,10 +181,12 @@ export class Viewer {
     }
   }
 
-  // The calls that wait, and what is saved. Where a deck has such, their column stays, or the drawing would
-  // jump.
-  async showFrames() {
-    const {view, session} = this;
+  /**
+   * The calls that wait, and what is saved. Where a deck has such, their column stays, or the drawing would jump.
+   * @param {View} view
+   * @param {Session} session
+   */
+  async showFrames(view, session) {
     const {returns, contents, definitions} = view.amounts;
     byId("calls").hidden = !hasStacks(session.reading) && returns + contents + definitions === 0;
     this.showCalls();
@@ -157,8 +195,8 @@ export class Viewer {
       const frames = await session.frames.of(view);
       if (this.view !== view) return;
       const choose = {
-        goTo: (number) => this.ask.goTo(number),
-        block: (place) => this.chooseBlock(place),
+        goTo: (/** @type {number} */ number) => this.ask.goTo(number),
+        block: (/** @type {number} */ place) => this.chooseBlock(place),
       };
       showFrames(byId("frames"), frames, view, session.reading, choose);
     } catch (error) {
@@ -172,38 +210,19 @@ export class Viewer {
     const isOpen = !byId("call-tree").hidden && !byId("calls").hidden;
     openTree(isOpen);
     if (!isOpen || !view) return;
-    const calls = session.chronicle?.calls ?? [];
-    showCallTree(byId("call-tree"), calls, view.state.number, (number) => this.ask.goTo(number));
+    const chronicle = session?.chronicle;
+    const [calls, last] = [chronicle?.calls ?? [], chronicle?.callsUntil ?? null];
+    showCallTree(byId("call-tree"), calls, last, view.state.number, (number) => this.ask.goTo(number));
   }
 
   // What was asked for beside the view has failed. (It may have been stopped, which is said elsewhere.)
+  /** @param {unknown} error */
   failed(error) {
     if (!(error instanceof Stopped)) this.ask.trouble(error);
   }
 
-  // What is printed up to the state that is shown; what came last is marked.
-  showPrinted() {
-    const {view, before, session} = this;
-    const pre = byId("printed");
-    const fresh =
-      before && before.amounts.output < view.amounts.output ? view.printedSince(before.amounts.output) : "";
-    const {output} = view;
-    const isEmpty = !session.input && !output && !session.printout?.printed && !view.state.ending;
-    byId("papers-below").classList.toggle("blank", isEmpty);
-    const ending =
-      view.state.ending ? `${output && !output.endsWith("\n") ? "\n" : ""}${view.state.line}` : "";
-    pre.replaceChildren(
-      output.slice(0, output.length - fresh.length), make("span", {class: "fresh"}, fresh),
-      make("span", {class: "ending"}, ending)
-    );
-    byId("printed-strip").replaceChildren(inLine(output.slice(0, output.length - fresh.length)),
-                                          make("span", {class: "fresh"}, inLine(fresh)));
-    byId("printed-strip").scrollLeft = byId("printed-strip").scrollWidth;
-    byId("printed-label").textContent = view.state.ending ? "Printed" : `Printed so far`;
-    pre.scrollTop = pre.scrollHeight;
-  }
-
   // The run was read meanwhile: the drawing is made of all of it.
+  /** @param {Session} session */
   learned(session) {
     if (this.session !== session || !this.view) return;
     this.drawing.learn(session.reading, session.chronicle);
@@ -218,7 +237,11 @@ export class Viewer {
     this.redraw();
   }
 
-  // What is said of the drawing: first pointers that dangle, then what one does not see.
+  /**
+   * What is said of the drawing: first pointers that dangle, then what one does not see.
+   * @param {string[]} warnings
+   * @param {string[]} notes
+   */
   tellDrawing(warnings, notes) {
     const texts = [...warnings, ...notes];
     const more = texts.length > 1 ? ` (and ${texts.length - 1} more)` : "";
@@ -231,22 +254,24 @@ export class Viewer {
   redraw() {
     if (!this.view) return;
     this.drawing.show(this.view, this.before);
-    this.legend.show(this.session.hidden);
+    this.legend.show(this.session?.hidden ?? []);
     this.showDetails();
   }
 
+  /** @param {number} place */
   async chooseBlock(place) {
     this.ask.openTables();
     this.chosen = place;
-    byId("place").value = place ?? "";
+    byId("place").value = String(place ?? "");
     byId("chain").value = "";
     await this.showDetails();
   }
 
   // The words of the block that is chosen, and what the chain leads to.
+  /** @returns {Promise<void>} */
   async showDetails() {
-    const {view, session} = this;
-    if (!view) return;
+    const {view, session, before} = this;
+    if (!view || !session) return undefined;
     const chain = byId("chain").value.trim();
     try {
       const {missing, steps, trap, wrong} = chain ? follow(chain, view) : NOWHERE;
@@ -265,16 +290,16 @@ export class Viewer {
     this.drawing.mark(this.chosen);
     this.strip.mark(this.chosen);
     const choose = {
-      colourOf: (name) => this.drawing.colourOf(name),
-      watch: (watched) => this.watch(watched),
+      colourOf: (/** @type {string} */ name) => this.drawing.colourOf(name),
+      watch: (/** @type {Watched} */ watched) => this.watch(watched),
     };
-    return showWords(byId("words"), this.chosen, view, this.before, choose);
+    return showWords(byId("words"), this.chosen, view, before, choose);
   }
 
   // Lights the chain that is typed, or else that which trapped.
   light() {
-    const {steps = [], trap} = this.followed ?? this.trapTold ?? {};
-    this.drawing.light(steps, trap);
+    const lit = this.followed ?? this.trapTold;
+    this.drawing.light(lit?.steps ?? [], lit?.trap);
   }
 
   placeTyped() {
@@ -294,6 +319,7 @@ export class Viewer {
   }
 
   // Follows a bug, a field of a block, or a definition through the run: its changes can be gone to.
+  /** @param {Watched} watched */
   watch(watched) {
     this.watched = watched;
     this.showWatched();
@@ -303,7 +329,7 @@ export class Viewer {
     const {watched} = this;
     byId("watched").textContent = watched ? `of ${Values.nameOf(watched)}` : "";
     for (const id of ["change-back", "change-next"]) byId(id).setAttribute("aria-disabled", String(!watched));
-    if (this.view) this.showTables();
+    if (this.view) this.showTables(this.view, this.before);
   }
 
   // Draws all again where the window has another size.
@@ -319,6 +345,7 @@ export class Viewer {
   }
 
   // Shows nothing of a run, and says why not.
+  /** @param {string} why */
   clear(why) {
     this.view = this.before = this.followed = this.trapTold = null;
     this.story.forget();
@@ -342,9 +369,4 @@ export class Viewer {
       "Run goes to the end. Step goes on by one step."
     ));
   }
-}
-
-// The end of a printout in a line.
-function inLine(text) {
-  return text.slice(-MOST_IN_LINE).replaceAll("\n", " ⏎ ");
 }

@@ -28,7 +28,7 @@ TOP = WEB.parent
 PAGE = TOP / "dist" / "l6.html"
 AT_ONCE = 4  # parts
 SHARDS = 3  # into which the trials in Chromium are parted
-LEAST_IN_CHROMIUM = {"quick": [295, 310, 335], "all": [355, 415, 430]}  # trials of each shard
+LEAST_IN_CHROMIUM = {"quick": [305, 305, 360], "all": [385, 365, 505]}  # trials of each shard
 NEW_MANUAL = ["--new-manual"] if shutil.which("markdown_py") else []
 COUNT = re.compile(r"^(\d+) passed, (\d+) failed$")
 
@@ -94,7 +94,7 @@ def parts(program: Path, is_quick: bool) -> Iterator[Part]:
     random = [sys.executable, str(HERE / "random_jobs.py"), str(program)]
     yield Part({"node"}, "random jobs in node", random, 3000)
     yield Part({"node"}, "the parts of the page in node", ["node", str(HERE / "parts.mjs")], 920)
-    yield Part({"node"}, "the provenance in node", ["node", str(HERE / "provenance.mjs")], 64)
+    yield Part({"node"}, "the provenance in node", ["node", str(HERE / "provenance.mjs")], 69)
     yield Part({"node"}, "the layout in node", ["node", str(HERE / "layout.mjs")], 65)
     yield Part({"node"}, "the camera in node", ["node", str(HERE / "camera.mjs")], 15)
     yield Part({"node"}, "the cases in node", ["node", str(HERE / "cases.mjs")], 620)

@@ -1,25 +1,24 @@
 #!/usr/bin/env python3
-"""Checks the types of the page's scripts, by Debian's node-typescript: web/tsconfig.json says which.
+"""Checks the types of the page's scripts, by Debian's node-typescript: web/tsconfig.json says how.
 
-All is checked strictly, but that in the files of LOOSE a parameter may have no type. A file that is not there any
-more, or that is strict, must go from the list. check_types.py prints what is wrong, and last 'N passed, M failed'.
+All is checked strictly, and nothing of that may be switched off. check_types.py prints what is wrong, and last
+'N passed, M failed'.
 """
 from __future__ import annotations
 
-import re
+import json
 import subprocess
 import sys
 import tempfile
 from pathlib import Path
 
 WEB = Path(__file__).resolve().parent.parent
-WRONG = "/** @type {string} */\nexport const canary = 1;\n"
-PLACE = re.compile(r"^(?:.*/)?src/(\w+)\.js\(")
+WRONG = {  # what must be found
+    "a wrong type": "/** @type {string} */\nexport const canary = 1;\n",
+    "a parameter without a type": "export const canary = (it) => it;\n",
+    "a value that may be null": "export const canary = document.getElementById('a').id;\n",
+}
 MOST_LINES = 400  # of a script
-LOOSE = set("""
-    block changes checker core deck editor frames history library meaning page panels papers pen route session shape
-    steps story strip trap travel values viewer
-""".split())
 
 
 def found(*words: str) -> list[str]:
@@ -29,12 +28,18 @@ def found(*words: str) -> list[str]:
     return lines if lines or ran.returncode == 0 else [f"tsc ends with status {ran.returncode}"]
 
 
-def strictly() -> list[str]:
-    """What is wrong where each parameter must have a type."""
-    lines = found("-p", str(WEB / "tsconfig.json"), "--noImplicitAny")
-    files = {match[1] for match in map(PLACE.match, lines) if match}
-    wrong = [line for line in lines if (match := PLACE.match(line)) and match[1] not in LOOSE]
-    return wrong + [f"src/{name}.js is strict: take it from the list" for name in sorted(LOOSE - files)]
+def switched_off() -> list[str]:
+    """What the page's configuration does not check of what `strict` does."""
+    options = json.loads((WEB / "tsconfig.json").read_text("utf-8"))["compilerOptions"]
+    wrong = [f"{name} is {value} in tsconfig.json" for name, value in options.items()
+             if value is False or (name == "strict" and value is not True)]
+    with tempfile.TemporaryDirectory(prefix="l6-types-") as folder:
+        for what, text in WRONG.items():
+            canary = Path(folder, "canary.js")
+            canary.write_text(text)
+            if not found("--allowJs", "--checkJs", "--noEmit", "--strict", str(options["strict"]).lower(), str(canary)):
+                wrong.append(f"{what} is not found")
+    return wrong
 
 
 def long_files() -> list[str]:
@@ -45,13 +50,7 @@ def long_files() -> list[str]:
 
 def main() -> int:
     """Checks all; answers the exit status."""
-    with tempfile.TemporaryDirectory(prefix="l6-types-") as folder:
-        canary = Path(folder, "canary.js")
-        canary.write_text(WRONG)
-        if not found("--allowJs", "--checkJs", "--noEmit", str(canary)):
-            print("a wrong type is not found")
-            return 1
-    parts = [found("-p", str(WEB / "tsconfig.json")), strictly(), long_files()]
+    parts = [switched_off(), found("-p", str(WEB / "tsconfig.json")), long_files()]
     wrong = [line for part in parts for line in part]
     print("".join(f"{line}\n" for line in wrong), end="")
     print(f"{sum(not part for part in parts)} passed, {len(wrong)} failed")

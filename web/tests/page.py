@@ -30,6 +30,7 @@ class Page:
         if not keeps:
             self.browser.value("window.l6 && (clearTimeout(l6.keeper?.timer), localStorage.removeItem('l6.work'))")
         self.browser.open(self.file, fragment)
+        self.value("l6.telling")
 
     def put(self, deck: str, text: str = "", **options: int) -> None:
         """Puts a job into the page, as an opened file does."""
@@ -47,17 +48,42 @@ class Page:
         return self.browser.value(script)
 
     def do(self, script: str):
-        """Has the page do something, and waits until it is done."""
-        return self.value(f"(async () => {{ await ({script}); }})()")
+        """Has the page do something, and waits until it is done, and the run is read.
+
+        A picture that is drawn before the run is read may be another one, so it must not depend on the machine
+        which of the two a trial sees.
+        """
+        return self.value(f"(async () => {{ await ({script}); await l6.telling; }})()")
+
+    def becomes(self, what: str, script: str, want: object) -> None:
+        """Waits until a script answers what it must, and says what it does answer."""
+        text = json.dumps(want, separators=(",", ":"), ensure_ascii=False)
+        try:
+            self.browser.wait(f"(async () => JSON.stringify((await ({script})) ?? null) === {json.dumps(text)})()")
+        except AssertionError:
+            pass
+        self.same(what, self.value(script), want)
+
+    def took(self, act: Callable[[], object]) -> tuple[float, float]:
+        """The milliseconds of processor time that something takes: of the page's main thread, and of all threads."""
+        begun = self.browser.processor_time()
+        act()
+        ended = self.browser.processor_time()
+        return ended[0] - begun[0], ended[1] - begun[1]
 
     def click(self, name: str) -> None:
         """Clicks a control, and waits until what it began is done."""
         self.browser.click(f"#{name}")
-        self.browser.wait("!l6.isBusy")
+        self.settle()
 
     def key(self, key: str, modifiers: int = 0) -> None:
         self.browser.key(key, modifiers=modifiers)
+        self.settle()
+
+    def settle(self) -> None:
+        """Waits until nothing is done any more, and the run is read."""
         self.browser.wait("!l6.isBusy")
+        self.value("l6.telling")
 
     def fill(self, name: str, text: str | int, event: str = "input") -> None:
         """Puts a text into a box, as if it were typed."""

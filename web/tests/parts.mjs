@@ -363,7 +363,7 @@ same("the trail is that of the states", trails, []);
 const long_ = session("L (A,A,1)(S,FC,A)(R,FC,A) L\n", "", {steps: 20_000});
 same("a spot far away", await long_.trail.at(12_345), {statement: 0, action: 12_345 % 5});
 same(
-  "what is saved far away", (await long_.frames.of(await long_.view(12_343))).contents.map((it) => it.value),
+  "what is saved far away", (await long_.frames.of(await long_.view(12_343))).contents.map((it) => it.content),
   [2469]
 );
 same("the next statement", [await run.steps.statement(5), await run.steps.statement(19)], [10, 21]);
@@ -387,7 +387,7 @@ const stacked = session(
 const frames = await stacked.frames.of(await stacked.view(13));
 same(
   "what was taken back is not there",
-  ["returns", "contents", "definitions"].map((name) => frames[name].map((it) => [it.number, it.value])),
+  ["returns", "contents", "definitions"].map((name) => frames[name].map((it) => [it.number, it.content ?? it.definition ?? null])),
   [[[12, undefined]], [[2, 1]], [[6, null]]]
 );
 
@@ -484,7 +484,7 @@ function overlaps(one, other) {
     other.y < one.y + one.height;
 }
 
-const big = session(" (0,DN,18,35)\nG (L,GT,1,LN,F) G\nF DONE\n");
+const big = session(" (0,DN,18,35)\nG (L,GT,1,LN,F) G\nF DONE\n", "", {store: 40});
 await big.run();
 const chosen = (await big.view(big.last)).shown;
 for (let number = big.last - 100; number <= big.last; number++) await big.view(number);
@@ -493,7 +493,7 @@ tally.count(
   big.views.size < 80 && !big.has(big.last - 100) && big.has(big.last), () => `${big.views.size} are kept`
 );
 same(
-  "of 8,192 blocks 300 are shown", [chosen.places.length, chosen.hidden, chosen.places[0]], [300, 7892, 9215]
+  "of 40,960 blocks 300 are shown", [chosen.places.length, chosen.hidden, chosen.places[0]], [300, 40_660, 41_983]
 );
 
 const boxes = [

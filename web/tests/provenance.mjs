@@ -172,6 +172,19 @@ const grouped = byCalls({
   contents: [{number: 25}, {number: 12}, {number: 11}, {number: 3}],
   definitions: [{number: 15}]
 });
+same("all calls are known", [calls.chronicle.callsUntil, endless.chronicle.callsUntil], [null, null]);
+const many = await read("L (A,A,1)(R,DO)\n IF (A,L,6000) THEN L\n DONE\nR DONE\n");
+same("of very many calls the first", [many.chronicle.calls.length, many.chronicle.callsUntil === many.chronicle.calls[4999].number], [5000, true]);
+
+// ---- Long runs
+
+const long = await read(" (0,DN,18,35)\nG (L,GT,1,LN)(C,A,1)\n IF (C,L,50000) THEN G\n", "", {store: 60});
+right("a run of 50,000 gets is read whole", long.chronicle.isWhole && long.chronicle.lives.size === 50_000);
+const longer = await read(" (0,DN,18,35)\nG (L,GT,1,LN)(C,A,1)\n IF (C,L,70000) THEN G\n", "", {store: 80});
+right("a longer one up to 60,000 of its steps", !longer.chronicle.isWhole && longer.chronicle.lives.size === 59_999,
+  () => String(longer.chronicle.lives.size));
+same("and its calls up to there", longer.chronicle.callsUntil, longer.chronicle.last);
+
 same("what is saved is with its call", grouped.map((it) => it.contents.map(({number}) => number)), [[25], [12, 11], [3]]);
 same("and definitions", grouped.map((it) => it.definitions.length), [0, 1, 0]);
 

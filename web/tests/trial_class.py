@@ -136,8 +136,7 @@ def splitter(page: Page) -> None:
     page.open("#tree@137")
     page.browser.resize(1280, 560)
     seen = f"(it => Boolean(it) && {IN_VIEW}(it))(document.querySelector('.spot.at'))"
-    page.browser.wait("new Promise(done => setTimeout(() => done(true), 400))")
-    page.right("in a smaller window the card is brought into sight", page.value(seen))
+    page.becomes("in a smaller window the card is brought into sight", seen, True)
     page.browser.resize(1280, 720)
     page.browser.wait("new Promise(done => setTimeout(() => done(true), 300))")
     widths = "['left', 'drawing'].map(it => document.getElementById(it).clientWidth)"

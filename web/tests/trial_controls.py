@@ -299,7 +299,8 @@ def each_control(page: Page) -> None:
         page.value(f"void ({{async go() {{ {before}; }}}}).go()")
         page.browser.wait("!l6.isBusy && !l6.engine.isBusy")
         use(page, name, act)
-        found(page, f"the control {name}", looks, want)
+        page.becomes(f"the control {name}", looks, want)
+        page.settle()
     begin(page)
     page.value("l6.library.isChanged = false")
 
@@ -318,7 +319,8 @@ def each_key(page: Page) -> None:
         modifiers = {"Ctrl": 2, "Shift": 8}.get(held[0] if held else "", 0)
         key = NAMES.get(key, key.lower() if len(key) == 1 else key)
         page.browser.key(key, modifiers=modifiers)
-        found(page, f"the key {name}", looks, want)
+        page.becomes(f"the key {name}", looks, want)
+        page.settle()
     begin(page)
 
 
@@ -381,10 +383,3 @@ def other_ways(page: Page) -> None:
     page.same("a click by size", page.box("place"), "1024")
 
 
-def found(page: Page, what: str, looks: str, want: object) -> None:
-    """Waits for what must be found, and says what is."""
-    try:
-        page.browser.wait(f"!l6.isBusy && ({looks} ?? null) === {json.dumps(want)}", 5)
-        page.right(what, True)
-    except AssertionError:
-        page.same(what, page.value(looks), want)

@@ -4,6 +4,18 @@ from __future__ import annotations
 from page import Page, trial
 
 MANY = " (0,DN,0,35)\nG (L,GT,1,LN,F)(C,A,1)\n IF (C,L,250000) THEN G\nF DONE\n"
+# The states to which the next three presses of Back lead.
+AHEAD = """window.ahead = () => {
+    const {reading, trail} = l6.session;
+    const isSilent = ({statement, action}) => {
+        const at = reading.statements[statement];
+        return action === 0 ? !at.condition : action > at.operations.length && !at.exit;
+    };
+    const found = [];
+    for (let at = l6.view.state.number - 1; found.length < 3; at--)
+        if (!isSilent(trail.near(at - 1, -1))) found.push(at);
+    return found;
+}"""
 TO_MAIN = """(() => {
     window.most = 0;
     const answer = l6.engine.settle.bind(l6.engine);
@@ -54,14 +66,9 @@ def keys_in_a_deck_of_8000_cards(page: Page) -> None:
     page.open()
     page.put("L7 (A,E,1)(B,A,1)\n" + " (A,E,1) L7\n" * 7_999)
     page.browser.wait("!l6.engine.isBusy")
-    took = page.value("""(() => {
-        const deck = document.getElementById('deck');
-        deck.value = deck.value.replace('A,E,1', 'A,E,12');
-        const begun = performance.now();
-        deck.dispatchEvent(new Event('input'));
-        return performance.now() - begun;
-    })()""")
-    page.right("a key takes less than 100 ms", took < 100, f"{took:.0f} ms")
+    page.focus("deck", 9)
+    took = [page.took(lambda: page.browser.type("0"))[0] for _ in range(5)]
+    page.right("a key takes less than 100 ms", sorted(took)[2] < 100, str([round(it) for it in took]))
     page.browser.wait("!l6.engine.isBusy")
     page.do("l6.checker.check()")
     page.has("what is found is shown", page.text("fault"), "no way leads to the statement")
@@ -164,16 +171,22 @@ def what_waits(page: Page) -> None:
 
 @trial
 def steps_in_a_large_store(page: Page) -> None:
-    """Of 180,000 blocks a step takes less than 0.3 seconds, once the page had a moment to look ahead."""
+    """Of 180,000 blocks a step takes less than 0.3 seconds, also where several follow at once."""
     page.open()
     page.put(" (0,DN,18,35)\nG (L,GT,1,LN)(C,A,1)\n IF (C,L,180000) THEN G\n", store=255, steps=100_000_000)
     page.do("l6.run()")
     page.do("l6.back()")
-    times = []
-    for _ in range(7):
-        page.value("(async () => { do await new Promise(it => setTimeout(it, 200));"
-                   " while (l6.engine.isBusy || l6.isForeseeing); })()")
-        times.append(page.value("(async () => { const begun = performance.now(); await l6.back();"
-                                " document.body.getBoundingClientRect(); return performance.now() - begun; })()"))
-    page.right("a step", sorted(times)[3] < 300, str([round(it) for it in times]))
+    page.value(AHEAD)
+    took = []
+    for _ in range(3):
+        page.value("(async () => { while (l6.engine.isBusy || l6.isForeseeing) await new Promise(it => setTimeout(it, 50)); })()")
+        page.same("three states are asked for ahead", page.value("ahead().map(it => l6.session.has(it))"), [True] * 3)
+        page.same("by three workers", page.value("l6.engine.others.length"), 2)
+        for _ in range(3):  # (at once)
+            page.right("it is there", page.value("l6.session.has(ahead()[0])"))
+            took.append(page.took(lambda: page.value(
+                "(async () => { await l6.back(); document.body.getBoundingClientRect(); })()")))
+    page.right("a step", sorted(it for it, _ in took)[4] < 300, str([[round(it) for it in both] for both in took]))
     page.has("what is not drawn is said", page.text("warnings"), "Not drawn: 179,")
+    page.has("and up to where the run is read", page.value("document.getElementById('warnings').title"),
+             "The run is read up to state ")

@@ -156,8 +156,9 @@ def policy(page: Page) -> None:
         page.value("window.seen = []; document.addEventListener('securitypolicyviolation', "
                    "(it) => seen.push(it.effectiveDirective))")
         page.value(f"void ({script})")
+        page.becomes(f"refused: {script[:60]}", "[...new Set(seen)]", [directive])
         page.value("new Promise(done => setTimeout(done, 60))")
-        page.same(f"refused: {script[:60]}", page.value("[...new Set(seen)]"), [directive])
+        page.same("and nothing else is", page.value("[...new Set(seen)]"), [directive])
         page.right("it was not done", page.value("window.broken === undefined"))
     page.browser.troubles()
 

@@ -44,6 +44,42 @@ WALK = """(async (from, steps, back) => {
     return {moved, other, shown};
 })(%d, %d, %d)"""
 
+# Steps on until there is one more block.
+NEXT_BLOCK = """(async () => {
+    const {blocks} = l6.view.store;
+    while (l6.view.store.blocks === blocks) await l6.step();
+})()"""
+
+# What the surveyor has read does not come to the page, until it is released.
+HOLD = """(() => {
+    const {surveyor} = l6;
+    window.held = [];
+    window.isHeld = true;
+    const settle = surveyor.settle.bind(surveyor);
+    surveyor.settle = data => isHeld ? held.push(data) : settle(data);
+    window.release = () => { isHeld = false; held.forEach(settle); };
+})()"""
+RELEASE = "release()"
+
+# The next frames of an animation come when the trial has them come, and at which time that says.
+FRAMES = """(() => {
+    window.frames_ = new Map();
+    let number = 0;
+    window.requestAnimationFrame = what => { frames_.set(++number, what); return number; };
+    window.cancelAnimationFrame = it => frames_.delete(it);
+    window.frame = after => {
+        const due = [...frames_.values()];
+        frames_.clear();
+        due.forEach(it => it(performance.now() + after));
+    };
+    window.ways = () => Object.fromEntries([...document.querySelectorAll('.arrow')].map(it =>
+        [it.dataset.from, it.querySelector('path').getAttribute('d')]));
+})()"""
+
+# The part of the window's height that shows the drawing.
+IN_SIGHT = """(({top, bottom}) => Math.round((Math.min(bottom, innerHeight) - Math.max(top, 0)) / innerHeight * 100) / 100)
+    (document.getElementById('drawing').getBoundingClientRect())"""
+
 # How many blocks are wholly in the frame, how many there are, and how large their letters are on the screen.
 SEEN = """(() => {
     const frame = document.getElementById('drawing').getBoundingClientRect();
@@ -56,7 +92,7 @@ SEEN = """(() => {
     return {whole, all: blocks.length, letters, note: document.getElementById('warnings').textContent};
 })()"""
 
-# The names of fields that an arrowhead covers, and arrowheads that lie on a bug's sign.
+# The names of fields that an arrowhead or a line covers, and arrowheads that lie on a bug's sign.
 COVERED = """(() => {
     const tip = path => {
         const end = path.getPointAtLength(path.getTotalLength());
@@ -69,6 +105,14 @@ COVERED = """(() => {
     const inner = ({left, right, top, bottom}) => ({left: left + 1, right: right - 1, top: top + 3, bottom: bottom - 4});
     const arrows = [...document.querySelectorAll('#drawing .arrow')];
     const tips = arrows.map(it => [it, tip(it.querySelector('path'))]);
+    const lines = arrows.flatMap(it => {
+        const path = it.querySelector('path');
+        const {a, e, d, f} = path.getScreenCTM();
+        return Array.from({length: Math.floor(path.getTotalLength() / 3)}, (_, at) => {
+            const {x, y} = path.getPointAtLength(at * 3);
+            return {left: x * a + e - 1, right: x * a + e + 1, top: y * d + f - 1, bottom: y * d + f + 1};
+        });
+    });
     const found = [];
     for (const arrow of arrows) {
         const tag = arrow.querySelector('.tag');
@@ -76,6 +120,7 @@ COVERED = """(() => {
         const box = inner(tag.getBoundingClientRect());
         for (const [other, head] of tips)
             if (isOver(box, head)) found.push(`${tag.textContent} of ${arrow.dataset.from} by ${other.dataset.to}`);
+        if (lines.some(it => isOver(box, it))) found.push(`${tag.textContent} of ${arrow.dataset.from} by a line`);
     }
     for (const pill of document.querySelectorAll('#drawing .pill'))
         for (const [other, head] of tips)
@@ -167,13 +212,36 @@ def shapes(page: Page) -> None:
         for state in range(60, 170, 11):
             page.do(f"l6.state({state})")
             covered += [f"{name} in {state}: {it}" for it in page.value(COVERED)]
+    put(page, "josephus")
+    for state in range(250, 730, 31):
+        page.do(f"l6.state({state})")
+        covered += [f"josephus in {state}: {it}" for it in page.value(COVERED)]
+    for mode in ("", ";lecture"):
+        for state in (100, 125, 137, 150, 175, 200):
+            page.open(f"#tree@{state}{mode}")
+            covered += [f"tree in {state}{mode}: {it}" for it in page.value(COVERED)]
+    page.open()
     put(page, "graph")
     page.fill("detail", "boxes", "change")
     for state in range(80, 130, 7):
         page.do(f"l6.state({state})")
         covered += [f"graph in {state}: {it}" for it in page.value(COVERED)]
     page.fill("detail", "auto", "change")
-    page.same("no arrowhead covers a name, and no bug one", covered[:4], [])
+    page.same("no arrowhead or line covers a name, and no bug an arrowhead", covered[:4], [])
+
+
+@trial
+def a_jump_paints_nothing(page: Page) -> None:
+    """Where the reader comes from far away, and all blocks are new, links keep their colours."""
+    page.open()
+    put(page, "tree15")
+    page.do("l6.end()")
+    page.same("no block is marked", [page.count(".block"), page.count(".block.new"), page.count(".arrow.changed")], [15, 0, 0])
+    page.do("l6.state(0)")
+    page.value(NEXT_BLOCK)
+    page.same("the first block is, where it is got", page.count(".block.new"), 1)
+    page.value(NEXT_BLOCK)
+    page.same("and the next", [page.count(".block"), page.count(".block.new")], [2, 1])
 
 
 @trial
@@ -186,21 +254,21 @@ def glides(page: Page) -> None:
     page.same("where little motion is wanted nothing glides", page.value(pill), "none")
     page.browser.moving(True)
     page.has("else a bug does", page.value(pill), "transform")
-    page.value("""(() => {
-        window.kept = document.querySelector('.pill[data-bug=R]');
-        window.ways = new Set();
-        const note = () => {
-            for (const it of document.querySelectorAll('.arrow path:first-child')) ways.add(it.getAttribute('d'));
-            if (ways.size < 4000) requestAnimationFrame(note);
-        };
-        note();
-    })()""")
+    page.value(FRAMES)
+    page.value("void (window.kept = document.querySelector('.pill[data-bug=R]'))")
+    between = 0
     for _ in range(6):
+        before = page.value("ways()")
         page.do("l6.step()")
-        page.value("new Promise(it => setTimeout(it, 320))")
+        page.value("frame(50)")
+        midst = page.value("ways()")
+        page.value("frame(1000)")
+        after = page.value("ways()")
+        between += sum(midst.get(key) not in (before[key], after[key]) for key in before if after.get(key, "") != before[key])
     page.right("its sign is the same element", page.value("kept === document.querySelector('.pill[data-bug=R]')"))
     page.same("and there is one", page.count(".pill[data-bug=R]"), 1)
-    page.right("an arrow goes from way to way", page.value("ways.size") > 20, str(page.value("ways.size")))
+    page.right("an arrow goes from way to way", between > 0, str(between))
+    page.same("and then is still", page.value("frame(2000), frames_.size"), 0)
     page.browser.moving(False)
 
 
@@ -351,14 +419,15 @@ def a_large_run_is_shown_at_once(page: Page) -> None:
     """The first picture does not wait until the run is read; then there is the plan of all of it."""
     page.open()
     page.put(" (0,DN,18,35)(0,DV,0,17)\nG (L,GT,1,LN)(LV,E,I)(I,A,1)\n IF (I,L,20000) THEN G\n", store=30)
-    page.do("l6.state(5000)")
+    page.value(HOLD)
+    page.value("l6.state(5000)")
     page.same("it is shown", [page.state(), page.count(".block") > 100], [5000, True])
     page.right("before it is read", page.value("l6.session.chronicle === null"))
-    took = page.value("(async () => { const begun = performance.now(); await l6.step(); await l6.step();"
-                      " return performance.now() - begun; })()")
-    page.right("and steps do not wait for it", took < 900, str(took))
-    page.do("l6.state(5000)")
-    page.value("(async () => { while (!l6.session.chronicle) await new Promise(it => setTimeout(it, 50)); })()")
+    page.value("(async () => { await l6.step(); await l6.step(); })()")
+    page.same("and steps do not wait for it", [page.state() > 5000, page.value("l6.session.chronicle")], [True, None])
+    page.value("l6.state(5000)")
+    page.value(RELEASE)
+    page.value("l6.telling")
     page.right("and then read", page.value("l6.session.chronicle.lives.size > 2000"))
     page.same("the page shows the same state", page.state(), 5000)
 
@@ -398,13 +467,20 @@ def shares(page: Page) -> None:
 
 @trial
 def small_windows(page: Page) -> None:
-    """In landscape and with 200 % zoom the drawing has half of the height; in a lecture on a phone nothing is cut."""
+    """In landscape and with 200 % zoom half of the height shows the drawing; in a lecture on a phone nothing is cut."""
     for width, height in ((667, 375), (640, 360), (375, 667)):
         page.browser.resize(width, height, phone=True)
         page.open("#tree@137")
         share = page.value("document.getElementById('drawing').offsetHeight / innerHeight")
         least = 0.5 if width > height else 0.3
         page.right(f"the drawing's height at {width}x{height}", share >= least, str(share))
+        page.click("run")
+        shares = [page.value(IN_SIGHT)]
+        for way in ("back()", "back()", "state(137)", "step()", "state(60)", "step()"):
+            page.do(f"l6.{way}")
+            shares.append(page.value(IN_SIGHT))
+        page.right(f"what is in sight of it after Run at {width}x{height}", min(shares) >= least, str(shares))
+        page.same("and it stays where it is", len(set(shares)), 1)
         page.open("#tree@137;lecture")
         wide = page.value("document.documentElement.scrollWidth")
         page.right(f"in a lecture at {width}x{height} nothing is cut", wide <= width, str(wide))

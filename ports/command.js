@@ -32,9 +32,9 @@ async function main() {
   const [engine] = process.versions.v8.split(".");
   if (ENGINES.includes(engine)) (await import("node:v8")).setFlagsFromString(BUDGET);
   const module = new WebAssembly.Module(gunzipSync(Buffer.from(MODULE, "base64")));
-  // The program reads a job only if its words are right. So they are tried with an empty one.
+  // The program reads a job only if its words are right and ask for one. So they are tried with an empty one.
   let answer = job(module, words, new Uint8Array(0));
-  if (answer.status !== WRONG_WORDS) {
+  if (answer.status !== WRONG_WORDS && words[0] !== "help") {
     if (isatty(0)) write(files, 2, Buffer.from(FROM_KEYS));
     const input = read(files);
     if (!input) return refused(files, READ_FAILED, DEVICE_FAILED);

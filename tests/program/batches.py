@@ -39,3 +39,25 @@ def batches(program: str, folder: Path) -> Iterator[Trial]:
     yield "a session that is saved", (True, True), (bool(end), again.endswith(end))
     lines_saved = b"break DEEP\nwatch B\ndisplay A\ngoto 17\ntbreak DEEP+2\ncondition DEEP (A,G,2)\n"
     yield "the lines that are saved", lines_saved, saved.read_bytes() if saved.exists() else b""
+    yield from files_of_jobs(program, folder)
+
+
+def files_of_jobs(program: str, folder: Path) -> Iterator[Trial]:
+    """The commands of a job, which somebody else may have written, name no files; those that are given do."""
+    job, kept, commands = folder / "foreign.job", folder / "kept.text", folder / "own.commands"
+    no_file = b"No such file, or it can't be opened\n"
+    commands.write_text("where\n", "utf-8")
+    for line in (f"save {kept}", f"source {commands}"):
+        kept.write_bytes(b"kept\n")
+        job.write_text(f" (A,E,5)\n$COMMANDS\n{line}\n", "utf-8")
+        made = answer_of([program, str(job), "--batch"], input=b"")
+        wanted, actual = (no_file, b"kept\n", 1), (made.stdout[-len(no_file):], kept.read_bytes(), made.status)
+        yield f"a job that says {line.split()[0]}", wanted, actual
+        made = answer_of([program, str(job)], input=b"#0\n")
+        yield f"a job that says {line.split()[0]}, and a prompt", True, made.stdout.endswith(no_file)
+    made = answer_of([program, str(job)], input=f"save {kept}\nsource {commands}\n".encode())
+    yield "lines that are typed after it", b"Saved: source obeys the file\n#0 at 0.0\n", made.stdout[-39:]
+    commands.write_text(f"save {kept}\n", "utf-8")
+    kept.write_bytes(b"kept\n")
+    made = answer_of([program, str(job), "--batch", "-x", str(commands)], input=b"")
+    yield "commands that are given", (b"goto 0\n", 0), (kept.read_bytes(), made.status)

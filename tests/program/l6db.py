@@ -366,8 +366,10 @@ def words(program: str, folder: Path) -> Iterator[Trial]:
     for wrong in wrongs:
         made = answer_of([program, *wrong])
         yield f"wrong words {wrong}", (b"", 64), (made.stdout, made.status)
-    made = answer_of([program, str(folder / "none")])
-    yield "no file", answer(stderr=b"l6db: the file of the job can't be opened\n", status=4), made
+    none = str(folder / "none")
+    for words, part in (([none], "job"), (["--input", none, str(deck)], "input"), (["-x", none, str(deck)], "commands")):
+        said = f"l6db: the file of the {part} can't be opened: {none}: there is no such file\n".encode()
+        yield f"no file of the {part}", answer(stderr=said, status=4), answer_of([program, *words])
     (folder / "bad.deck").write_bytes(b" (A,E,5)\n (A,ZZ,5)\n")
     made = answer_of([program, str(folder / "bad.deck")])
     said = b"2:5: error: no operation is spelled `ZZ`\n1 error, 0 warnings\n"

@@ -109,7 +109,8 @@ def shows(blocks: list[str], deck: str, commands: str, answers: str) -> bool:
 def helps(program: str, folder: str) -> Iterator[Trial]:
     """The trials on the help of each subcommand: its examples do what they say, and it lists the statuses.
 
-    It goes to standard error, with status 64, and nothing is read.
+    It goes to standard error, with status 64, and nothing is read; by the verb `help` it goes to standard output, with
+    status 0.
     """
     os.symlink(os.path.abspath(program), f"{folder}/l6")
     environment = {**os.environ, "PATH": f"{folder}:{os.environ['PATH']}"}
@@ -119,6 +120,8 @@ def helps(program: str, folder: str) -> Iterator[Trial]:
         text = actual.stderr.decode("ascii")
         expected = answer(stderr=actual.stderr, status=64)
         yield f"help on {words}", expected, actual
+        by_verb = answer_of([program, "help", *words], input=b"")
+        yield f"help on {words} by the verb", answer(actual.stderr, status=0), by_verb
         yield f"statuses in the help on {words}", True, "\nExit status:" in text
         examples = re.findall(r"^  (printf .*)$", text, re.MULTILINE)
         yield f"an example in the help on {words}", True, bool(examples)

@@ -1,8 +1,9 @@
 #!/usr/bin/env python3
 """Tries l6db at a terminal: the front end of terminal/, its launcher, and what is there without Python.
 
-terminal.py PROGRAM prints each difference, and last 'N passed, M failed'. PROGRAM is l6db. It runs on
-pseudoterminals, so no screen is needed. Waits are for texts, but for two after a key.
+terminal.py PROGRAM [--whole] prints each difference, and last 'N passed, M failed'. PROGRAM is l6db. It runs on
+pseudoterminals, so no screen is needed. Waits are for texts, but for two after a key. With --whole, as in the gate,
+50 commands are stopped at random moments, and else six.
 """
 from __future__ import annotations
 
@@ -32,7 +33,7 @@ FRONT = [sys.executable, "-I", str(TOP / "terminal/l6db.py")]
 PROMPT = b"(l6db) "
 SECONDS = 60  # for one answer on a machine that is busy
 AFTER_A_KEY = 0.3  # seconds: a signal right after a key, before readline waits again, shows at the next key alone
-INTERRUPTIONS = 6
+FEW, MANY = 6, 50  # commands that are stopped at random moments
 LIST = b"""* A LIST OF TWO BLOCKS, WHICH IS PRINTED
        (0,DV,0,17)(0,DN,18,35)
 MAKE   (L,GT,1)(LV,E,7)
@@ -121,10 +122,10 @@ class Terminal:
 
 
 class Bench:
-    """Decks in a folder, and the front end over an engine."""
+    """Decks in a folder, and the front end over an engine; and how many commands are stopped."""
 
-    def __init__(self, engine: str, folder: Path) -> None:
-        self.engine, self.folder = engine, folder
+    def __init__(self, engine: str, folder: Path, interruptions: int) -> None:
+        self.engine, self.folder, self.interruptions = engine, folder, interruptions
         self.deck, self.spin = folder / "my.deck", folder / "spin.deck"
         self.deck.write_bytes(LIST)
         self.spin.write_bytes(SPIN)
@@ -202,7 +203,7 @@ def stops(bench: Bench) -> Iterator[Trial]:
     yield "Ctrl-C stops the command", True, b"the session is at state 200000000, as before" in shown
     yield "the session after Ctrl-C", before, settled(terminal)
     chance = random.Random(1)
-    for number in range(INTERRUPTIONS):
+    for number in range(bench.interruptions):
         terminal.give(chance.choice([b"rc\r", b"c\r", b"end\r", b"rc 3\r"]))
         terminal.until(b"\n")
         time.sleep(chance.uniform(0.05, 1.5))
@@ -364,16 +365,16 @@ def processes_of(program: str) -> set[str]:
     return kept
 
 
-def trials(engine: str) -> Iterator[Trial]:
+def trials(engine: str, is_whole: bool) -> Iterator[Trial]:
     """All trials, each group with a folder of its own."""
     for group in (
         editing, files, stops, terminals, faults, launcher, without_readline, words_of_completion,
     ):
         with tempfile.TemporaryDirectory(prefix="l6-terminal-") as folder:
-            yield from group(Bench(engine, Path(folder)))
+            yield from group(Bench(engine, Path(folder), MANY if is_whole else FEW))
 
 
 if __name__ == "__main__":
-    if len(sys.argv) != 2:
+    if len(sys.argv) < 2 or sys.argv[2:] not in ([], ["--whole"]):
         sys.exit(__doc__)
-    sys.exit(report(trials(str(Path(sys.argv[1]).resolve()))))
+    sys.exit(report(trials(str(Path(sys.argv[1]).resolve()), bool(sys.argv[2:]))))

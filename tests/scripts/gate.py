@@ -54,7 +54,7 @@ STEPS = [
 GATE_STEPS = ["rt ci", *STEPS, "tests/defects/defects.py", "tests/edits/edits.py"]
 PACKAGES = {  # without which tests are left out
     "binaryen", "nodejs", "chromium", "mypy", "shellcheck", "qemu-user-static", "busybox-static", "zsh", "fish",
-    "lintian", "firefox-esr", "node-typescript", "python3-markdown", "rlwrap",
+    "lintian", "firefox-esr", "node-typescript", "python3-markdown", "rlwrap", "pkgconf",
 }
 NOT_A_STEP = {"compiled_edits.py", "hostile.py", "same_answers.py"}  # scripts of tests/ that ./test does not call
 

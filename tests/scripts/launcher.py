@@ -273,8 +273,8 @@ def other_systems(checkout: Checkout) -> Iterator[Trial]:
         yield f"no program for {system}", Answer("", why + NO_RT, 1), actual
     path = str(stand_in_for_uname(checkout, "Plan9 mips"))
     actual = checkout.run("l6db", has_rt=False, FIRST=path)
-    why = "l6db: dist/ has l6db for Linux on x86_64 and aarch64, and this is Plan9 mips; ./l6 debug is everywhere\n"
-    yield "no debugger for a system", Answer("", why + NO_RT.replace("l6:", "l6db:"), 1), actual
+    why = said["Plan9 mips"].replace("l6:", "l6db:").replace("l6.mjs", "l6db.mjs") + NO_RT.replace("l6:", "l6db:")
+    yield "no debugger for a system", Answer("", why, 1), actual
     path = str(stand_in_for_uname(checkout, "Linux aarch64"))
     actual = checkout.run("l6db", has_rt=False, FIRST=path)
     why = "l6db: dist/l6db-aarch64 is not the program that dist/l6db-aarch64.provenance names: "
@@ -427,6 +427,28 @@ def terminals(checkout: Checkout) -> Iterator[Trial]:
         yield f"the words {words} with a terminal for output", "".join(f"<{it}>\n" for it in given), shown.partition("\n")[2]
     actual = checkout.run("l6", "check", has_rt=False)
     yield "the words of check over a pipe", f"{checkout.made_of}<check>\n", actual.stdout
+    hint = "l6: `./l6 check` says where a deck is wrong, and why\n"
+    for verb, status, said in (
+        ("run", 4, hint), ("asm", 4, hint), ("list", 4, hint), ("debug", 4, hint), ("run", 2, ""), ("run", 0, ""),
+        ("run", 5, ""), ("load", 4, ""), ("check", 4, ""), ("trace", 4, ""),
+    ):
+        yield f"what {verb} says at a terminal with status {status}", (said, status), refused_at_terminal(checkout, verb, status)
+    actual = checkout.run("l6", "run", has_rt=False, STATUS="4")
+    yield "what run says over a pipe with status 4", Answer(f"{checkout.made_of}<run>\n", "", 4), actual
+
+
+def refused_at_terminal(checkout: Checkout, verb: str, status: int) -> tuple[str, int]:
+    """What is said on standard error, which is a terminal, where the program ends so; and the exit status."""
+    ours, theirs = os.openpty()
+    made = subprocess.run(
+        ["./l6", verb], cwd=checkout.top, stdin=subprocess.DEVNULL, stdout=subprocess.DEVNULL, stderr=theirs,
+        env={"PATH": str(checkout.folder / "plain"), "STATUS": str(status)}, check=False,
+    )
+    os.write(theirs, b"|")
+    os.close(theirs)
+    said = os.read(ours, 4096).decode().replace("\r", "")
+    os.close(ours)
+    return said.removesuffix("|"), made.returncode
 
 
 def making_dist(checkout: Checkout) -> Iterator[Trial]:

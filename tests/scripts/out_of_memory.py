@@ -12,7 +12,7 @@ tests, AllocError is found only in types, and the variant NoMemory of an enum on
   that is given an allocator.
 
 No code leaks memory either: the words forget, leak, ManuallyDrop and into_raw, by which a value is given up
-without its drop, are found nowhere, but as the name of a function that the same file has. And the capacity of a new list is a length of what goes into it, a
+without its drop, are found nowhere. And the capacity of a new list is a length of what goes into it, a
 constant of the table CONSTANTS, a number of the table COUNTS, or a sum or a product of these; each of the two
 tables says why. No list asks for more room later, by reserve or resize.
 
@@ -161,9 +161,8 @@ def is_allowed(code: str, word: re.Match[str]) -> bool:
 
 def memory_kept(code: str, file: str) -> Iterator[tuple[re.Match[str], bool]]:
     """Each place where memory may leak, or be allocated without need, and whether it is right."""
-    own = set(re.findall(r"\bfn (\w+)", code))
     for word in KEEPING.finditer(code):
-        yield word, word[0] in own and code[word.start() - 1] not in ":."
+        yield word, False
     for word in CAPACITY.finditer(code):
         yield word, is_counted(code, word, file)
     for word in ALLOCATOR.finditer(code):
@@ -247,7 +246,7 @@ REFUSED = [
     "fn f() { words.reserve(1) }", "fn f() { words.try_reserve_exact(1) }", "fn f() { words.resize(1, 0) }",
     "fn f() { vec![in alloc; 0; 1 << 40] }", "fn f() { vec![in alloc; 0; MOST] }",
     "fn f() { let words = Vec::new(Global); }", "fn f() { take(&Global, 5) }",
-    "fn f() { forget(words) }", "fn forget() { mem::forget(words) }", "fn f() { words.leak() }", "fn f() { ManuallyDrop::new(words) }",
+    "fn f() { forget(words) }", "fn f() { words.leak() }", "fn f() { ManuallyDrop::new(words) }",
     "struct R {\n    alloc: Global,\n}\nimpl R {\n    fn fill(&self) {\n        take(self.alloc)\n    }\n}\n",
     "fn f() { Err(RunFault::NoMemory) }", "fn f() -> u8 { AllocError }",
     "fn f() { match read() { Err(_) => RunFault::NoMemory, } }",
@@ -255,7 +254,6 @@ REFUSED = [
     "fn f() { match error.kind() { ErrorKind::Other => RunFault::NoMemory, } }",
 ]
 ALLOWED = [
-    "fn f() { forget(words) }\nfn forget(words: &mut [u8]) {}",
     "fn f() { Vec::with_capacity(alloc, words.len()) }",
     "fn f() { Vec::with_capacity(alloc, words.len().saturating_mul(LINE_BYTES)) }",
     "fn f() { Vec::with_capacity(\n    alloc,\n    LINES_AT_ONCE * LINE_BYTES,\n) }",

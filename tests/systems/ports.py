@@ -11,9 +11,11 @@ It prints each difference, and last 'N passed, M failed'.
 from __future__ import annotations
 
 import base64
+import gzip
 import hashlib
 import json
 import os
+import re
 import resource
 import shlex
 import shutil
@@ -34,6 +36,7 @@ from cases import read_cases
 from l6db import at_terminal, one_by_one, page_sessions, words
 from largest_jobs import MAX_OUTPUT, debug_job, longest_image, run_job
 from node_devices import node_devices
+from node_front import node_front
 from program import cut_images, examples, failing_devices, helps, limited_files
 from trials import Trial, report
 
@@ -82,8 +85,13 @@ class Program:
         return answer_of([*self.command, *job.words], input=job.stdin, seconds=SECONDS, preexec_fn=None)
 
 
-NODE = "l6.mjs"
-DEBUGGERS = (Program("l6db-static"), Program("l6db-aarch64", (QEMU,)))
+NODE, NODE_DEBUGGER = "l6.mjs", "l6db.mjs"
+DEBUGGERS = (Program("l6db-static"), Program("l6db-aarch64", (QEMU,)), Program(NODE_DEBUGGER, ("node",)))
+# The programs for Node: the host that the module of each has in it, and the script around it.
+OF_NODE = {
+    NODE: (("web/host.c", "web/memory.h"), "ports/command.js"),
+    NODE_DEBUGGER: (("ports/session_host.c", "web/memory.h"), "ports/session.js"),
+}
 PROGRAMS = (
     Program("l6-static", room=8 << 20),
     Program("l6-aarch64", (QEMU,), ("-R", "0x2c00000")),
@@ -212,15 +220,18 @@ def largest(program: Program) -> Iterator[Trial]:
 
 def hosts() -> Iterator[Trial]:
     """The trials that each program was made with the host that is here: a host that was changed is found at once."""
-    for name, host in (
-        *((it.name, "ports/host.c") for it in (*PROGRAMS, *DEBUGGERS) if it.name != NODE), (NODE, "web/host.c"),
-    ):
-        total = hashlib.sha256((TOP / host).read_bytes()).hexdigest()
+    for program in (*PROGRAMS, *DEBUGGERS):
+        name = program.name
+        hosts, script = OF_NODE.get(name, (("ports/host.c",), ""))
         noted = (DIST / f"{name}.provenance").read_text("utf-8").splitlines()
-        yield f"{name} has the {host} that is here", True, f"host {total}" in noted
-    total = hashlib.sha256((TOP / "ports/command.js").read_bytes()).hexdigest()
-    noted = (DIST / f"{NODE}.provenance").read_text("utf-8").splitlines()
-    yield f"{NODE} has the ports/command.js that is here", True, f"command {total}" in noted
+        yield f"{name} has the {hosts[0]} that is here", True, f"host {sum_of(*hosts)}" in noted
+        if script:
+            yield f"{name} has the {script} that is here", True, f"command {sum_of(script)}" in noted
+
+
+def sum_of(*files: str) -> str:
+    """The sum of what files of the repository hold, one after another."""
+    return hashlib.sha256(b"".join((TOP / file).read_bytes() for file in files)).hexdigest()
 
 
 def belongs(name: str) -> bool:
@@ -247,16 +258,22 @@ def made_again(is_quick: bool) -> Iterator[Trial]:
     """The trials that the programs and what is said of them are those that are made here."""
     with tempfile.TemporaryDirectory(prefix="l6-ports-") as room:
         made = Path(room)
-        calls: list[list[str | Path]] = [[TOP / "ports/bundle", DIST / "l6.html", made / "l6.mjs"]]
+        calls: list[list[str | Path]] = [
+            [TOP / "ports/bundle", DIST / "l6.html", made / "l6.mjs"],
+            [TOP / "ports/bundle", "--session", module_of(DIST / NODE_DEBUGGER, Path(room)), made / NODE_DEBUGGER],
+        ]
         if is_quick:
             print("skipped: the static programs made again: as was asked")
         elif why := unlike_here():
             print(f"skipped: the static programs made again: {why}")
         else:
             calls += [[TOP / "ports/build", DIST / name, made] for name in ("l6", "l6db")]
+            calls[1][2] = TOP / "web/out/l6db.wasm"
+            calls.insert(1, [TOP / "web/build", DIST / "l6db"])
         for words in calls:
             ran = subprocess.run(words, capture_output=True, text=True)
-            yield f"ports/{Path(words[0]).name} of {Path(words[1]).name} ends well", (0, ""), (ran.returncode, ran.stderr)
+            what = f"{Path(words[0]).relative_to(TOP)} of {Path(words[1]).name} ends well"
+            yield what, (0, ""), (ran.returncode, ran.stderr)
         for program in sorted(made.glob("l6*")):
             if program.suffix != ".made_of":
                 kept = DIST / program.name
@@ -267,6 +284,14 @@ def made_again(is_quick: bool) -> Iterator[Trial]:
     if not is_quick:
         for name in ("l6", "l6db", *(program.name for program in (*PROGRAMS, *DEBUGGERS))):
             yield f"{name} belongs to the sources", True, belongs(name)
+
+
+def module_of(program: Path, folder: Path) -> Path:
+    """A file with the module that a program for Node has."""
+    packed = re.search(r"const MODULE = `([^`]*)`", program.read_text("utf-8"))
+    file = folder / "kept.wasm"
+    file.write_bytes(gzip.decompress(base64.b64decode(packed[1])) if packed else b"")
+    return file
 
 
 def unlike_here() -> str:
@@ -351,13 +376,16 @@ def sessions(debugger: Program) -> Iterator[Trial]:
     with tempfile.TemporaryDirectory(prefix="l6-sessions-") as room:
         folder, caller = Path(room), Path(room, "l6db")
         command = " ".join(shlex.quote(word) for word in debugger.command)
-        caller.write_text(f'#!/bin/sh\nexec {command} "$@"\n', "utf-8")
+        # (at a terminal the one for Node has a front end, which has trials of its own)
+        caller.write_text(f'#!/bin/sh\nexec env L6DB_PLAIN=1 {command} "$@"\n', "utf-8")
         caller.chmod(0o755)
         # (what runs a program of another processor needs more addresses than the program)
         room_left = resource.RLIM_INFINITY if debugger.runner else answers.ROOM
         with mock.patch.object(answers, "ROOM", room_left):
             for group in (at_terminal, one_by_one, words, page_sessions):
                 yield from group(str(caller), folder)
+        if debugger.name == NODE_DEBUGGER:
+            yield from node_front(debugger.command, folder)
 
 
 def trials(is_quick: bool) -> Iterator[Trial]:

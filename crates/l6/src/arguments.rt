@@ -24,12 +24,14 @@ use thiserror::Error;
 const VERSION: &str = "1.0, images of version 2";
 
 /// What the words ask for.
-#[derive(Clone, Copy, Debug, PartialEq, Eq)]
+#[derive(Debug, Drop)]
 pub enum Task<'a> {
     /// That something is done with a job.
     Job(Request<'a>),
     /// That the answers of a trace of an allocator's calls are tried.
     Trace(Trying),
+    /// That the help is shown, by the verb `help`: the text of `clap`.
+    Help(clap::Error),
 }
 
 /// What is to be done with a job.
@@ -104,7 +106,10 @@ fn fault_of_reading(error: &io::Error) -> WordsFault
 /// Why they ask for nothing that can be done.
 pub fn task_of<'a>(alloc: Global, words: &'a [String]) -> Result<Task<'a>, WordsFault> {
     let mut command = program(alloc)?;
-    let matches = command.try_get_matches_from_mut(words)?;
+    let matches = match command.try_get_matches_from_mut(words) {
+        Ok(matches) => matches,
+        Err(error) => return help_or_fault(words, error),
+    };
     if let Some(("trace", chosen)) = matches.subcommand() {
         if let Some(trying) = chosen_trying(chosen) {
             return Ok(Task::Trace(trying));
@@ -128,6 +133,32 @@ pub fn task_of<'a>(alloc: Global, words: &'a [String]) -> Result<Task<'a>, Words
                 .into(),
         ),
     }
+}
+
+/// What these words ask for where `clap` has a text for them: the help, if their verb is `help`, and else
+/// nothing that can be done.
+fn help_or_fault<'a>(words: &[String], error: clap::Error) -> Result<Task<'a>, WordsFault> {
+    let is_asked = words.get(1).is_some_and(|verb| verb.as_str() == "help");
+    if is_asked && error.kind() == ErrorKind::DisplayHelp {
+        return Ok(Task::Help(error));
+    }
+    Err(hinted(words, error.into()))
+}
+
+/// The fault of these words: it has the hint on files only if one of them may be the name of a file.
+fn hinted(words: &[String], fault: WordsFault) -> WordsFault {
+    match fault {
+        WordsFault::Unexpected(error) if !has_a_name(words) => WordsFault::Usage(error),
+        fault => fault,
+    }
+}
+
+/// Whether a word after the verb may be the name of a file: it does not begin as an option does.
+fn has_a_name(words: &[String]) -> bool {
+    words
+        .iter()
+        .skip(2)
+        .any(|word| !word.as_str().starts_with('-'))
 }
 
 /// The command line of the program.

@@ -8,7 +8,7 @@ use Rattle.l6db.specs.declared.fault.DbFault.TheVariants.{Usage, Asked, NotText,
 -- where the words of the command line are wrong
 abbrev pub status_of : DbFault → ℕ
 status_of (Asked text) = 0
-status_of (NoFile part) = 4
+status_of (NoFile part path reason) = 4
 status_of (Deck text) = 4
 status_of (Job (TooLong part)) = 4
 status_of (Job fault) = 5

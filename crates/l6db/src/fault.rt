@@ -24,9 +24,9 @@ pub(crate) enum DbFault {
     /// A word of the command line is not UTF-8.
     #[error("l6db: a word is not UTF-8\n")]
     NotText,
-    /// The file of this part can't be opened.
-    #[error("l6db: the file of the {0} can't be opened\n")]
-    NoFile(Part),
+    /// The file of this part can't be opened: its path, and why.
+    #[error("l6db: the file of the {0} can't be opened: {1}: {2}\n")]
+    NoFile(Part, String, &'static str),
     /// The deck has errors: the text of `l6 check`.
     #[error("{0}")]
     Deck(String),
@@ -57,6 +57,21 @@ impl DbFault {
         Ok(DbFault::Deck(checked.text))
     }
 
+    /// The fault if the file of a part can't be opened for this error.
+    ///
+    /// # Errors
+    ///
+    /// Memory ran out.
+    pub(crate) fn of_file(
+        alloc: Global,
+        part: Part,
+        path: &str,
+        error: &io::Error,
+    ) -> Result<Self, AllocError> {
+        let path = format!(in alloc; "{path}")?;
+        Ok(DbFault::NoFile(part, path, reason_of(error)))
+    }
+
     /// The exit status: 0 if help or the version was asked for, 4 if the job is refused, 5 if memory ran
     /// out or a device failed, 64 if the words are wrong.
     pub(crate) fn status(&self) -> u8
@@ -64,10 +79,19 @@ impl DbFault {
     {
         match self {
             DbFault::Asked(_) => 0,
-            DbFault::NoFile(_) | DbFault::Deck(_) | DbFault::Job(RunFault::TooLong(_)) => 4,
+            DbFault::NoFile(..) | DbFault::Deck(_) | DbFault::Job(RunFault::TooLong(_)) => 4,
             DbFault::Job(_) | DbFault::NoInput | DbFault::NoOutput | DbFault::NoMemory => 5,
             DbFault::Usage(_) | DbFault::NotText => 64,
         }
+    }
+}
+
+/// Why a file can't be opened, in words.
+fn reason_of(error: &io::Error) -> &'static str {
+    match error.kind() {
+        io::ErrorKind::NotFound => "there is no such file",
+        io::ErrorKind::PermissionDenied => "it may not be read",
+        _ => "the system refuses it",
     }
 }
 

@@ -113,8 +113,9 @@ fn part_of(rt: &HostRuntime, path: &str, part: Part) -> Result<Vec<u8>, DbFault>
         let mut reader = Host::new(rt.stdin());
         return Ok(read_part(rt.alloc(), &mut reader, part, &mut patience)?);
     }
-    let Ok(file) = File::open(rt, path) else {
-        return Err(DbFault::NoFile(part));
+    let file = match File::open(rt, path) {
+        Ok(file) => file,
+        Err(error) => return Err(DbFault::of_file(rt.alloc(), part, path, &error)?),
     };
     let mut reader = Host::new(file);
     Ok(read_part(rt.alloc(), &mut reader, part, &mut patience)?)

@@ -92,5 +92,6 @@ fn mode_of(rt: &HostRuntime, request: &Request<'_>) -> Mode {
         is_batch,
         is_typed: rt.stdin().is_terminal() && rt.stdout().is_terminal() && !is_batch,
         has_echo: request.has_echo,
+        may_name_files: request.commands.is_some(),
     }
 }

@@ -25,6 +25,9 @@ pub(crate) struct Mode {
     pub(crate) is_typed: bool,
     /// Whether it repeats each command before its answer.
     pub(crate) has_echo: bool,
+    /// Whether the commands that are given may name files. Those of a job may not: somebody else may have
+    /// written them, and a session that is saved takes the place of a file.
+    pub(crate) may_name_files: bool,
 }
 
 /// A console that reads the lines of a text, and then those of a reader, and shows texts by a writer.
@@ -36,6 +39,10 @@ pub(crate) struct Terminal<'a, R, W> {
     commands: Vec<u8>,
     /// How many bytes of the commands are read.
     taken: usize,
+    /// Whether they may name files.
+    may_name_files: bool,
+    /// Whether the line that was read last may.
+    may_open: bool,
     /// How many files of commands are obeyed.
     sources: u32,
     /// The file into which the next text goes.
@@ -58,6 +65,8 @@ impl<'a, R: BufRead, W: Sink> Terminal<'a, R, W> {
             writer,
             commands,
             taken: 0,
+            may_name_files: mode.may_name_files,
+            may_open: false,
             sources: 0,
             file: None,
             mode,
@@ -67,7 +76,9 @@ impl<'a, R: BufRead, W: Sink> Terminal<'a, R, W> {
     /// Reads a line in place of `line`. Answers whether there was one.
     fn read_line(&mut self, line: &mut Vec<u8>) -> Result<bool, ConsoleFault> {
         line.clear();
+        self.may_open = true;
         if self.read_command(line)? {
+            self.may_open = self.may_name_files;
             self.echo(line.as_slice(), self.mode.has_echo || self.mode.is_typed)?;
             return Ok(true);
         }
@@ -133,6 +144,9 @@ impl<'a, R: BufRead, W: Sink> Terminal<'a, R, W> {
     /// Opens the file that a line names. Answers whether the lines of that file come next; a session that
     /// is saved into it is asked to show how.
     fn open(&mut self, line: &mut Vec<u8>) -> Result<bool, ConsoleFault> {
+        if !self.may_open {
+            return Ok(false);
+        }
         let Some((verb, name)) = file_of(line.as_slice()) else {
             return Ok(false);
         };
@@ -167,6 +181,7 @@ impl<'a, R: BufRead, W: Sink> Terminal<'a, R, W> {
             commands.extend_from_slice(rest)?;
         }
         self.commands = commands;
+        self.may_name_files = true;
         self.taken = 0;
         Ok(true)
     }

@@ -1,0 +1,81 @@
+"""The trials of the debugger for Node at a terminal: its own editing, history, completion and Ctrl-C.
+
+They run on pseudoterminals, as those of the front end in Python do. Waits are for texts.
+"""
+from __future__ import annotations
+
+import re
+import sys
+from collections.abc import Iterator
+from pathlib import Path
+
+sys.path[:0] = [str(Path(__file__).resolve().parents[1] / it) for it in ("harness", "program")]
+from terminal import LIST, PROMPT, SPIN, Terminal
+from trials import Trial
+
+MOST_STEPS = "1000000000"
+ESCAPES = re.compile(rb"\x1b\[[0-9;?]*[A-Za-z]")  # by which a terminal moves the cursor, and clears
+
+
+def node_front(command: list[str], folder: Path) -> Iterator[Trial]:
+    """All trials of a session that somebody types."""
+    deck, spin, bad, begun = (folder / name for name in ("list.deck", "spin.deck", "bad.deck", "begun.commands"))
+    deck.write_bytes(LIST)
+    spin.write_bytes(SPIN)
+    bad.write_bytes(b" (A,ZZ,5)\n")
+    begun.write_bytes(b"display A\n")
+    state = str(folder / "state")
+
+    def begin(*words: str) -> Terminal:
+        return Terminal([*command, *words], XDG_STATE_HOME=state)
+
+    terminal = begin(str(deck))
+    shown = terminal.until(PROMPT)
+    yield "where a run begins", True, b"AT 0.0 AFTER 0 STEPS" in shown
+    yield completed(terminal, b"break SH", b"OW", b"Breakpoint at 4 SHOW")
+    yield completed(terminal, b"finis", b"h", b"No call waits")
+    yield terminal.has("on to a stop", b"c\r", b"AT 4.0")
+    yield terminal.has("a line is edited", b"p Kx\x7f\r", b"K = ")
+    yield terminal.has("an empty line repeats the last one", b"\r", b"K = ")
+    yield terminal.has("Ctrl-C at the prompt drops the line", b"junk\x03", b"^C")
+    yield terminal.has("and the session goes on", b"info\r", b"break 4 SHOW")
+    yield "Ctrl-D ends it", 0, terminal.end()
+    terminal = begin(str(deck))
+    terminal.until(PROMPT)
+    yield terminal.has("a line of the session before", b"\x1b[A\r", b"info")
+    terminal.give(b"quit\r")
+    yield "quit ends it", 0, terminal.status()
+    yield from stopped(begin(str(spin), "--steps", MOST_STEPS, "-x", str(begun)))
+    terminal = begin(str(bad))
+    yield "a deck with errors", (True, 4), (b"no operation is spelled `ZZ`" in terminal.until(b"warnings"), terminal.status())
+
+
+def completed(terminal: Terminal, typed: bytes, rest: bytes, text: bytes) -> Trial:
+    """The trial that Tab completes what is typed, and that the line is then obeyed. (Tab in a paste is a blank.)"""
+    terminal.give(typed)
+    terminal.until(typed)
+    terminal.give(b"\t")
+    terminal.until(rest)
+    return terminal.has(f"{typed.decode()} is completed", b"\r", text)
+
+
+def said(terminal: Terminal, line: bytes) -> list[str]:
+    """The lines that are shown after a line, without what moves the cursor."""
+    terminal.give(line + b"\r")
+    terminal.until(b"\n")
+    shown = ESCAPES.sub(b"", terminal.until(PROMPT).removesuffix(PROMPT)).decode("ascii", "replace")
+    return [it.rstrip() for it in re.split(r"[\r\n]+", shown) if it.strip()]
+
+
+def stopped(terminal: Terminal) -> Iterator[Trial]:
+    """Ctrl-C in a long command leaves the session where it was, with all that is set in it."""
+    terminal.until(PROMPT)
+    for line in (b"undisplay A", b"break LOOP if (A,E,5)", b"watch C", b"display B", b"goto 40", b"tbreak 3"):
+        said(terminal, line)
+    before = said(terminal, b"info") + said(terminal, b"stats")[:1]
+    yield "what is set before", 5, len(before)
+    terminal.give(b"end\r")
+    terminal.until(b"Ctrl-C stops the command")
+    yield terminal.has("Ctrl-C in a long command", b"\x03", b"Stopped: the session is where it was before")
+    yield "what is set after it", before, said(terminal, b"info") + said(terminal, b"stats")[:1]
+    yield "Ctrl-D ends it after that", 0, terminal.end()

@@ -138,10 +138,11 @@ def toolchain_that_keeps(bitcode: Path, rattle: Path, folder: Path) -> Path:
 
 
 def words_of(crate: Crate, rattle: Path, room: Path) -> Iterator[str]:
-    """The words by which `rt run` has a program built: its crate, and the libraries below it."""
+    """The words by which `rt` has a program or a static library built: its crate, and the libraries below it."""
     own = {library.name: room.parent / library.name / "out/rlib" for library in crate.below}
     uses = dict(map(uses_of, listed()))[crate.name]
-    yield from ("--crate-name", crate.name, "src/main.rt")
+    root = ["src/lib.rt", "--crate-type", "staticlib"] if crate.is_static else ["src/main.rt"]
+    yield from ("--crate-name", crate.name, *root)
     for name in ("std", *(it for it in uses if it not in own)):
         yield from ("--extern", f"{name}={rattle}/rlibs/{name}.rlib")
     yield from ("-L", f"dependency={rattle}/rlibs")
@@ -154,20 +155,20 @@ def words_of(crate: Crate, rattle: Path, room: Path) -> Iterator[str]:
     yield from ("--logic-built", f"{rattle}/logic_built", "--links", f"{crate.name}=", "--jobs", "2")
 
 
-def text_of_module(rattle: Path, module: Path, target: Path, edits: Iterable[Edit]) -> None:
-    """Writes a module as text, edited for another processor."""
+def text_of_module(rattle: Path, module: Path, target: Path, edits: Iterable[Edit], native: bool = False) -> None:
+    """Writes a module as text, edited for another processor, or for another kind of the same."""
     call(str(rattle / "toolchain/bin/clang"), "--no-default-config", "-S", "-emit-llvm", "-x", "ir",
          "-Xclang", "-disable-llvm-passes", str(module), "-o", str(target))
-    target.write_text(edited(target.read_text("utf-8"), edits), "utf-8")
+    target.write_text(edited(target.read_text("utf-8"), edits, native), "utf-8")
 
 
-def edited(text: str, edits: Iterable[Edit]) -> str:
-    """The text of a module after edits, each of which must be met."""
+def edited(text: str, edits: Iterable[Edit], native: bool = False) -> str:
+    """The text of a module after edits, each of which must be met. Only a native one may speak of x86 then."""
     for pattern, new, times in edits:
         text, count = re.subn(pattern, new, text, flags=re.MULTILINE)
         if count == 0 or (times and count != times):
             raise Stop(f"the module has {count} places for the edit {pattern}")
-    if "x86" in "".join(re.findall(r"^(?:target|attributes) .*$", text, re.MULTILINE)):
+    if not native and "x86" in "".join(re.findall(r"^(?:target|attributes) .*$", text, re.MULTILINE)):
         raise Stop("the module speaks of another processor still")
     return text
 

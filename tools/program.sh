@@ -99,9 +99,9 @@ is_whole() {
 # Prints the names of the programs of dist/ that are for this system, those first that are tried first.
 candidates() {
     case $program_name:$(uname -sm) in
-        l6db:"Linux x86_64") echo l6db l6db-static ;;
-        l6db:"Linux aarch64") echo l6db-aarch64 ;;
-        l6db:*) ;;
+        l6db:"Linux x86_64") echo l6db l6db-static l6db.mjs ;;
+        l6db:"Linux aarch64") echo l6db-aarch64 l6db.mjs ;;
+        l6db:*) echo l6db.mjs ;;
         *:"Linux x86_64") echo l6 l6-static l6.mjs ;;
         *:"Linux aarch64") echo l6-aarch64 l6.mjs ;;
         *) echo l6.mjs ;;
@@ -128,11 +128,9 @@ starts() {
 
 # Says why the programs of dist/ are not run; the arguments are the names of those for this system.
 explain() {
-    if [ $# = 0 ]; then
-        complain "dist/ has l6db for Linux on x86_64 and aarch64, and this is $(uname -sm); ./l6 debug is everywhere"
-    elif [ "$*" = l6.mjs ] && ! command -v node > /dev/null; then
+    if [ "$*" = "$program_name.mjs" ] && ! command -v node > /dev/null; then
         complain "dist/ has programs for Linux on x86_64 and aarch64, and this is $(uname -sm)"
-        complain "dist/l6.mjs is for every system that has Node (https://nodejs.org), but node is not on the path"
+        complain "dist/$* is for every system that has Node (https://nodejs.org), but node is not on the path"
     elif ! is_whole "$top/dist/$1"; then
         complain "dist/$1 is not the program that dist/$1.provenance names: it is missing, altered or incomplete"
     elif belongs "$top/dist/$1"; then

@@ -18,7 +18,7 @@ from answers import Answer
 TOP = Path(__file__).resolve().parents[2]
 SCRIPTS = (
     "l6", "l6db", "install", "terminal", "tools", "docs/l6.1", "docs/l6db.1", "completions", "LICENSE-MIT", "LICENSE-APACHE", "THIRD-PARTY.md",
-    "licenses", ".gitattributes",
+    "licenses", ".gitattributes", "library",
 )
 SECONDS = 60  # for one command
 SOURCES = ("src", "specs", "proofs")

@@ -46,7 +46,7 @@ PAGES = [
     "tools/README.md",
 ]
 FOLDERS = ("crates", "tests", "terminal", "tools", "web", "ports", "completions", "licenses", "bench", "examples", "docs", "dist", "library", ".ci")
-SUFFIXES = r"rt|antt|py|mjs|js|jsonl|c|sh|css|html|json|deck|session|transcript|svg|md|edit|1"
+SUFFIXES = r"rt|antt|py|mjs|js|jsonl|c|h|sh|css|html|json|deck|session|transcript|svg|md|edit|1"
 FILE = re.compile(rf"[\w.-]*(?:/[\w.-]+)*\.(?:{SUFFIXES})")
 # Names of files that a reader has, or that a script makes.
 OF_READERS = re.compile(r"my[.-].*|first\.image|.*\b(?:NAME|SUBJECTS?)\b.*|out/.*|.*/out/.*")

@@ -15,7 +15,10 @@
 
    - a struct begins as L6_OFFSET_CLOSED;
    - its bytes are changed and copied by these calls alone;
-   - one call at a time has it. Calls that only look change the struct for a moment, too.
+   - one call at a time has it. A call whose pointer is const leaves the struct and the store as they were, but may write to
+     the struct meanwhile: so two threads take turns with those, too.
+
+   No call unwinds, and none is unwound through: the archive has no .eh_frame. Nothing calls back but the heap.
 
    A store takes 3 bytes for each of 2^top places, and some 100 more: l6_offset_open asks the heap three times, for
    L6_OFFSET_BYTES(top) together at most, and no other call asks. The heap is two functions that the program has, as heap.c. */
@@ -24,7 +27,10 @@
 
 #include <stdint.h>
 
-#define L6_OFFSET_VERSION "1.0.0" /* of this header: calls are added, and none is changed, while the first number stays */
+/* Of this header: calls are added, and none is changed, while the first number stays. l6_offset_version answers that of the
+   archive, as the number does. */
+#define L6_OFFSET_VERSION "1.1.0"
+#define L6_OFFSET_VERSION_NUMBER 10100
 
 #ifdef __cplusplus
 extern "C" {
@@ -56,7 +62,11 @@ enum l6_offset_fault {
     L6_OFFSET_FULL = -8       /* no place is open */
 };
 
-/* Opens a store of the places from the first one up to an end, without blocks. Faults: IS_OPEN, BAD_PLACES, NO_MEMORY. */
+/* The version of the archive: 10,000 times the first number, 100 times the second, and the third. */
+int64_t l6_offset_version(void);
+
+/* Opens a store of the places from the first one up to an end, without blocks. It writes 3 bytes for each of 2^top places.
+   Faults: IS_OPEN, BAD_PLACES, NO_MEMORY. */
 int64_t l6_offset_open(l6_offset *store, uint32_t top, uint32_t first, uint32_t end);
 
 /* Closes a store, and gives its memory back. */
@@ -65,11 +75,12 @@ int64_t l6_offset_close(l6_offset *store);
 /* The least level whose blocks have so many places. Fault: BAD_LEVEL, above 2^24 places. */
 int64_t l6_offset_level_for(uint32_t places);
 
-/* Gets a block at the lowest open place, and answers that. Faults: BAD_LEVEL, FULL. */
+/* Gets a block at the lowest open place, and answers that. It takes at most two steps for each level, and so do a reserve
+   and a free. Faults: BAD_LEVEL, FULL. */
 int64_t l6_offset_get(l6_offset *store, uint32_t level);
 
-/* The place that a get would give. Faults: BAD_LEVEL, FULL. */
-int64_t l6_offset_find(l6_offset *store, uint32_t level);
+/* The place that a get would give: a step for each level. Faults: BAD_LEVEL, FULL. */
+int64_t l6_offset_find(const l6_offset *store, uint32_t level);
 
 /* Puts a block at a place, if it is a multiple of the block's size and all its places are open. Faults: BAD_LEVEL,
    NOT_OPEN. */
@@ -78,17 +89,24 @@ int64_t l6_offset_reserve(l6_offset *store, uint32_t level, uint32_t place);
 /* Frees the block that begins at a place. Fault: NO_BLOCK. */
 int64_t l6_offset_free(l6_offset *store, uint32_t place);
 
-/* The level of the block that begins at a place. Fault: NO_BLOCK. */
-int64_t l6_offset_level(l6_offset *store, uint32_t place);
+/* The level of the block that begins at a place: one look. Fault: NO_BLOCK. */
+int64_t l6_offset_level(const l6_offset *store, uint32_t place);
 
 /* The first place from one on at which a block begins. It looks at each place on the way. Fault: NO_BLOCK. */
-int64_t l6_offset_next(l6_offset *store, uint32_t from);
+int64_t l6_offset_next(const l6_offset *store, uint32_t from);
 
-/* The level of the largest open piece. Fault: FULL. */
-int64_t l6_offset_largest(l6_offset *store);
+/* The level of the largest open piece: one look. Fault: FULL. */
+int64_t l6_offset_largest(const l6_offset *store);
 
-/* How many places lie in no block. It is counted at each call, so this takes no time. */
-int64_t l6_offset_free_places(l6_offset *store);
+/* The level of the largest open piece that has a place, which begins at a multiple of its size. So a walk over all free
+   pieces takes a call for each. It takes at most a step for each two levels: 300. Fault: NOT_OPEN. */
+int64_t l6_offset_piece(const l6_offset *store, uint32_t place);
+
+/* How many places lie in no block: one look. */
+int64_t l6_offset_free_places(const l6_offset *store);
+
+/* The most places that blocks had at once, since the store was opened or reset: one look. */
+int64_t l6_offset_most(const l6_offset *store);
 
 /* Frees all blocks. It writes all of the store's memory. */
 int64_t l6_offset_reset(l6_offset *store);

@@ -51,8 +51,8 @@ MAX_JOB = 1 << 24
 FIRST = b" (A,E,5)(A,PD)\n"
 PRINTED = answer(b"5\n== DONE AFTER 6 STEPS\n")
 # What the scripts of a checkout need, besides dist/ and the sources that are summed.
-CHECKOUT = ("l6", "l6db", "install", "terminal", "tools", "docs/l6.1", "docs/l6db.1", "completions", "examples", "dist",
-            "licenses", "LICENSE-MIT", "LICENSE-APACHE", "THIRD-PARTY.md", "crates.txt", "HANDLES")
+CHECKOUT = ("l6", "l6db", "install", "terminal", "tools", "library", "docs/l6.1", "docs/l6db.1", "completions",
+            "examples", "dist", "licenses", "LICENSE-MIT", "LICENSE-APACHE", "THIRD-PARTY.md", "crates.txt", "HANDLES")
 
 
 @dataclass(frozen=True)

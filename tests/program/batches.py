@@ -58,6 +58,6 @@ def files_of_jobs(program: str, folder: Path) -> Iterator[Trial]:
     made = answer_of([program, str(job)], input=f"save {kept}\nsource {commands}\n".encode())
     yield "lines that are typed after it", b"Saved: source obeys the file\n#0 at 0.0\n", made.stdout[-39:]
     commands.write_text(f"save {kept}\n", "utf-8")
-    kept.write_bytes(b"kept\n")
+    kept.write_bytes(b"a longer text, of which nothing is left\n")
     made = answer_of([program, str(job), "--batch", "-x", str(commands)], input=b"")
     yield "commands that are given", (b"goto 0\n", 0), (kept.read_bytes(), made.status)

@@ -127,10 +127,10 @@ def mix_answer(printed: str) -> tuple[str, int]:
     return lines[at + 1].strip().lstrip("0"), int(found[1])
 
 
-def compiled(source: Path, folder: str, *others: Path) -> str:
-    """The program of a C source, compiled into a folder with other sources or archives."""
-    target = str(Path(folder, source.stem))
-    flags = ["-std=c11", "-O2", "-Wall", "-Wextra", "-D_POSIX_C_SOURCE=200809L"]
+def compiled(source: Path, folder: str, *others: Path, asserts: bool = True) -> str:
+    """The program of a C source, compiled into a folder with other sources or archives, its asserts on or off."""
+    target = str(Path(folder, source.stem if asserts else f"{source.stem}_without_asserts"))
+    flags = ["-std=c11", "-O2", "-Wall", "-Wextra", "-D_POSIX_C_SOURCE=200809L", *([] if asserts else ["-DNDEBUG"])]
     run_well(Command(["cc", *flags, "-o", target, str(source), *map(str, others)]))
     return target
 

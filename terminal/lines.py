@@ -15,7 +15,7 @@ MOST_LINES = 2_000  # of the history
 OWN = ["reload", "view"]  # commands of the front end
 # What follows the words of the engine's commands, for completion.
 AT_PLACE = set("break b tbreak tb until u advance delete d clear enable disable condition list l".split())
-AT_CHAIN = set("watch unwatch display undisplay print p block x".split())
+AT_CHAIN = set("watch unwatch display undisplay print p block x who".split())
 AT_FILE = {"source", "save"}
 AT_COMMAND = {"help", "h"}
 AT_INFO = {"info", "i"}

@@ -4,14 +4,16 @@
 prove.py [CRATE..] proves these crates and those that they use, or all of them: each once those that
 it uses are proved, in a room of its own and over what earlier runs kept. Lines on standard error say
 which crate of how many is begun, and how long it took so far. What the check of a crate that is not
-proved wrote is shown, and the exit status is then 1.
+proved wrote is shown, and the exit status is then 1. So it is where a check warns of a definition.
 """
 from __future__ import annotations
 
+import dataclasses
 import fcntl
 import functools
 import hashlib
 import math
+import re
 import subprocess
 import sys
 import time
@@ -26,6 +28,8 @@ from rooms import KEPT, LIBRARY, bring_back, room_of
 
 JOB_MEMORY = 1_200_000_000  # bytes that each job of a check beyond the first takes
 STAMP = "out/proved"  # notes of which sources a crate is proved, and what that made
+# What rt only warns of in a definition, and rt ci refuses: a pattern that is taken for a constructor, for one.
+WARNED = re.compile(r"^\S*\bspecs/\S+\.antt:\S* warning: ", re.MULTILINE)
 
 
 class Proving:
@@ -127,6 +131,8 @@ def proved(crate: Crate, jobs: int, commands: Commands) -> Ended:
             ended = commands.run(["rt", verb, "--jobs", str(jobs), *words_of(crate)], folder)
         finally:
             bring_back(crate, folder, [KEPT])
+        if ended.status == 0 and WARNED.search(ended.text):
+            return dataclasses.replace(ended, status=1)
         if ended.status == 0:
             bring_back(crate, folder, made_by(crate))
     if ended.status == 0 and sources_sum(crate) == before:

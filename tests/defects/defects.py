@@ -9,43 +9,59 @@ has lines
     old: TEXT                 a text that is in it just once; \\n, \\t and \\\\ in it are a line feed, a tab and a \\
     new: TEXT                 what stands in its place
     step: install             the step of ./test that must fail
-    trial: a removal          perhaps: the one trial of it that is made, for speed
+    trial: removals:          perhaps: only the trials with this in their names count, for speed
 
-and perhaps more pairs. A step fails by a trial that fails, or by having other trials than tests/counts says.
+and perhaps more pairs. A step fails by a trial that fails, or by having other trials than tests/counts says. (Of some
+trials nothing says how many there are.) Of the page `trial` is one trial in Chromium.
 
-defects.py tries those on which verdicts (beside this script) has no verdict of the files as they are, and a
-twentieth of the others, which the commit chooses. With --all all are tried, with --only WORD those with a word
+defects.py tries those on which verdicts (beside this script) has no verdict of the files as they are, 40 of them at
+most, and a twentieth of the others; the commit chooses. With --all all are tried, with --only WORD those with a word
 in their names. What a step found is written to verdicts. The last line is 'N passed, M failed'.
 """
 from __future__ import annotations
 
 import argparse
+import ast
+import base64
 import functools
+import gzip
 import hashlib
+import os
 import re
 import shutil
 import subprocess
 import sys
 import tempfile
-from collections.abc import Iterator
+from collections.abc import Iterable, Iterator
 from concurrent.futures import ThreadPoolExecutor
 from dataclasses import dataclass, field
+from itertools import chain
 from pathlib import Path
 
 HERE = Path(__file__).resolve().parent
 TOP = HERE.parents[1]
 sys.path.insert(0, str(HERE.parent / "harness"))
-from trials import Trial, report
+from trials import ONLY, Trial, report
 
 VERDICTS = HERE / "verdicts"
 LINE = re.compile(r"(?P<name>[\w/]+) (?P<sum>[0-9a-f]{64})")
 SAMPLE = 20  # of so many defects that were found before one is tried again
+MOST = 40  # of those without a verdict so many are tried, so that the step takes minutes
 AT_ONCE = 4
 SECONDS = 900  # for a step
 ESCAPES = {"n": "\n", "t": "\t"}
-LEAST = 79  # defects that there are
+LEAST = 268  # defects that there are
+# The folders of modules that scripts of trials import by their names alone.
+MODULES = ("tests/harness", "tests/*", "tests/program/model", "tools", "tools/drawing")
 PAGE = "page"  # the step of which a trial is made in Chromium
 COUNT = re.compile(r"^(\d+) passed, (\d+) failed$")
+OF_NODE = {"ports/command.js": "l6.mjs", "ports/session.js": "l6db.mjs"}  # scripts, and the programs made of them
+MODULE = re.compile(r"const MODULE = `([^`]*)`")
+PROVENANCE = """
+top=$PWD && . tools/program.sh && file=dist/$1 &&
+    provenance_of "$file" "toolchain $(toolchain_of "$file")
+$(cat "$file.made_of")" > "$file.new" && mv "$file.new" "$file.provenance" && rm -f "$file.made_of" dist/kept.wasm
+"""
 
 
 class BadDefect(Exception):
@@ -74,6 +90,18 @@ class Defect:
         for file in sorted(files):
             total.update(f"{file.relative_to(TOP)} {hashlib.sha256(file.read_bytes()).hexdigest()}\n".encode())
         return total.hexdigest()
+
+    def fits(self) -> str:
+        """`once` if each old text is there just once, or what is wrong."""
+        with tempfile.TemporaryDirectory() as room:
+            for name in {name for name, _, _ in self.pairs}:
+                Path(room, name).parent.mkdir(parents=True, exist_ok=True)
+                shutil.copy(TOP / name, Path(room, name))
+            try:
+                self.apply(Path(room))
+            except BadDefect as why:
+                return str(why)
+        return "once"
 
     def apply(self, top: Path) -> None:
         """Puts it into a copy of the checkout."""
@@ -109,13 +137,33 @@ def read_defect(path: Path) -> Defect:
 
 @functools.cache
 def scripts_of(step: str) -> tuple[Path, ...]:
-    """The scripts of a step: its own, those beside it, and the harness."""
+    """The scripts of a step: its own, those that it imports, one by way of another, and those of Node; of the page all."""
     text = (TOP / "test").read_text("utf-8")
-    found = re.findall(rf"^ *step {step} .*?((?:web/tests|tests/\w+|bench)/\w+)", text, re.MULTILINE | re.DOTALL)
-    folders = {TOP / Path(name).parent for name in found[:1]} | {TOP / "tests/harness"}
+    found = re.findall(rf"^ *step {step} .*?((?:web/tests|tests/\w+|bench)/\w+(?:\.py)?)", text, re.MULTILINE | re.DOTALL)
     if not found:
         raise BadDefect(f"there is no step {step}")
-    return tuple(sorted(it for folder in folders for it in folder.iterdir() if it.suffix in (".py", ".mjs")))
+    if step == PAGE:
+        return tuple(sorted(it for it in (TOP / found[0]).parent.iterdir() if it.suffix in (".py", ".mjs")))
+    scripts, waiting = {TOP / found[0]}, [TOP / found[0]]
+    folders = (*MODULES, str((TOP / found[0]).parent.relative_to(TOP)))
+    modules = {file.stem: file for folder in folders for file in TOP.glob(f"{folder}/*.py")}
+    while waiting:
+        for name in imported(waiting.pop()):
+            if name in modules and modules[name] not in scripts:
+                scripts.add(modules[name])
+                waiting.append(modules[name])
+    return tuple(sorted({*scripts, *(TOP / found[0]).parent.glob("*.mjs")}))
+
+
+def imported(script: Path) -> set[str]:
+    """The names of the modules that a script imports; of a package, those of its parts, too."""
+    found: set[str] = set()
+    for node in ast.walk(ast.parse(script.read_text("utf-8"))):
+        if isinstance(node, ast.Import):
+            found.update(alias.name for alias in node.names)
+        elif isinstance(node, ast.ImportFrom) and node.module:
+            found |= {*node.module.split("."), *(alias.name for alias in node.names)}
+    return found
 
 
 def sources() -> list[str]:
@@ -135,22 +183,37 @@ def copy_checkout(top: Path) -> None:
 
 def finds(step: str, trial: str, top: Path) -> tuple[bool, str]:
     """Whether a step of a copy, or a trial of it, fails; and the end of what was printed."""
-    words = ["./test", "--only", step]
+    words, environment = ["./test", "--only", step], os.environ | ({ONLY: trial} if trial else {})
     if step == PAGE and trial:
         page = top / "dist/l6.html"
         bundled = subprocess.run(["web/bundle", "--same-module", str(page)], cwd=top, capture_output=True, text=True)
         if bundled.returncode:
             return True, bundled.stdout + bundled.stderr
         words = [sys.executable, "web/tests/chromium.py", str(page), "--only", trial]
-    elif trial:
-        words = ["./test", "--only", trial]
-    ran = subprocess.run(words, cwd=top, stdin=subprocess.DEVNULL, capture_output=True, text=True, errors="replace",
-                         timeout=SECONDS)
+    ran = subprocess.run(words, cwd=top, env=environment, stdin=subprocess.DEVNULL, capture_output=True, text=True,
+                         errors="replace", timeout=SECONDS)
     last = (ran.stdout.splitlines() or [""])[-1]
     found = COUNT.match(last)
     # (a defect in ./test itself may leave the count as it is, and the step is named all the same)
     is_named = f"\nfailed: {step}; status " in ran.stdout
     return is_named or (ran.returncode != 0 and found is not None and found[2] != "0"), ran.stdout[-1500:]
+
+
+def make_again(files: Iterable[str], top: Path) -> None:
+    """Makes the programs for Node again whose scripts were changed, so that what they do is tried.
+
+    Else a step would only say that they are made of other scripts.
+    """
+    for name in (OF_NODE[file] for file in files if file in OF_NODE):
+        words = ["dist/l6.html", f"dist/{name}"]
+        if name == "l6db.mjs":
+            packed = MODULE.search((top / "dist" / name).read_text("utf-8"))
+            (top / "dist/kept.wasm").write_bytes(gzip.decompress(base64.b64decode(packed[1] if packed else "")))
+            words = ["--session", "dist/kept.wasm", f"dist/{name}"]
+        for command in (["ports/bundle", *words], ["sh", "-c", PROVENANCE, "sh", name]):
+            ran = subprocess.run(command, cwd=top, capture_output=True, text=True)
+            if ran.returncode:
+                raise BadDefect(f"{name} can't be made: {ran.stderr}")
 
 
 def tried(defect: Defect) -> str:
@@ -159,6 +222,7 @@ def tried(defect: Defect) -> str:
         copy_checkout(Path(room))
         try:
             defect.apply(Path(room))
+            make_again([file for file, _, _ in defect.pairs], Path(room))
         except BadDefect as why:
             return f"BAD DEFECT: {why}"
         try:
@@ -172,7 +236,12 @@ def passes(step: str, trial: str) -> str:
     """What a step says in a copy without a defect: `passes`, or what fails."""
     with tempfile.TemporaryDirectory(prefix="l6-defect-") as room:
         copy_checkout(Path(room))
-        is_found, said = finds(step, trial, Path(room))
+        try:
+            is_found, said = finds(step, trial, Path(room))
+        except subprocess.TimeoutExpired:
+            return f"it takes more than {SECONDS} seconds"
+    if said.endswith("0 passed, 0 failed\n"):
+        return f"no trial of {step} has {trial} in its name"
     return said if is_found else "passes"
 
 
@@ -182,12 +251,21 @@ def known() -> dict[str, str]:
     return {found["name"]: found["sum"] for found in map(LINE.fullmatch, lines) if found}
 
 
+def write(verdicts: dict[str, str]) -> None:
+    """Writes the verdicts. It is done after each defect, so that what was found is kept if this is ended."""
+    VERDICTS.write_text("".join(f"{name} {key}\n" for name, key in sorted(verdicts.items())), "utf-8")
+
+
 def chosen(defects: list[Defect], is_all: bool, commit: str) -> list[Defect]:
-    """The defects that are tried: those without a verdict of the files as they are, and some of the others."""
+    """The defects that are tried: of those without a verdict of the files as they are the first 40 in an order that the
+    commit makes, and some of the others; or all of them."""
     before = known()
-    def is_sampled(name: str) -> bool:
-        return int(hashlib.sha256(f"{commit} {name}".encode()).hexdigest(), 16) % SAMPLE == 0
-    return [it for it in defects if is_all or before.get(it.name) != it.key or is_sampled(it.name)]
+    def place_of(name: str) -> int:
+        return int(hashlib.sha256(f"{commit} {name}".encode()).hexdigest(), 16)
+    unknown = sorted((it.name for it in defects if before.get(it.name) != it.key), key=place_of)
+    first = set(unknown[:MOST])
+    sampled = {it.name for it in defects if before.get(it.name) == it.key and place_of(it.name) % SAMPLE == 0}
+    return [it for it in defects if is_all or it.name in first | sampled]
 
 
 def read_all(word: str) -> list[Defect]:
@@ -199,9 +277,10 @@ def trials(word: str, is_all: bool) -> Iterator[Trial]:
     """The trials that each step passes without a defect, and that each defect is found."""
     defects = read_all(word)
     commit = subprocess.run(["git", "rev-parse", "HEAD"], cwd=TOP, capture_output=True, text=True).stdout
-    wanted = chosen(defects, is_all, commit)
+    wanted = chosen(defects, is_all or bool(word), commit)
     verdicts = known() if word else {}
-    verdicts |= {it.name: it.key for it in defects if it not in wanted}
+    waiting = [it for it in defects if it not in wanted and known().get(it.name) != it.key]
+    verdicts |= {it.name: it.key for it in defects if it not in (*wanted, *waiting)}
     with ThreadPoolExecutor(AT_ONCE) as pool:
         plain = {(it.step, it.trial): pool.submit(passes, it.step, it.trial) for it in wanted}
         runs = {it.name: pool.submit(tried, it) for it in wanted}
@@ -209,16 +288,19 @@ def trials(word: str, is_all: bool) -> Iterator[Trial]:
             alone, became = plain[defect.step, defect.trial].result(), runs[defect.name].result()
             if alone != "passes":
                 became = f"the step {defect.step} fails without a defect, too: ..{alone[-300:]}"
-            yield f"{defect.name}, by {defect.step}", "found", became
             if became == "found":
                 verdicts[defect.name] = defect.key
             else:
                 verdicts.pop(defect.name, None)
+            write(verdicts)
+            yield f"{defect.name}, by {defect.step}", "found", became
     before = known()
     for defect in defects:
-        if defect not in wanted:
+        if defect in waiting:
+            yield f"{defect.name}, which is not tried yet, and could be", "once", defect.fits()
+        elif defect not in wanted:
             yield f"{defect.name}, as it was found before", before[defect.name], defect.key
-    VERDICTS.write_text("".join(f"{name} {key}\n" for name, key in sorted(verdicts.items())), "utf-8")
+    write(verdicts)
     if not word:
         yield "how many defects there are", True, len(defects) >= LEAST
 
@@ -229,8 +311,12 @@ def main() -> int:
     parser.add_argument("--only", default="", metavar="WORD", help="only defects with this in their names")
     parser.add_argument("--all", action="store_true", help="try those that were found before, too")
     options = parser.parse_args()
-    return report(trials(options.only, options.all))
+    own = own_trials.trials() if not options.only else ()
+    return report(chain(own, trials(options.only, options.all)))
 
 
 if __name__ == "__main__":
+    sys.modules["defects"] = sys.modules["__main__"]
+    import own_trials  # (which tries this script, and imports it)
+
     sys.exit(main())

@@ -5,6 +5,7 @@ can see which program ran.
 """
 from __future__ import annotations
 
+import contextlib
 import hashlib
 import os
 import shutil
@@ -23,7 +24,10 @@ SCRIPTS = (
 SECONDS = 60  # for one command
 SOURCES = ("src", "specs", "proofs")
 NOBODY = 65_534  # a user and a group without rights
+TRACING = ("L6_TRACED", "PYTHONPATH")  # variables of the environment by which lines are noted
+SHELL_LINE = "+ line $BASH_SOURCE:$LINENO: "  # what bash writes before each command that it obeys
 UNPROVED = "UNPROVED"  # a crate with this text in its sources is not proved
+WARNED = "WARNED"  # and of one with this text rt warns
 
 # All commands besides the shell that the scripts may use when neither rt nor Python is needed.
 PLAIN = ("cat", "chmod", "cmp", "cp", "dirname", "find", "grep", "mkdir", "mv", "readlink", "rm", "rmdir",
@@ -35,7 +39,7 @@ RT = f'''#!{sys.executable}
 import os, shutil, sys
 from pathlib import Path
 sys.path.insert(0, {str(TOP / "tests/harness")!r})
-from checkout import UNPROVED, program_text, sum_of_sources
+from checkout import UNPROVED, WARNED, program_text, sum_of_sources
 state = Path(os.environ["STAND_IN"])
 verb = sys.argv[1]
 if verb == "version":
@@ -53,6 +57,8 @@ texts = [file.read_text() for file in files if file.is_file()]
 if any(UNPROVED in text for text in texts):
     print(f"fn {{crate.name}}::main: not proved")
     sys.exit(1)
+if any(WARNED in text for text in texts):
+    print("./specs/Lib.antt:1:8: warning: this pattern binds a variable spelled like a constructor")
 kill = state / "kill"
 if kill.exists():
     kill.unlink()
@@ -64,6 +70,7 @@ if verb == "lib":
     shutil.rmtree(crate / "out/rlib", ignore_errors=True)
     (crate / "out/rlib").mkdir(parents=True)
     (crate / "out/rlib/stamp").write_text(made)
+    (crate / f"out/lib{{crate.name}}.a").write_text(f"archive of {{crate.name}}, {{made}}\\n")
 else:
     program = crate / "out" / crate.name
     program.write_text(program_text(made))
@@ -77,14 +84,24 @@ MAKERS = {
     "web/build": "#!/bin/sh\n",
     "web/bundle": "#!/bin/sh\necho a page > $1\n",
     "ports/build": """#!/bin/sh
-for name in l6-static l6-aarch64; do
+for name in "${1##*/}-static" "${1##*/}-aarch64"; do
     sed "2i it=$name" "$1" > "$2/$name"
     echo "host of $name" > "$2/$name.made_of"
 done
 """,
     "ports/bundle": """#!/bin/sh
-sed "2i it=l6.mjs" "${1%/*}/l6" > "$2"
+from="${1%/*}/l6"
+[ "$1" != --session ] || { shift; from="${2%/*}/l6db"; }
+sed "2i it=${2##*/}" "$from" > "$2"
 echo "module of $1" | sed 's|/.*/||' > "$2.made_of"
+""",
+    "ports/libraries": """#!/bin/sh
+for name in l6_store l6_offset; do
+    for kind in aarch64 riscv64 nosse; do
+        echo "an archive for $kind, of $(cat "$1/$name.a")" > "$1/$name-$kind.a"
+        echo "module of $name" > "$1/$name-$kind.a.made_of"
+    done
+done
 """,
 }
 NODE = '#!/bin/sh\nexec sh "$@"\n'  # a stand-in for Node, for which l6.mjs is a script of the shell
@@ -98,6 +115,12 @@ def sum_of_sources(top: Path) -> str:
             if file.is_file() and file.relative_to(top).parts[2] in SOURCES:
                 total.update(f"{file.relative_to(top)} ".encode() + file.read_bytes())
     return total.hexdigest()
+
+
+def is_of_shell(file: Path) -> bool:
+    """Whether a file is a script of the shell."""
+    with open(file, "rb") as opened:
+        return opened.readline() in (b"#!/bin/sh\n", b"#!/usr/bin/env bash\n")
 
 
 def program_text(made_of: str) -> str:
@@ -213,9 +236,19 @@ class Checkout:
     ) -> Answer[str]:
         """The answer of a command in a folder, with just this environment."""
         options = {"input": "", **options}
-        ended = subprocess.run(
-            words, capture_output=True, text=True, timeout=SECONDS, cwd=folder, env=environment, **options
-        )
+        # (what notes which lines are run: harness/traced)
+        with contextlib.ExitStack() as opened:
+            if TRACING[0] in os.environ:
+                environment = {**{it: os.environ[it] for it in TRACING}, **environment}
+                if is_of_shell(folder / words[0]):
+                    trace = opened.enter_context(open(Path(os.environ[TRACING[0]], "shell.trace"), "a", encoding="utf-8"))
+                    begin = Path(os.environ[TRACING[0]], "begin.bash")  # (bash takes no PS4 from root's environment)
+                    begin.write_text(f"PS4='{SHELL_LINE}'\nset -x\n")
+                    environment |= {"BASH_ENV": str(begin), "BASH_XTRACEFD": str(trace.fileno())}
+                    words, options = ["/bin/bash", *words], {**options, "pass_fds": [trace.fileno()]}
+            ended = subprocess.run(
+                words, capture_output=True, text=True, timeout=SECONDS, cwd=folder, env=environment, **options
+            )
         return Answer(ended.stdout, ended.stderr, ended.returncode)
 
     def run_as_somebody(self, words: list[str], folder: Path) -> Answer[str]:

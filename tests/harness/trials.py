@@ -66,6 +66,16 @@ def answer_canaries(actual: Answer[bytes]) -> Iterator[Trial]:
     yield "a wrong exit status", answer(b"out\n", b"err\n", 0), actual
 
 
+def first_wrong(what: str, trials: Iterable[Trial]) -> Trial:
+    """A canary: the first of some trials that fails, as one must on what is wrong; one that passes if none does."""
+    return next((it for it in trials if it[1] != it[2]), (f"{what}: nothing is seen", True, True))
+
+
+def few_pass(what: str, most: int, trials: Iterable[Trial]) -> Trial:
+    """A canary: of some trials on what is wrong at most so many pass, since no more depend on something else."""
+    return f"{what}: more than {most} pass", True, sum(it[1] == it[2] for it in trials) > most
+
+
 def at_least(least: int, what: str, trials: Iterable[Trial]) -> Iterator[Trial]:
     """Trials, and then one that there were so many. The number is changed with the tests."""
     count = 0
@@ -82,6 +92,13 @@ def is_chosen(trial: Trial) -> bool:
 def is_asked_for(name: str) -> bool:
     """Whether the trial of just this name is to be made, and no other."""
     return os.environ.get(ONLY) == name
+
+
+def groups_asked_for(names: Iterable[str]) -> set[str]:
+    """The groups that are to be made, of some whose trials have names that begin `GROUP:`: all, or the one asked for."""
+    groups = set(names)
+    group, colon, _ = os.environ.get(ONLY, "").partition(":")
+    return {group} if colon and group in groups else groups
 
 
 def differences(expected: object, actual: object) -> Iterator[str]:

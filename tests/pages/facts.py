@@ -31,6 +31,7 @@ from model import (
     store,
     trace,
 )
+from page_figures import figures, in_source
 from page_tables import TOP, canary, plain, spans_of, table_with, tables_of, text_of
 from trials import Trial, report
 
@@ -168,6 +169,8 @@ SENTENCES: list[tuple[str, str, int, int]] = [
     ("docs/history.md", "| #: arithmetic and logic", len(programs.OPERATIONS) - 3, 1),
 ]
 
+KNOWN = [(page, sentence) for page, sentence, *_ in SENTENCES]
+
 # The table of limits in docs/language.md: the numbers of each row.
 LIMITS = {
     "a job": [jobs.JOB_LIMIT],
@@ -232,7 +235,9 @@ def statuses() -> Iterator[Trial]:
 
 
 def jobs_of_the_model() -> Iterator[Trial]:
-    """How many random jobs are made if no number is given."""
+    """How many random jobs are made if no number is given, and how many calls of a trace are measured."""
+    calls = in_source("bench/run", r"^TRACE_CALLS = ([\d_]+)$")
+    yield "the calls that bench/README.md tells of", (1_000_000, True), (calls, "a million calls" in plain(text_of("bench/README.md")))
     text = (TOP / "tests/program/model_jobs.py").read_text("utf-8")
     yield "the random jobs of tests/program/model_jobs.py", [f"{RANDOM_JOBS:_}"], re.findall(
         r'"--jobs", type=int, default=(\w+)', text
@@ -264,6 +269,11 @@ def options(program: str) -> Iterator[Trial]:
         name: number_of(it) for name, it in re.findall(r"(--\w+) \w \((?:[^)]*?)(\d[\d,]*\d|\d)\)", said)
     }
     yield f"the options in {SUMMARY}", {name: it[2] for name, it in known.items()}, of_sheet
+    helps = "".join(answer_of([program, verb, "--help"], input=b"").stderr.decode() for verb in (*jobs.VERBS, "check", "trace"))
+    named = set(re.findall(r"^ +(?:-\w, )?--([\w-]+)", helps, re.MULTILINE)) - {"help"}
+    for where, part in zip(("synopsis", "description"), text_of(MANUAL).split(".Sh DESCRIPTION", 1)):
+        listed = set(re.findall(r"\bFl -([\w-]+)", part)) - {"help", "version"}
+        yield f"the options of all verbs in the {where} of {MANUAL}", named, listed
     verbs = {verb for verb in jobs.VERBS if verb in jobs.RUNNING}
     yield "the verbs with options", set(RUNNING), verbs
 
@@ -423,6 +433,10 @@ def halves(page: str, heading: str) -> Iterator[tuple[str, str]]:
 def canaries(program: str) -> Iterator[Trial]:
     """Pages with a defect each."""
     yield canary(LANGUAGE, "up to 63 tests,", "up to 64 tests,", limits)
+    yield canary(SESSIONS, "65,535<!-- fact: most", "65,536<!-- fact: most", lambda: figures(KNOWN))
+    yield canary("docs/trace.md", "The first 100 are", "The first 101 are", lambda: figures(KNOWN))
+    yield canary("docs/places.md", "A get gives", "It has at most 77 legs. A get gives", lambda: figures(KNOWN))
+    yield canary("README.md", "up to 10 GB", "up to 11 GB", lambda: figures(KNOWN))
     yield canary(LANGUAGE, "| names of a chain | 6 |", "| names of a chain | 7 |", limits)
     yield canary(SUMMARY, "up to 15 cards", "up to 16 cards", limits)
     yield canary(MANUAL, "an\nimage up to 8,388,608", "an\nimage up to 8,388,609", limits)
@@ -443,6 +457,7 @@ def canaries(program: str) -> Iterator[Trial]:
 def trials(program: str) -> Iterator[Trial]:
     """All trials."""
     yield from limits()
+    yield from figures(KNOWN)
     yield from jobs_of_the_model()
     yield from statuses()
     yield from options(program)

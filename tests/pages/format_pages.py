@@ -115,6 +115,31 @@ def image_format() -> Iterator[Trial]:
     ]
 
 
+# An image of version 1, of a program that goes back to its own statement for ever: its third line is the header.
+OLD_IMAGE = ["542651554721", "000000000002", "000000000003", "000011000000", "340077000000", "000002000000"]
+OLD_HEADERS = re.compile(r"Bits (\d+) to (\d+) of a header are 0, and the last (\w+) bits are the target. In a row, bits (\d+)"
+                         r" to (\d+) are 0, bit (\d+) is 1 if it has a label, and the last (\w+) bits are")
+
+
+def old_images(program: str) -> Iterator[Trial]:
+    """Which bits of a header of version 1 are 0: an image in which one of them is not is refused."""
+    found = OLD_HEADERS.search(plain(text_of(IMAGE)))
+    numbers = [int(it) if it.isdigit() else COUNTS.index(it) for it in found.groups()] if found else []
+    yield f"{IMAGE}: the bits of headers and rows of version 1", [18, 23, 12, 18, 22, 23, 12], numbers
+    zeros = []
+    for bit in range(18, 36):
+        header = int(OLD_IMAGE[3], 8) | 1 << 35 - bit
+        lines = [*OLD_IMAGE[:3], f"{header:012o}", *OLD_IMAGE[4:]]
+        made = answer_of([program, "load", "--steps", "1"], input="".join(f"{line}\n" for line in lines).encode())
+        target = header & 0o7777
+        # (a target that is no statement is refused, too)
+        if made.status == 4 and (bit < 24 or target < 2):
+            zeros.append(bit)
+    yield f"{IMAGE}: the bits of a header of version 1 that must be 0", list(range(18, 24)), zeros
+    made = answer_of([program, "load", "--steps", "1"], input="".join(f"{line}\n" for line in OLD_IMAGE).encode())
+    yield f"{IMAGE}: an image of version 1", 3, made.status
+
+
 def plain_spans(text: str) -> str:
     """A text in one line, with the marks of spans."""
     return " ".join(text.split())
@@ -170,7 +195,7 @@ def lessons(program: str) -> Iterator[Trial]:
             yield f"{PAGE}: letters in {found[1]} then", f"{COUNTS.index(found[4])} BLOCKS", lines[-1]
 
 
-COUNTS = ["no", "one", "two", "three", "four", "five", "six", "seven", "eight", "nine", "ten"]
+COUNTS = ["no", "one", "two", "three", "four", "five", "six", "seven", "eight", "nine", "ten", "eleven", "twelve"]
 
 
 def statuses() -> Iterator[Trial]:
@@ -237,6 +262,7 @@ def canaries(program: str) -> Iterator[Trial]:
     )
     yield canary(IMAGE, "| 24 | `PR` |", "| 24 | `PH` |", image_format)
     yield canary(IMAGE, "2 `DONE`, 3 `FAIL`", "3 `DONE`, 2 `FAIL`", image_format)
+    yield canary(IMAGE, "Bits 18 to 23", "Bits 18 to 24", lambda: old_images(program))
     yield canary(LISTING, "| 9 to 13 |", "| 9 to 14 |", lambda: listing_format(program))
     yield canary(DEBUGGER, "`CLEARED s`", "`CLEAR s`", lambda: debugger_answers(program))
     yield canary(ROBUSTNESS, "`l6: deck too long` | 4 |", "`l6: deck too long` | 5 |", statuses)
@@ -248,6 +274,7 @@ def trials(program: str) -> Iterator[Trial]:
     """All trials."""
     yield from conditions()
     yield from image_format()
+    yield from old_images(program)
     yield from listing_format(program)
     yield from debugger_answers(program)
     yield from lessons(program)

@@ -319,6 +319,7 @@ def canaries(program: str) -> Iterator[Trial]:
     yield canary("README.md", "(docs/pictures/list.svg)", "(docs/pictures/lists.svg)", links)
     yield canary("docs/gallery.md", "(#a-tree)", "(#a-bush)", links)
     yield canary(CONTRACTS, "`word_of_two_to_the_36`, ", "", generated)
+    yield canary(CONTRACTS, "`word_of_two_to_the_36`, ", "", contracts)
     yield canary(MEASUREMENTS, "| `l6_word` | ", "| `l6_word` | 1", generated)
     yield canary(DEFINITIONS, "in 96 files", "in 95 files", counting_commands)
     yield canary(PAGE, "click the 8 beside", "click the 7 beside", lambda: lessons(program))

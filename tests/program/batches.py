@@ -20,6 +20,9 @@ def prompts(program: str, deck: Path) -> Iterator[Trial]:
 REFUSED = [  # lines, and the status of a batch of them
     (["foo"], 1), (["b NONE"], 1), (["p 5A"], 1), (["step x"], 1), (["unwatch 1"], 1), (["unwatch A"], 1), (["finish"], 1),
     (["source none"], 1), (["condition 1 (A,E,1)"], 1), (["b 1 if A"], 1), (["foo", "where"], 1), (["watch A"] * 9, 1),
+    (["who 5A"], 1), (["watch *1024+1024"], 1), (["watch *"], 1), (["watch *A+B"], 1), (["unwatch *A"], 1),
+    (["unwatch *1024"], 1), (["watch *1024", "unwatch *1024+1"], 1), (["watch *AN"], 1), (["watch *1024"] * 9, 1),
+    (["watch *1024+1023", "unwatch *1024+1023"], 0), (["watch *A", "unwatch *0"], 0), (["who A", "who 1024"], 0),
     (["where", "# foo", "", "help"], 0), (["watch A", "unwatch A"], 0), (["watch A"] * 8, 0), (["b 1 if (A,E,1)"], 0),
 ]
 
@@ -32,12 +35,12 @@ def batches(program: str, folder: Path) -> Iterator[Trial]:
         made = answer_of([program, "--batch", "-x", str(commands), str(deck)], input=b"")
         yield f"the status of a batch: {lines}", status, made.status
     yield "the status of a session in which a line was refused", 0, answer_of([program, str(deck)], input=b"foo\n").status
-    given = f"b DEEP if (A,G,2)\ntb 3\nwatch B\ndisplay A\nc\nsave {saved}\ninfo\nstats\nsave\n"
+    given = f"b DEEP if (A,G,2)\ntb 3\nwatch B\nwatch *A+3\ndisplay A\nc\nsave {saved}\ninfo\nstats\nsave\n"
     first = answer_of([program, str(deck)], input=given.encode()).stdout
     again = answer_of([program, str(deck)], input=f"source {saved}\ninfo\nstats\nsave\n".encode()).stdout
     end = first.partition(b"Saved: source obeys the file\n")[2]
     yield "a session that is saved", (True, True), (bool(end), again.endswith(end))
-    lines_saved = b"break DEEP\nwatch B\ndisplay A\ngoto 17\ntbreak DEEP+2\ncondition DEEP (A,G,2)\n"
+    lines_saved = b"break DEEP\nwatch B\nwatch *0+3\ndisplay A\ngoto 17\ntbreak DEEP+2\ncondition DEEP (A,G,2)\n"
     yield "the lines that are saved", lines_saved, saved.read_bytes() if saved.exists() else b""
     yield from files_of_jobs(program, folder)
 

@@ -5,8 +5,8 @@ check_decks.py PROGRAM prints each difference, and last 'N passed, M failed'. Th
 answers to the tutorial's exercises, each with a slip as a pupil makes it, and a word that the finding on its
 card must have to name it. Then decks that are damaged at random are given to the program and to the model of
 tests/program/model/, which was written from the manual alone: `check` must have an error exactly where `asm` and the
-model refuse the deck, and on the same card, and must warn of just the statements to which no way leads in the
-model. A deck is made from its number, so the number is enough to make it again.
+model refuse the deck, and on the same card, and must warn of just the statements that the model says: those to
+which no way leads, that decide nothing, or that run on into a subroutine. A deck is made from its number, so the number is enough to make it again.
 
     python3 tests/program/check_decks.py PROGRAM --first 1 --jobs 20000 --processes 4
 """
@@ -29,7 +29,7 @@ from model.cards import assemble
 from model.faults import Fault
 from model.jobs import CHECK, answer_of_job
 from model.state import Options
-from model.ways import unreached_cards
+from model.ways import idle_cards, running_cards, unreached_cards
 from trials import Trial, report
 
 CHECKS = Path(__file__).resolve().parent / "checks.jsonl"
@@ -39,7 +39,11 @@ BATCH = 50  # numbers that a process takes at a time
 MOST_FINDINGS = 100  # that are written
 DAMAGED = 400  # random decks that are tried, unless there is another number
 FINDING = re.compile(rb"(\d+):(\d+): (error|warning): ")
-UNREACHED = re.compile(rb"^(\d+):\d+: warning: no way leads to ", re.MULTILINE)
+OF_STATEMENTS = {  # the cards that are warned of, and those that the model has
+    re.compile(rb"^(\d+):\d+: warning: no way leads to ", re.MULTILINE): unreached_cards,
+    re.compile(rb"^(\d+):\d+: warning: the condition of .*decides nothing", re.MULTILINE): idle_cards,
+    re.compile(rb"^(\d+):\d+: warning: the statement .*runs on into", re.MULTILINE): running_cards,
+}
 FAULT = re.compile(rb"l6: card (\d+): ")
 COUNTS = re.compile(rb"(\d+) errors?, (\d+) warnings?\n\Z")
 
@@ -141,20 +145,21 @@ def card_refused(program: str, deck: bytes) -> object:
     return int(found[1]) if given.status == 4 and found and not given.stdout else given
 
 
-def unreached_in_model(deck: bytes) -> list[int]:
-    """The cards of the statements that no way leads to in the model; none if the deck has an error."""
+def warned_in_model(deck: bytes) -> list[list[int]]:
+    """The cards of the statements that the model warns of, each kind by itself; none if the deck has an error."""
     try:
-        return unreached_cards(assemble(deck))
+        assembly = assemble(deck)
     except Fault:
-        return []
+        return [[] for _ in OF_STATEMENTS]
+    return [cards(assembly) for cards in OF_STATEMENTS.values()]
 
 
-def unreached(given: Answer[bytes], expected: list[int]) -> list[int]:
-    """The cards of the statements that no way leads to by an answer; as expected if not all are written."""
+def warned(given: Answer[bytes], expected: list[list[int]]) -> list[list[int]]:
+    """The same by an answer; as expected if not all are written."""
     counts = COUNTS.search(given.stdout)
     if counts and int(counts[1]) + int(counts[2]) > MOST_FINDINGS:
         return expected
-    return [int(card) for card in UNREACHED.findall(given.stdout)]
+    return [[int(card) for card in kind.findall(given.stdout)] for kind in OF_STATEMENTS]
 
 
 def verdict(given: Answer[bytes]) -> object:
@@ -175,7 +180,7 @@ def verdict(given: Answer[bytes]) -> object:
 
 def damaged(program: str, number: int) -> Trial:
     """The trial on the damaged deck of a number: `asm` refuses it on the card on which the model has an error,
-    and `check` has an error there; or it warns of the statements that no way leads to in the model."""
+    and `check` has an error there; or it warns of the statements that the model warns of."""
     deck = job_of(number).deck.partition(b"$INPUT")[0]
     card = card_in_model(deck)
     refused = card_refused(program, deck)
@@ -183,8 +188,8 @@ def damaged(program: str, number: int) -> Trial:
     cards = verdict(given)
     if isinstance(cards, list) and (card in cards if card else not cards):
         cards = card
-    expected = unreached_in_model(deck)
-    return f"the deck {number}", (card, card, expected), (refused, cards, unreached(given, expected))
+    expected = warned_in_model(deck)
+    return f"the deck {number}", (card, card, expected), (refused, cards, warned(given, expected))
 
 
 def some_damaged(program: str, numbers: range) -> list[Trial]:

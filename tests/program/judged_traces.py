@@ -178,6 +178,34 @@ def zoo(program: str) -> Iterator[Trial]:
             yield f"the bug {bug.stem}", says, first
 
 
+# What a program asks for, as record.c writes it down; the trace that is made of it with pieces of 16 bytes, a largest
+# block of 16 and one unit of these, by hand: 17 bytes take two pieces, and 33 four, each at the lowest half.
+CALLS_BY_HAND = "+ aa 17\n+ bb 16\n- cc\n+ dd 33\n- aa\n"
+TRACE_BY_HAND = "get aa 2 = 16\nget bb 1 = 18\nget dd 3 = 20\nfree aa = 0\nend 4\n"
+ASKING = """#include <stdlib.h>
+int main(void) {
+    char *volatile one = malloc(1005), *volatile two = calloc(10, 208), *volatile three = realloc(one, 3007);
+    free(two);
+    free(three);
+    return 0;
+}
+"""
+ASKED = ["1005", "2080", "3007"]
+
+
+def recorded_by_hand(room: Path, library: Path) -> Iterator[Trial]:
+    """The sizes that are written down, and the trace that is made of some."""
+    calls = room / "by-hand"
+    calls.write_text(CALLS_BY_HAND, "ascii")
+    words = [sys.executable, "-B", str(LIBRARY / "record.py"), str(calls), "--levels", "4", "--units", "1"]
+    made = subprocess.run(words, capture_output=True, text=True, check=False)
+    yield "a trace of calls by hand", (TRACE_BY_HAND, 0), (made.stdout, made.returncode)
+    program = compiled(ASKING, room, "asking")
+    subprocess.run([program], env={"L6_RECORD": str(calls), "LD_PRELOAD": str(library)}, check=True)
+    sizes = [line.split()[2] for line in calls.read_text("ascii").splitlines() if line.startswith("+")]
+    yield "the sizes that a program asks for", ASKED, [it for it in sizes if it in ASKED]
+
+
 RECORDED = [
     ("Python", [sys.executable, "-c", "import json; [json.loads(json.dumps({'a': list(range(i % 50))})) for i in range(3000)]"]),
     ("git", ["git", "--no-pager", "log", "-3", "--stat"]),
@@ -192,6 +220,7 @@ def recorded(program: str) -> Iterator[Trial]:
         library, calls, picture = (room / name for name in ("record.so", "calls", "picture.svg"))
         words = ["cc", "-O2", "-Wall", "-Wextra", "-Werror", "-shared", "-fPIC", str(LIBRARY / "record.c"), "-o", str(library)]
         yield "record.c compiles", 0, subprocess.run(words, check=False).returncode
+        yield from recorded_by_hand(room, library)
         for name, words in RECORDED:
             if not shutil.which(words[0]):
                 print(f"skipped: {name} is not installed")

@@ -33,12 +33,14 @@ sys.path.insert(0, str(Path(__file__).resolve().parents[1] / "harness"))
 from answers import SECONDS, Answer, answer, answer_of
 from batches import batches, prompts
 from further_jobs import aliased_job, churned_deck
+from lives import lives, words_watched
 from refused_memory import Shim, library_of
 from model.cards import assemble
 from model.groups import chain_of
 from model.machine import take_step
 from model.state import Options, State, Trap, characters_of_input
-from trials import Trial, report
+from page_sessions import page_sessions, readme
+from trials import Trial, few_pass, first_wrong, report
 
 HERE = Path(__file__).resolve().parent
 TOP = HERE.parents[1]
@@ -417,7 +419,7 @@ def habits(program: str, folder: Path) -> Iterator[Trial]:
 
 LIST_OF_COMMANDS = TOP / "crates/l6_session/specs/Command.antt"
 ROW = re.compile(r'^row_of (\w+) =\n    row "([^"]+)" "([^"]+)" "([^"]+)"\n    "([^"]+)"$', re.MULTILINE)
-COMMANDS, COMMAND_WORDS = 48, 94  # how many commands there are, and how many words they have
+COMMANDS, COMMAND_WORDS = 49, 95  # how many commands there are, and how many words they have
 
 
 @dataclass(frozen=True)
@@ -487,7 +489,7 @@ NEARLY = [
     ("prnit A", "print"), ("stpe", "step"), ("brek 1", "break"), ("conitnue", "continue"), ("wach A", "watch"),
     ("finishh", "finish"), ("reverse-contnue", "reverse-continue"), ("helpp", "help"), ("help whre", "where"),
 ]
-MISSING = ["x", "goto", "disable", "enable", "tbreak", "unwatch", "undisplay", "block", "condition", "source"]
+MISSING = ["x", "who", "goto", "disable", "enable", "tbreak", "unwatch", "undisplay", "block", "condition", "source"]
 UNFIT = ["step x", "stack 5", "finish 2", "goto A", "info nothing", "step 1 2", "quit now", "where A", "list 1,A", "b 1 2"]
 
 
@@ -506,7 +508,7 @@ INTERRUPTIONS = 3_000
 SESSION = (
     b"break DEEP\nc\nwhere\nwatch B\np A\nc\nrc\nblock 5\ndraw\nstats\nend\nback\n"
     b"run\nc 3\nuntil\nlists\ninfo breakpoints\ninfo locals\nstack\nb 2\nignore 2\np ANN\nhelp\nlist\n"
-    b"watch A\nwatch AN\nc\nrc\nfinish\ndelete\nwatch A\nwatch AN\nc\nc\n"
+    b"watch A\nwatch AN\nc\nrc\nfinish\ndelete\nwatch A\nwatch AN\nc\nc\nwho A\nwho 1024\nwatch *A+2\nc\n"
 )
 TABLES = 4  # of the actions that may change watched chains, which the session makes on its ways forward
 
@@ -542,40 +544,6 @@ def interrupted(program: str, folder: Path) -> Iterator[Trial]:
     yield "interrupted reads", whole, answer_of([program, deck], input=SESSION, env={**os.environ, **given})
 
 
-PAGES = {"l6db.md": 3, "tutorial.md": 1}  # the pages with sessions, and how many of these each has
-BLOCK = re.compile(r"```text\n(.*?)```\n", re.DOTALL)
-PLAYED = "<!-- not run: tests/program/l6db.py plays this session -->"
-COMMAND = re.compile(r"^[a-z]+( \S+)?$", re.MULTILINE)
-
-
-def sessions(page: str) -> Iterator[tuple[str, str]]:
-    """The sessions of a page, each with the deck before it, which begins with a comment; one may be in pieces."""
-    deck, session = "", ""
-    for block in BLOCK.finditer(page):
-        if page[:block.start()].rstrip().endswith(PLAYED):
-            session += block[1]
-        elif block[1].startswith("*"):
-            if session:
-                yield deck, session
-            deck, session = block[1], ""
-    if session:
-        yield deck, session
-
-
-def page_sessions(program: str, folder: Path) -> Iterator[Trial]:
-    """The sessions of the pages are played."""
-    for name, number in PAGES.items():
-        found = list(sessions((TOP / "docs" / name).read_text("utf-8")))
-        yield f"the sessions of {name}", number, len(found)
-        for deck, session in found:
-            (folder / "page.deck").write_text(deck, "utf-8")
-            commands = [match[0] for match in COMMAND.finditer(session)]
-            (folder / "page.commands").write_text("\n".join(commands) + "\n", "utf-8")
-            words_given = ["--batch", "--echo", "-x", str(folder / "page.commands"), str(folder / "page.deck")]
-            made = answer_of([program, *words_given]).stdout.decode("ascii")
-            yield f"a session of {name}: {commands}", session, made[made.find(f"\n{commands[0]}\n") + 1:]
-
-
 def trials(program: str) -> Iterator[Trial]:
     """All trials."""
     with tempfile.TemporaryDirectory() as name:
@@ -586,12 +554,37 @@ def trials(program: str) -> Iterator[Trial]:
         yield from habits(program, folder)
         yield from one_list(program, folder)
         yield from page_sessions(program, folder)
+        yield from readme(program, folder)
         yield from refused_memory(program, folder)
         yield from interrupted(program, folder)
         yield from free_lists(program, folder)
         yield from seeking(program, folder)
         yield from watching(program, folder)
+        yield from lives(program, folder)
+        yield from words_watched(program, folder)
+
+
+def canaries() -> Iterator[Trial]:
+    """On a program that answers wrong, groups of trials see it; and the model's goals are not those of another stop."""
+    with tempfile.TemporaryDirectory() as name:
+        folder, wrong = Path(name), Path(name, "wrong")
+        wrong.write_text("#!/bin/sh\ncat > /dev/null\necho wrong\nexit 77\n")
+        wrong.chmod(0o755)
+        (folder / "nested.deck").write_bytes(NESTED)
+        for group in (words, habits, one_list, page_sessions, free_lists):
+            yield first_wrong(f"{group.__name__} on a wrong program", group(str(wrong), folder))
+        quiet = Path(name, "quiet")
+        quiet.write_text("#!/bin/sh\ncat > /dev/null\necho wrong\n")
+        quiet.chmod(0o755)
+        yield few_pass("habits on a program that says something else", 1, habits(str(quiet), folder))
+        # (what of the list is compared with pages alone passes)
+        yield few_pass("the list of commands on it", 3 + COMMANDS, one_list(str(quiet), folder))
+    states = states_of(LIST, ["KV"], Options())
+    goals = [goal_of(states, 3, "c", Stop(statement, False)) for statement in (4, 5)]
+    yield "where another breakpoint is", goals[0], goals[1]
+    watched, unwatched = (goal_of(states, 3, "c", Stop(None, is_watched)) for is_watched in (True, False))
+    yield "where a value changes, and where none is watched", watched, unwatched
 
 
 if __name__ == "__main__":
-    sys.exit(report(trials(os.path.abspath(sys.argv[1]))))
+    sys.exit(report(trials(os.path.abspath(sys.argv[1])), canaries()))

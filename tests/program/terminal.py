@@ -26,7 +26,7 @@ from collections.abc import Iterator
 from pathlib import Path
 
 sys.path.insert(0, str(Path(__file__).resolve().parents[1] / "harness"))
-from trials import Trial, report
+from trials import Trial, groups_asked_for, report
 
 TOP = Path(__file__).resolve().parents[2]
 FRONT = [sys.executable, "-I", str(TOP / "terminal/l6db.py")]
@@ -151,6 +151,9 @@ def editing(bench: Bench) -> Iterator[Trial]:
     time.sleep(AFTER_A_KEY)
     yield terminal.has("Ctrl-C drops the line", b"\x03", b"^C")
     yield terminal.has("Ctrl-C drops nothing else", b"stats\r", b"STATE 2 ")
+    (bench.folder / "my.lines").write_bytes(b"stats\n")
+    yield terminal.has("Tab completes a file", f"source {bench.folder}/my.li\t\r".encode(), b"STATE 2 ")
+    yield terminal.has("Tab completes what info tells", b"info breakp\t\r", b"5 NEXT")
     yield terminal.has("a search in the history", b"\x12NEX\r", b"Breakpoint at 5 NEXT")
     yield "the status after Ctrl-D", 0, terminal.end()
     terminal = bench.begin()
@@ -171,6 +174,7 @@ def files(bench: Bench) -> Iterator[Trial]:
         yield line.decode().replace(str(saved), "FILE"), True, said in terminal.answer(line)
     bench.deck.write_bytes(LIST.replace(b"MAKE ", b"       (Z,E,1)\nMAKE "))
     yield terminal.has("a deck that has changed", b"s 0\r", b"has changed")
+    yield "it is said once that it has changed", False, b"has changed" in terminal.answer(b"s 0")
     yield terminal.has("reload", b"reload\r", b"again")
     shown = terminal.answer(b"info")
     for stop in (b"break 7 NEXT+1", b"tbreak 4 MAKE+2", b": LN", b": K"):
@@ -183,6 +187,16 @@ def files(bench: Bench) -> Iterator[Trial]:
     yield terminal.has("run reads the deck again", b"run\r", b"again")
     terminal.answer(b"delete")
     yield terminal.has("source", b"source " + str(saved).encode() + b"\r", b"Breakpoint at 6 NEXT+1")
+    (bench.folder / "two.lines").write_bytes(b"display K\ndisplay L\n")
+    told = bench.begin("-x", bench.folder / "two.lines", bench.deck)
+    yield told.has("a deck after the commands that are given", b"b SHO\t\r", b"Breakpoint at 4 SHOW")
+    shown = told.answer(b"info")
+    yield "the displays of these commands", [1, 1], [shown.count(it) for it in (b": K", b": L")]
+    for line in (b"undisplay K", b"undisplay L", b"reload"):
+        told.answer(line)
+    shown = told.answer(b"info")
+    yield "displays that were taken off do not come back", [0, 0], [shown.count(it) for it in (b": K", b": L")]
+    told.end()
     yield terminal.has("source of no file", b"source nothing\r", b"nothing: No such file")
     yield terminal.has("save into no folder", b"save no/where\r", b"no/where: No such file")
     terminal.end()
@@ -257,6 +271,14 @@ def terminals(bench: Bench) -> Iterator[Trial]:
     terminal.give(b"\x04")
     yield "the terminal is given back", True, b"\x1b[r" in terminal.until(b"\x1b[r")
     terminal.status()
+    terminal = bench.begin(NO_COLOR="")
+    terminal.give(b"view\r")
+    terminal.until(PROMPT)
+    terminal.give(b"si\r")
+    marked = b"\x1b[7m(0,DV,0,17)\x1b[27m"
+    yield "the columns that are marked in view", True, marked in terminal.until(marked)
+    terminal.until(PROMPT)
+    terminal.end()
     for name, no_color, is_painted in (("a terminal with colours", "", True), ("NO_COLOR", "1", False)):
         terminal = bench.begin(NO_COLOR=no_color)
         yield name, is_painted, b"\x1b[1mAT 0.1" in terminal.answer(b"si")
@@ -314,6 +336,11 @@ def launcher(bench: Bench) -> Iterator[Trial]:
         terminal.end()
     else:
         print("skipped: rlwrap: it is missing")
+    terminal = Terminal([words[0], "--echo", words[1]], **state)
+    terminal.until(b"AFTER 0 STEPS")
+    terminal.give(b"view\r\x04")
+    yield "./l6db --echo at a terminal is the engine alone", True, b"Not a command" in terminal.until(b"Not a command")
+    terminal.status()
     for given in (["--batch", "-x", "/dev/null"], ["--help"], ["--version"]):
         yield f"./l6db {' '.join(given)}", said([bench.engine, *given, *words[1:]]), said([words[0], *given, *words[1:]])
     lines = b"si\ninfo\n"
@@ -367,11 +394,12 @@ def processes_of(program: str) -> set[str]:
 
 def trials(engine: str, is_whole: bool) -> Iterator[Trial]:
     """All trials, each group with a folder of its own."""
-    for group in (
-        editing, files, stops, terminals, faults, launcher, without_readline, words_of_completion,
-    ):
+    groups = (editing, files, stops, terminals, faults, launcher, without_readline, words_of_completion)
+    asked = groups_asked_for(group.__name__ for group in groups)
+    for group in (it for it in groups if it.__name__ in asked):
         with tempfile.TemporaryDirectory(prefix="l6-terminal-") as folder:
-            yield from group(Bench(engine, Path(folder), MANY if is_whole else FEW))
+            for name, expected, actual in group(Bench(engine, Path(folder), MANY if is_whole else FEW)):
+                yield f"{group.__name__}: {name}", expected, actual
 
 
 if __name__ == "__main__":

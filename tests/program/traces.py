@@ -12,7 +12,7 @@ import re
 import subprocess
 import sys
 import tempfile
-from collections.abc import Iterator
+from collections.abc import Callable, Iterator
 from pathlib import Path
 
 sys.path.insert(0, str(Path(__file__).resolve().parents[1] / "harness"))
@@ -21,7 +21,7 @@ from answers import Answer, answer, answer_of
 from model.faults import Fault
 from model.store import UNIT, Store
 from model.trace import MOST_CALLS, answer_of_trace, pieces_of
-from trials import Trial, report
+from trials import Trial, first_wrong, report
 
 EXAMPLES = Path(__file__).resolve().parents[2] / "examples"
 RANDOM = 300  # random traces
@@ -235,23 +235,32 @@ def long_trace(count: int) -> str:
     return "".join(f"get b{number % 50} {1 + number % 60}\nfree b{number % 50}\n" for number in range(count // 2))
 
 
-def trials(program: str) -> Iterator[Trial]:
-    """All trials."""
+def by_hand(program: str) -> Iterator[Trial]:
+    """The table."""
     for name, text, stdout, stderr, status in BY_HAND:
         expected = answer(stdout.encode(), stderr.encode(), status)
         yield f"a trace: {name}", expected, traced(program, text)
         yield f"a trace, by the model: {name}", expected, modelled(text, 1)
+
+
+def examples(program: str) -> Iterator[Trial]:
+    """The traces of examples/."""
     for file in sorted(EXAMPLES.glob("*.trace")):
         text = file.read_text("ascii")
         expected = answer(file.with_suffix(".answers").read_bytes())
         yield f"the trace {file.stem}", expected, traced(program, text)
         yield f"the trace {file.stem}, by the model", expected, modelled(text, 1)
+
+
+def at_random(program: str) -> Iterator[Trial]:
+    """Random traces, on the program and the model."""
     for number in range(RANDOM):
         text, units = random_trace(number)
         yield f"random trace {number}", modelled(text, units), traced(program, text, units)
-    yield from planted(program)
-    yield from in_c(program)
-    yield from judged_traces.trials(program)
+
+
+def long_traces(program: str) -> Iterator[Trial]:
+    """As many calls as a trace may have, and more; a trace that is too long."""
     text = long_trace(MOST_CALLS)
     actual = traced_with_room(program, text)
     yield "a million calls", (0, MOST_CALLS), (actual.status, actual.stdout.count(b"\n"))
@@ -261,5 +270,29 @@ def trials(program: str) -> Iterator[Trial]:
     yield "a trace that is too long", answer(b"", b"l6: job too long\n", 4), actual
 
 
+GROUPS: tuple[Callable[[str], Iterator[Trial]], ...] = (
+    by_hand, examples, at_random, planted, in_c, judged_traces.trials, long_traces,
+)
+
+
+def trials(program: str) -> Iterator[Trial]:
+    """All trials."""
+    for group in GROUPS:
+        yield from group(program)
+
+
+def canaries() -> Iterator[Trial]:
+    """On a program that answers wrong, each group sees it."""
+    with tempfile.TemporaryDirectory() as folder:
+        wrong = Path(folder, "wrong")
+        wrong.write_text("#!/bin/sh\ncat > /dev/null\necho wrong\nexit 77\n")
+        wrong.chmod(0o755)
+        for group in (*GROUPS, judged_traces.summary, judged_traces.modelled):
+            try:
+                yield first_wrong(f"{group.__name__} on a wrong program", group(str(wrong)))
+            except ValueError as error:  # (what it prints is no JSON)
+                yield f"{group.__name__} on a wrong program", "", str(error)
+
+
 if __name__ == "__main__":
-    sys.exit(report(trials(sys.argv[1])))
+    sys.exit(report(trials(sys.argv[1]), canaries()))

@@ -8,18 +8,24 @@ they print if an answer is wrong.
 """
 from __future__ import annotations
 
+import json
+import os
 import re
 import shutil
 import subprocess
 import sys
 import tempfile
-from collections.abc import Iterator
+import time
+from collections.abc import Callable, Iterator
 from pathlib import Path
+from unittest import mock
 
-sys.path.insert(0, str(Path(__file__).resolve().parents[1] / "harness"))
+sys.path[:0] = [str(Path(__file__).resolve().parents[1] / it) for it in ("harness", "systems")]
 from answers import Answer, answer_of
 from checkout import TOP, Checkout
-from trials import ONLY, Trial, report
+from node_lines import node_lines
+from ran_lines import Ran, lines_with_code
+from trials import ONLY, Trial, at_least, few_pass, first_wrong, groups_asked_for, report, tally
 
 # The steps of ./test and of the gate, in their order: the words by which each is known.
 STEPS = [
@@ -56,7 +62,7 @@ PACKAGES = {  # without which tests are left out
     "binaryen", "nodejs", "chromium", "mypy", "shellcheck", "qemu-user-static", "busybox-static", "zsh", "fish",
     "lintian", "firefox-esr", "node-typescript", "python3-markdown", "rlwrap", "pkgconf",
 }
-NOT_A_STEP = {"compiled_edits.py", "hostile.py", "same_answers.py"}  # scripts of tests/ that ./test does not call
+NOT_A_STEP = {"compiled_edits.py", "hostile.py", "python_lines.py", "same_answers.py"}  # scripts of tests/ that ./test does not call
 
 STAND_IN = """#!/bin/sh
 # A stand-in for python3 and rt: notes its words, and prints a count, which $HOW makes a bad one in what $FAILS
@@ -316,7 +322,19 @@ def harnesses() -> Iterator[Trial]:
     )
     room = answer_of(["sh", "-c", "ulimit -v"]).stdout
     yield "the addresses that a program has, in KiB", b"49152\n", room
+    begun = time.monotonic()
     yield "a program that does not end", "none within 1 seconds", answer_of(["sleep", "60"], seconds=1).status
+    yield "how long one waits for it", True, time.monotonic() - begun < 15
+    few = list(at_least(2, "trials", [("one", 1, 1)]))
+    yield "one trial where two are the least", [("one", 1, 1), ("at least 2 trials: trials", 2, 1)], few
+    yield "one trial that is wrong", ("b", 1, 2), first_wrong("what", [("a", 1, 1), ("b", 1, 2)])
+    for most, is_missed in ((0, True), (1, False)):
+        canary = few_pass("what", most, [("a", 1, 1), ("b", 1, 2)])
+        yield f"one of two passes, where {most} may", is_missed, canary[1] == canary[2]
+    yield "no trial that is wrong", True, tally([first_wrong("what", [("a", 1, 1)])], is_shown=False) == (1, 0)
+    for asked, expected in (("", {"a", "b"}), ("b: it", {"b"}), ("b:", {"b"}), ("c: it", {"a", "b"}), ("b", {"a", "b"})):
+        with mock.patch.dict(os.environ, {ONLY: asked}):
+            yield f"the groups that are made for {asked!r}", expected, groups_asked_for(["a", "b"])
     only = harness("right stderr", 2, **{ONLY: "stderr"})
     yield "the trials of a name", Answer(f"{SHOWN['stderr']}0 passed, 1 failed\n", "", 1), only
 
@@ -333,13 +351,74 @@ def scripts() -> Iterator[Trial]:
     yield "what .ci/run ends in", True, re.fullmatch(r"exec .*/\.\./test\" --prove", last) is not None
 
 
-def trials() -> Iterator[Trial]:
-    """All trials, each group on a checkout of its own."""
-    for group in (steps_that_fail, counts, other_programs, another_kit, no_program, words_of_the_command):
+SCRIPT = "// What is run\nfirst();\nif (asked) {\n  /* one\n  two */\n  second();\n}\nlast();\n"
+
+
+def lines_that_are_run() -> Iterator[Trial]:
+    """Which lines of a script have code, and which were run, by what V8 counts; and that too few are seen."""
+    yield "lines with code", {2, 3, 6, 8}, lines_with_code(SCRIPT)
+    with tempfile.TemporaryDirectory() as folder:
+        room, script, program = (Path(folder, name) for name in ("room", "script.js", "program.mjs"))
+        room.mkdir()
+        script.write_text(SCRIPT)
+        program.write_text(f"begin();\n{SCRIPT}end();\n")
+        text = program.read_text()
+        block = (text.index("{"), text.index("}") + 1)
+        for count, expected in ((0, ["6: second();"]), (1, [])):
+            ranges = [(0, len(text), 1), (*block, count)]
+            functions = [{"ranges": [dict(zip(("startOffset", "endOffset", "count"), it)) for it in ranges]}]
+            counted = {"functions": functions, "url": program.resolve().as_uri()}
+            (room / f"coverage-{count}.json").write_text(json.dumps({"result": [counted]}))
+            ran = Ran(text)
+            ran.add(functions)
+            seen = ran.lines() & {it + 1 for it in lines_with_code(SCRIPT)}
+            yield f"lines that were run, with a part that was run {count} times", {3, 4, 9} | ({7} if count else set()), seen
+            made = {name: actual for name, _, actual in node_lines(room, {program: script})}
+            yield f"lines that are missed with {count}", [expected], [it for name, it in made.items() if "per cent" in name]
+
+
+def machine_of_the_gate() -> Iterator[Trial]:
+    """.ci/run installs the packages whose tools are missing, where it may, and is then the gate, whose status it has."""
+    libraries = {"musl-dev": "x86_64", "musl-dev:arm64": "aarch64"}
+    missing = {it for it, processor in libraries.items() if not Path(f"/usr/lib/{processor}-linux-musl/libc.a").is_file()}
+    for user, expected in ((0, PACKAGES | missing), (1_000, set())):
         with tempfile.TemporaryDirectory() as folder:
-            yield from group(Gate(Path(folder) / "checkout"))
-    yield from harnesses()
-    yield from scripts()
+            room, log = Path(folder), Path(folder, "log")
+            for name in (".ci", "bin"):
+                (room / name).mkdir()
+            shutil.copy(TOP / ".ci/run", room / ".ci/run")
+            for name, text in {"test": "echo the gate with $*; exit 3", "bin/id": f"echo {user}",
+                               "bin/apt-get": f'echo "$*" >> "{log}"', "bin/dpkg": "exit 0"}.items():
+                (room / name).write_text(f"#!/bin/sh\n{text}\n")
+                (room / name).chmod(0o755)
+            for name in ("bash", "dirname"):
+                (room / "bin" / name).symlink_to(shutil.which(name) or name)
+            path = {"PATH": str(room / "bin")}
+            ended = subprocess.run([room / "bin/bash", room / ".ci/run"], env=path, capture_output=True, text=True)
+            calls = log.read_text().splitlines() if log.exists() else []
+            yield f"packages that the user {user} installs", expected, {it.split()[-1] for it in calls if "install" in it.split()}
+            yield f"what the user {user} has then", ("the gate with --prove", 3), (ended.stdout.splitlines()[-1], ended.returncode)
+
+
+ON_CHECKOUTS: tuple[Callable[[Gate], Iterator[Trial]], ...] = (
+    steps_that_fail, counts, other_programs, another_kit, no_program, words_of_the_command,
+)
+ALONE: tuple[Callable[[], Iterator[Trial]], ...] = (harnesses, scripts, lines_that_are_run, machine_of_the_gate)
+
+
+def trials() -> Iterator[Trial]:
+    """All trials, each group of the first kind on a checkout of its own."""
+    asked = groups_asked_for(group.__name__ for group in (*ON_CHECKOUTS, *ALONE))
+    for group in (it for it in ON_CHECKOUTS if it.__name__ in asked):
+        with tempfile.TemporaryDirectory() as folder:
+            yield from named(group.__name__, group(Gate(Path(folder) / "checkout")))
+    for alone in (it for it in ALONE if it.__name__ in asked):
+        yield from named(alone.__name__, alone())
+
+
+def named(group: str, trials: Iterator[Trial]) -> Iterator[Trial]:
+    """Trials with the name of their group."""
+    return ((f"{group}: {name}", expected, actual) for name, expected, actual in trials)
 
 
 if __name__ == "__main__":

@@ -9,14 +9,14 @@ from __future__ import annotations
 import subprocess
 import sys
 import tempfile
-from collections.abc import Iterator
+from collections.abc import Callable, Iterator
 from pathlib import Path
 from typing import Any
 
 sys.path.insert(0, str(Path(__file__).resolve().parents[1] / "harness"))
 from answers import Answer
 from checkout import TOP, UNPROVED, Checkout
-from trials import Trial, report
+from trials import Trial, first_wrong, groups_asked_for, report
 
 PAGE = TOP / "docs" / "command-line.md"
 USAGE = "usage: ./install [--uninstall] [--program FILE] [PREFIX]\n"
@@ -39,12 +39,19 @@ DEBUGGER = (
 )
 
 
+def files_below(folder: str) -> list[str]:
+    """The files of a crate's folder, but those that a build writes there."""
+    places = (str(it.relative_to(TOP)) for it in (TOP / folder).rglob("*") if it.is_file())
+    return [it for it in places if it.endswith((".rs", "Cargo.toml")) and "/target/" not in it]
+
+
 LIBRARIES = {  # what is installed with the archives, beside them
     **{f"include/{name}.h": f"library/{name}.h" for name in ("l6_store", "l6_offset")},
     **{f"lib/pkgconfig/{name}.pc": f"library/{name}.pc" for name in ("l6_store", "l6_offset")},
     **{f"share/l6/library/{it.name}": f"library/{it.name}" for it in (TOP / "library").glob("*.c")},
     **{f"share/l6/library/{name}": f"library/{name}" for name in ("record.py", "shared")},
     **{f"share/l6/library/python/{it.name}": f"library/python/{it.name}" for it in (TOP / "library/python").glob("*.py")},
+    **{f"share/l6/{it}": it for crate in ("rust", "rust_offset") for it in files_below(f"library/{crate}")},
 }
 
 NOT_SHIPPED = {"examples/traced.c"}  # files of those folders that stay in the repository
@@ -62,6 +69,7 @@ def shipped() -> Iterator[Trial]:
              for row in rows if row[3] not in ("PROGRAM", "ARCHIVE")}
     listed = [name for names in found.values() for name in names]
     folders = ("examples/*", "licenses/*", "completions/*", "docs/*.1", "terminal/*", "library/*", "library/python/*.py", "LICENSE-*",
+               *files_below("library/rust"), *files_below("library/rust_offset"),
                "THIRD-PARTY.md")
     there = {str(it.relative_to(TOP)) for pattern in folders for it in TOP.glob(pattern) if it.is_file()}
     yield "what is shipped", sorted(there - NOT_SHIPPED), sorted(listed)
@@ -131,6 +139,10 @@ def staged(checkout: Checkout) -> Iterator[Trial]:
     actual = checkout.run("install", "/usr", has_rt=False, DESTDIR=str(folder))
     yield "a stage", Answer(announced(f"{folder}/usr"), "", 0), actual
     yield "what is in the stage", sorted(f"usr/{name}" for name in INSTALLED), names_in(folder)
+    near = checkout.folder / "another stage"
+    actual = checkout.run("install", "opt/l6", has_rt=False, DESTDIR=f"{near}/")
+    yield "a stage for a prefix without a slash", Answer(announced(f"{near}/opt/l6"), "", 0), actual
+    yield "what is in that stage", sorted(f"opt/l6/{name}" for name in INSTALLED), names_in(near)
     other = checkout.top / "dist/l6-aarch64"
     for name, refuses, status in ((str(other), "l6-aarch64", 0), ("", "l6 l6-static l6.mjs", 1)):
         chosen = ["--program", name] if name else []
@@ -183,6 +195,10 @@ def libraries(checkout: Checkout) -> Iterator[Trial]:
             yield f"{name}{kind}", own.read_bytes(), placed.read_bytes()
             yield f"the mode of {name}{kind}", own.name == "shared", bool(
                 placed.stat().st_mode & 0o111)
+    folder = checkout.folder / "for Node"
+    words = ["--program", str(checkout.top / "dist/l6.mjs"), "/usr"]
+    actual = checkout.run("install", *words, has_rt=False, DESTDIR=str(folder))
+    yield "libraries beside a program for Node", announced(f"{folder}/usr"), actual.stdout
     actual = checkout.run("install", "--uninstall", "/usr", has_rt=False, DESTDIR=str(checkout.folder / "with libraries"))
     yield "their removal", (0, []), (actual.status, names_in(checkout.folder / "with libraries"))
 
@@ -209,6 +225,8 @@ def removals(checkout: Checkout) -> Iterator[Trial]:
     yield "a removal beside a file of somebody else", expected, actual
     yield "what is left then", sorted([*kept, "share/doc/l6/mine.deck"]), names_in(place)
     checkout.run("install", "alone", has_rt=False)
+    (checkout.folder / "alone/bin/l6").unlink()
+    (checkout.folder / "alone/bin/l6").symlink_to("nowhere")
     checkout.run("install", "--uninstall", "alone", has_rt=False)
     alone = checkout.folder / "alone"
     yield "a removal of all leaves the prefix", (True, []), (alone.is_dir(), sorted(alone.iterdir()))
@@ -285,16 +303,33 @@ def damaged_program(checkout: Checkout) -> Iterator[Trial]:
     yield "the program that is built again", Answer(checkout.made_of, "", 0), actual
 
 
+GROUPS: tuple[Callable[[Checkout], Iterator[Trial]], ...] = (
+    arguments, installations, staged, debuggers, libraries, removals, running_program, refusals, damaged_program,
+)
+
+
 def trials() -> Iterator[Trial]:
     """All trials, each group on a checkout of its own."""
     yield from shipped()
-    for group in (
-        arguments, installations, staged, debuggers, libraries, removals, running_program, refusals, damaged_program,
-    ):
+    asked = groups_asked_for(group.__name__ for group in GROUPS)
+    for group in (it for it in GROUPS if it.__name__ in asked):
         with tempfile.TemporaryDirectory() as folder:
             for name, expected, actual in group(Checkout(Path(folder) / "checkout")):
                 yield f"{group.__name__}: {name}", expected, actual
 
 
+def canaries() -> Iterator[Trial]:
+    """With an install that does nothing, or that installs all but a file, each group sees it."""
+    with tempfile.TemporaryDirectory() as folder:
+        checkout = Checkout(Path(folder) / "checkout")
+        own = (checkout.top / "install").read_text()
+        checkout.write("install", "#!/bin/sh\nmkdir -p \"$1\" && exit 0\n")
+        for group in (arguments, installations, staged, refusals, damaged_program):
+            yield first_wrong(f"{group.__name__} with an install that does nothing", group(checkout))
+        checkout.write("install", own)
+        (checkout.top / "tools/shipped").write_text((TOP / "tools/shipped").read_text().replace("644 share/man", "600 share/man"))
+        yield first_wrong("installations with a wrong mode", installations(checkout))
+
+
 if __name__ == "__main__":
-    sys.exit(report(trials()))
+    sys.exit(report(trials(), canaries()))

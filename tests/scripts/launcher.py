@@ -20,8 +20,8 @@ from typing import Any
 
 sys.path.insert(0, str(Path(__file__).resolve().parents[1] / "harness"))
 from answers import Answer
-from checkout import PROGRAMS, TOP, UNPROVED, Checkout
-from trials import Trial, report
+from checkout import PROGRAMS, TOP, UNPROVED, WARNED, Checkout
+from trials import Trial, first_wrong, groups_asked_for, report
 
 SOURCES = (
     "crates.txt", "HANDLES", "crates/l6_word/src/lib.rt", "crates/l6_word/specs/Lib.antt",
@@ -242,6 +242,12 @@ def crates_below(checkout: Checkout) -> Iterator[Trial]:
     checkout.write("crates/l6_word/src/lib.rt", "a text whose check is killed\n")
     actual = checkout.run("tools/prove.py", "l6_word")
     yield "a check that is killed", (0, ["lib l6_word"] * 2), (actual.status, checkout.calls())
+    checkout.write("crates/l6_word/specs/Lib.antt", f"-- {WARNED}\n")
+    for again in ("", ", again"):
+        actual = checkout.run("tools/prove.py", "l6_word")
+        yield f"a definition that rt warns of{again}", (1, True), (actual.status, "is not proved" in actual.stderr)
+    checkout.write("crates/l6_word/specs/Lib.antt", "a text of which nothing is said\n")
+    yield "the same without a warning", 0, checkout.run("tools/prove.py", "l6_word").status
 
 
 def other_systems(checkout: Checkout) -> Iterator[Trial]:
@@ -337,6 +343,20 @@ def notes(checkout: Checkout) -> Iterator[Trial]:
     for text in ("", "nonsense\n", note.read_text().replace("dist/l6", "nodes/node")):
         note.write_text(text)
         yield "a note that is altered", expected, checkout.run("l6", **home)
+    elsewhere = checkout.top / "elsewhere/l6"
+    elsewhere.parent.mkdir()
+    elsewhere.write_text(program.read_text().replace("#!/bin/sh\n", "#!/bin/sh\nit=elsewhere\n", 1))
+    elsewhere.chmod(0o755)
+    noting = 'top=$1; . "$top/tools/program.sh"; . "$top/tools/note.sh"; note_of "$2"'
+    note.write_text(checkout.run_words(["sh", "-c", noting, "sh", str(checkout.top), str(elsewhere)], checkout.folder,
+                                       {"PATH": os.environ["PATH"]}).stdout)
+    yield "its lines", [f"{checkout.top}", f"{elsewhere}"], lines_of(note)[::2]
+    yield "a note of a program outside of dist/", expected, checkout.run("l6", **home)
+    note.write_text(checkout.run_words(["sh", "-c", noting, "sh", str(checkout.top), str(program)], checkout.folder,
+                                       {"PATH": os.environ["PATH"]}).stdout)
+    arm = str(stand_in_for_uname(checkout, "Linux aarch64"))
+    of_arm = Answer(f"this is l6-aarch64\n{checkout.made_of}", "", 0)
+    yield "a note of another machine", of_arm, checkout.run("l6", FIRST=arm, **home)
     note.unlink()
     plain = checkout.folder / "plain find"  # that of busybox and of macOS can't print times
     plain.mkdir()
@@ -484,6 +504,11 @@ def making_dist(checkout: Checkout) -> Iterator[Trial]:
     actual = checkout.run("tools/make_dist", FIRST=str(cutting))
     again = {file.name: file.read_bytes() for file in dist.iterdir()}
     yield "copies that are cut", (1, before), (actual.status, again)
+    # (another one, which cuts only the first copy, of what was built)
+    (cutting / "cp").write_text(f'#!/bin/sh\ncase $1 in */out/l6) head -c 40 "$1" > "$2" ;; *) exec {shutil.which("cp")} "$@" ;; esac\n')
+    actual = checkout.run("tools/make_dist", FIRST=str(cutting))
+    again = {file.name: file.read_bytes() for file in dist.iterdir()}
+    yield "a first copy that is cut", (1, before), (actual.status, again)
     for name in ("web/build", "web/bundle", "ports/build", "ports/bundle"):
         text = (checkout.top / name).read_text()
         checkout.write(name, "#!/bin/sh\nexit 1\n")
@@ -491,27 +516,85 @@ def making_dist(checkout: Checkout) -> Iterator[Trial]:
         again = {file.name: file.read_bytes() for file in dist.iterdir()}
         yield f"{name} fails", (1, before), (actual.status, again)
         checkout.write(name, text)
-    checkout.write("ports/bundle", text.replace("it=l6.mjs", "it=another"))
+    checkout.write("ports/bundle", text.replace("it=${2##*/}", "it=another"))
+    checkout.forget_what_was_built()
     actual = checkout.run("tools/make_dist", "--node")
+    yield "what rt is asked for by --node", [], checkout.calls()
     again = {file.name: file.read_bytes() for file in dist.iterdir()}
     changed = sorted(name for name in again if again[name] != before[name])
     yield "the program for Node made again", (0, ["l6.mjs", "l6.mjs.provenance"]), (actual.status, changed)
 
 
+ARCHIVES = sorted(f"{name}{kind}.a" for name in ("l6_store", "l6_offset") for kind in ("", "-aarch64", "-riscv64", "-nosse"))
+WHOLE = sorted([*PROGRAMS, *(name.replace("l6", "l6db") for name in PROGRAMS)])  # the programs of a checkout with l6db
+
+
+def making_all(checkout: Checkout) -> Iterator[Trial]:
+    """tools/make_dist of a checkout with l6db and the libraries: all of them, each with its provenance, or nothing."""
+    dist = checkout.top / "dist"
+    checkout.write("crates.txt", (checkout.top / "crates.txt").read_text() + "l6db: l6_word\nl6_store_c staticlib: l6_word\n"
+                   "l6_offset_c staticlib: l6_word\n")
+    for crate, root in (("l6db", "main.rt"), ("l6_store_c", "lib.rt"), ("l6_offset_c", "lib.rt")):
+        for name in (f"src/{root}", "specs/Lib.antt", "proofs/Lib.antt"):
+            checkout.write(f"crates/{crate}/{name}", f"-- {name} of {crate}\n")
+    actual = checkout.run("tools/make_dist", umask=0o077)
+    yield "dist/ with l6db and the libraries", 0, actual.status
+    headers = ["l6_offset.h", "l6_store.h"]
+    with_provenance = [*WHOLE, *ARCHIVES]
+    expected = sorted([*with_provenance, *(f"{it}.provenance" for it in with_provenance), *headers, "l6.html", "l6.sources"])
+    yield "what is in dist/ with them", expected, sorted(it.name for it in dist.iterdir())
+    modes = {it.name: it.stat().st_mode & 0o777 for it in dist.iterdir()}
+    yield "the modes in dist/ with them", {it: 0o755 if it in WHOLE else 0o644 for it in expected}, modes
+    script = 'top=$1; . "$top/tools/program.sh"; for it; do [ "$it" = "$top" ] || belongs "$top/dist/$it" || echo "$it"; done'
+    words = ["sh", "-c", script, "sh", str(checkout.top), *with_provenance]
+    actual = checkout.run_words(words, checkout.folder, {"PATH": os.environ["PATH"]})
+    yield "what of dist/ does not belong to the sources", Answer("", "", 0), actual
+    for name in headers:
+        yield f"{name} in dist/", (TOP / "library" / name).read_text(), (dist / name).read_text()
+    kept = {name: (dist / name).read_text() for name in ("l6_store.a", "l6_offset-nosse.a", "l6db", "l6db.mjs")}
+    yield "whose archives these are", [True, True], ["of l6_store_c," in kept["l6_store.a"], "nosse, of archive of l6_offset_c" in kept["l6_offset-nosse.a"]]
+    yield "whose programs these are", [True, True], ["made of" in kept["l6db"], "it=l6db.mjs" in kept["l6db.mjs"]]
+    before = {it.name: it.read_bytes() for it in dist.iterdir()}
+    for name in ("ports/libraries", "ports/build"):
+        text = (checkout.top / name).read_text()
+        checkout.write(name, "#!/bin/sh\nexit 1\n")
+        actual = checkout.run("tools/make_dist")
+        yield f"{name} fails", (1, before), (actual.status, {it.name: it.read_bytes() for it in dist.iterdir()})
+        checkout.write(name, text)
+    for crate in ("l6db", "l6_offset_c"):
+        checkout.write(f"crates/{crate}/specs/Lib.antt", UNPROVED)
+        actual = checkout.run("tools/make_dist")
+        yield f"{crate} is not proved", (1, before), (actual.status, {it.name: it.read_bytes() for it in dist.iterdir()})
+        checkout.write(f"crates/{crate}/specs/Lib.antt", "proved again\n")
+
+
 GROUPS: tuple[Callable[[Checkout], Iterator[Trial]], ...] = (
     distributed, changed_sources, damaged_distribution, built_program, failed_proofs,
     edits_while_it_builds, crates_below, other_systems, damaged_programs, other_files, notes, places, cloned,
-    keyboard, terminals, making_dist,
+    keyboard, terminals, making_dist, making_all,
 )
 
 
 def trials() -> Iterator[Trial]:
     """All trials, each group on a checkout of its own."""
-    for group in GROUPS:
+    asked = groups_asked_for(group.__name__ for group in GROUPS)
+    for group in (it for it in GROUPS if it.__name__ in asked):
         with tempfile.TemporaryDirectory() as folder:
             for name, expected, actual in group(Checkout(Path(folder) / "checkout")):
                 yield f"{group.__name__}: {name}", expected, actual
 
 
+def canaries() -> Iterator[Trial]:
+    """With an ./l6 that runs nothing, or what is in dist/ whatever it is, groups see it."""
+    with tempfile.TemporaryDirectory() as folder:
+        checkout = Checkout(Path(folder) / "checkout")
+        checkout.write("l6", "#!/bin/sh\necho wrong\nexit 77\n")
+        for group in (distributed, other_systems, other_files, keyboard, terminals):
+            yield first_wrong(f"{group.__name__} with an ./l6 that runs nothing", group(checkout))
+        checkout.write("l6", '#!/bin/sh\nexec "$(dirname -- "$0")/dist/l6" "$@"\n')
+        for group in (changed_sources, damaged_distribution, failed_proofs):
+            yield first_wrong(f"{group.__name__} with an ./l6 that looks at nothing", group(checkout))
+
+
 if __name__ == "__main__":
-    sys.exit(report(trials()))
+    sys.exit(report(trials(), canaries()))

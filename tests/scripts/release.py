@@ -8,19 +8,23 @@ tool is missing. Packages are made in a folder of their own, and installed into 
 from __future__ import annotations
 
 import datetime
+import gzip
 import hashlib
+import io
 import os
 import re
 import shutil
 import subprocess
 import sys
+import tarfile
 import tempfile
-from collections.abc import Iterator
+from collections.abc import Callable, Iterator
 from pathlib import Path
+from unittest import mock
 
 sys.path.insert(0, str(Path(__file__).resolve().parents[1] / "harness"))
 from answers import answer, answer_of
-from trials import Trial, report
+from trials import Trial, first_wrong, groups_asked_for, report
 
 TOP = Path(__file__).resolve().parents[2]
 KIT = Path(shutil.which("rt") or "/nowhere/bin/rt").resolve().parent.parent / "rattle"
@@ -84,6 +88,9 @@ def citation() -> Iterator[Trial]:
     yield "who is cited", "The L6 contributors", found(r"^authors:\n  - name: (.*)$", "CITATION.cff")
     licensed = re.findall(r"^  - (MIT|Apache-2.0)$", text, re.MULTILINE)
     yield "the licences of the citation", ["MIT", "Apache-2.0"], licensed
+    titles = ["L6: a proved implementation of the Low-Level Linked List Language", "A Programmer's Description of L6",
+              "A Fast Storage Allocator"]
+    yield "the titles of the citation", titles, [it.strip('"') for it in re.findall(r"^ *title: (.*)$", text, re.MULTILINE)]
     date = found(rf"^date-released: ({DATE})$", "CITATION.cff")
     yield "the date of the citation", date, datetime.date.fromisoformat(date).isoformat()
     yield "lines of the citation that are no YAML of this kind", [], [
@@ -137,15 +144,19 @@ COMPLETIONS: dict[str, set[str]] = {
     "l6 help l": {"list", "load"},
     "l6 trace --": {"--store", "--any-place", "--levels", "--units", "--first", "--piece", "--json", "--help"},
     "l6 check --": {"--long", "--name", "--help"},
+    "l6db --": {"--input", "--batch", "--echo", "--prompt", "--store", "--steps", "--output", "--help", "--version"},
+    "l6db -x a.commands --e": {"--echo"},
 }
 IN_BASH = """
-. completions/l6.bash
 COMP_WORDS=($1)
+. "completions/${COMP_WORDS[0]}.bash"
 COMP_CWORD=$((${#COMP_WORDS[@]} - 1))
-_l6
+"_${COMP_WORDS[0]}"
 printf '%s\\n' "${COMPREPLY[@]}"
 """
-IN_FISH = 'source completions/l6.fish; complete -C "$argv[1]"'
+IN_FISH = 'source completions/l6.fish; source completions/l6db.fish; complete -C "$argv[1]"'
+# What comes after an option, in fish and zsh: files, where one is asked for.
+FILES = {"l6db --input README": True, "l6db -x README": True, "l6 check --name README": True, "l6 run --store README": False}
 # In a shell of its own, on a terminal of its own, a function in place of zsh's prints each match that is offered.
 ZSH_SETUP = """
 fpath=($PWD/completions $fpath)
@@ -189,6 +200,13 @@ def completions() -> Iterator[Trial]:
                     env={**os.environ, "HOME": home, "XDG_CONFIG_HOME": home, "XDG_DATA_HOME": home},
                 )
                 yield f"{shell} completes {line!r}", expected, offered(shell, line, ran.stdout)
+            for line, is_file in FILES.items() if shell != "bash" else ():
+                ran = subprocess.run(
+                    [*words, line.replace(" README", "=README") if shell == "zsh" and "--" in line else line], cwd=TOP,
+                    capture_output=True, text=True, timeout=60,
+                    env={**os.environ, "HOME": home, "XDG_CONFIG_HOME": home, "XDG_DATA_HOME": home},
+                )
+                yield f"{shell} completes a file after {line!r}", is_file, "README.md" in ran.stdout
 
 
 def offered(shell: str, line: str, printed: str) -> set[str]:
@@ -217,6 +235,7 @@ def packages(is_quick: bool) -> Iterator[Trial]:
         names = [f"l6-{version}-aarch64.tar.gz", f"l6-{version}-x86_64.tar.gz",
                  f"l6_{version}_amd64.deb", f"l6_{version}_arm64.deb"]
         yield "what is made", names, sorted(made)
+        yield from times(folders[0], names)
         has_lintian = shutil.which("lintian") is not None and not is_quick
         for name in names[2:]:
             if has_lintian:
@@ -224,10 +243,80 @@ def packages(is_quick: bool) -> Iterator[Trial]:
                 ran = subprocess.run(words, capture_output=True, text=True)
                 errors = re.findall("^E:.*", ran.stdout, re.MULTILINE)
                 yield f"errors of {name}", (0, []), (ran.returncode, errors)
+            yield from control(folders[0] / name)
             yield from installed(folders[0] / name, Path(room, name.removesuffix(".deb")))
         if not has_lintian:
             print(f"skipped: errors of the packages: {'as was asked' if is_quick else 'lintian is missing'}")
         yield from unpacked(folders[0] / names[1], Path(room, "unpacked"))
+        yield stale(Path(room, "stale"))
+
+
+def stale(top: Path) -> Trial:
+    """The trial that no package is made of programs that belong to other sources."""
+    top.mkdir()
+    for it in TOP.iterdir():
+        if it.name not in (".git", "tools", "crates.txt"):
+            (top / it.name).symlink_to(it)
+    shutil.copytree(TOP / "tools", top / "tools", ignore=shutil.ignore_patterns("__pycache__"))
+    (top / "crates.txt").write_text(text_of("crates.txt") + "# edited\n", "utf-8")
+    ran = subprocess.run([top / "tools/make_deb", top / "packages"], capture_output=True, text=True)
+    made = [it.name for it in (top / "packages").iterdir()]
+    return "packages of programs of other sources", (1, [], True), (
+        ran.returncode, made, "was not made from the sources in this checkout" in ran.stderr)
+
+
+def times(folder: Path, names: list[str]) -> Iterator[Trial]:
+    """All files in archives and packages have the time of the release: so they are the same whenever they are made."""
+    day = datetime.date.fromisoformat(found(rf"^date-released: ({DATE})$", "CITATION.cff"))
+    released = int(datetime.datetime(day.year, day.month, day.day, tzinfo=datetime.timezone.utc).timestamp())
+    for name in names:
+        package = folder / name
+        if name.endswith(".gz"):
+            with tarfile.open(package) as archive:
+                yield f"the times in {name}", {released}, {int(it.mtime) for it in archive}
+                yield f"the owners in {name}", {(0, 0)}, {(it.uid, it.gid) for it in archive}
+            yield f"the time of {name}", bytes(4), package.read_bytes()[4:8]
+            continue
+        for kind in ("--fsys-tarfile", "--ctrl-tarfile"):
+            ran = subprocess.run(["dpkg-deb", kind, package], capture_output=True, check=True)
+            with tarfile.open(fileobj=io.BytesIO(ran.stdout)) as archive:
+                late = {it.name for it in archive if it.mtime > released}
+            yield f"what is later than the release in {name}, by {kind}", set(), late
+        # (an archive of ar has the time of its first part in its bytes 24 to 35)
+        yield f"the time of {name}", str(released).encode(), package.read_bytes()[24:36].strip()
+
+
+def control(package: Path) -> Iterator[Trial]:
+    """What a package says of itself: its processor, its size, and the sum of each of its files."""
+    parts = [subprocess.run(["dpkg-deb", kind, package], capture_output=True, check=True).stdout
+             for kind in ("--fsys-tarfile", "--ctrl-tarfile")]
+    with tarfile.open(fileobj=io.BytesIO(parts[0])) as files, tarfile.open(fileobj=io.BytesIO(parts[1])) as about:
+        texts = {it.name.removeprefix("./"): read_from(files, it) for it in files if it.isfile()}
+        said, sums = (read_from(about, about.getmember(f"./{name}")).decode() for name in ("control", "md5sums"))
+        yield f"the owners in {package.name}", {(0, 0)}, {(it.uid, it.gid) for it in files}
+    keys = dict(re.findall(r"^([A-Z][\w-]+): (.*)$", said, re.MULTILINE))
+    yield f"the version of {package.name}", found(r'^version: "(.*)"$', "CITATION.cff"), keys.get("Version")
+    yield f"the processor of {package.name}", package.stem.rpartition("_")[2], keys.get("Architecture")
+    size = sum(map(len, texts.values())) // 1024
+    # (folders count, too)
+    yield f"the size of {package.name}", True, size <= int(keys.get("Installed-Size", 0)) <= size + 500
+    expected = {name: hashlib.md5(text, usedforsecurity=False).hexdigest() for name, text in texts.items()}
+    yield f"the sums of {package.name}", expected, {line[34:]: line[:32] for line in sums.splitlines()}
+    day = datetime.date.fromisoformat(found(rf"^date-released: ({DATE})$", "CITATION.cff"))
+    changes = gzip.decompress(texts.get("usr/share/doc/l6/changelog.gz", gzip.compress(b""))).decode()
+    yield f"the day in the changelog of {package.name}", [day.strftime("%a, %d %b %Y 00:00:00 +0000")], re.findall(
+        r"^ -- .*>  (.*)$", changes, re.MULTILINE)
+    copyright_text = texts.get("usr/share/doc/l6/copyright", b"").decode()
+    for what in ("/usr/share/common-licenses/Apache-2.0.", "License: Expat\n", "Permission is hereby granted, free of charge"):
+        yield f"the copyright of {package.name}: {what.strip()}", True, what in copyright_text
+    others = {f"usr/share/doc/l6/licenses/{it.name}" for it in (TOP / "licenses").iterdir() if it.name != "Apache-2.0.txt"}
+    yield f"the licences of others in {package.name}", set(), others - texts.keys()
+
+
+def read_from(archive: tarfile.TarFile, member: tarfile.TarInfo) -> bytes:
+    """The bytes of a file in an archive."""
+    opened = archive.extractfile(member)
+    return opened.read() if opened else b""
 
 
 def installed(package: Path, root: Path) -> Iterator[Trial]:
@@ -270,19 +359,43 @@ def links() -> Iterator[Trial]:
         targets = re.findall(r"\]\(([^)#:]+)(?:#[^)]*)?\)", text_of(name))
         missing = [it for it in targets if not (TOP / name).parent.joinpath(it).exists()]
         yield f"links of {name} that lead nowhere", [], missing
+    named = set(re.findall(r"`([\w.-]+)`", "\n".join(line.rpartition("|")[0].rpartition("|")[0].rpartition("|")[0]
+                                                     for line in text_of("dist/README.md").splitlines() if line.startswith("|"))))
+    there = {it.name for it in (TOP / "dist").iterdir() if it.suffix != ".provenance" and it.name != "README.md"}
+    yield "files of dist/ in its page", there, named - {"NAME.provenance"}
 
 
 def trials(program: str, is_quick: bool) -> Iterator[Trial]:
-    """All trials."""
-    yield from versions(program)
-    yield from citation()
-    yield from licences()
-    yield from links()
-    yield from completions()
-    yield from packages(is_quick)
+    """All trials, each with the name of its group."""
+    groups: dict[str, Callable[[], Iterator[Trial]]] = {
+        "versions": lambda: versions(program), "citation": citation, "licences": licences, "links": links,
+        "completions": completions, "packages": lambda: packages(is_quick),
+    }
+    for group in (it for it in groups if it in groups_asked_for(groups)):
+        for name, expected, actual in groups[group]():
+            yield f"{group}: {name}", expected, actual
+
+
+def canaries(program: str) -> Iterator[Trial]:
+    """Of files in which something is wrong, or nothing is written, each group sees it."""
+    wrong: dict[str, tuple[str, str]] = {
+        "CITATION.cff": ("date-released: 2", "date-released: 3"), "THIRD-PARTY.md": ("]: licenses/itoa-MIT.txt", "]: licenses/none.txt"),
+        "CONTRIBUTING.md": ("docs/proof.md", "docs/prove.md"), "docs/l6.1": (".Os L6 ", ".Os L6 0"),
+    }
+    real = text_of
+
+    def altered(name: str) -> str:
+        return real(name).replace(*wrong.get(name, ("", "")), 1)
+
+    with mock.patch.object(sys.modules[__name__], "text_of", altered):
+        for what, group in (("versions", versions(program)), ("citation", citation()), ("licences", licences()), ("links", links())):
+            yield first_wrong(f"{what} of files that are wrong", group)
+    nothing = dict.fromkeys(COMPLETIONS, {"--no-such-option"})
+    with mock.patch.dict(COMPLETIONS, nothing):
+        yield first_wrong("completions of options that are not there", completions())
 
 
 if __name__ == "__main__":
     if len(sys.argv) < 2 or sys.argv[2:] not in ([], ["--quick"]):
         sys.exit(__doc__)
-    sys.exit(report(trials(sys.argv[1], sys.argv[2:] == ["--quick"])))
+    sys.exit(report(trials(sys.argv[1], sys.argv[2:] == ["--quick"]), canaries(sys.argv[1])))

@@ -7,17 +7,20 @@ scripts.py prints each difference, and last 'N passed, M failed'. It works on sm
 from __future__ import annotations
 
 import hashlib
+import os
 import shutil
+import signal
 import subprocess
 import sys
 import tempfile
+import time
 from collections.abc import Callable, Iterator
 from pathlib import Path
 
 sys.path.insert(0, str(Path(__file__).resolve().parents[1] / "harness"))
 from answers import Answer
 from checkout import PLAIN, TOP, UNPROVED, Checkout
-from trials import CANARY, Trial, report
+from trials import CANARY, Trial, groups_asked_for, report
 
 # A stand-in for sort: another order than that of bytes, unless that is asked for.
 SORT = '#!/bin/sh\n[ "${{LC_ALL-}}" = C ] && exec {sort} "$@"\nexec {sort} -r "$@"\n'
@@ -235,6 +238,73 @@ print(lent[0], most[0] <= 2)
     yield "lanes", ("1 3000000 2550000\n0 True\n", ""), (ended.stdout, ended.stderr)
 
 
+# A stand-in for rt: a check that goes on and on, and says which process it is.
+ENDLESS = """#!/bin/sh
+[ "$1" = version ] && exec cat "$STAND_IN/version"
+echo "$$" > "$STAND_IN/endless"
+exec sleep 60
+"""
+
+
+def interrupted(checkout: Checkout) -> Iterator[Trial]:
+    """Who is asked to stop ends the checks that run, and ends as one who was interrupted."""
+    checkout.write("crates/l6_word/src/lib.rt", "a text whose check goes on\n")
+    first = first_on_the_path(checkout, "endless", rt=ENDLESS)
+    path = f"{first}:{checkout.folder / 'whole'}:/usr/bin:/bin"
+    command = [sys.executable, str(checkout.top / "tools/prove.py"), "l6_word"]
+    note, end = checkout.state / "endless", time.monotonic() + 30
+    with subprocess.Popen(command, env={"PATH": path, "STAND_IN": str(checkout.state)}, stderr=subprocess.PIPE, text=True) as asked:
+        while not (note.exists() and note.read_text().endswith("\n")) and time.monotonic() < end:
+            time.sleep(0.05)
+        asked.terminate()
+        _, said = asked.communicate(timeout=30)
+    yield "one who is asked to stop", (-signal.SIGINT, True), (asked.returncode, "what was proved is kept" in said)
+    check = Path("/proc", note.read_text().strip())
+    while check.exists() and time.monotonic() < end:
+        time.sleep(0.05)
+    yield "the check that ran", False, check.exists()
+
+
+ORDER = f"""
+import sys, threading, time
+sys.path.insert(0, {str(TOP / "tools")!r})
+import lanes
+one, order = lanes.Lanes(1), []
+def take(work):
+    with one.lane(1, work):
+        order.append(work)
+threads = [threading.Thread(target=take, args=(work,)) for work in (2, 5, 3)]
+with one.lane(1, 9):
+    for it in threads:
+        it.start()
+    while len(one._waiting) < 3:
+        time.sleep(0.01)
+for it in threads:
+    it.join()
+print(order)
+"""
+
+
+def order_of_lanes(_checkout: Checkout) -> Iterator[Trial]:
+    """A lane is lent first to the check with the most work."""
+    ended = subprocess.run([sys.executable, "-c", ORDER], capture_output=True, text=True, timeout=60)
+    yield "who gets a lane first", ("[5, 3, 2]\n", ""), (ended.stdout, ended.stderr)
+
+
+def rooms(checkout: Checkout) -> Iterator[Trial]:
+    """Rooms that are a day old are removed, and nothing else beside them: a check may take hours."""
+    git = checkout.top / ".git"
+    for name, hours in (("l6-room-in-use", 23), ("l6-room-left", 25), ("another-folder", 1_000)):
+        (git / name).mkdir(parents=True)
+        then = time.time() - hours * 3_600
+        os.utime(git / name, (then, then))
+    script = "import sys; sys.path.insert(0, sys.argv[1]); import rooms; print(rooms.place_of_rooms())"
+    words = [sys.executable, "-c", script, str(checkout.top / "tools")]
+    ended = subprocess.run(words, capture_output=True, text=True)
+    yield "the place of rooms", (f"{git}\n", ""), (ended.stdout, ended.stderr)
+    yield "rooms that are left", ["another-folder", "l6-room-in-use"], sorted(it.name for it in git.iterdir())
+
+
 def tools(_checkout: Checkout) -> Iterator[Trial]:
     """What other tools say of wrong words, and that the tables of pages are made."""
     for command in (
@@ -264,6 +334,9 @@ GROUPS: tuple[tuple[Callable[[Checkout], Iterator[Trial]], ...], ...] = (
         two_at_once,
         cut_copies,
         lanes_and_memory,
+        order_of_lanes,
+        interrupted,
+        rooms,
         tools,
     ),
 )
@@ -271,10 +344,11 @@ GROUPS: tuple[tuple[Callable[[Checkout], Iterator[Trial]], ...], ...] = (
 
 def trials() -> Iterator[Trial]:
     """All trials."""
+    asked = groups_asked_for(group.__name__ for groups in GROUPS for group in groups)
     for groups in GROUPS:
         with tempfile.TemporaryDirectory() as folder:
             checkout = Checkout(Path(folder) / "checkout")
-            for group in groups:
+            for group in (it for it in groups if it.__name__ in asked):
                 for name, expected, actual in group(checkout):
                     yield f"{group.__name__}: {name}", expected, actual
 

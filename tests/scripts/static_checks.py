@@ -150,10 +150,18 @@ def lengths() -> Iterator[Trial]:
     files = [TOP / name for name in ran.stdout.splitlines() if (TOP / name).is_file()] or code_files()
     files = [it for it in files if it.relative_to(TOP).parts[0] != "dist"]
     counts = {str(file.relative_to(TOP)): file.read_bytes().count(b"\n") for file in files}
-    too_long = [name for name, count in counts.items() if count > LONGEST]
-    yield f"files with more than {LONGEST} lines", [], too_long
-    long = [name for name, count in counts.items() if count > LONG]
-    yield f"one file in {ONE_IN} has more than {LONG} lines", True, len(long) * ONE_IN <= len(counts)
+    yield f"files with more than {LONGEST} lines", [], too_long(counts)
+    yield f"one file in {ONE_IN} has more than {LONG} lines", True, are_few_long(counts)
+
+
+def too_long(counts: dict[str, int]) -> list[str]:
+    """The files that are too long, of files and how many lines each has."""
+    return [name for name, count in counts.items() if count > LONGEST]
+
+
+def are_few_long(counts: dict[str, int]) -> bool:
+    """Whether few of these files are long."""
+    return sum(count > LONG for count in counts.values()) * ONE_IN <= len(counts)
 
 
 def hyphens() -> Iterator[Trial]:
@@ -243,6 +251,11 @@ def canaries() -> Iterable[Trial]:
         yield "a wrong type", CLEAN, said
         judge = said_by_shellcheck if shutil.which("shellcheck") else said_by_shell
         yield "a wrong word of the shell", CLEAN, judge(shell)
+        if shutil.which("mypy"):
+            python.write_text("def same(text):\n    return text\n")
+            yield "a function without types", CLEAN, said_by_mypy(Group((), (python,)))[python]
+        yield "a file of 601 lines", [], too_long({"one": 600, "another": 601})
+        yield "one long file of 19", True, are_few_long({"long": 401, **{f"short {it}": 400 for it in range(18)}})
         for text in ("a == a", "one(1) != one(1)", "yield 'a', b[0], b[0]", "page.same('a', b, b)"):
             node = next(it for it in ast.walk(ast.parse(text)) if isinstance(it, (ast.Compare, ast.Yield, ast.Call)))
             yield f"a comparison with itself: {text}", False, is_of_itself(node)

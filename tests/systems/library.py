@@ -16,11 +16,12 @@ import sys
 import tempfile
 from collections.abc import Iterator
 from pathlib import Path
+from unittest import mock
 
 sys.path.insert(0, str(Path(__file__).resolve().parents[1] / "harness"))
 import offset_library
 import other_libraries
-from trials import Trial, report
+from trials import Trial, first_wrong, report
 
 TOP = Path(__file__).resolve().parents[2]
 LIBRARY = TOP / "library"
@@ -41,6 +42,42 @@ threads = [threading.Thread(target=work, args=(level,)) for level in range(4)]
 for thread in threads: thread.start()
 for thread in threads: thread.join()
 print(store.free_words(), store.largest())
+"""
+# A program with a heap of its own, which counts its blocks. After one word is got the lists of levels 0 to 2 are as in the
+# table of docs/allocator.md.
+BARE = """
+use std::alloc::{alloc, Layout};
+use std::sync::atomic::{AtomicUsize, Ordering};
+use l6_store::{Fault, Store};
+static BLOCKS: AtomicUsize = AtomicUsize::new(0);
+#[repr(C)]
+struct Tried { ok: bool, at: *mut u8 }
+#[no_mangle]
+extern "C" fn rattle_alloc(size: usize, align: usize) -> Tried {
+    BLOCKS.fetch_add(1, Ordering::SeqCst);
+    Tried { ok: true, at: unsafe { alloc(Layout::from_size_align(size, align).unwrap()) } }
+}
+#[no_mangle]
+extern "C" fn rattle_dealloc(_: *mut u8) {}
+fn main() -> Result<(), Fault> {
+    let mut store = Store::new(1)?;
+    let (one, other) = (store.get(2)?.unwrap(), store.get(2)?.unwrap());
+    store.write(one, 1, 7)?;
+    store.write(other, 1, 8)?;
+    store.copy(one, other)?;
+    println!("{} {} {} {} {:?}", store.read(one, 1)?, store.read(other, 1)?, store.live(other)?, store.units(), store.peek(2)?);
+    println!("{} {:?} {}", store.free_words(), store.largest(), store.pieces(3)?);
+    store.reset();
+    store.get(0)?;
+    print!("{} blocks, free:", BLOCKS.load(Ordering::SeqCst));
+    for level in 0..3 {
+        for piece in store.free_pieces(level)? {
+            print!(" {piece}");
+        }
+    }
+    println!();
+    Ok(())
+}
 """
 # What a program does that has so many requests for memory granted: it opens the store with four.
 REFUSED = "".join(
@@ -102,6 +139,17 @@ def in_rust(archive: Path, room: Path) -> Iterator[Trial]:
     )
     (LIBRARY / "rust/Cargo.lock").unlink(missing_ok=True)
     yield "first.rs", (0, f"{FIRST}freed, joined 7\nfreed again: Err(NoBlock)\n"), (status, printed)
+    (room / "bare/src").mkdir(parents=True)
+    (room / "bare/src/main.rs").write_text(BARE, "ascii")
+    (room / "bare/Cargo.toml").write_text(
+        '[package]\nname = "bare"\nversion = "1.0.0"\nedition = "2021"\n[dependencies]\n'
+        f'l6_store = {{ path = "{LIBRARY / "rust"}", default-features = false }}\n', "ascii")
+    actual = run(
+        ["cargo", "run", "--quiet", "--offline", "--target-dir", room / "bare-target"],
+        cwd=room / "bare", env={**os.environ, "L6_STORE_LIB": str(folder)},
+    )
+    yield "the crate without std, over a heap of the program's own", (
+        0, "7 7 2 1 Some(1032)\n1016 Some(9) 1\n4 blocks, free: 1025 1026 1028\n"), actual
 
 
 def in_python(archive: Path, room: Path) -> Iterator[Trial]:
@@ -134,6 +182,9 @@ def in_python(archive: Path, room: Path) -> Iterator[Trial]:
         yield f"{call}, {place or 'no place'}: place and moves", [place, moves], line.split("|")[:2]
         shown = [it for it in lists.split(" · ") if ".. as before" not in it and it != ".."]
         yield f"{call}, {place or 'no place'}: lists", shown, line.split("|")[2:2 + len(shown)]
+    copying = ("from l6_store import Store\ns = Store(1)\na, b = s.get(2), s.get(2)\ns.write(a, 1, 7); s.write(b, 1, 8)\n"
+               "s.copy(a, b)\nprint(s.read(a, 1), s.read(b, 1), s.live(b), s.units(), s.peek(2))")
+    yield "a copy", (0, "7 7 2 1 1032\n"), run([sys.executable, "-B", "-c", copying], env=known)
     faults = "; ".join(f"t({call})" for call in (
         "lambda: Store(0)", "lambda: Store(256)", "lambda: s.get(11)", "lambda: s.free(1025)", "lambda: s.read(1024, 8)",
         "lambda: s.write(1024, 0, 1 << 36)", "lambda: s.write(1024, 0, 1 << 64)", "lambda: s.copy(1024, 1024)",
@@ -252,6 +303,19 @@ def installed(archive: Path, room: Path) -> Iterator[Trial]:
             ["sh", "-c", script, "sh", LIBRARY / source, room / "by-pkg-config"], env=known)
 
 
+def installed_crate(archive: Path, room: Path) -> Iterator[Trial]:
+    """The crate where ./install puts it, which finds the archive by itself."""
+    if not shutil.which("cargo"):
+        return
+    place = room / "prefix/share/l6/library/rust"
+    shutil.copytree(LIBRARY / "rust", place, ignore=shutil.ignore_patterns("target", "Cargo.lock"))
+    (room / "prefix/lib").mkdir()
+    shutil.copy(archive, room / "prefix/lib/libl6_store.a")
+    known = {name: value for name, value in os.environ.items() if name != "L6_STORE_LIB"}
+    words: list[str | Path] = ["cargo", "run", "--quiet", "--offline", "--example", "first", "--target-dir", room / "there"]
+    yield "first.rs, installed", (0, f"{FIRST}freed, joined 7\nfreed again: Err(NoBlock)\n"), run(words, cwd=place, env=known)
+
+
 def sections(archive: Path) -> Iterator[Trial]:
     """The archives have no tables for unwinding, no constructors and no thread's own data, and no names but the calls'."""
     for name in ("l6_store", "l6_offset"):
@@ -294,6 +358,30 @@ def header() -> Iterator[Trial]:
         yield f"the header {name} of dist/", ours, handed_out
 
 
+def canaries() -> Iterator[Trial]:
+    """Beside a library with a wrong number, text or version in each of its files, groups see it; and so do programs."""
+    wrong = {
+        "l6_store.h": [(" = -7", " = -17"), ("Faults: IS_OPEN", "Faults: IS_CLOSED"), ("UNIT = 1024", "UNIT = 1025")],
+        "rust/src/lib.rs": [("-7 => ", "-17 => "), ("out of memory", "out of room")],
+        "python/l6_store.py": [("= -7", "= -17")], "l6_store.pc": [("Version: 1", "Version: 2")],
+    }
+    with tempfile.TemporaryDirectory(prefix="l6-library-") as room:
+        copied = Path(room, "library")
+        shutil.copytree(LIBRARY, copied, ignore=shutil.ignore_patterns("target", "Cargo.lock"))
+        for name, pairs in wrong.items():
+            text = (copied / name).read_text("ascii")
+            for old, new in pairs:
+                assert old in text, f"{name} has no {old!r}"
+                text = text.replace(old, new)
+            (copied / name).write_text(text, "ascii")
+        with mock.patch.object(sys.modules[__name__], "LIBRARY", copied):
+            for group in (numbers, constants_and_texts, versions, header):
+                yield from (it for it in group() if it[1] != it[2])
+                yield first_wrong(f"{group.__name__} of a wrong library", group())
+            yield first_wrong("faults_of_calls of a wrong library", faults_of_calls())
+    yield "a command that fails", (0, ""), run(["sh", "-c", "exit 3"])
+
+
 def main(words: list[str]) -> int:
     """Makes the trials."""
     is_gate = words == ["--prove"]
@@ -310,6 +398,7 @@ def main(words: list[str]) -> int:
                 yield from header()
             yield from sections(archive)
             yield from installed(archive, Path(room))
+            yield from installed_crate(archive, Path(room))
             yield from in_c(archive, Path(room))
             yield from in_rust(archive, Path(room))
             yield from in_python(archive, Path(room))
@@ -319,7 +408,7 @@ def main(words: list[str]) -> int:
             yield from offset_library.trials(places, archive, Path(room) / "places")
             yield from other_libraries.trials(archive.parent, Path(room) / "others")
 
-        return report(trials())
+        return report(trials(), canaries())
 
 
 if __name__ == "__main__":

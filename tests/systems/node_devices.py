@@ -30,6 +30,9 @@ DECK = b" (A,E,5)(A,PD)\n"
 PRINTED = answer(b"5\n== DONE AFTER 6 STEPS\n")
 KEYBOARD = b"l6: reading the job from the keyboard, up to Ctrl-D at the beginning of a line\n"
 ENDLESS = 1_000_000
+# The right command line with the most words, and a trace without a finding.
+LONGEST = "trace --any-place --levels 4 --units 3 --first 0 --piece 2 --json".split()
+TRACE = b"get a 5 = 16\nend 1\n"
 
 
 def node_devices(program: Path, native: Path) -> Iterator[Trial]:
@@ -57,12 +60,16 @@ def stand_ins(program: Path, room: Path) -> Iterator[Trial]:
 
 
 def many_words(program: Path, native: Path) -> Iterator[Trial]:
-    """More words than a right command line has are answered as the native program answers them."""
+    """The words of the longest right command line, and more, are answered as the native program answers them."""
     for count in (14, 15, 16, 40):
         words = ["run", *["--steps"] * count]
         expected = answer_of([native, *words], input=DECK)
         actual = answer_of(["node", program, *words], input=DECK, seconds=SECONDS, preexec_fn=None)
         yield f"{count} words too many in Node", expected, actual
+    expected = answer_of([native, *LONGEST], input=TRACE)
+    actual = answer_of(["node", program, *LONGEST], input=TRACE, seconds=SECONDS, preexec_fn=None)
+    yield "the longest right command line in Node", expected, actual
+    yield "its last word in Node", b'{"findings":0,', actual.stdout[:14]
 
 
 def terminals(program: Path) -> Iterator[Trial]:
@@ -75,5 +82,7 @@ def terminals(program: Path) -> Iterator[Trial]:
     yield "a terminal as standard output of Node", (b"", 0), (ran.stderr, ran.returncode)
     ran = subprocess.run(["node", program, "nonsense"], stdin=theirs, capture_output=True, timeout=SECONDS)
     yield "wrong words at a terminal of Node", (False, 64), (KEYBOARD in ran.stderr, ran.returncode)
+    ran = subprocess.run(["node", program, "help", "run"], stdin=theirs, capture_output=True, timeout=SECONDS)
+    yield "help at a terminal of Node", (b"", 0), (ran.stderr, ran.returncode)
     os.close(ours)
     os.close(theirs)

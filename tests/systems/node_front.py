@@ -4,7 +4,10 @@ They run on pseudoterminals, as those of the front end in Python do. Waits are f
 """
 from __future__ import annotations
 
+import os
 import re
+import signal
+import subprocess
 import sys
 from collections.abc import Iterator
 from pathlib import Path
@@ -13,6 +16,7 @@ sys.path[:0] = [str(Path(__file__).resolve().parents[1] / it) for it in ("harnes
 from terminal import LIST, PROMPT, SPIN, Terminal
 from trials import Trial
 
+DIST = Path(__file__).resolve().parents[2] / "dist"
 MOST_STEPS = "1000000000"
 ESCAPES = re.compile(rb"\x1b\[[0-9;?]*[A-Za-z]")  # by which a terminal moves the cursor, and clears
 
@@ -46,8 +50,56 @@ def node_front(command: list[str], folder: Path) -> Iterator[Trial]:
     terminal.give(b"quit\r")
     yield "quit ends it", 0, terminal.status()
     yield from stopped(begin(str(spin), "--steps", MOST_STEPS, "-x", str(begun)))
+    yield from elsewhere(command, folder)
+    yield from endings(command, folder)
     terminal = begin(str(bad))
     yield "a deck with errors", (True, 4), (b"no operation is spelled `ZZ`" in terminal.until(b"warnings"), terminal.status())
+
+
+def elsewhere(command: list[str], folder: Path) -> Iterator[Trial]:
+    """A label of six letters is completed; a state's folder that is no whole path is passed over; a folder is no deck."""
+    deck, home = folder / "letters.deck", folder / "home"
+    deck.write_bytes(b" (A,E,5)\nSIXLET (A,PD)\n")
+    terminal = Terminal([*command, str(deck)], XDG_STATE_HOME="no/whole/path", HOME=str(home))
+    terminal.until(PROMPT)
+    yield completed(terminal, b"break SIX", b"LET", b"Breakpoint at 1 SIXLET")
+    yield "Ctrl-D ends it there", 0, terminal.end()
+    kept = home / ".local/state/l6/l6db_history"
+    yield "the history in the home folder", True, kept.is_file() and "break SIX" in kept.read_text("utf-8")
+    ran = subprocess.run([*command, str(folder)], capture_output=True, text=True, stdin=subprocess.DEVNULL)
+    native = subprocess.run([DIST / "l6db", folder], capture_output=True, text=True, stdin=subprocess.DEVNULL)
+    yield "a folder as a deck", (native.returncode, native.stderr), (ran.returncode, ran.stderr)
+
+
+def endings(command: list[str], folder: Path) -> Iterator[Trial]:
+    """An engine that is killed ends the session; a deck without a label; a module for which there is no memory."""
+    deck = folder / "plain.deck"
+    deck.write_bytes(b" (A,E,5)(A,PD)\n")
+    terminal = Terminal([*command, str(deck)], XDG_STATE_HOME=str(folder / "state"))
+    terminal.until(PROMPT)
+    terminal.give(b"break X\t\r")
+    yield "no label is offered where there is none", True, b"No such" in terminal.until(b"No such")
+    terminal.until(PROMPT)
+    for engine in children_of(terminal.process):
+        os.kill(engine, signal.SIGKILL)
+    terminal.give(b"si\r")
+    yield "the status where the engine is killed", 5, terminal.status()
+    words = [command[0], "--wasm-max-mem-pages=1", *command[1:], str(deck)]
+    ran = subprocess.run(words, capture_output=True, text=True, stdin=subprocess.DEVNULL)
+    yield "memory refused to the debugger", (5, "", "l6db: out of memory\n"), (ran.returncode, ran.stdout, ran.stderr)
+
+
+def children_of(process: int) -> list[int]:
+    """The processes that a process has begun."""
+    found = []
+    for status in Path("/proc").glob("[0-9]*/stat"):
+        try:
+            fields = status.read_text("utf-8", "replace").rpartition(")")[2].split()
+        except OSError:
+            continue
+        if int(fields[1]) == process:
+            found.append(int(status.parent.name))
+    return found
 
 
 def completed(terminal: Terminal, typed: bytes, rest: bytes, text: bytes) -> Trial:

@@ -11,6 +11,7 @@ It prints each difference, and last 'N passed, M failed'.
 from __future__ import annotations
 
 import base64
+import functools
 import gzip
 import hashlib
 import json
@@ -33,12 +34,15 @@ sys.path[:0] = [str(Path(__file__).resolve().parents[1] / it) for it in ("harnes
 import answers
 from answers import Answer, answer, answer_of
 from cases import read_cases
-from l6db import at_terminal, one_by_one, page_sessions, words
+from l6db import at_terminal, one_by_one, words
 from largest_jobs import MAX_OUTPUT, debug_job, longest_image, run_job
 from node_devices import node_devices
 from node_front import node_front
+from node_lines import node_lines
+from page_sessions import page_sessions
 from program import cut_images, examples, failing_devices, helps, limited_files
-from trials import Trial, report
+from ran_lines import IN_NODE
+from trials import Trial, first_wrong, groups_asked_for, report
 
 HERE = Path(__file__).resolve().parent
 TOP = HERE.parents[1]
@@ -132,7 +136,7 @@ def known_answers(program: Program, asked: list[Job], is_quick: bool) -> Iterato
         expected = job.expected
         if job.has_free_text:
             expected = answer(expected.stdout, actual.stderr or b"(some text)", expected.status)
-        yield f"{program.name}: {job.name}", expected, actual
+        yield job.name, expected, actual
 
 
 def answers_in_one_process(program: Program, asked: list[Job]) -> Iterator[Answer[bytes]]:
@@ -141,6 +145,7 @@ def answers_in_one_process(program: Program, asked: list[Job]) -> Iterator[Answe
     ran = subprocess.run(
         ["node", HERE / "ports_in_node.mjs", DIST / program.name], stdout=subprocess.PIPE, text=True,
         input="".join(f"{json.dumps(line)}\n" for line in lines), timeout=SECONDS,
+        env={name: value for name, value in os.environ.items() if name != IN_NODE},  # (it has no address that is counted)
     )
     for line in ran.stdout.splitlines():
         found = json.loads(line)
@@ -388,27 +393,49 @@ def sessions(debugger: Program) -> Iterator[Trial]:
             yield from node_front(debugger.command, folder)
 
 
+def program_trials(program: Program, is_quick: bool) -> Iterator[Trial]:
+    """The trials on a program."""
+    yield from known_answers(program, some(jobs(), FEW) if is_quick else jobs(), is_quick)
+    for group in [devices, refused_memory, as_the_native_one, *([] if is_quick else [largest])]:
+        yield from group(program)
+
+
 def trials(is_quick: bool) -> Iterator[Trial]:
-    """All trials."""
-    yield from made_again(is_quick)
-    yield from hosts()
-    for debugger in programs(is_quick, DEBUGGERS):
-        for name, expected, actual in sessions(debugger):
-            yield f"{debugger.name}: {name}", expected, actual
-    yield from small_root()
-    all_jobs = jobs()
-    for program in programs(is_quick):
-        asked = some(all_jobs, FEW) if is_quick else all_jobs
-        yield from known_answers(program, asked, is_quick)
-        groups = [devices, refused_memory, as_the_native_one, *([] if is_quick else [largest])]
-        for group in groups:
-            for name, expected, actual in group(program):
-                yield f"{program.name}: {name}", expected, actual
-        if program.name == NODE:
-            yield from node_devices(DIST / NODE, DIST / "l6")
+    """All trials, each with the name of its group. Meanwhile Node writes to a folder what it runs."""
+    with tempfile.TemporaryDirectory(prefix="l6-node-lines-") as room, mock.patch.dict(os.environ, {IN_NODE: room}):
+        groups: dict[str, Callable[[], Iterator[Trial]]] = {
+            "made again": lambda: made_again(is_quick), "hosts": hosts,
+            **{it.name: functools.partial(sessions, it) for it in DEBUGGERS},
+            "small root": small_root,
+            **{it.name: functools.partial(program_trials, it, is_quick) for it in PROGRAMS},
+            "devices of Node": lambda: node_devices(DIST / NODE, DIST / "l6"),
+            "lines of Node": lambda: node_lines(Path(room), {DIST / it: TOP / OF_NODE[it][1] for it in OF_NODE}),
+        }
+        yield from asked_of(groups, is_quick)
+
+
+def asked_of(groups: dict[str, Callable[[], Iterator[Trial]]], is_quick: bool) -> Iterator[Trial]:
+    """The trials of the groups that are asked for, and whose programs can be tried here."""
+    needs = {it.name: it.name for it in (*DEBUGGERS, *PROGRAMS)} | {"devices of Node": NODE, "lines of Node": NODE}
+    asked = groups_asked_for(groups)
+    needed = {needs[group] for group in asked & needs.keys()}
+    tried = {it.name for it in programs(is_quick, tuple(it for it in (*DEBUGGERS, *PROGRAMS) if it.name in needed))}
+    for group in (it for it in groups if it in asked and needs.get(it) in {*tried, None}):
+        for name, expected, actual in groups[group]():
+            yield f"{group}: {name}", expected, actual
+
+
+def canaries() -> Iterator[Trial]:
+    """On a program that answers wrong, groups see it; and a file without a provenance belongs to no sources."""
+    wrong = Program("README.md", ("sh", "-c", "echo wrong; exit 77"))
+    for group in (devices, refused_memory, largest):
+        yield first_wrong(f"{group.__name__} on a wrong program", group(wrong))
+    yield first_wrong("known answers on a wrong program", known_answers(wrong, some(jobs(), 3), is_quick=False))
+    yield "a file that belongs to the sources", True, belongs("README.md")
+    yield "the sum of another file", sum_of("web/host.c"), sum_of("web/memory.h")
 
 
 if __name__ == "__main__":
     if sys.argv[1:] not in ([], ["--quick"]):
         sys.exit(__doc__)
-    sys.exit(report(trials(sys.argv[1:] == ["--quick"])))
+    sys.exit(report(trials(sys.argv[1:] == ["--quick"]), canaries()))

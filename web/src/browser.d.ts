@@ -2,7 +2,7 @@
 
 interface Window {
   l6: unknown;
-  l6Texts: {script: string, worker: string, examples: any[], manual: any[]};
+  l6Texts: {shared: string, script: string, worker: string, examples: any[], manual: any[]};
 }
 
 declare class CompressionStream {

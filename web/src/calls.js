@@ -62,11 +62,11 @@ function frameInWords({call, contents, definitions}, view, deck, ask) {
 function callInWords({number, spot, operation}, deck, ask) {
   const [label, , fail] = operation.elements;
   const from = deck.statements[spot.statement].label;
-  const where = `statement ${spot.statement}${from ? ` ${from}` : ""}`;
-  const title = `(${operation.text}), to state ${number}, before this call`;
+  const where = ` from statement ${spot.statement}${from ? ` ${from}` : ""}`;
+  const title = `(${operation.text})${where}; to state ${number}, before this call`;
   return [
-    make("b", {}, label), ` from ${where}${fail ? `, FAIL: ${fail}` : ""} `,
-    make("button", {type: "button", class: "to", title, onclick: () => ask.goTo(number)}, `at ${number}`)
+    make("b", {}, label), make("span", {class: "from"}, where), `${fail ? `, FAIL: ${fail}` : ""} `,
+    make("button", {type: "button", class: "to", title, onclick: () => ask.goTo(number)}, make("span", {class: "from"}, "at "), String(number))
   ];
 }
 

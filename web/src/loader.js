@@ -1,11 +1,12 @@
-// Unpacks the page's script, the worker's and the decks, and begins. The policy of the page names the
-// script's hash, so that no other runs.
+// Unpacks the page's script, the worker's and the decks, and begins. Files that both scripts have are there once. The
+// policy of the page names the script's hash, so that no other runs.
 
 import {unpacked} from "./unpack.js";
 
 async function load() {
   const texts =
     JSON.parse(new TextDecoder().decode(await unpacked(document.getElementById("texts")?.textContent)));
+  for (const name of ["script", "worker"]) texts[name] = texts[name].replace("/*shared*/", () => texts.shared);
   window.l6Texts = texts;
   const script = document.createElement("script");
   script.textContent = texts.script;

@@ -100,6 +100,8 @@ class Page extends Typing {
         if (ending.ending === "DONE") return printed;
         throw new Error(`With a hidden input your own deck does not end by DONE: ${ending.line}`);
       },
+      ask: (/** @type {string[]} */ words, /** @type {Uint8Array} */ input, /** @type {any} */ digest) =>
+        this.ask(words, input, digest),
     });
     this.answers = new Answers({
       job: () => this.job(),

@@ -147,7 +147,7 @@ function cardOf(block, words, windows, links) {
     if (!isShown) {
       left++;
       if (rows.length >= MOST_ROWS || word > 1023) {
-        left = block.size - word;
+        left += block.size - word - 1;
         break;
       }
       continue;

@@ -5,7 +5,7 @@ import {byId} from "./dom.js";
 import {save} from "./download.js";
 import {linkOf, numbersOf} from "./links.js";
 import {errorOf} from "./thrown.js";
-import {conditionsOf, testsOf} from "./verify.js";
+import {conditionsOf, testsOf, verdictOf} from "./verify.js";
 
 export class TaskMaker {
   // `source` has the job of the page, what it has printed, and opens a task.
@@ -60,12 +60,22 @@ export class TaskMaker {
     const {input, options} = this.source.job();
     const whole = {task, printout, deck: byId("task-deck").value, input, options};
     try {
-      const more = {tests: await this.tests(), conditions: this.conditions()};
-      return {...whole, ...more};
+      const made = {...whole, tests: await this.tests(), conditions: this.conditions()};
+      const why = await this.unsolved(made);
+      if (why) byId("task-note").textContent = `Your own deck does not solve it: ${why}.`;
+      return why ? null : made;
     } catch (error) {
       byId("task-note").textContent = errorOf(error).message;
       return null;
     }
+  }
+
+  // Why the solution does not solve the task, or "": hidden inputs and conditions are for others what they are for it.
+  /** @param {any} task */
+  async unsolved(task) {
+    const isTested = task.tests.length > 0 || Object.keys(task.conditions).length > 0;
+    const job = {deck: this.solution, input: task.input, options: task.options};
+    return isTested ? verdictOf(task, job, this.source.ask) : "";
   }
 
   async copyLink() {

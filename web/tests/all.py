@@ -4,7 +4,8 @@
 all.py PROGRAM [--quick] makes the page again and compares it byte for byte with the one that is handed out;
 runs the cases, examples and random jobs through the page's module, in node, against their answers and those
 of the program; and tries the page in headless Chromium, and in Firefox. It says what it skips. Its parts run
-side by side; each says how much it has tried, and less than is written here is a failure.
+side by side; each says how much it has tried, and less than is written here is a failure. Last it says which lines
+of web/src none of them ran, of which there may be few.
 With --quick the module is not made again, which takes two minutes, and the trials of large things and of the
 lesson are left out; the page is bundled again with the module that it has. The last line is 'N passed, M
 failed'.
@@ -18,7 +19,7 @@ import subprocess
 import sys
 import tempfile
 from collections.abc import Iterator
-from concurrent.futures import ThreadPoolExecutor
+from concurrent.futures import ThreadPoolExecutor, wait
 from pathlib import Path
 
 sys.dont_write_bytecode = True
@@ -28,12 +29,15 @@ TOP = WEB.parent
 PAGE = TOP / "dist" / "l6.html"
 AT_ONCE = 4  # parts
 SHARDS = 3  # into which the trials in Chromium are parted
-LEAST_IN_CHROMIUM = {"quick": [305, 305, 360], "all": [385, 365, 505]}  # trials of each shard
+LEAST_IN_CHROMIUM = {"quick": [370, 360, 355], "all": [470, 470, 515]}  # trials of each shard
 NEW_MANUAL = ["--new-manual"] if shutil.which("markdown_py") else []
 COUNT = re.compile(r"^(\d+) passed, (\d+) failed$")
+MOST_NOT_RUN = {"quick": 2.0, "all": 2.0}  # per cent of the lines of web/src that no trial need run
 
 from browser import find_browser  # noqa: E402
 from firefox import find_firefox  # noqa: E402
+from lines import LINES, lines_not_run, shown  # noqa: E402
+from ran_lines import IN_NODE  # noqa: E402
 
 
 class Part:
@@ -43,10 +47,11 @@ class Part:
         self.needs, self.name, self.command, self.least = needs, name, command, least
 
 
-def counted(part: Part) -> tuple[str, int, int]:
-    """Runs a part; answers what it prints but its count, and its counts."""
+def counted(part: Part, room: str) -> tuple[str, int, int]:
+    """Runs a part; answers what it prints but its count, and its counts. What it ran is written to a room."""
     ran = subprocess.run(
-        part.command, stdout=subprocess.PIPE, stderr=subprocess.STDOUT, text=True, errors="replace"
+        part.command, stdout=subprocess.PIPE, stderr=subprocess.STDOUT, text=True, errors="replace",
+        env={**os.environ, LINES: room, IN_NODE: room},
     )
     *lines, last = ran.stdout.splitlines() or [""]
     found = COUNT.match(last)
@@ -71,6 +76,17 @@ def made_again(program: Path, is_quick: bool) -> tuple[str, int, int]:
         if page.read_bytes() != PAGE.read_bytes():
             return f"{PAGE.relative_to(TOP)} is not the page that {Path(bundle[0]).name} makes", 0, 1
     return "", 1, 0
+
+
+def lines_run(room: str, is_quick: bool) -> tuple[str, int, int]:
+    """Whether the parts ran the lines of web/src, but for few; answers those that none did, and the counts."""
+    not_run, every = lines_not_run(Path(room))
+    share = 100 * len(not_run) / every
+    most = MOST_NOT_RUN["quick" if is_quick else "all"]
+    said = f"{len(not_run)} of {every} lines of web/src are run by no trial, {share:.2f} per cent"
+    if share <= most:
+        return said, 1, 0
+    return "\n".join([f"{said}, and {most} is the most:", *shown(not_run)]), 0, 1
 
 
 def missing() -> Iterator[str]:
@@ -109,7 +125,8 @@ def main() -> int:
     gone = set(missing())
     wanted = list(parts(program, is_quick))
     done = []
-    with ThreadPoolExecutor(min(AT_ONCE, os.cpu_count() or 1)) as pool:
+    with tempfile.TemporaryDirectory(prefix="l6-lines-") as room, \
+            ThreadPoolExecutor(min(AT_ONCE, os.cpu_count() or 1)) as pool:
         if not is_quick and gone & {"wasm-opt", "rt"}:
             print(f"skipped: the page made again: {', '.join(sorted(gone & {'wasm-opt', 'rt'}))} is missing")
             done.append(("the page bundled again", pool.submit(made_again, program, True)))
@@ -119,7 +136,12 @@ def main() -> int:
             if part.needs & gone:
                 print(f"skipped: {part.name}: {', '.join(part.needs & gone)} is missing")
             else:
-                done.append((part.name, pool.submit(counted, part)))
+                done.append((part.name, pool.submit(counted, part, room)))
+        if gone & {"chromium", "node"}:
+            print("skipped: the lines of web/src that are run: Chromium or Node is missing")
+        else:
+            wait(future for _, future in done)
+            done.append(("the lines of web/src that are run", pool.submit(lines_run, room, is_quick)))
         passed = failed = 0
         for name, future in done:
             text, right, wrong = future.result()

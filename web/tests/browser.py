@@ -78,9 +78,13 @@ class Browser:
         """Sets the window's size in pixels, and whether the reader likes it dark."""
         size = {"width": width, "height": height, "deviceScaleFactor": 1, "mobile": phone}
         self._call("Emulation.setDeviceMetricsOverride", **size)
-        features = [{"name": "prefers-color-scheme", "value": "dark" if dark else "light"},
-                    {"name": "prefers-reduced-motion", "value": "reduce"}]
-        self._call("Emulation.setEmulatedMedia", features=features)
+        self._features = {"prefers-color-scheme": "dark" if dark else "light", "prefers-reduced-motion": "reduce"}
+        self._media()
+
+    def _media(self, media: str = "") -> None:
+        """Has the browser know what the reader likes, and whether the page is printed. (It forgets what is not said.)"""
+        features = [{"name": name, "value": value} for name, value in self._features.items()]
+        self._call("Emulation.setEmulatedMedia", media=media, features=features)
 
     def open(self, page: Path | str, fragment: str = "") -> None:
         """Opens a page, and waits until it is ready."""
@@ -177,12 +181,12 @@ class Browser:
 
     def moving(self, is_on: bool) -> None:
         """Whether the reader likes motion, from now on."""
-        features = [{"name": "prefers-reduced-motion", "value": "no-preference" if is_on else "reduce"}]
-        self._call("Emulation.setEmulatedMedia", features=features)
+        self._features["prefers-reduced-motion"] = "no-preference" if is_on else "reduce"
+        self._media()
 
     def printing(self, is_on: bool) -> None:
         """Whether the page is shown as it is printed."""
-        self._call("Emulation.setEmulatedMedia", media="print" if is_on else "")
+        self._media("print" if is_on else "")
         self.value("new Promise(it => setTimeout(it, 50))")
 
     def picture(self, path: Path) -> None:
@@ -215,16 +219,23 @@ class Browser:
                 if "error" in answer:
                     raise AssertionError(f"{method}: {answer['error']}")
                 return answer["result"]
-            if answer.get("method") == "Page.javascriptDialogOpening":
-                self._send("Page.handleJavaScriptDialog", accept=True)
-            elif "method" in answer:
-                self.events.append(answer)
+            self._saw(answer)
+
+    def _saw(self, message: dict) -> None:
+        """Takes note of a message that answers no call that waits."""
+        if message.get("method") == "Page.javascriptDialogOpening":
+            self._send("Page.handleJavaScriptDialog", accept=True)
+        elif "method" in message:
+            self.events.append(message)
 
     def _send(self, method: str, **parameters: object) -> int:
+        return self._send_to(self._session, method, **parameters)
+
+    def _send_to(self, session: str | None, method: str, **parameters: object) -> int:
         self._number += 1
         message = {"id": self._number, "method": method, "params": parameters}
-        if self._session:
-            message["sessionId"] = self._session
+        if session:
+            message["sessionId"] = session
         os.write(self._to, json.dumps(message).encode() + b"\0")
         return self._number
 

@@ -10,6 +10,7 @@ from __future__ import annotations
 
 import contextlib
 import io
+import os
 import sys
 import time
 from collections.abc import Callable
@@ -26,9 +27,12 @@ import trial_large  # noqa: E402, F401
 import trial_lesson  # noqa: E402, F401
 import trial_stays  # noqa: E402, F401
 import trial_walks  # noqa: E402, F401
+import trial_views  # noqa: E402, F401
 import trial_outside  # noqa: E402, F401
 import trial_looks  # noqa: E402
+import trial_lines  # noqa: E402, F401
 from browser import Browser, NotBegun  # noqa: E402
+from lines import LINES, CountedBrowser  # noqa: E402
 from page import TOP, TRIALS, Page  # noqa: E402
 
 
@@ -99,13 +103,16 @@ def main() -> int:
     trials = chosen(words)
     files = [Path(it) for it in words if not it.startswith("--")]
     file = files[0] if files else TOP / "dist" / "l6.html"
-    with Browser() as browser:
+    counted = os.environ.get(LINES, "")
+    with CountedBrowser() if counted else Browser() as browser:
         if folder:
             trial_looks.pictures(browser, file, folder)
             return 0
         page = Page(browser, file)
         canaries(page)
         try_all(page, trials, "--tell" in words)
+        if isinstance(browser, CountedBrowser):
+            browser.write(Path(counted))
     print(f"{page.passed} passed, {page.failed} failed")
     return 1 if page.failed else 0
 

@@ -197,6 +197,16 @@ LESSON = f"""(async () => {{
     l6.changed();
     await press('run');
     found.push({text('verdict')}.slice(0, 8));
+    await open('fields');
+    const words = new Set();
+    for (let step = 0; step < 30; step++) {{
+        await press('step');
+        const block = element('place').value ? null : document.querySelector('.block');
+        block?.dispatchEvent(new MouseEvent('click', {{bubbles: true}}));
+        await idle();
+        words.add([...document.querySelectorAll('#words .wordline')].map(it => it.textContent).join('|'));
+    }}
+    found.push(words.size > 4);
     await open('list', 1);
     await press('mark-next', 4);
     element('chain').value = 'LNC';
@@ -213,7 +223,7 @@ LESSON = f"""(async () => {{
     found.push({text('changes')}.slice(0, 27));
     return found.join('; ');
 }})()"""
-LESSON_ENDS = "AT 1.5 AFTER 8 STEPS; ✓ Solved; = 52 “T”; 8; 13; Undone: block 1028 is lost:"
+LESSON_ENDS = "AT 1.5 AFTER 8 STEPS; ✓ Solved; true; = 52 “T”; 8; 13; Undone: block 1028 is lost:"
 WIDE = "(l6.panes.lecture(true), getComputedStyle(document.getElementById('deck')).fontSize)"
 TRIALS = [  # what is tried, the link, a script, and its answer
     ("the first deck", "", f"l6.run().then(() => {text('printed')})", "5\n== DONE AFTER 6 STEPS"),

@@ -378,6 +378,7 @@ same("the next change", await run.values.change({chain: "A"}, 0, true), 6);
 same("a change by the very next step", await run.values.change({chain: "B"}, 11, true), 12);
 same("the change of a definition", await run.values.change({definition: "V"}, 20, false), 3);
 same("the change of a field", await run.values.change({place: 1024, field: "N"}, 20, false), 8);
+same("a field comes with its block", await run.values.change({place: 1026, field: "V"}, 0, true), 8);
 const fails = session(" (A,DO,B) DONE\nA (PL) FAIL\nB (X,PH)\n");
 same("out of a call that fails", [await fails.steps.over(1), await fails.steps.out(3)], [5, 5]);
 

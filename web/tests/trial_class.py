@@ -232,6 +232,13 @@ def leaps(page: Page) -> None:
     page.same("and out of the other", page.value("l6.view.amounts.returns"), 0)
     page.do("l6.out()")
     page.has("then no call waits", page.note(), "No call waits")
+    page.do("l6.state(6)")
+    told = []
+    for _ in range(6):
+        page.do("l6.step()")
+        told += [it for it in page.text("changes").split(" · ") if "called" in it]
+    page.same("how many wait is said", [it.removeprefix("Changed ") for it in told],
+              ["called: 1 return waits", "called: 2 returns wait"])
     page.browser.click("#bugs tr:nth-child(1) button.name")
     page.same("a click on a bug chooses it", page.text("watched"), "of A")
     found = []
@@ -247,6 +254,10 @@ def leaps(page: Page) -> None:
     page.has("before the first", page.note(), "A does not change before this state")
     page.click("change-next")
     page.same("and forward", page.text("changes"), "Changed A was 5, is 6")
+    page.put(" (ABCDEFGHIJKLMNOPQRSTUVWXYZ 0123456789,PH)\n")
+    page.do("l6.state(1)")
+    page.do("l6.step()")
+    page.same("of what is printed the begin", page.text("changes"), "Changed printed “ABCDEFGHIJKLMNOPQRSTUVWXYZ 0..”")
 
 
 @trial
@@ -268,6 +279,10 @@ def changes_of_fields_and_chains(page: Page) -> None:
     page.same("a definition", page.text("watched"), "of field C")
     page.click("change-back")
     page.has("where it was defined", page.text("changes"), "field C is word 0, bits 0 to 5")
+    page.open("#lost@5")
+    page.value("l6.viewer.watch({place: 1026, field: 'V'})")
+    page.key("c")
+    page.same("a field of a block that comes later changes where it is got", page.state(), 8)
 
 
 @trial
@@ -385,10 +400,11 @@ def exercises_last(page: Page) -> None:
     page.value("localStorage.clear(), window.asked = 0, window.confirm = () => { asked++; return false; }")
     change(page, solved)
     page.click("run")
+    marked = "document.querySelector('option[value=exercise-1]').textContent"
+    page.same("it is marked at once", page.value(marked), "✓ 1. Count down")
     page.browser.click("#verdict button")
     page.same("on to 2, unasked", page.value("[asked, l6.library.example.key]"), [0, "exercise-2"])
     page.open("#exercise-1")
-    marked = "document.querySelector('option[value=exercise-1]').textContent"
     page.same("it is marked, also when the page was closed", page.value(marked), "✓ 1. Count down")
     page.browser.click("#verdict button")
     page.same("and the answer is there", page.box("deck"), solved)
@@ -438,6 +454,10 @@ def tasks(page: Page) -> None:
     page.click("task")
     page.browser.click("#task-link")
     page.has("what is missing is said", page.text("task-note"), "Missing: what is to be done")
+    page.fill("task-text", "Print.")
+    page.fill("task-printout", "")
+    page.browser.click("#task-link")
+    page.same("and that nothing is to be printed", page.text("task-note"), "Missing: what it is to print.")
     page.open("#" + link.split("#")[1])
     expected = [page.box("deck"), page.box("input"), page.count("#exercise b")]
     page.same("the link has deck and input, and the text is no markup", expected, ["* YOUR TURN\n", "Q\n", 1])
@@ -473,7 +493,8 @@ def the_manual_beside(page: Page) -> None:
     page.open("#tree@137")
     page.click("manual")
     page.has("it is there", page.text("manual-text"), "An afternoon with L6")
-    page.right("beside the deck", page.value(f"{IN_VIEW}(document.querySelector('.spot.at'))"))
+    seen = f"(it => Boolean(it) && {IN_VIEW}(it))(document.querySelector('.spot.at'))"
+    page.becomes("beside the deck, whose card comes into sight", seen, True)
     names = page.value("[...document.querySelectorAll('#manual-page option')].map(it => it.value)")
     for name in names:
         page.fill("manual-page", name, "change")

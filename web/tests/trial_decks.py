@@ -8,7 +8,7 @@ from page import TOP, Page, trial
 FAULTS = {
     "(A,E,5)\n": ("1:1", "`(` in column 1 begins no card", "put a blank before it"),
     " (A,PD)\n (A,E,5\n": ("2:2", "no ) closes", "a group ends on its card"),
-    "COUNTER (PL)\n": ("1:1", "more than 6 characters", "has a blank in column 1"),
+    "COUNTER (PL)\n": ("1:1", "more than 6 characters", "without one column 1 is blank"),
     " (A,Q,1)\n": ("1:5", "no operation is spelled", "`Q`"),
     " (A,E,1)" + " " * 60 + "(A,E,22222)\n": ("1:69", "no ) closes", "past column 72"),
     "X (PL)\nX (PL)\n": ("2:1", "the label `X` is given by card 1", "too"),
@@ -67,6 +67,9 @@ def a_card_that_is_too_long(page: Page) -> None:
     page.do("l6.checker.check()")
     said = "3:73 warning: `(A,PD)` is past column 72, and is not read"
     page.has("the page names the card", page.text("fault"), said)
+    ground = "(it => [it.offsetWidth > 0, getComputedStyle(it).backgroundImage.startsWith('repeating-linear-gradient')])" \
+        "(document.querySelector('.under .last'))"
+    page.same("what is past column 72 is on hatched ground", page.value(ground), [True, True])
     page.put(" (A,E,5)\n*" + "COMMENT" * 20 + "\n" + " (B,E,1)".ljust(80) + "\n")
     page.do("l6.checker.check()")
     page.right("comments and blanks are not", page.value("document.getElementById('fault').hidden"))

@@ -37,6 +37,21 @@ CROSSINGS = """(() => {
     return found;
 })()"""
 
+# The arrows to cards and small blocks whose heads are at a corner of the block, or not at its edge.
+AT_CORNERS = """(() => {
+    const {blocks} = l6.viewer.drawing.graph;
+    const at = new Map(blocks.filter(it => !it.shape.isChip).map(it => [String(it.place), it]));
+    return [...document.querySelectorAll('.arrow:not(.broken)')].filter(arrow => {
+        const block = at.get(arrow.dataset.to);
+        if (!block) return false;
+        const path = arrow.querySelector('path');
+        const end = path.getPointAtLength(path.getTotalLength());
+        const [x, y] = [[end.x, block.x, block.width], [end.y, block.y, block.height]]
+            .map(([it, from, size]) => Math.min(Math.abs(it - from), Math.abs(it - from - size)));
+        return Math.min(x, y) > 2 || Math.max(x, y) < 6;
+    }).map(({dataset: {from, to}}) => `${from} to ${to}`);
+})()"""
+
 # The texts that are wider than what holds them, in the tables.
 CLIPPED = """[...document.querySelectorAll('.table')].filter(e => e.scrollWidth > e.clientWidth + 1)
     .map(e => e.textContent.slice(0, 40))"""
@@ -81,10 +96,12 @@ def drawings(page: Page) -> None:
     for name, state in PICTURES.items():
         page.example(name, state)
         page.same(f"arrows of {name}", page.value(CROSSINGS), [])
+        page.same(f"their heads in {name}", page.value(AT_CORNERS), [])
         page.same(f"tables of {name}", page.value(CLIPPED), [])
     page.example("full", 30_000)
     page.fill("unit", 3)
     page.has("the third unit", page.label("strip"), "3072 block of 1")
+    page.has("which is said of the units, too", page.label("units"), "8 units of 1,024 words; unit 3 is shown below")
 
 
 @trial
@@ -142,7 +159,8 @@ def policy(page: Page) -> None:
     """The policy is this, and no other: its hashes are those of the page's scripts and style."""
     text = page.file.read_text("utf-8")
     parts = runpy.run_path(str(TOP / "web" / "bundle"))
-    script = json.loads(parts["part_of"](text.encode(), b"texts"))["script"]
+    packed = json.loads(parts["part_of"](text.encode(), b"texts"))
+    script = packed["script"].replace(parts["SHARED"], packed["shared"])
     loader = text.partition("<script>")[2].partition("</script>")[0]
     style = text.partition("<style>")[2].partition("</style>")[0]
     want = (f"default-src 'none'; script-src {hashed(loader)} {hashed(script)} 'wasm-unsafe-eval'; "

@@ -5,7 +5,7 @@ import json
 import xml.etree.ElementTree as ElementTree
 
 from page import Page, trial
-from trial_stays import READ, put
+from trial_stays import DECKS, READ, put
 
 KEPT = """window.kept = [];
     URL.createObjectURL = (it => blob => (window.kept.push(blob), it(blob)))(URL.createObjectURL.bind(URL));
@@ -149,6 +149,36 @@ def work_is_kept(page: Page) -> None:
 
 
 @trial
+def work_is_kept_with_all(page: Page) -> None:
+    """With what is typed are kept its options, its breakpoints, what fields hold, and its exercise."""
+    page.open()
+    page.value("localStorage.clear()")
+    typed(page, DECKS["powers"]["deck"])
+    page.fill("store", 3, "change")
+    page.do("l6.end()")
+    page.browser.wait(READ)
+    page.value("l6.toggle(1)")
+    for _ in range(2):
+        page.browser.click(".legend [id='kind-1.0.35']")
+    page.do("l6.state(9)")
+    page.browser.wait("JSON.parse(localStorage.getItem('l6.work'))?.number === 9")
+    page.open("", keeps=True)
+    page.same("options and breakpoints", [page.box("store"), page.value("[...l6.editor.breakpoints]")], ["3", [1]])
+    page.browser.click("#empty button")
+    page.browser.wait("l6.view?.state.number === 9 && !l6.isBusy")
+    page.browser.wait(READ)
+    page.do("l6.end()")
+    signs = "[...document.querySelectorAll('.legend .kind')].map(it => it.textContent)"
+    page.same("what fields hold", page.value(signs), ["⚭", "⚭"])
+    page.value("l6.library.isChanged = false, l6.library.chooseExample('exercise-5')")
+    typed(page, "* MINE\n")
+    page.browser.wait("JSON.parse(localStorage.getItem('l6.work'))?.deck === '* MINE\\n'")
+    page.open("", keeps=True)
+    page.has("the exercise", page.text("exercise"), "Exercise")
+    page.value("localStorage.clear()")
+
+
+@trial
 def hidden_inputs(page: Page) -> None:
     """To print the answer does not solve an exercise."""
     page.open("#exercise-5")
@@ -176,9 +206,17 @@ def tasks_that_test(page: Page) -> None:
     page.fill("task-tests", "XYZ.\n---\nQ.\n")
     page.fill("task-list", "L N 2")
     page.value("document.getElementById('task-lost').checked = true")
+    page.same("a condition that one's own deck does not meet makes no task", page.value("l6.tasks.task()"), None)
+    page.has("what it lacks is said", page.text("task-note"),
+             "Your own deck does not solve it: with hidden input 1 of 2, at the end the list at L has 3 and not 2 blocks.")
+    page.fill("task-tests", "XY.\n---\nQR.\n")
     task = page.value("l6.tasks.task()")
-    page.same("what the solution prints", [it["printout"] for it in task["tests"]], ["XYZ\n", "Q\n"])
+    page.same("what the solution prints", [it["printout"] for it in task["tests"]], ["XY\n", "QR\n"])
     page.same("conditions", task["conditions"], {"noLost": True, "list": {"bug": "L", "field": "N", "length": 2}})
+    page.fill("task-tests", "")
+    page.fill("task-list", "L N 9")
+    page.same("nor does one without hidden inputs", page.value("l6.tasks.task()"), None)
+    page.has("which is said, too", page.text("task-note"), "at the end the list at L has 2 and not 9 blocks")
     page.fill("task-list", "")
     page.fill("task-tests", "NO STOP\n")
     page.same("a hidden input with which it traps makes no task", page.value("l6.tasks.task()"), None)
@@ -199,6 +237,32 @@ def tasks_that_test(page: Page) -> None:
     typed(page, FORWARDS)
     page.do("l6.run()")
     page.has("the list does", verdict(page), "Solved")
+
+
+@trial
+def conditions_alone(page: Page) -> None:
+    """A task may have conditions, and no hidden inputs."""
+    page.open()
+    page.value("l6.library.openTask({task: 'Use N.', printout: 'AB', deck: '', conditions: {uses: 'N', noLost: true}})")
+    typed(page, " (AB,PH)(PL)\n")
+    page.do("l6.run()")
+    page.has("the printout alone", verdict(page), "field N is not used")
+    typed(page, " (0,DN,18,35)(L,GT,1)(LN,E,0)(L,E,0)(AB,PH)(PL)\n")
+    page.do("l6.run()")
+    page.has("a block is lost", verdict(page), "a block is lost at the end")
+    typed(page, " (0,DN,18,35)(L,GT,1)(LN,E,0)(AB,PH)(PL)\n")
+    page.do("l6.run()")
+    page.has("all of it", verdict(page), "Solved")
+
+
+@trial
+def a_ring_is_no_list(page: Page) -> None:
+    """A condition on a list is not met by a ring of as many blocks."""
+    page.open()
+    task = {"printout": "", "conditions": {"list": {"bug": "L", "field": "N", "length": 2}}}
+    for deck, want in ((" (0,DN,18,35)(L,GT,1)(LN,GT,1)\n", ""),
+                       (" (0,DN,18,35)(L,GT,1)(LN,GT,1)(LNN,E,L)\n", "at the end the list at L has no end and not 2 blocks")):
+        page.same(f"the verdict on {deck.strip()}", page.value(f"l6.answers.verdict({json.dumps(task)}, {json.dumps(deck)})"), want)
 
 
 @trial
@@ -249,6 +313,10 @@ def all_calls(page: Page) -> None:
     page.browser.click("#call-tree .waits button.to")
     page.browser.wait("!l6.isBusy")
     page.right("a click goes to the call", page.state() < 150)
+    page.put("L (A,A,1)(R,DO)\n IF (A,L,60) THEN L\n DONE\nR DONE\n")
+    page.do("l6.end()")
+    page.value("document.getElementById('show-calls').click()")
+    page.becomes("of many calls all", "document.querySelector('#call-tree h3').textContent", "All calls of the run 60")
 
 
 @trial
@@ -260,6 +328,9 @@ def nothing_is_cut(page: Page) -> None:
     page.put(" (A,GT,8)(B,GT,1)\n")
     page.do("l6.run()")
     page.same("eight words", page.count(".block[data-place='1024'] .cell"), 8)
+    page.put(" (2,DV,0,35)(A,GT,12)(AV,E,5)\n")
+    page.do("l6.run()")
+    page.same("how many words are not shown", page.value("document.querySelector('.block .rest').textContent"), "15 more words")
     page.click("manual")
     over = """(() => {
         const manual = document.getElementById('manual-pane').getBoundingClientRect();

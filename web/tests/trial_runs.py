@@ -110,6 +110,10 @@ def blocks_and_chains(page: Page) -> None:
     page.has("a chain", page.text("led"), "V of block 1026 = 7")
     page.fill("chain", "annv")
     page.has("a chain that leads too far", page.text("led"), "trap 2")
+    page.put(" (A,GT,1)(B,E,A)(C,E,1030)\n")
+    page.do("l6.run()")
+    leads = "[...document.querySelectorAll('#bugs tr')].map(it => [it.cells[0].textContent, it.querySelectorAll('[aria-label]').length])"
+    page.same("a bug leads to a block, and not to free words", page.value(leads), [["A", 1], ["B", 1], ["C", 0]])
     page.open("#store@0")
     page.do("l6.step()")
     page.has("halvings", page.text("changes"), "a free piece of 1,024 was halved 10 times")
@@ -140,6 +144,10 @@ def keys(page: Page) -> None:
     page.same("g", page.state(), 14)
     page.key("b")
     page.same("b", page.state(), 0)
+    deck = page.box("deck")
+    page.browser.key("e", text="e")
+    page.same("a key that leads into the deck is not typed there", [page.value("document.activeElement.id"), page.box("deck")],
+              ["deck", deck])
 
 
 @trial
@@ -163,6 +171,8 @@ def keys_in_the_deck_and_the_drawing(page: Page) -> None:
     page.same("d goes to the drawing", page.value(focused), "1024")
     page.key("ArrowRight")
     page.same("there an arrow goes to the next block", page.value(focused), "1026")
+    page.same("to which Tab comes back", page.value("[...document.querySelectorAll('#drawing .block[tabindex=\"0\"]')].map(it => it.dataset.place)"),
+              ["1026"])
     page.key("Enter")
     page.same("and Enter chooses it", page.box("place"), "1026")
     page.do("l6.papers.open('printout')")

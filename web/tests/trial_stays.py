@@ -61,16 +61,18 @@ HOLD = """(() => {
 })()"""
 RELEASE = "release()"
 
-# The next frames of an animation come when the trial has them come, and at which time that says.
+# The clock goes on, and the next frames of an animation come, when the trial says so, however busy the machine is.
 FRAMES = """(() => {
     window.frames_ = new Map();
-    let number = 0;
+    let [number, clock] = [0, performance.now()];
+    performance.now = () => clock;
     window.requestAnimationFrame = what => { frames_.set(++number, what); return number; };
     window.cancelAnimationFrame = it => frames_.delete(it);
     window.frame = after => {
+        clock += after;
         const due = [...frames_.values()];
         frames_.clear();
-        due.forEach(it => it(performance.now() + after));
+        due.forEach(it => it(clock));
     };
     window.ways = () => Object.fromEntries([...document.querySelectorAll('.arrow')].map(it =>
         [it.dataset.from, it.querySelector('path').getAttribute('d')]));
@@ -127,6 +129,18 @@ COVERED = """(() => {
             if (isOver(inner(pill.getBoundingClientRect()), head))
                 found.push(`${pill.dataset.bug} on the head of ${other.dataset.from}`);
     return found;
+})()"""
+
+
+# The links between two blocks of one row that pass another one which stands between them.
+PASSED = """(() => {
+    const {blocks} = l6.viewer.drawing.graph;
+    const at = new Map(blocks.map(it => [it.place, it]));
+    return blocks.flatMap(({place, x, y, links}) => links.filter(({target, isBroken}) => {
+        const other = at.get(target);
+        const isBetween = it => it.y === y && it.x > Math.min(x, other.x) && it.x < Math.max(x, other.x);
+        return other && !isBroken && other.y === y && blocks.some(isBetween);
+    }).map(({target}) => `${place} to ${target} in ${l6.view.state.number}`));
 })()"""
 
 
@@ -195,6 +209,8 @@ def shapes(page: Page) -> None:
     page.do("l6.end()")
     across = page.value(f"[1024, 1025, 1026, 1027].map({place})")
     page.same("a list that is linked both ways is a line", len({it["y"] for it in across}), 1)
+    ways = "[...document.querySelectorAll('.legend .way')].map(it => it.textContent)"
+    page.same("its links lead to and fro", page.value(ways), ["P ←", "N →"])
     page.right("from its first block to its last", [it["x"] for it in across] == sorted(it["x"] for it in across))
     put(page, "tree15")
     page.do("l6.end()")
@@ -206,6 +222,13 @@ def shapes(page: Page) -> None:
         }));
     })()"""
     page.right("in a tree L leads down and left, R down and right", page.value(below))
+    for name in ("list", "reverse", "queue", "josephus", "twostacks"):
+        put(page, name)
+        passed = []
+        for part in range(1, 9):
+            page.do(f"l6.state(Math.round(l6.session.last * {part} / 8))")
+            passed += page.value(PASSED)
+        page.same(f"{name}: links that pass a block of their row", passed[:3], [])
     covered = []
     for name in ("double", "reverse", "josephus", "twostacks"):
         put(page, name)
@@ -254,6 +277,7 @@ def glides(page: Page) -> None:
     page.same("where little motion is wanted nothing glides", page.value(pill), "none")
     page.browser.moving(True)
     page.has("else a bug does", page.value(pill), "transform")
+    page.has("and a block, where Tidy moves it", page.value(pill.replace(".pill", ".block")), "transform")
     page.value(FRAMES)
     page.value("void (window.kept = document.querySelector('.pill[data-bug=R]'))")
     between = 0
@@ -304,8 +328,12 @@ def a_camera(page: Page) -> None:
     # (on a block, which must not be chosen by a drag)
     x, y = page.value("(it => [it.x + it.width / 2, it.y + it.height / 2])"
                       "(document.querySelectorAll('.block')[9].getBoundingClientRect())")
+    frame = page.value("(it => [it.left, it.top])(document.getElementById('drawing').getBoundingClientRect())")
+    under = f"(([left, top, scale]) => [({x} - {frame[0]} - left) / scale, ({y} - {frame[1]} - top) / scale].map(Math.round))({spot})"
+    pointed = page.value(under)
     page.browser.wheel(x, y, -200)
     near = page.value(spot)
+    page.same("what is under the pointer stays there", page.value(under), pointed)
     page.right("the wheel comes nearer", near[2] > fitted[2] * 1.3, str(near))
     page.right("the map is there", page.value("getComputedStyle(document.querySelector('.map')).display !== 'none'"))
     page.has("and a word", page.text("warnings"), " blocks in view")
@@ -334,6 +362,10 @@ def a_camera(page: Page) -> None:
     page.browser.key("-")
     page.browser.key("-")
     page.right("- goes away", page.value(spot)[2] < fitted[2])
+    for number, is_nearer in ((2, True), (3, False)):
+        before = page.value(spot)[2]
+        page.browser.click(f"#camera button:nth-child({number})")
+        page.same(f"button {number} of the camera comes nearer", page.value(spot)[2] > before, is_nearer)
     page.browser.key("ArrowRight", modifiers=8)
     page.right("Shift and an arrow move it", page.value(spot)[0] < fitted[0] + 200)
     page.browser.wheel(x, y, -2000)
@@ -344,6 +376,11 @@ def a_camera(page: Page) -> None:
         "(it.isNew || it.isChanged) && l6.viewer.drawing.camera.sees(it)) || "
         "!l6.viewer.drawing.graph.blocks.some(it => it.isNew || it.isChanged)")
     )
+    page.value("l6.viewer.drawing.camera.fit(false)")
+    x, y = page.value("(it => [it.x + it.width / 2, it.y + it.height / 2])"
+                      "(document.querySelector('.block').getBoundingClientRect())")
+    page.browser.drag_from(x, y, 2, 1)
+    page.becomes("a click by a hand that shakes chooses a block", "document.getElementById('place').value !== ''", True)
 
 
 @trial
@@ -383,6 +420,12 @@ def by_provenance(page: Page) -> None:
     page.do("l6.end()")
     page.browser.wait(READ)
     page.same("a link keeps it", sorted(page.value(fields)), ["N", "V"])
+    page.example("josephus", 150)
+    page.browser.click(".legend [id='kind-0.18.35']")
+    page.do("l6.library.makeLink()")
+    page.open(page.value("location.hash"))
+    page.do("l6.state(150)")
+    page.same("also one to an example", page.value(signs), ["#", "#"])
     page.put(" (C,E,1024)(A,GT,1)(B,E,A)\n")
     page.do("l6.run()")
     page.same("a counter is no pointer", page.value("[...document.querySelectorAll('.pill')].map(it => it.dataset.bug)"),

@@ -1,5 +1,5 @@
 -- How the card that objects is looked for.
-use Rattle.std.proofs.Common.{◌≡◌, ℕ, ◌+◌, Bool, true, false, cond, suc, List, [], ◌∷◌, length, min, take, take_all, Option, eqb, ltb, arith, refl, sym, ap, ◌∙◌}
+use Rattle.std.proofs.Common.{◌≡◌, ℕ, ◌+◌, Bool, true, false, cond, suc, List, ◌∷◌, length, min, take, take_all, Option, eqb, ltb, arith, refl, sym, ap, ◌∙◌}
 use Rattle.std.proofs.lemmas.Bool.{eqb-true, eqb-false, ltb-true, ltb-false}
 use Rattle.l6_word.specs.Lines.{lines_of}
 use Rattle.l6_group.specs.declared.label.Label.{Label}

@@ -15,4 +15,6 @@ pub mod Reaching
 pub mod StatementParts
 pub mod TargetSteps
 pub mod Verdicts
+pub mod RunningSteps
 pub mod WaySteps
+pub mod Nearness

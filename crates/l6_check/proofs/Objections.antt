@@ -1,5 +1,5 @@
 -- The objections to a part, one after another.
-use Rattle.std.proofs.Common.{◌≡◌, ℕ, zero, suc, List, [], ◌∷◌, ◌++◌, append-nil, option_to_list, Option, Some, None, refl, ap, ◌∙◌}
+use Rattle.std.proofs.Common.{◌≡◌, ℕ, zero, suc, List, [], ◌∷◌, append-nil, option_to_list, Option, Some, None, refl, ap, ◌∙◌}
 use Rattle.std.specs.List.{flat_map}
 use Rattle.l6_card.specs.ReadAlone.{objection_to_lines}
 use Rattle.l6_card.specs.declared.objection.Objection.{Objection}

@@ -46,8 +46,9 @@ abbrev pub warnings_of : Report → ℕ
 warnings_of report =
     let cards = report.cards in
     let program = report.program in
-    added (added (added (added (added (added cards.columns.count cards.image.count) program.conditions.count) program.unnamed.count) program.unreached.count) program.trapping.count)
-    program.fields.count
+    let of_labels = added (added (added cards.columns.count cards.image.count) program.conditions.count) program.unnamed.count in
+    let of_ways = added (added of_labels program.unreached.count) program.trapping.count in
+    added (added (added of_ways program.idle.count) program.running.count) program.fields.count
 
 -- findings are in the order of their cards
 abbrev pub AreByCards : List Finding → Type 0

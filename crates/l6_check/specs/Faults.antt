@@ -1,8 +1,7 @@
 -- What findings say of a deck: its faults, and the objections of the reader of cards.
-use Rattle.std.specs.Prelude.{◌≡◌, ℕ, ◌+◌, ◌-◌, ◌≤◌, min, max, Option, Some, None}
+use Rattle.std.specs.Prelude.{ℕ, ◌+◌, ◌-◌, ◌≤◌, min, max, Option, Some, None}
 use Rattle.l6_card.specs.DeckFault.{form, limit}
 use Rattle.l6_card.specs.Numerals.{card_width}
-use Rattle.l6_card.specs.declared.objection.Objection.{Objection}
 use Rattle.l6_card.specs.declared.objection.Reason.{Reason as Kind}
 use Rattle.l6_card.specs.declared.objection.Reason.TheVariants as kind
 use Rattle.l6_asm.specs.AssemblyFault.{AssemblyFault, unread, twice_labelled, no_label}
@@ -21,7 +20,7 @@ fault_on card (Form reason) = Some (unread (form card))
 fault_on card (Limit reason) = Some (unread (limit card))
 fault_on card (TwiceLabelled first) = Some (twice_labelled card)
 fault_on card (NoLabel nearest) = Some (no_label card)
-fault_on card (Warning reason) = None
+fault_on card (Warning _) = None
 
 -- the fault that a finding says
 abbrev pub fault_of_finding : Finding → Option AssemblyFault

@@ -8,8 +8,10 @@ pub mod Statements
 pub mod Labels
 pub mod Indented
 pub mod Missing
+pub mod Near
 pub mod Warnings
 pub mod Ways
+pub mod Running
 pub mod Slips
 pub mod Certain
 pub mod Fields
@@ -17,4 +19,6 @@ pub mod JobText
 pub mod Verdict
 pub mod Report
 pub mod Counted
+pub mod Listed
+pub mod Codes
 pub mod inner

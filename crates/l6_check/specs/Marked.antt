@@ -1,11 +1,12 @@
 -- Which columns are marked where a word objects, or a group that nothing closes.
-use Rattle.std.specs.Prelude.{ℕ, ◌+◌, ◌==◌, not, Bool, List, [], ◌∷◌, drop, length, take, if◌then◌else◌}
+use Rattle.std.specs.Prelude.{ℕ, ◌+◌, ◌==◌, not, ◌&&◌, Bool, true, false, List, [], ◌∷◌, drop, length, take, if◌then◌else◌}
 use Rattle.std.specs.List.{list_all}
 use Rattle.std.specs.Str.{byte}
 use Rattle.l6_group.specs.Character.{is_blank, is_letter}
 use Rattle.l6_card.specs.Card.{run_of}
 use Rattle.l6_check.specs.Faults.{on_card}
-use Rattle.l6_check.specs.Warnings.{blanks_before}
+use Rattle.l6_check.specs.Statements.{spell_then}
+use Rattle.l6_check.specs.Warnings.{blanks_before, gives_condition}
 use Rattle.l6_check.specs.declared.finding.Span.{Span}
 
 -- the column closes a group; the column is no blank
@@ -45,6 +46,17 @@ abbrev pub word_before : List ℕ → Span → Span
 word_before columns piece =
     let front = take piece.from columns in
     word_in_front piece (past_last closes (body_start columns) 0 front) front
+
+-- the label that columns begin with, where it is marked in place of a piece
+abbrev pub label_or : Bool → List ℕ → Span → Span
+label_or true columns piece = on_card 0 (body_start columns)
+label_or false columns piece = piece
+
+-- the label of a card, if it is spelled as a condition and a piece of the card begins with THEN: the blank in
+-- column 1 is missing; else the piece
+abbrev pub condition_or : List ℕ → Span → Span
+condition_or columns piece =
+    label_or (gives_condition columns && spell_then (drop piece.from columns)) columns piece
 
 -- how many columns there are before the first `(`
 abbrev pub next_open : List ℕ → ℕ

@@ -1,6 +1,7 @@
 -- Labels that statements name and that no card gives.
-use Rattle.std.specs.Prelude.{◌≡◌, ◌⊎◌, ℕ, ◌+◌, Bool, true, false, List, [], ◌∷◌, ◌++◌, length, take, option_to_list, is_some, Option, Some, None}
+use Rattle.std.specs.Prelude.{◌≡◌, ◌⊎◌, ℕ, ◌+◌, Bool, true, false, List, [], ◌∷◌, ◌++◌, length, take, option_to_list, is_some, All, Option, Some, None}
 use Rattle.std.specs.List.{flat_map}
+use Rattle.std.specs.Option.{option_map}
 use Rattle.l6_word.specs.Lines.{lines_of}
 use Rattle.l6_prog.specs.declared.operation.Op.{Op}
 use Rattle.l6_prog.specs.declared.operation.Op.TheVariants.{Get, Duplicate, Call, Input}
@@ -13,6 +14,7 @@ use Rattle.l6_card.specs.Statement.{DeckStatementParts}
 use Rattle.l6_card.specs.ReadAlone.{fault_of_lines, LinesReadAs}
 use Rattle.l6_check.specs.Kept.{Say}
 use Rattle.l6_check.specs.Labels.{first_card}
+use Rattle.l6_check.specs.Near.{nearest}
 use Rattle.l6_check.specs.Statements.{parts_of}
 use Rattle.l6_check.specs.declared.finding.Finding.{Finding}
 use Rattle.l6_check.specs.declared.findings.Findings.{Findings}
@@ -86,6 +88,20 @@ missing_on card other = None
 
 abbrev pub missing_said : Finding → Option (ℕ × Label)
 missing_said finding = missing_on finding.card finding.reason
+
+-- the reason says what is nearly the label that is missing
+abbrev pub SaysNearest : List (Label × ℕ) → Reason → Type 0
+SaysNearest given (NoLabel missing) =
+    option_map label_of_text missing.near ≡ nearest given (label_of_text missing.label)
+SaysNearest given other = Unit {0}
+
+-- each finding that is kept says it
+abbrev pub AreNearest : List (Label × ℕ) → Findings → Type 0
+AreNearest given findings = All (λ finding. SaysNearest given finding.reason) findings.kept.items
+
+-- if each finding that was kept says it, each that is kept now says it, too
+abbrev pub StayNearest : List (Label × ℕ) → Findings → Findings → Type 0
+StayNearest given before after = AreNearest given before → AreNearest given after
 
 -- the findings say just the labels that the statements of a deck name and that no card gives
 pub record SayMissing (given : List (Label × ℕ)) (deck : List ℕ) (findings : Findings) : Type 0 where

@@ -17,6 +17,7 @@ use Rattle.l6_check.specs.Missing.{SayMissing}
 use Rattle.l6_check.specs.Warnings.{condition_card, condition_cards, past_card, past_cards}
 use Rattle.l6_check.specs.JobText.{image_card, image_cards, lines_to_mark}
 use Rattle.l6_check.specs.Certain.{trapping_card}
+use Rattle.l6_check.specs.Running.{idle_card, idle_cards, running_card, running_cards}
 use Rattle.l6_check.specs.Ways.{trapping_cards, SayUnnamed, SayUnreached}
 use Rattle.l6_check.specs.Fields.{field_said, undefined_fields}
 use Rattle.l6_check.specs.Verdict.{IsProgramOf, IsErrorOf}
@@ -36,6 +37,8 @@ pub record WarnsOf (deck : List ℕ) (program : List Parts) (warnings : ProgramW
   pub unnamed : SayUnnamed program deck warnings.unnamed
   pub unreached : SayUnreached program deck warnings.unreached
   pub trapping : Say trapping_card (trapping_cards program deck) warnings.trapping
+  pub idle : Say idle_card (idle_cards program deck) warnings.idle
+  pub running : Say running_card (running_cards program deck) warnings.running
   pub fields : Say field_said (undefined_fields program) warnings.fields
 
 -- the report has no errors, and the warnings of the program that the deck spells

@@ -24,9 +24,13 @@ continues First = false
 continues Further = true
 continues Unknown = false
 
+-- the columns spell THEN, and perhaps more after it
+abbrev pub spell_then : List ℕ → Bool
+spell_then columns = is_some (after_then (spelled columns))
+
 -- the columns begin with a blank, and then with THEN
 abbrev pub begin_with_then : List ℕ → Bool
-begin_with_then columns = begin_blank columns && is_some (after_then (spelled columns))
+begin_with_then columns = begin_blank columns && spell_then columns
 
 -- the card of a line belongs to the statement before it: it says so, or begins with THEN and lacks its `+`
 abbrev pub belongs : List ℕ → Bool

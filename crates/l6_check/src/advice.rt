@@ -1,5 +1,6 @@
 //! Advice on what stands outside of groups, in column 1 and as a word: what to write in its place.
 
+use crate::conditions::gives_condition;
 use crate::scan::{
     begins_with, begins_with_digit, digit_count, first_word, has, has_blank_inside,
     has_digits_alone, has_word, last_word, letter_count, without_blanks, without_word,
@@ -10,7 +11,11 @@ use crate::slips::{
 use l6_group::{MAX_LABEL_CHARACTERS, Spelling, condition_from, exit_from, spelled};
 
 /// Advice on a THEN without a condition.
-const THEN_ALONE: &str = "THEN follows a condition, which is no label: put a blank in column 1";
+const THEN_ALONE: &str = "a condition and its tests come before THEN: IF (A,E,5) THEN (A,PD)";
+
+/// Advice on a THEN after a condition that is in column 1.
+const CONDITION_IN_COLUMN_1: &str =
+    "the condition in column 1 is read as a label: put a blank before it";
 
 /// Advice on bytes that are no ASCII.
 pub(crate) const NO_ASCII: &str =
@@ -32,6 +37,10 @@ pub(crate) const LAST_EXIT: &str = "an exit stands after the groups: (A,PD) DONE
 /// Advice on an exit to a number.
 const NO_LINE_NUMBERS: &str =
     "an exit is a label, which begins with a letter: there are no line numbers";
+
+/// Advice on a statement that begins with a number.
+const NO_NUMBERS_BEFORE: &str =
+    "there are no line numbers: what is named has a label, which begins with a letter in column 1";
 
 /// Advice on what cannot be in column 1 of this line.
 pub(crate) fn column_advice(text: &[u8], line: &[u8]) -> &'static str {
@@ -58,7 +67,9 @@ fn dollar_advice(line: &[u8]) -> &'static str {
     }
     match line {
         [_, b' ' | b'\t', ..] => "remove the blank: a line such as $INPUT has none",
-        _ => "a line such as $INPUT has nothing else",
+        _ if begins_with(line, b"$INPUT") =>
+            "remove what follows $INPUT: the line has nothing else",
+        _ => "$ begins the lines $INPUT and $COMMANDS, and no others",
     }
 }
 
@@ -93,6 +104,9 @@ fn word_before_group_advice(word: &[u8], following: &[u8]) -> &'static str {
     }
     if has(word, b'=') {
         return "a value is set by a group, as (A,E,5)";
+    }
+    if has_digits_alone(first_word(word)) {
+        return NO_NUMBERS_BEFORE;
     }
     let known = operation_slip(first_word(word));
     if !known.is_empty() {
@@ -184,14 +198,18 @@ pub(crate) fn is_statement(text: &[u8]) -> bool {
     exit_slip(text).is_empty() && !begins_with(text, b"THEN") && !statement_advice(text).is_empty()
 }
 
-/// Advice on a label that no card gives.
-pub(crate) fn label_advice(text: &[u8]) -> &'static str {
+/// Advice on a label that this line names, and no card gives.
+pub(crate) fn label_advice(text: &[u8], line: &[u8]) -> &'static str {
     let known = exit_slip(text);
     if !known.is_empty() {
         return known;
     }
     if begins_with(text, b"THEN") {
-        return THEN_ALONE;
+        return if gives_condition(line) {
+            CONDITION_IN_COLUMN_1
+        } else {
+            THEN_ALONE
+        };
     }
     statement_advice(text)
 }
@@ -201,13 +219,19 @@ pub(crate) fn then_advice(text: &[u8]) -> &'static str {
     if begins_with(text, b"OR") || begins_with(text, b"AND") || has(text, b'&') || has(text, b'|') {
         return "IFANY and IFALL have several tests, one after the other";
     }
-    "THEN follows the tests of a condition"
+    if begins_with(text, b"GOTO") {
+        return "there is no GOTO: THEN stands before the label, as in IF (A,E,5) THEN LAST";
+    }
+    "THEN follows the tests of a condition: IF (A,E,5) THEN DONE"
 }
 
 /// Advice on a group that nothing closes, of which these are the columns up to the end of its card.
 pub(crate) fn unclosed_advice(text: &[u8]) -> &'static str {
     if has_word(text, b",PH)") {
         return "a text has no parentheses, and a group ends before the next (";
+    }
+    if has_word(text, b"))") {
+        return "no group stands in another: each operation or test has a ( and a ) of its own";
     }
     "a group ends on its card, before the next ("
 }

@@ -6,6 +6,9 @@ use crate::scan::{
 };
 use l6_prog::{MAX_CHARACTERS, MAX_NAMES};
 
+/// How many characters of a text a word has room for.
+const MAX_TEXT: usize = 6;
+
 /// Advice on a chain of too many names.
 const LONG_CHAIN: &str =
     "a bug is one letter, as in (C,E,5); up to 5 letters or digits after it are fields";
@@ -76,6 +79,9 @@ pub(crate) fn octal_advice(text: &[u8]) -> &'static str {
 pub(crate) fn text_advice(text: &[u8]) -> &'static str {
     if !text.is_ascii() {
         return NO_ASCII;
+    }
+    if text.len() > MAX_TEXT {
+        return "a word has room for 6 characters; (text,PH) prints a longer text";
     }
     ""
 }

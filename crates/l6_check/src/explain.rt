@@ -12,7 +12,7 @@ use crate::forms::first_of;
 use crate::marked::marked_columns;
 use crate::parts::{Part, begin_with_then};
 use crate::reason::{FormReason, LimitReason, Reason};
-use crate::spelling_advice::begins_with_slip;
+use crate::spelling_advice::{begins_with_slip, lacks_first_comma};
 use l6_card::{Objection, Reason as Kind, columns_of};
 use l6_group::{GroupFault, GroupObjection, operation_objection, test_objection};
 use l6_word::first_line;
@@ -32,7 +32,7 @@ pub(crate) fn reading_error(objection: Objection, part: Part<'_>) -> Finding<'_>
             found(objection.card, line, span, Reason::Form(reason))
         }
         Kind::NoTest => {
-            let why = known(test_objection(inside(columns_of(line), piece)));
+            let why = test_reason_in(inside(columns_of(line), piece));
             let span = piece.part(why.start, why.length);
             let reason = FormReason::NoTest(why.fault);
             found(objection.card, line, span, Reason::Form(reason))
@@ -53,25 +53,42 @@ pub(crate) fn reading_error(objection: Objection, part: Part<'_>) -> Finding<'_>
 }
 
 /// Why a group is no operation, and where: at its first element, if that is the word of an operation in other
-/// languages.
+/// languages, or seems to be two elements.
 fn operation_reason(columns: &[u8]) -> GroupObjection {
     let why = known(operation_objection(columns));
-    match why.fault {
-        GroupFault::Spelling | GroupFault::TooFew | GroupFault::TooMany => {
-            if begins_with_slip(columns) {
-                return GroupObjection {
-                    start: 0,
-                    length: first_of(columns).len(),
-                    fault: GroupFault::Spelling,
-                };
-            }
-            why
-        }
+    if is_of_spelling(why.fault) && (begins_with_slip(columns) || lacks_first_comma(columns)) {
+        return at_first_element(columns);
+    }
+    why
+}
+
+/// Why a group is no test, and where: at its first element, if that seems to be two.
+fn test_reason_in(columns: &[u8]) -> GroupObjection {
+    let why = known(test_objection(columns));
+    if is_of_spelling(why.fault) && lacks_first_comma(columns) {
+        return at_first_element(columns);
+    }
+    why
+}
+
+/// Whether a group objects for its spelling, or for how many elements it has.
+fn is_of_spelling(fault: GroupFault) -> bool {
+    match fault {
+        GroupFault::Spelling | GroupFault::TooFew | GroupFault::TooMany => true,
         GroupFault::EmptyElement
         | GroupFault::CommaInText
         | GroupFault::WordFirst
         | GroupFault::FieldFirst
-        | GroupFault::Element(_) => why,
+        | GroupFault::Element(_) => false,
+    }
+}
+
+/// The objection that the first element of a group spells nothing.
+fn at_first_element(columns: &[u8]) -> GroupObjection {
+    GroupObjection {
+        start: 0,
+        length: first_of(columns).len(),
+        fault: GroupFault::Spelling,
     }
 }
 

@@ -2,6 +2,7 @@
 
 ghost use Rattle.std.specs.Prelude.{◌≡◌, ◌≤◌};
 ghost use Rattle.l6_check.specs.Faults as spec;
+ghost use Rattle.l6_check.specs.Listed.{severity_of};
 ghost use Rattle.l6_check.specs.OnCard.{IsOnCard};
 
 use crate::reason::Reason;
@@ -123,7 +124,9 @@ impl<'a> Finding<'a> {
     }
 
     /// How bad it is.
-    pub fn severity(&self) -> Severity {
+    pub fn severity(&self) -> Severity
+        ensures { result ≡ severity_of self.now.reason }
+    {
         match self.reason {
             Reason::Warning(_) => Severity::Warning,
             _ => Severity::Error,

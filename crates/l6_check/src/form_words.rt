@@ -4,6 +4,7 @@ use crate::advice::{
     LAST_EXIT, column_advice, condition_advice, exit_advice, followed_exit_advice, then_advice,
     unclosed_advice,
 };
+use crate::conditions::gives_condition;
 use crate::finding::Finding;
 use crate::group_words::{operation_words, test_words};
 use crate::job::is_mark;
@@ -17,20 +18,24 @@ pub(crate) fn form_words(reason: FormReason, finding: &Finding<'_>) -> Words {
     match reason {
         FormReason::Column => column_words(text, finding.line),
         FormReason::ContinuesNothing => {
-            row("`", "` in column 1, but no statement is there to go on", "")
+            row(
+                "`",
+                "` in column 1, but no statement is there to go on",
+                "a statement begins on a card with a blank or a label in column 1",
+            )
         }
         FormReason::LabelTooLong => {
             row(
                 "the label `",
                 "` has more than 6 characters",
-                "a statement without a label has a blank in column 1",
+                "a label is a letter and up to 5 letters or digits; without one column 1 is blank",
             )
         }
         FormReason::LabelBarred => {
             row(
                 "`",
                 "` is an exit, and no label",
-                "a statement without a label has a blank in column 1",
+                "put a blank in column 1; an exit stands after the groups of its statement",
             )
         }
         FormReason::Unclosed => { row("no ) closes `", "`", unclosed_advice(finding.rest())) }
@@ -98,6 +103,13 @@ fn after_exit_words(finding: &Finding<'_>) -> Words {
 /// The words of a word that is no exit, or stands where a condition must stand and is none.
 fn no_exit_words(finding: &Finding<'_>) -> Words {
     let text = finding.text;
+    if is_condition_label(finding) {
+        return row(
+            "`",
+            "` in column 1 is read as a label, and no condition is before THEN",
+            "put a blank in column 1",
+        );
+    }
     let is_word = letter_count(text) > 0 || begins_with(text, b"+");
     if is_word && begins_with(finding.following(), b"(") && !has(finding.before(), b')') {
         return no_condition_words(finding);
@@ -114,6 +126,11 @@ fn no_exit_words(finding: &Finding<'_>) -> Words {
         "` is no exit: no label, DONE or FAIL",
         exit_advice(text),
     )
+}
+
+/// Whether a finding is about the label of its card, which is spelled as a condition.
+fn is_condition_label(finding: &Finding<'_>) -> bool {
+    finding.span.from == 0 && gives_condition(finding.line)
 }
 
 /// The words of a condition, its tests or THEN.
@@ -153,7 +170,7 @@ fn condition_words(reason: FormReason, text: &[u8]) -> Words {
             row(
                 "the statement `",
                 "` ends without THEN",
-                "THEN follows the tests of a condition",
+                "THEN follows the tests, and after it what is done; + in column 1 continues a statement",
             )
         }
         FormReason::UnfinishedBeforeThen => {

@@ -20,7 +20,7 @@ pub(crate) fn operation_words(fault: GroupFault, finding: &Finding<'_>) -> Words
             row(
                 "no operation is spelled `",
                 "`",
-                operation_spelling_advice(text, finding.is_whole_group()),
+                operation_spelling_advice(finding),
             )
         }
         GroupFault::TooFew => row("`", "` has too few elements", form_advice(text)),

@@ -4,6 +4,7 @@
 mod advice;
 mod cards;
 mod certain;
+mod codes;
 mod columns;
 mod conditions;
 mod element;
@@ -22,6 +23,7 @@ mod job;
 mod label_places;
 mod labels;
 mod laws;
+mod listed;
 mod marked;
 mod marks;
 mod mended;
@@ -32,6 +34,8 @@ mod reached;
 mod reading;
 mod reason;
 mod report;
+mod running;
+mod saying;
 mod scan;
 mod slips;
 mod spelling_advice;
@@ -50,10 +54,12 @@ pub use findings::{Findings, MAX_FINDINGS};
 pub use l6_group::{GroupFault, Shape};
 pub use labels::{Labels, LabelsFound, labels_of};
 pub use laws::checks_have_their_limits;
+pub use listed::all_findings;
 pub use reading::{StatementErrors, statement_errors};
 pub use reason::{
     CertainTrap, FormReason, LabelText, LimitReason, MissingLabel, Reason, WarningReason,
 };
 pub use report::{ProgramWarnings, Report, check};
+pub use saying::Said;
 pub use ways::{StatementWarnings, statement_warnings};
 pub use writing::{CheckedText, Layout, checked_text, checked_text_of};

@@ -7,8 +7,10 @@ ghost use Rattle.l6_check.specs.Marked as spec;
 ghost use Rattle.l6_check.specs.OnCard.{IsOnCard};
 ghost use Rattle.l6_check.specs.Warnings.{blanks_before};
 
+use crate::conditions::gives_condition;
 use crate::finding::Span;
 use crate::label_places::body_start;
+use crate::parts::spell_then;
 use crate::scan::{columns_from, without_blanks};
 use l6_card::Reason;
 use l6_group::{are_blank, is_blank};
@@ -24,6 +26,7 @@ pub(crate) fn marked_columns(kind: Reason, columns: &[u8], piece: Span) -> Span
     match kind {
         Reason::NoCondition | Reason::AfterExit => word_before(columns, piece),
         Reason::Unclosed => unclosed_group(columns, piece),
+        Reason::NoExit => condition_or(columns, piece),
         Reason::Column
         | Reason::ContinuesNothing
         | Reason::LabelTooLong
@@ -35,7 +38,6 @@ pub(crate) fn marked_columns(kind: Reason, columns: &[u8], piece: Span) -> Span
         | Reason::OperationForTest
         | Reason::ThenMissing
         | Reason::SecondTest
-        | Reason::NoExit
         | Reason::NoThen
         | Reason::Unfinished
         | Reason::TooManyStatements
@@ -72,6 +74,19 @@ fn unclosed_group(columns: &[u8], piece: Span) -> Span
     let inside = columns_from(columns, piece.from + 1);
     let group = first_columns(inside, next_open(inside));
     Span::on_card(piece.from, piece.from + 1 + count_solid(group))
+}
+
+/// The label of these columns, if it is spelled as a condition and THEN begins the piece; else the piece.
+fn condition_or(columns: &[u8], piece: Span) -> Span
+    requires on_card { IsOnCard piece }
+    requires width { length columns.now ≤ card_width }
+    ensures place { IsOnCard result }
+    ensures value { result ≡ spec.condition_or columns.now piece }
+{
+    if gives_condition(columns) && spell_then(columns_from(columns, piece.from)) {
+        return Span::on_card(0, body_start(columns));
+    }
+    piece
 }
 
 /// The first columns, so many of them, or all.

@@ -31,7 +31,7 @@ pub(crate) fn add_missing<'a>(
     requires room { missing.old.count + inner.most_names * length statements.now < 2 ^ 32 }
     ensures { let more = flat_map (spec.missing_in given.now.entries) statements.now in
         let most = inner.most_names * length statements.now in
-        OnOk result (inner.AreAdded more most missing.old missing.new) }
+        OnOk result (inner.AreAdded given.now.entries more most missing.old missing.new) }
 {
     for statement in statements {
         add_of_statement(given, missing, statement, part)?;
@@ -49,7 +49,7 @@ fn add_of_statement<'a>(
     requires fit { is_fit statement.now ≡ true }
     requires room { missing.old.count + inner.most_names < 2 ^ 32 }
     ensures { let more = spec.missing_in given.now.entries statement.now in
-        OnOk result (inner.AreAdded more inner.most_names missing.old missing.new) }
+        OnOk result (inner.AreAdded given.now.entries more inner.most_names missing.old missing.new) }
 {
     add_of_groups(given, missing, statement.operations(), part)?;
     add_of_exit(given, missing, statement.exit(), part)
@@ -64,7 +64,7 @@ fn add_of_groups<'a>(
 ) -> Result<(), AllocError>
     requires room { missing.old.count + 2 * length groups.now < 2 ^ 32 }
     ensures { let more = flat_map (spec.missing_in_group given.now.entries) groups.now in
-        OnOk result (inner.AreAdded more (2 * length groups.now) missing.old missing.new) }
+        OnOk result (inner.AreAdded given.now.entries more (2 * length groups.now) missing.old missing.new) }
 {
     for group in groups {
         add_of_group(given, missing, group, part)?;
@@ -81,7 +81,7 @@ fn add_of_group<'a>(
 ) -> Result<(), AllocError>
     requires room { missing.old.count + 2 < 2 ^ 32 }
     ensures { let more = spec.missing_in_group given.now.entries group.now in
-        OnOk result (inner.AreAdded more 2 missing.old missing.new) }
+        OnOk result (inner.AreAdded given.now.entries more 2 missing.old missing.new) }
 {
     match &group.reading {
         Op::Call(called, fail) => {
@@ -104,7 +104,7 @@ fn add_of_exit<'a>(
 ) -> Result<(), AllocError>
     requires room { missing.old.count + 1 < 2 ^ 32 }
     ensures { let more = spec.missing_in_exit given.now.entries exit.now in
-        OnOk result (inner.AreAdded more 1 missing.old missing.new) }
+        OnOk result (inner.AreAdded given.now.entries more 1 missing.old missing.new) }
 {
     match exit {
         Exit::Label(named) => add_if_missing(given, missing, named.card, &named.label, part),
@@ -122,7 +122,7 @@ fn add_if_given<'a>(
 ) -> Result<(), AllocError>
     requires room { missing.old.count + 1 < 2 ^ 32 }
     ensures { let more = flat_map (spec.missing_if given.now.entries card) (option_to_list label.now) in
-        OnOk result (inner.AreAdded more 1 missing.old missing.new) }
+        OnOk result (inner.AreAdded given.now.entries more 1 missing.old missing.new) }
 {
     match label {
         None => Ok(()),
@@ -140,7 +140,7 @@ fn add_if_missing<'a>(
 ) -> Result<(), AllocError>
     requires room { missing.old.count + 1 < 2 ^ 32 }
     ensures { let more = spec.missing_if given.now.entries card label.now in
-        OnOk result (inner.AreAdded more 1 missing.old missing.new) }
+        OnOk result (inner.AreAdded given.now.entries more 1 missing.old missing.new) }
 {
     if given.get(label).is_some() {
         return Ok(());
@@ -156,6 +156,7 @@ fn add_if_missing<'a>(
 fn missing_on<'a>(given: &Labels, card: u32, label: &Label, part: Part<'a>) -> Finding<'a>
     ensures said { spec.missing_said result ≡ Some (card, label.now) }
     ensures place { IsOnItsCard result }
+    ensures near { spec.SaysNearest given.now.entries result.reason }
 {
     let line = part.line_on(card);
     let columns = columns_of(line);

@@ -159,9 +159,14 @@ pub(crate) fn begin_with_then(columns: &[u8]) -> bool
     requires { length columns.now ≤ card_width }
     ensures { result ≡ spec.begin_with_then columns.now }
 {
-    if !begin_blank(columns) {
-        return false;
-    }
+    begin_blank(columns) && spell_then(columns)
+}
+
+/// Whether columns spell THEN, and perhaps more after it.
+pub(crate) fn spell_then(columns: &[u8]) -> bool
+    requires { length columns.now ≤ card_width }
+    ensures { result ≡ spec.spell_then columns.now }
+{
     let characters: Option<Spelling<'_, WIDTH>> = spelled(columns);
     match characters {
         None => false,

@@ -7,7 +7,7 @@ ghost use Rattle.l6_check.specs.Faults.{fault_of_finding};
 ghost use Rattle.l6_check.specs.Explains.{Explains};
 ghost use Rattle.l6_check.specs.Kept.{Say, AreOf};
 ghost use Rattle.l6_check.specs.OnCard.{AreOnTheirCards, StayOnTheirCards};
-ghost use Rattle.l6_check.specs.Missing.{SayMissing};
+ghost use Rattle.l6_check.specs.Missing.{AreNearest, SayMissing, StayNearest};
 ghost use Rattle.l6_check.specs.inner.Names as inner;
 ghost use Rattle.l6_check.specs.inner.Parts.{lines_in};
 ghost use Rattle.l6_check.specs.Statements as spec;
@@ -57,6 +57,8 @@ pub fn statement_errors<'a>(
     // Just the labels are missing that these statements name and no card gives.
     ensures missing { IfOk result (λ found. SayMissing given.now.entries deck.now found.missing) }
     ensures missing_places { IfOk result (λ found. AreOnTheirCards found.missing) }
+    // Each says what is nearly its label, among those that are given and the exits.
+    ensures near { IfOk result (λ found. AreNearest given.now.entries found.missing) }
 {
     let mut reading = Findings::new(alloc);
     let mut missing = Findings::new(alloc);
@@ -90,6 +92,7 @@ fn add_errors<'a>(
     ensures missing_count { OnOk result
         (missing.new.count ≤ missing.old.count + inner.most_names * part.entry.count) }
     ensures missing_places { OnOk result (StayOnTheirCards missing.old missing.new) }
+    ensures near { OnOk result (StayNearest given.now.entries missing.old missing.new) }
 {
     match read_part(alloc, part.before, part.text, part.count) {
         Ok(cards) => Ok(add_missing(given, missing, cards.statements(), part)?),

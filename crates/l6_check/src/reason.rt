@@ -22,11 +22,11 @@ pub enum Reason {
 pub struct MissingLabel {
     /// The label.
     pub label: LabelText,
-    /// One that a card gives and that is nearly the same, if there is one.
+    /// What is nearly the same, if there is such a thing: a label that a card gives, or an exit.
     pub near: Option<LabelText>,
 }
 
-/// The characters of a label. Unlike a `Label` it can be copied.
+/// The characters of a label, or of an exit. Unlike a `Label` it can be copied.
 #[derive(Clone, Copy, Debug)]
 pub struct LabelText {
     /// The characters, and places that are not used.
@@ -119,6 +119,10 @@ pub enum WarningReason {
     AlwaysTraps(CertainTrap),
     /// An operation on a further card of the statement always traps.
     LaterTraps(CertainTrap),
+    /// The statement has a condition, and the next statement follows whether that holds or not.
+    DecidesNothing,
+    /// After the statement comes a subroutine, always, which is called and named by nothing else.
+    RunsOn,
     /// Nothing in the deck defines the field whose name has this number, from 0 to 35.
     UndefinedField(u8),
     /// The deck begins as the text of an image does.

@@ -47,6 +47,10 @@ pub struct ProgramWarnings<'a> {
     pub unreached: Findings<'a>,
     /// Those of statements that have an operation which always traps.
     pub trapping: Findings<'a>,
+    /// Those of statements that have a condition, and nothing that depends on it.
+    pub idle: Findings<'a>,
+    /// Those of statements that always run on into a subroutine.
+    pub running: Findings<'a>,
     /// Those of fields that are used and not defined.
     pub fields: Findings<'a>,
 }
@@ -87,12 +91,16 @@ fn program_warnings<'a>(
         unnamed,
         unreached,
         trapping,
+        idle,
+        running,
     } = statements;
     Ok(ProgramWarnings {
         conditions,
         unnamed,
         unreached,
         trapping,
+        idle,
+        running,
         fields,
     })
 }
@@ -142,6 +150,8 @@ fn with_errors<'a>(
             unnamed: Findings::new(alloc),
             unreached: Findings::new(alloc),
             trapping: Findings::new(alloc),
+            idle: Findings::new(alloc),
+            running: Findings::new(alloc),
             fields: Findings::new(alloc),
         },
     })

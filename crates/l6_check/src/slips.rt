@@ -117,7 +117,7 @@ pub(crate) fn condition_word_advice(characters: &[u8]) -> &'static str {
             "there are no loops: an exit to a label before it repeats a statement",
         b"ELSE" | b"ELSEIF" | b"ELIF" | b"ELSIF" =>
             "there is no ELSE: the next statement follows where a test does not hold",
-        b"THEN" => "THEN follows a condition and its tests, in the same statement: + in column 1 continues it",
+        b"THEN" => "a condition and its tests come before THEN: IF (A,E,5) THEN (A,PD)",
         b"GOTO" => "there is no GOTO: an exit is the label alone, after the groups",
         b"CALL" | b"DO" => "(L,DO) calls the statement L",
         b"+" => "+ stands in column 1, where it continues a statement",

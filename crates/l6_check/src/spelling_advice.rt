@@ -2,6 +2,7 @@
 
 use crate::advice::comparison_advice;
 use crate::element::nth_element;
+use crate::finding::Finding;
 use crate::scan::{begins_with, has, has_blank_inside, has_digits_alone, letter_count};
 use crate::slips::{MAX_ADVISED, operation_advice, pointed_advice, test_advice};
 use l6_group::{Spelling, label_of, spelled};
@@ -12,13 +13,17 @@ const COMMAS: &str = "commas part the elements of a group: (A,E,5)";
 /// Advice on an assignment.
 const EQUAL: &str = "(A,E,5) makes A equal to 5";
 
-/// Advice on the spelling of an operation, which may be all that its group has.
-pub(crate) fn operation_spelling_advice(text: &[u8], is_whole: bool) -> &'static str {
+/// Advice on the spelling of an operation.
+pub(crate) fn operation_spelling_advice(finding: &Finding<'_>) -> &'static str {
+    let text = finding.text;
+    if letter_count(text) == 1 && begins_with(text, b"D") && has_five_elements(finding.group()) {
+        return "D and the field are one element, as DN in (0,DN,18,35)";
+    }
     let known = known_operation(text);
     if !known.is_empty() {
         return known;
     }
-    if is_whole {
+    if finding.is_whole_group() {
         return whole_group_advice(text);
     }
     if has(text, b'=') {
@@ -27,7 +32,15 @@ pub(crate) fn operation_spelling_advice(text: &[u8], is_whole: bool) -> &'static
     if begins_with(text, b"D") && letter_count(text) > 2 {
         return "a definition is (cd,Df,cd,cd), and the field f is one letter or digit";
     }
+    if begins_with(text, b"P") && letter_count(text) == 2 {
+        return known_operation(b"PRINT");
+    }
     missing_comma_advice(text)
+}
+
+/// Whether a group with these columns has five elements.
+fn has_five_elements(columns: &[u8]) -> bool {
+    nth_element(columns, 4).is_some() && nth_element(columns, 5).is_none()
 }
 
 /// Advice on the spelling of a test.
@@ -128,6 +141,17 @@ pub(crate) fn begins_with_slip(columns: &[u8]) -> bool {
             letter_count(first.text) != 1
                 && !known_operation(first.text).is_empty()
                 && known_operation(second.text).is_empty()
+        }
+        _ => false,
+    }
+}
+
+/// Whether the first of two elements seems to be two, with another sign than a comma between them.
+pub(crate) fn lacks_first_comma(columns: &[u8]) -> bool {
+    match nth_element(columns, 0) {
+        Some(first) if nth_element(columns, 2).is_none() => {
+            let has_sign = has(first.text, b'.') || has(first.text, b';') || has(first.text, b':');
+            letter_count(first.text) > 1 && (has_sign || has_blank_inside(first.text))
         }
         _ => false,
     }

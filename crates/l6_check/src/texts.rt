@@ -4,10 +4,11 @@ use crate::advice::{is_statement, label_advice};
 use crate::finding::{Finding, Severity};
 use crate::form_words::form_words;
 use crate::forms::plain_word_advice;
-use crate::reason::{LabelText, LimitReason, Reason, WarningReason};
-use crate::scan::letter_count;
+use crate::reason::{LabelText, LimitReason, MissingLabel, Reason, WarningReason};
+use crate::scan::{after_last, has, letter_count};
 use crate::spelling_advice::known_operation;
 use crate::warning_words::warning_words;
+use l6_group::label_of;
 use l6_prog::{DIGITS, NAMES};
 use std::{fmt, str};
 
@@ -54,8 +55,9 @@ impl fmt::Display for Severity {
 impl fmt::Display for Finding<'_> {
     fn fmt<W: fmt::Write>(&self, f: &mut fmt::Formatter<W>) -> fmt::Result {
         let words = words_of(self);
+        write_place(f, self)?;
         write_sentence(f, self, words)?;
-        write_hint(f, self, words, "    ")
+        write_hint(f, self, words, "\n    ")
     }
 }
 
@@ -66,21 +68,47 @@ pub(crate) struct WithCard<'a>(pub(crate) Finding<'a>);
 impl fmt::Display for WithCard<'_> {
     fn fmt<W: fmt::Write>(&self, f: &mut fmt::Formatter<W>) -> fmt::Result {
         let words = words_of(&self.0);
+        write_place(f, &self.0)?;
         write_sentence(f, &self.0, words)?;
         write_card(f, &self.0)?;
-        write_hint(f, &self.0, words, "      = ")
+        write_hint(f, &self.0, words, "\n      = ")
     }
 }
 
-/// Writes the card, the column and what is wrong.
+/// What is wrong, without where.
+#[derive(Clone, Copy, Debug)]
+pub(crate) struct Sentence<'a>(pub(crate) Finding<'a>);
+
+impl fmt::Display for Sentence<'_> {
+    fn fmt<W: fmt::Write>(&self, f: &mut fmt::Formatter<W>) -> fmt::Result {
+        write_sentence(f, &self.0, words_of(&self.0))
+    }
+}
+
+/// The advice on a finding, or nothing.
+#[derive(Clone, Copy, Debug)]
+pub(crate) struct Advice<'a>(pub(crate) Finding<'a>);
+
+impl fmt::Display for Advice<'_> {
+    fn fmt<W: fmt::Write>(&self, f: &mut fmt::Formatter<W>) -> fmt::Result {
+        write_hint(f, &self.0, words_of(&self.0), "")
+    }
+}
+
+/// Writes the card and the column, both from 1 on, and how bad it is.
+fn write_place<W: fmt::Write>(f: &mut fmt::Formatter<W>, finding: &Finding<'_>) -> fmt::Result {
+    let card = finding.card;
+    let column = finding.span.from.saturating_add(1);
+    let severity = finding.severity();
+    write!(f, "{card}:{column}: {severity}: ")
+}
+
+/// Writes what is wrong.
 fn write_sentence<W: fmt::Write>(
     f: &mut fmt::Formatter<W>,
     finding: &Finding<'_>,
     words: Words,
 ) -> fmt::Result {
-    let card = finding.card;
-    let column = finding.span.from.saturating_add(1);
-    let severity = finding.severity();
     let text = if words.is_quoted {
         shown(finding.text)
     } else {
@@ -88,7 +116,7 @@ fn write_sentence<W: fmt::Write>(
     };
     let front = words.front;
     let back = words.back;
-    write!(f, "{card}:{column}: {severity}: {front}{text}{back}")?;
+    write!(f, "{front}{text}{back}")?;
     match finding.reason {
         Reason::TwiceLabelled(first) => write!(f, "{first}, too"),
         Reason::Warning(WarningReason::UndefinedField(field)) => {
@@ -126,7 +154,7 @@ fn write_signs<W: fmt::Write>(f: &mut fmt::Formatter<W>, text: &[u8], sign: &str
     Ok(())
 }
 
-/// Writes advice on a finding, or the label that is nearly the one that was read, after these signs.
+/// Writes advice on a finding, or the label that is nearly the one that was read, after these signs, if there is any.
 fn write_hint<W: fmt::Write>(
     f: &mut fmt::Formatter<W>,
     finding: &Finding<'_>,
@@ -134,7 +162,12 @@ fn write_hint<W: fmt::Write>(
     signs: &str,
 ) -> fmt::Result {
     match &finding.reason {
-        Reason::NoLabel(missing) => write_nearest(f, &missing.near, words.advice, signs),
+        Reason::NoLabel(missing) => write_nearest(
+            f,
+            &nearest_for(finding, missing),
+            words.advice,
+            signs,
+        ),
         Reason::Warning(WarningReason::UndefinedField(_)) => {
             write_field_advice(f, words.advice, word_form(finding.text), signs)
         }
@@ -142,6 +175,16 @@ fn write_hint<W: fmt::Write>(
             write_advice(f, words.advice, signs)
         }
     }
+}
+
+/// What is nearly a label that is missing: no exit, where an operation names it.
+fn nearest_for(finding: &Finding<'_>, missing: &MissingLabel) -> Option<LabelText> {
+    let near = missing.near?;
+    let is_named_in_group = has(after_last(finding.before(), b')'), b'(');
+    if is_named_in_group && label_of(characters_of(&near)).is_none() {
+        return None;
+    }
+    Some(near)
 }
 
 /// How an operation is written that a chain is the word of, here or in other languages.
@@ -153,7 +196,7 @@ fn word_form(chain: &[u8]) -> &'static str {
     form
 }
 
-/// Writes advice on a line of its own after these signs, if there is any.
+/// Writes advice after these signs, if there is any.
 fn write_advice<W: fmt::Write>(
     f: &mut fmt::Formatter<W>,
     advice: &str,
@@ -162,7 +205,7 @@ fn write_advice<W: fmt::Write>(
     if advice.is_empty() {
         return Ok(());
     }
-    write!(f, "\n{signs}{advice}")
+    write!(f, "{signs}{advice}")
 }
 
 /// Writes advice on a chain with a field that nothing defines; if the chain is spelled as an operation,
@@ -176,7 +219,7 @@ fn write_field_advice<W: fmt::Write>(
     if form.is_empty() {
         return write_advice(f, advice, signs);
     }
-    write!(f, "\n{signs}the word of an operation stands second: {form}")
+    write!(f, "{signs}the word of an operation stands second: {form}")
 }
 
 /// Writes the label that is nearly the one that was read, or else advice.
@@ -190,7 +233,7 @@ fn write_nearest<W: fmt::Write>(
         None => write_advice(f, advice, signs),
         Some(near) => {
             let label = shown(characters_of(near));
-            write!(f, "\n{signs}is it `{label}`?")
+            write!(f, "{signs}is it `{label}`?")
         }
     }
 }
@@ -233,14 +276,15 @@ fn words_of(finding: &Finding<'_>) -> Words {
         Reason::Form(reason) => form_words(reason, finding),
         Reason::Limit(reason) => limit_words(reason),
         Reason::TwiceLabelled(_) => row("the label `", "` is given by card ", ""),
-        Reason::NoLabel(missing) => missing_words(text, missing.near.is_some()),
+        Reason::NoLabel(missing) => missing_words(finding, missing.near.is_some()),
         Reason::Warning(reason) => warning_words(reason),
     }
 }
 
 /// The words of a label that no card gives.
-fn missing_words(text: &[u8], is_near: bool) -> Words {
-    let advice = label_advice(text);
+fn missing_words(finding: &Finding<'_>, is_near: bool) -> Words {
+    let text = finding.text;
+    let advice = label_advice(text, finding.line);
     if !is_near && is_statement(text) {
         return row(
             "`",

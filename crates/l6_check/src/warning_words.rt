@@ -34,6 +34,16 @@ pub(crate) fn warning_words(reason: WarningReason) -> Words {
             "` begins always traps",
             trap_advice(trap),
         ),
+        WarningReason::DecidesNothing => row(
+            "the condition of `",
+            "` decides nothing: the next statement follows in any case",
+            "what it decides stands after THEN, on this card or on one with + in column 1",
+        ),
+        WarningReason::RunsOn => row(
+            "the statement `",
+            "` runs on into a subroutine",
+            "the statement after it is one that DO calls: mostly DONE is missing here",
+        ),
         WarningReason::UndefinedField(_) => {
             row(
                 "the chain `",

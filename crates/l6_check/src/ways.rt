@@ -1,5 +1,5 @@
 //! The warnings of a deck's statements: labels that are spelled as conditions are or that no statement
-//! names, and statements that no way leads to.
+//! names, and statements that no way leads to, that always trap, that decide nothing or that run on.
 
 ghost use Rattle.std.specs.Prelude.{◌≡◌, ℕ, ◌+◌, ◌-◌, ◌≤◌, min, ◌<◌, ◌^◌, ◌++◌, List, Some, length, IfOk, OnOk};
 ghost use Rattle.l6_word.specs.Lines.{lines_of};
@@ -9,6 +9,7 @@ ghost use Rattle.l6_check.specs.Kept.{Say};
 ghost use Rattle.l6_card.specs.Card.{columns_of};
 ghost use Rattle.l6_check.specs.Warnings.{blanks_before, card_if, condition_card, condition_cards};
 ghost use Rattle.l6_check.specs.Certain.{trapping_card};
+ghost use Rattle.l6_check.specs.Running.{idle_card, idle_cards, running_card, running_cards};
 ghost use Rattle.l6_check.specs.Ways as spec;
 ghost use Rattle.l6_check.specs.declared.reason.Reason.TheVariants as Reason;
 ghost use Rattle.l6_check.specs.inner.StatementTests.{passed_card, passes_at, SaysWhere};
@@ -23,6 +24,7 @@ use crate::labels::{label_finding, label_on};
 use crate::marks::is_marked;
 use crate::reached::reached_statements;
 use crate::reason::{CertainTrap, Reason, WarningReason};
+use crate::running::{called_statements, is_idle, left_to_statements, runs_on};
 use crate::scan::{columns_from, without_blanks, without_last_blanks};
 use crate::targets::named_statements;
 use l6_card::{Role, Token, columns_of, first_item, role_of};
@@ -42,6 +44,10 @@ pub struct StatementWarnings<'a> {
     pub unreached: Findings<'a>,
     /// Those of statements that have an operation which always traps.
     pub trapping: Findings<'a>,
+    /// Those of statements that have a condition, and nothing that depends on it.
+    pub idle: Findings<'a>,
+    /// Those of statements that always run on into a subroutine.
+    pub running: Findings<'a>,
 }
 
 /// A test of statements.
@@ -55,6 +61,10 @@ pub(crate) enum StatementTest {
     Unreached,
     /// It has an operation that always traps.
     Trapping,
+    /// It has a condition, and nothing that depends on it.
+    Idle,
+    /// It always runs on into a subroutine.
+    Running,
 }
 
 /// The statements of a program, and marks of them, by their numbers.
@@ -66,6 +76,10 @@ pub(crate) struct Ways<'p> {
     pub(crate) named: &'p [bool],
     /// Of those that some way leads to.
     pub(crate) reached: &'p [bool],
+    /// Of those that are called.
+    pub(crate) called: &'p [bool],
+    /// Of those to which a statement goes otherwise.
+    pub(crate) left_to: &'p [bool],
 }
 
 /// The warnings of a deck's statements, of which this is the program.
@@ -87,13 +101,21 @@ pub fn statement_warnings<'a>(
         spec.SayUnreached program.now deck.now found.unreached) }
     ensures trapping { IfOk result (λ found.
         Say trapping_card (spec.trapping_cards program.now deck.now) found.trapping) }
+    ensures idle { IfOk result (λ found.
+        Say idle_card (idle_cards program.now deck.now) found.idle) }
+    ensures running { IfOk result (λ found.
+        Say running_card (running_cards program.now deck.now) found.running) }
 {
     let named = named_statements(alloc, program)?;
     let reached = reached_statements(alloc, program)?;
+    let called = called_statements(alloc, program)?;
+    let left_to = left_to_statements(alloc, program)?;
     let ways = Ways {
         statements: program.statements(),
         named: &named,
         reached: &reached,
+        called: &called,
+        left_to: &left_to,
     };
     warnings_by(alloc, ways, deck)
 }
@@ -113,11 +135,17 @@ fn warnings_by<'a>(
         SaysWhere StatementTest.Unreached ways.entry deck.now found.unreached) }
     ensures trapping { IfOk result (λ found.
         SaysWhere StatementTest.Trapping ways.entry deck.now found.trapping) }
+    ensures idle { IfOk result (λ found.
+        SaysWhere StatementTest.Idle ways.entry deck.now found.idle) }
+    ensures running { IfOk result (λ found.
+        SaysWhere StatementTest.Running ways.entry deck.now found.running) }
 {
     let mut conditions = Findings::new(alloc);
     let mut unnamed = Findings::new(alloc);
     let mut unreached = Findings::new(alloc);
     let mut trapping = Findings::new(alloc);
+    let mut idle = Findings::new(alloc);
+    let mut running = Findings::new(alloc);
     let mut rest = deck;
     let mut card: u32 = 0;
     let mut number: u32 = 0;
@@ -129,6 +157,8 @@ fn warnings_by<'a>(
             add_if_passing(&mut unnamed, ways, StatementTest::Unnamed, first)?;
             add_if_passing(&mut unreached, ways, StatementTest::Unreached, first)?;
             add_if_passing(&mut trapping, ways, StatementTest::Trapping, first)?;
+            add_if_passing(&mut idle, ways, StatementTest::Idle, first)?;
+            add_if_passing(&mut running, ways, StatementTest::Running, first)?;
             number += 1;
         }
         rest = following;
@@ -138,6 +168,8 @@ fn warnings_by<'a>(
         unnamed,
         unreached,
         trapping,
+        idle,
+        running,
     })
 }
 
@@ -183,6 +215,8 @@ impl StatementTest {
             }
             StatementTest::Unreached => !is_marked(ways.reached, number),
             StatementTest::Trapping => has_trap(ways.statements, number),
+            StatementTest::Idle => is_idle(ways.statements, number),
+            StatementTest::Running => runs_on(ways, number),
         }
     }
 
@@ -200,6 +234,10 @@ impl StatementTest {
                 statement_on(card.card, card.line, WarningReason::UnreachedStatement)
             }
             StatementTest::Trapping => trapping_on(ways.statements, card),
+            StatementTest::Idle => {
+                statement_on(card.card, card.line, WarningReason::DecidesNothing)
+            }
+            StatementTest::Running => statement_on(card.card, card.line, WarningReason::RunsOn),
         }
     }
 }

@@ -1,12 +1,13 @@
 //! How a report is written.
 
-ghost use Rattle.std.specs.Prelude.{◌≡◌, ◌≤◌, ◌<◌, MatchOption, length, IfOk, OnOk};
+ghost use Rattle.std.specs.Prelude.{◌≡◌, ◌≤◌, ◌<◌, MatchOption, IsPermutation, length, IfOk, OnOk};
 ghost use Rattle.l6_card.specs.Numerals.{most_deck_bytes};
 ghost use Rattle.l6_check.specs.Counted as spec;
 
 use crate::fault::OutOfMemory;
 use crate::finding::Finding;
 use crate::findings::{Findings, MAX_FINDINGS};
+use crate::listed::findings_of;
 use crate::reason::Reason;
 use crate::report::{Report, check};
 use crate::texts::WithCard;
@@ -88,7 +89,7 @@ fn error_count(report: &Report<'_>) -> u32
 }
 
 /// Whether another error of a report is its first one in detail.
-fn is_in_detail(report: &Report<'_>, first: &Finding<'_>) -> bool
+pub(crate) fn is_in_detail(report: &Report<'_>, first: &Finding<'_>) -> bool
     ensures { result ≡ spec.is_in_detail report.now first.now }
 {
     has_same(&report.reading, first)
@@ -124,23 +125,7 @@ fn text_of(
     name: &str,
     layout: Layout,
 ) -> Result<String, AllocError> {
-    let mut findings = Vec::new(alloc);
-    if let Some(first) = report.first {
-        if !is_in_detail(report, &first) {
-            findings.push(first)?;
-        }
-    }
-    add_all(&mut findings, &report.reading)?;
-    add_all(&mut findings, &report.twice)?;
-    add_all(&mut findings, &report.missing)?;
-    add_all(&mut findings, &report.cards.columns)?;
-    add_all(&mut findings, &report.cards.image)?;
-    add_all(&mut findings, &report.program.conditions)?;
-    add_all(&mut findings, &report.program.unnamed)?;
-    add_all(&mut findings, &report.program.unreached)?;
-    add_all(&mut findings, &report.program.trapping)?;
-    add_all(&mut findings, &report.program.fields)?;
-    sort(&mut findings)?;
+    let findings = findings_of(alloc, report)?;
     let mut text = String::new(alloc);
     for finding in findings.iter().take(MAX_FINDINGS) {
         write_name(&mut text, name)?;
@@ -160,7 +145,8 @@ fn text_of(
 }
 
 /// Sorts findings by their cards, and those of a card by their columns.
-fn sort(findings: &mut Vec<Finding<'_>>) -> Result<(), AllocError>
+pub(crate) fn sort(findings: &mut Vec<Finding<'_>>) -> Result<(), AllocError>
+    ensures same { IsPermutation findings.old.items findings.new.items }
     ensures cards { OnOk result (spec.AreByCards findings.new.items) }
     ensures columns { OnOk result (spec.AreByColumns findings.new.items) }
 {
@@ -177,14 +163,6 @@ fn write_name(text: &mut String, name: &str) -> Result<(), AllocError> {
     write!(text, "{name}:")
 }
 
-/// Adds all findings that are kept.
-fn add_all<'a>(all: &mut Vec<Finding<'a>>, findings: &Findings<'a>) -> Result<(), AllocError> {
-    for finding in &findings.kept {
-        all.push(*finding)?;
-    }
-    Ok(())
-}
-
 /// How many warnings a report has.
 fn warning_count(report: &Report<'_>) -> u32
     ensures { result ≡ spec.warnings_of report.now }
@@ -199,5 +177,7 @@ fn warning_count(report: &Report<'_>) -> u32
         .saturating_add(program.unnamed.count)
         .saturating_add(program.unreached.count)
         .saturating_add(program.trapping.count)
+        .saturating_add(program.idle.count)
+        .saturating_add(program.running.count)
         .saturating_add(program.fields.count)
 }

@@ -9,6 +9,7 @@ use Rattle.l6_prog.specs.Statement.{Parts}
 use Rattle.l6_prog.specs.declared.operation.Op.{Op}
 use Rattle.l6_steps.specs.Row.{condition}
 use Rattle.l6_steps.specs.Step.{action_following, action_of}
+use Rattle.l6_history.specs.declared.watched.Watched.{Watched}
 use Rattle.l6_history.specs.inner.Changing.{IsRow, IsTable, action_changes, changes_some}
 
 -- ---- a row
@@ -18,9 +19,9 @@ true_all zero index = refl
 true_all (suc count) zero = refl
 true_all (suc count) (suc index) = true_all count index
 
-pub first_row : (chains : List (List ℕ)) (statement : Parts) (count : ℕ) →
-    IsRow chains statement (replicate count true)
-first_row chains statement count number none =
+pub first_row : (watched : List Watched) (statement : Parts) (count : ℕ) →
+    IsRow watched statement (replicate count true)
+first_row watched statement count number none =
     absurd (true≢false (sym (true_all count number) ∙ none))
 
 -- the entry that was set
@@ -36,15 +37,15 @@ set_here row number entry none = elim (cases_lt number (length row)) as (λ _. e
 ]
 
 -- one more entry is known
-pub set_row : (chains : List (List ℕ)) (statement : Parts) (row : List Bool) (number : ℕ)
-    (entry : Bool) → IsRow chains statement row →
-    (entry ≡ false → action_changes chains (action_of statement number) ≡ false) →
-    IsRow chains statement (slice_set row number entry)
-set_row chains statement row number entry known is other none =
-    elim (eqb_tells other number) as (λ _. action_changes chains (action_of statement other) ≡ false) [
+pub set_row : (watched : List Watched) (statement : Parts) (row : List Bool) (number : ℕ)
+    (entry : Bool) → IsRow watched statement row →
+    (entry ≡ false → action_changes watched (action_of statement number) ≡ false) →
+    IsRow watched statement (slice_set row number entry)
+set_row watched statement row number entry known is other none =
+    elim (eqb_tells other number) as (λ _. action_changes watched (action_of statement other) ≡ false) [
       | inl here ↦
           (let at : other ≡ number = here.1 in
-          ap (λ n. action_changes chains (action_of statement n)) at
+          ap (λ n. action_changes watched (action_of statement n)) at
           ∙ is (set_here row number entry
           (ap (λ n. slice_index_or (slice_set row number entry) n true) (sym at) ∙ none)))
       | inr elsewhere ↦
@@ -52,28 +53,28 @@ set_row chains statement row number entry known is other none =
     ]
 
 -- the action after the last operation is the exit
-pub exit_changes : (chains : List (List ℕ)) (statement : Parts) →
-    action_changes chains (action_of statement (length statement.operations + 1)) ≡ false
-exit_changes chains statement =
+pub exit_changes : (watched : List Watched) (statement : Parts) →
+    action_changes watched (action_of statement (length statement.operations + 1)) ≡ false
+exit_changes watched statement =
     let count = length statement.operations in
     let back : count + 1 - 1 ≡ count = omega arith in
-    ap (λ b. action_changes chains (if b then condition statement.condition statement.tests
+    ap (λ b. action_changes watched (if b then condition statement.condition statement.tests
     else action_following statement.exit (slice_get statement.operations (count + 1 - 1))))
     (ne_eqb (count + 1) 0 (λ same. omega (arith, same)))
-    ∙ ap (λ found. action_changes chains (action_following statement.exit found))
+    ∙ ap (λ found. action_changes watched (action_following statement.exit found))
     (ap (slice_get statement.operations) back
     ∙ slice_get_past statement.operations count (omega arith))
 
 -- and before it, each is an operation
-pub operation_changes : (chains : List (List ℕ)) (statement : Parts) (index : ℕ) (op : Op ℕ) →
+pub operation_changes : (watched : List Watched) (statement : Parts) (index : ℕ) (op : Op ℕ) →
     index < length statement.operations → op ≡ get_or statement.operations index op →
-    action_changes chains (action_of statement (index + 1)) ≡ changes_some chains op
-operation_changes chains statement index op within is =
+    action_changes watched (action_of statement (index + 1)) ≡ changes_some watched op
+operation_changes watched statement index op within is =
     let back : index + 1 - 1 ≡ index = omega arith in
-    ap (λ b. action_changes chains (if b then condition statement.condition statement.tests
+    ap (λ b. action_changes watched (if b then condition statement.condition statement.tests
     else action_following statement.exit (slice_get statement.operations (index + 1 - 1))))
     (ne_eqb (index + 1) 0 (λ same. omega (arith, same)))
-    ∙ ap (λ found. action_changes chains (action_following statement.exit found))
+    ∙ ap (λ found. action_changes watched (action_following statement.exit found))
     (ap (slice_get statement.operations) back
     ∙ slice_get_read statement.operations (length statement.operations) index op refl within is)
 
@@ -86,7 +87,7 @@ all_rows zero entries statement action = refl
 all_rows (suc count) entries zero action = true_all entries action
 all_rows (suc count) entries (suc statement) action = all_rows count entries statement action
 
-pub first_table : (chains : List (List ℕ)) (program : List Parts) (count entries : ℕ) →
-    IsTable chains program (replicate count (replicate entries true))
-first_table chains program count entries at none =
+pub first_table : (watched : List Watched) (program : List Parts) (count entries : ℕ) →
+    IsTable watched program (replicate count (replicate entries true))
+first_table watched program count entries at none =
     absurd (true≢false (sym (all_rows count entries at.statement at.action) ∙ none))

@@ -1,6 +1,6 @@
--- What a step leaves as it was: a chain that its action does not change reads as before.
+-- What a step leaves as it was: a chain or a word that its action does not change reads as before.
 use Rattle.std.proofs.Common.{◌≡◌, ℕ, ◌+◌, ◌%◌, ◌^◌, Bool, true, false, List, [], ◌∷◌, length, map, Option, Some, None, Ok, Err, if◌then◌else◌, refl, sym, ap, ◌∙◌, arith, true≢false}
-use Rattle.std.specs.Prelude.{◌||◌, IfOk, Result, codes, decimal, nat_le, nat_lt, ok_or, replicate, slice_index, slice_index_or, slice_set, take}
+use Rattle.std.specs.Prelude.{◌||◌, IfOk, Result, codes, decimal, nat_le, nat_lt, ok_or, replicate, slice_get, slice_index, slice_index_or, slice_set, take}
 use Rattle.std.specs.FinMap as finite
 use Rattle.std.specs.Result.{result_ok}
 use Rattle.std.proofs.lemmas.Bool.{eqb-false, lt-ltb, or_parts}
@@ -43,21 +43,33 @@ use Rattle.l6_steps.specs.Step.{action_at, action_result_at, outcome, taken_at}
 use Rattle.l6_steps.proofs.Loci.{after}
 use Rattle.l6_steps.proofs.Rows.{both, chosen}
 use Rattle.l6_history.specs.Stop.{value_of, values_of}
-use Rattle.l6_history.specs.inner.Changing.{IsTable, action_changes, changes, changes_by, changes_some, has_fields, says}
+use Rattle.l6_history.specs.declared.watched.BlockWord.{BlockWord}
+use Rattle.l6_history.specs.declared.watched.Watched.{Watched}
+use Rattle.l6_history.specs.declared.watched.Watched.TheVariants.{Chain as WatchedChain, Word as WatchedWord}
+use Rattle.l6_history.specs.inner.Changing.{IsTable, action_changes, changes, changes_by, changes_some, reads_blocks, reads_fields, says}
 
--- the first name of a chain
-abbrev first_of : List ℕ → ℕ
-first_of [] = 0
-first_of (first ∷ fields) = first
+-- what is watched is read from a bug on, which is the first name of a chain
+abbrev is_from_bug : Watched → Bool
+is_from_bug (WatchedChain chain) = true
+is_from_bug (WatchedWord at) = false
 
--- what a chain reads as is left alone: its bug, and, if it has fields, all definitions and blocks
-pub record Keeps (watched : List ℕ) (old new : Memory) : Type 0 where
-  pub bug : slice_index new.bugs (index_of (first_of watched))
+abbrev first_name : List ℕ → ℕ
+first_name [] = 0
+first_name (first ∷ fields) = first
+
+abbrev first_of : Watched → ℕ
+first_of (WatchedChain chain) = first_name chain
+first_of (WatchedWord at) = 0
+
+-- what it reads as is left alone: its bug, and, if it is read by fields or in blocks, all definitions or
+-- blocks
+pub record Keeps (watched : Watched) (old new : Memory) : Type 0 where
+  pub bug : is_from_bug watched ≡ true → slice_index new.bugs (index_of (first_of watched))
       ≡ slice_index old.bugs (index_of (first_of watched))
-  pub definitions : has_fields watched ≡ true → new.definitions ≡ old.definitions
-  pub blocks : has_fields watched ≡ true → new.blocks ≡ old.blocks
+  pub definitions : reads_fields watched ≡ true → new.definitions ≡ old.definitions
+  pub blocks : reads_blocks watched ≡ true → new.blocks ≡ old.blocks
 
--- ---- such a chain reads as before
+-- ---- it then reads as before
 -- a locus is a word of a block
 abbrev is_in_block : Locus → Bool
 is_in_block (Bug bug) = false
@@ -125,53 +137,76 @@ follow_same old new at (name ∷ names) definitions blocks same =
     (λ next is. follow_same old new next names definitions blocks
     (content_same old new next blocks is))
 
-pub value_same : (old new : Memory) (watched : List ℕ) → Keeps watched old new →
+pub value_same : (old new : Memory) (watched : Watched) → Keeps watched old new →
     value_of new watched ≡ value_of old watched
-value_same old new [] kept = refl
-value_same old new (first ∷ []) kept = ap (λ (n : ℕ). Some n) kept.bug
-value_same old new (first ∷ name ∷ names) kept =
+value_same old new (WatchedChain []) kept = refl
+value_same old new (WatchedChain (first ∷ [])) kept = ap (λ (n : ℕ). Some n) (kept.bug refl)
+value_same old new (WatchedChain (first ∷ name ∷ names)) kept =
     ap (λ (r : Result ℕ Trap). result_ok r)
     (let has = lt-ltb 1 (length (first ∷ name ∷ names)) (omega arith) in
-    follow_same old new (Bug first) (name ∷ names) (kept.definitions has) (kept.blocks has) kept.bug)
+    follow_same old new (Bug first) (name ∷ names) (kept.definitions has) (kept.blocks has)
+    (kept.bug refl))
+value_same old new (WatchedWord at) kept =
+    ap (λ b. slice_get (block_at b at.place) at.word) (kept.blocks refl)
 
 -- ---- and a step keeps it
-keeps_same : (watched : List ℕ) (memory : Memory) → Keeps watched memory memory
-keeps_same watched memory = record { bug = refl; definitions = λ _. refl; blocks = λ _. refl }
+keeps_same : (watched : Watched) (memory : Memory) → Keeps watched memory memory
+keeps_same watched memory =
+    record { bug = λ _. refl; definitions = λ _. refl; blocks = λ _. refl }
 
--- without fields all but the bugs may change
-without_fields : (watched : List ℕ) (old new : Memory) → has_fields watched ≡ false →
+-- what is read by fields is read in blocks
+in_blocks : (watched : Watched) → reads_fields watched ≡ true → reads_blocks watched ≡ true
+in_blocks (WatchedChain chain) by = by
+in_blocks (WatchedWord at) by = absurd (true≢false (sym by))
+
+-- where it is not read in blocks all but the bugs may change
+without_blocks : (watched : Watched) (old new : Memory) → reads_blocks watched ≡ false →
     new.bugs ≡ old.bugs → Keeps watched old new
-without_fields watched old new none bugs = record {
-  bug = ap (λ (words : List ℕ). slice_index words (index_of (first_of watched))) bugs;
-  definitions = λ has. absurd (true≢false (sym has ∙ none));
-  blocks = λ has. absurd (true≢false (sym has ∙ none));
+without_blocks watched old new none bugs = record {
+  bug = λ _. ap (λ (words : List ℕ). slice_index words (index_of (first_of watched))) bugs;
+  definitions = λ by. absurd (true≢false (sym (in_blocks watched by) ∙ none));
+  blocks = λ are. absurd (true≢false (sym are ∙ none));
+}
+
+-- and where it is not read by fields, all definitions
+without_fields : (watched : Watched) (old new : Memory) → reads_fields watched ≡ false →
+    new.bugs ≡ old.bugs → new.blocks ≡ old.blocks → Keeps watched old new
+without_fields watched old new none bugs blocks = record {
+  bug = λ _. ap (λ (words : List ℕ). slice_index words (index_of (first_of watched))) bugs;
+  definitions = λ by. absurd (true≢false (sym by ∙ none));
+  blocks = λ _. blocks;
 }
 
 -- what is assigned to another bug
-assign_bug : (watched : List ℕ) (old new : Memory) (bug number : ℕ) → Keeps watched old new →
+assign_bug : (watched : Watched) (old new : Memory) (bug number : ℕ) → Keeps watched old new →
     changes_by (bug ∷ []) watched ≡ false → Keeps watched old (assign new (Bug bug) number)
-assign_bug [] old new bug number kept other = absurd (true≢false other)
-assign_bug (first ∷ fields) old new bug number kept other = record {
-  bug = get_or-set_other new.bugs (index_of bug) (index_of first) (number % 2 ^ word_bits) 0
+assign_bug (WatchedChain []) old new bug number kept other = absurd (true≢false other)
+assign_bug (WatchedChain (first ∷ fields)) old new bug number kept other = record {
+  bug = λ from. get_or-set_other new.bugs (index_of bug) (index_of first) (number % 2 ^ word_bits) 0
       (eqb-false (index_of first) (index_of bug) other)
-      ∙ kept.bug;
+      ∙ kept.bug from;
+  definitions = kept.definitions;
+  blocks = kept.blocks;
+}
+assign_bug (WatchedWord at) old new bug number kept other = record {
+  bug = λ from. absurd (true≢false (sym from));
   definitions = kept.definitions;
   blocks = kept.blocks;
 }
 
 -- or to a field
-assign_field : (watched : List ℕ) (old new : Memory) (at : Locus) (number : ℕ) →
-    Keeps watched old new → IsInBlock at → has_fields watched ≡ false →
+assign_field : (watched : Watched) (old new : Memory) (at : Locus) (number : ℕ) →
+    Keeps watched old new → IsInBlock at → reads_blocks watched ≡ false →
     Keeps watched old (assign new at number)
 assign_field watched old new (Bug bug) number kept is none = absurd (true≢false (sym is))
 assign_field watched old new (Field place window) number kept is none = record {
   bug = kept.bug;
   definitions = kept.definitions;
-  blocks = λ has. absurd (true≢false (sym has ∙ none));
+  blocks = λ are. absurd (true≢false (sym are ∙ none));
 }
 
 -- so what is assigned to a chain that does not change it
-assigned : (watched : List ℕ) (old new there : Memory) (target : List ℕ) (at : Locus)
+assigned : (watched : Watched) (old new there : Memory) (target : List ℕ) (at : Locus)
     (number : ℕ) → Keeps watched old new → locus there target ≡ Ok at →
     changes_by target watched ≡ false → Keeps watched old (assign new at number)
 assigned watched old new there [] at number kept is other =
@@ -184,8 +219,8 @@ assigned watched old new there (bug ∷ name ∷ names) at number kept is other 
     (IfOk-at_ok IsInBlock is (follow_in there (Bug bug) name names)) other
 
 -- ---- action by action
--- an action may change what a chain reads as
-abbrev action_changes_one : List ℕ → Action → Bool
+-- an action may change what is watched
+abbrev action_changes_one : Watched → Action → Bool
 action_changes_one watched (operation op) = changes op watched
 action_changes_one watched action = false
 
@@ -207,7 +242,7 @@ either : {A : Type 0} (P : A → Type 0) (b : Bool) (one other : A) → P one �
 either P true one other is is_other = is
 either P false one other is is_other = is_other
 
-module _ (parameters : RunParameters) (choice : Choice) (watched : List ℕ) (memory : Memory) where
+module _ (parameters : RunParameters) (choice : Choice) (watched : Watched) (memory : Memory) where
   abbrev Leaves : ActionResult → Type 0
   Leaves action_result = Keeps watched memory action_result.memory
 
@@ -225,7 +260,7 @@ module _ (parameters : RunParameters) (choice : Choice) (watched : List ℕ) (me
   printed : (text : List ℕ) → IfOk (print parameters text memory) Leaves
   printed text =
       chosen Leaves (nat_le (length memory.output + length text) parameters.limits.output) _ _
-      (record { bug = refl; definitions = λ _. refl; blocks = λ _. refl }) tt
+      (record { bug = λ _. refl; definitions = λ _. refl; blocks = λ _. refl }) tt
 
   refused : (trap : Trap) (label : Option ℕ) → IfOk (refuse trap label memory) Leaves
   refused trap None = tt
@@ -239,12 +274,12 @@ module _ (parameters : RunParameters) (choice : Choice) (watched : List ℕ) (me
 
   -- a block more, and its place is assigned
   new-block : (words : List ℕ) (chain : List ℕ) (at : Locus) (place : ℕ) →
-      has_fields watched ≡ false → locus memory chain ≡ Ok at →
+      reads_blocks watched ≡ false → locus memory chain ≡ Ok at →
       changes_by chain watched ≡ false → Keeps watched memory (new_block memory words at place)
   new-block words chain at place none is other =
       assigned watched memory
       (record memory { blocks = finite.insert memory.blocks place words }) memory chain at place
-      (without_fields watched memory
+      (without_blocks watched memory
       (record memory { blocks = finite.insert memory.blocks place words }) none refl)
       is other
 
@@ -258,7 +293,7 @@ module _ (parameters : RunParameters) (choice : Choice) (watched : List ℕ) (me
       changes (op.Get chain size old label) watched ≡ false →
       IfOk (row parameters choice (op.Get chain size old label) memory) Leaves
   got chain size None label other =
-      let parts = or_parts (has_fields watched) (changes_by chain watched) other in
+      let parts = or_parts (reads_blocks watched) (changes_by chain watched) other in
       at_locus Leaves memory chain _
       (λ at is. both Leaves (read memory size) _
       (λ wanted. both Leaves (level_for wanted) _
@@ -266,7 +301,7 @@ module _ (parameters : RunParameters) (choice : Choice) (watched : List ℕ) (me
       (λ place. new-block (replicate (2 ^ level) 0) chain at place parts.0 is parts.1))))
   got chain size (Some old) label other =
       let parts =
-      or_parts (has_fields watched) (changes_by chain watched || changes_by old watched) other in
+      or_parts (reads_blocks watched) (changes_by chain watched || changes_by old watched) other in
       let chains = or_parts (changes_by chain watched) (changes_by old watched) parts.1 in
       at_locus Leaves memory chain _
       (λ at is. both Leaves (read memory size) _
@@ -283,7 +318,7 @@ module _ (parameters : RunParameters) (choice : Choice) (watched : List ℕ) (me
       changes (op.Duplicate chain block label) watched ≡ false →
       IfOk (row parameters choice (op.Duplicate chain block label) memory) Leaves
   duplicated chain block label other =
-      let parts = or_parts (has_fields watched) (changes_by chain watched) other in
+      let parts = or_parts (reads_blocks watched) (changes_by chain watched) other in
       at_locus Leaves memory chain _
       (λ at is. both Leaves (read memory block) _
       (λ from. both Leaves (level_at memory from) _
@@ -294,14 +329,14 @@ module _ (parameters : RunParameters) (choice : Choice) (watched : List ℕ) (me
       changes (op.Free chain value) watched ≡ false →
       IfOk (row parameters choice (op.Free chain value) memory) Leaves
   freed-kept chain value other =
-      let parts = or_parts (has_fields watched) (changes_by chain watched) other in
+      let parts = or_parts (reads_blocks watched) (changes_by chain watched) other in
       at_locus Leaves memory chain _
       (λ at is. both Leaves (level_at memory (content memory at)) _
       (λ level. both Leaves (read_or_0 memory value) _
       (λ number.
       let rest : Memory =
       record memory { blocks = finite.remove memory.blocks (content memory at) } in
-      let kept = without_fields watched memory rest parts.0 refl in
+      let kept = without_blocks watched memory rest parts.0 refl in
       either (Keeps watched memory) (lies_in (content memory at) at) rest (assign rest at number)
       kept (assigned watched memory rest memory chain at number kept is parts.1))))
 
@@ -315,10 +350,10 @@ module _ (parameters : RunParameters) (choice : Choice) (watched : List ℕ) (me
       (λ characters. chosen Leaves (nat_le characters (length (left_of parameters memory))) _ _
       (assigned watched memory (record memory { taken = memory.taken + characters }) memory chain at
       (number_of (take characters (left_of parameters memory)))
-      (record { bug = refl; definitions = λ _. refl; blocks = λ _. refl }) is other)
+      (record { bug = λ _. refl; definitions = λ _. refl; blocks = λ _. refl }) is other)
       (refused InputEnded label))))
 
-  -- each operation but those that may change the chain
+  -- each operation but those that may change it
   row-kept : (operation : Op ℕ) → changes operation watched ≡ false →
       IfOk (row parameters choice operation memory) Leaves
   row-kept (op.Set chain operand) other = combined Set chain operand other
@@ -350,27 +385,28 @@ module _ (parameters : RunParameters) (choice : Choice) (watched : List ℕ) (me
       let window : Window = record { word = index; first = from; last = to } in
       chosen Leaves (is_window window) _ _
       (without_fields watched memory
-      (record memory { definitions = slice_set memory.definitions field (Some window) }) other refl)
+      (record memory { definitions = slice_set memory.definitions field (Some window) }) other refl
+      refl)
       tt)))
   row-kept (op.SaveContent chain) other =
       both Leaves (read memory (Chain chain)) _
       (λ content. both Leaves (push content memory.saved_contents) _
-      (λ saved. record { bug = refl; definitions = λ _. refl; blocks = λ _. refl }))
+      (λ saved. record { bug = λ _. refl; definitions = λ _. refl; blocks = λ _. refl }))
   row-kept (op.RestoreContent chain) other =
       at_locus Leaves memory chain _
       (λ at is. both Leaves (pop memory.saved_contents) _
       (λ saved. assigned watched memory (record memory { saved_contents = saved.rest }) memory chain
-      at saved.latest (record { bug = refl; definitions = λ _. refl; blocks = λ _. refl }) is other))
+      at saved.latest (record { bug = λ _. refl; definitions = λ _. refl; blocks = λ _. refl }) is other))
   row-kept (op.SaveDefinition field) other =
       both Leaves (push (slice_index_or memory.definitions field None) memory.saved_definitions) _
-      (λ saved. record { bug = refl; definitions = λ _. refl; blocks = λ _. refl })
+      (λ saved. record { bug = λ _. refl; definitions = λ _. refl; blocks = λ _. refl })
   row-kept (op.RestoreDefinition field) other =
       both Leaves (pop memory.saved_definitions) _
       (λ saved. without_fields watched memory
       (record memory {
         definitions = slice_set memory.definitions field saved.latest;
         saved_definitions = saved.rest;
-      }) other refl)
+      }) other refl refl)
   row-kept (op.Get chain size old label) other = got chain size old label other
   row-kept (op.Duplicate chain block label) other = duplicated chain block label other
   row-kept (op.Free chain value) other = freed-kept chain value other
@@ -392,13 +428,13 @@ module _ (parameters : RunParameters) (choice : Choice) (watched : List ℕ) (me
   -- ---- step by step
   done-kept : (returns : List Return) → IfOk (done returns memory) Leaves
   done-kept [] = same
-  done-kept (latest ∷ earlier) = record { bug = refl; definitions = λ _. refl; blocks = λ _. refl }
+  done-kept (latest ∷ earlier) = record { bug = λ _. refl; definitions = λ _. refl; blocks = λ _. refl }
 
   fail-kept : (returns : List Return) → IfOk (fail returns memory) Leaves
   fail-kept [] = same
   fail-kept (latest ∷ earlier) =
       both Leaves (ok_or latest.fail NoFailExit) _
-      (λ label. record { bug = refl; definitions = λ _. refl; blocks = λ _. refl })
+      (λ label. record { bug = λ _. refl; definitions = λ _. refl; blocks = λ _. refl })
 
   exit-kept : (last : Exit ℕ) → IfOk (leave_by last memory) Leaves
   exit-kept Next = same
@@ -420,13 +456,13 @@ module _ (parameters : RunParameters) (choice : Choice) (watched : List ℕ) (me
       (λ action_result kept.
       record { bug = kept.bug; definitions = kept.definitions; blocks = kept.blocks })
 
-outcome_kept : (watched : List ℕ) (old : State) (result : Result ActionResult Trap) →
+outcome_kept : (watched : Watched) (old : State) (result : Result ActionResult Trap) →
     IfOk result (λ (r : ActionResult). Keeps watched old.memory r.memory) →
     Keeps watched old.memory (outcome old result).memory
 outcome_kept watched old (Ok action_result) kept = kept
 outcome_kept watched old (Err trap) kept = keeps_same watched old.memory
 
-after_kept : (rule : Rule) (context : RunContext) (old : Configuration) (watched : List ℕ)
+after_kept : (rule : Rule) (context : RunContext) (old : Configuration) (watched : Watched)
     (last : Bool) → action_changes_one watched (action_at context.program old.state.at) ≡ false →
     Keeps watched old.state.memory
     (if last then old else next_configuration rule context old).state.memory
@@ -436,35 +472,47 @@ after_kept rule context old watched false other =
     (taken-kept context.parameters (pick_at rule context old) watched old.state.memory
     (action_at context.program old.state.at) old.state.at other)
 
--- ---- and all of some chains
-first_apart : (chain : List ℕ) (chains : List (List ℕ)) (action : Action) →
-    action_changes (chain ∷ chains) action ≡ false →
-    (action_changes_one chain action ≡ false) × (action_changes chains action ≡ false)
-first_apart chain chains (condition cond tests) other = (refl, refl)
-first_apart chain chains (operation op) other =
-    or_parts (changes op chain) (changes_some chains op) other
-first_apart chain chains (exit last) other = (refl, refl)
+-- ---- and all that is watched
+first_apart : (one : Watched) (others : List Watched) (action : Action) →
+    action_changes (one ∷ others) action ≡ false →
+    (action_changes_one one action ≡ false) × (action_changes others action ≡ false)
+first_apart one others (condition cond tests) other = (refl, refl)
+first_apart one others (operation op) other =
+    or_parts (changes op one) (changes_some others op) other
+first_apart one others (exit last) other = (refl, refl)
 
 values_kept : (rule : Rule) (context : RunContext) (old : Configuration)
-    (chains : List (List ℕ)) →
-    action_changes chains (action_at context.program old.state.at) ≡ false →
-    values_of chains (configuration_after rule context old).state.memory
-    ≡ values_of chains old.state.memory
+    (watched : List Watched) →
+    action_changes watched (action_at context.program old.state.at) ≡ false →
+    values_of watched (configuration_after rule context old).state.memory
+    ≡ values_of watched old.state.memory
 values_kept rule context old [] other = refl
-values_kept rule context old (chain ∷ chains) other =
+values_kept rule context old (one ∷ others) other =
     let action = action_at context.program old.state.at in
     let after = (configuration_after rule context old).state.memory in
-    let parts = first_apart chain chains action other in
-    let kept : Keeps chain old.state.memory after =
-    after_kept rule context old chain (is_last context old.state) parts.0 in
-    ap (λ (v : Option ℕ). v ∷ values_of chains after) (value_same old.state.memory after chain kept)
-    ∙ ap (λ (vs : List (Option ℕ)). value_of old.state.memory chain ∷ vs)
-    (values_kept rule context old chains parts.1)
+    let parts = first_apart one others action other in
+    let kept : Keeps one old.state.memory after =
+    after_kept rule context old one (is_last context old.state) parts.0 in
+    ap (λ (v : Option ℕ). v ∷ values_of others after) (value_same old.state.memory after one kept)
+    ∙ ap (λ (vs : List (Option ℕ)). value_of old.state.memory one ∷ vs)
+    (values_kept rule context old others parts.1)
 
 pub known_kept : (rule : Rule) (context : RunContext) (old : Configuration)
-    (chains : List (List ℕ)) (table : List (List Bool)) → IsTable chains context.program table →
+    (watched : List Watched) (table : List (List Bool)) → IsTable watched context.program table →
     says table old.state.at ≡ false →
-    values_of chains (configuration_after rule context old).state.memory
-    ≡ values_of chains old.state.memory
-known_kept rule context old chains table known none =
-    values_kept rule context old chains (known old.state.at none)
+    values_of watched (configuration_after rule context old).state.memory
+    ≡ values_of watched old.state.memory
+known_kept rule context old watched table known none =
+    values_kept rule context old watched (known old.state.at none)
+
+-- where the word of a block is kept, all blocks are
+pub blocks_kept : (rule : Rule) (context : RunContext) (old : Configuration)
+    (at : BlockWord) (table : List (List Bool)) →
+    IsTable (WatchedWord at ∷ []) context.program table → says table old.state.at ≡ false →
+    (configuration_after rule context old).state.memory.blocks ≡ old.state.memory.blocks
+blocks_kept rule context old at table known none =
+    let action = action_at context.program old.state.at in
+    let parts = first_apart (WatchedWord at) [] action (known old.state.at none) in
+    let kept : Keeps (WatchedWord at) old.state.memory (configuration_after rule context old).state.memory =
+    after_kept rule context old (WatchedWord at) (is_last context old.state) parts.0 in
+    kept.blocks refl

@@ -1,9 +1,11 @@
+pub mod Blocks
 pub mod ChangeRows
 pub mod ClearedTests
 pub mod Kept
-pub mod LastStops
+pub mod LastMet
+pub mod Lives
 pub mod NumberedMachines
 pub mod Rings
 pub mod Sought
 pub mod ValueLists
-pub mod Watched
+pub mod Watching

@@ -1,22 +1,22 @@
 -- Where seeking ends.
 use Rattle.std.proofs.Common.{◌≡◌, ℕ, zero, suc, ◌+◌, ◌-◌, ◌<◌, ◌≤◌, Bool, true, false, List, [], ◌∷◌, Option, Some, None, if◌then◌else◌, length, refl, sym, ap, ◌∙◌, subst, arith, inl, inr}
-use Rattle.std.specs.Prelude.{◌==◌, ◌&&◌, ◌||◌, is_none, is_some, nat_lt, not, slice_index_or, unwrap_or}
+use Rattle.std.specs.Prelude.{◌==◌, ◌&&◌, ◌||◌, is_none, nat_lt, not, slice_index_or, unwrap_or}
 use Rattle.std.specs.List.{list_any}
-use Rattle.std.proofs.Math.Bool.{and-false, or-false}
-use Rattle.std.proofs.lemmas.Bool.{and_parts, cases_lt, eqb-true, le-ltb, lt-ltb, not-true, or_parts, true≢false}
-use Rattle.std.proofs.lemmas.List.{length-map}
+use Rattle.std.proofs.Math.Bool.{and-false}
+use Rattle.std.proofs.lemmas.Bool.{and_parts, cases_lt, eqb-true, le-ltb, lt-ltb, not-true, or_parts}
 use Rattle.l6_store.proofs.Least.{Answers, answers_alone, least_answers}
 use Rattle.l6_store.specs.Least.{least}
 use Rattle.l6_store.specs.Rule.{Rule}
 use Rattle.l6_steps.specs.Configuration.{state_at}
 use Rattle.l6_steps.specs.Numbering.{last_number}
 use Rattle.l6_steps.specs.State.{RunContext, State}
-use Rattle.l6_history.specs.History.{number_to}
 use Rattle.l6_prog.specs.declared.condition.Test.{Test}
-use Rattle.l6_history.specs.Stop.{Stop, changes_between, meets, some_differ, stops_at, stops_nowhere, value_of, values_of}
+use Rattle.l6_history.specs.Stop.{Stop, changes_between, meets, stops_at, stops_nowhere}
 use Rattle.l6_history.specs.Seeking.{greatest, next_stop, previous_stop, stops_back, stops_forward}
-use Rattle.l6_history.specs.inner.Seeking.{ComesTo, IsLast, IsLastIn, NoneAfter, NoneIn, later_of}
-use Rattle.l6_history.proofs.ValueLists.{none_differ}
+use Rattle.l6_history.specs.declared.seeking.Direction.{Direction}
+use Rattle.l6_history.specs.declared.seeking.Direction.TheVariants.{Forward, Back}
+use Rattle.l6_history.specs.declared.watched.Watched.{Watched}
+use Rattle.l6_history.specs.inner.Seeking.{ComesTo, ComparesValues, Goal, IsLast, IsLastIn, NoneAfter, NoneIn, goal_of, is_met_back, is_met_forward, later_of, met_to, next_met, previous_met, stop_to}
 
 -- ---- forward
 pub none_yet : (test : ℕ → Bool) (from : ℕ) → NoneAfter test from from
@@ -40,37 +40,37 @@ none_at_least test from k none = elim (cases_lt from k) as (λ _. (nat_lt from k
   | inr earlier ↦ ap (λ b. b && test k) (le-ltb from k earlier)
 ]
 
-pub next_found : (rule : Rule) (context : RunContext) (stop : Stop) (from number : ℕ) →
-    NoneAfter (stops_forward rule context stop) from number → number < last_number rule context →
-    stops_forward rule context stop (number + 1) ≡ true →
-    next_stop rule context stop from ≡ number + 1
-unfolding next_stop Answers
-next_found rule context stop from number passed below is =
+pub next_found : (rule : Rule) (context : RunContext) (goal : Goal) (from number : ℕ) →
+    NoneAfter (is_met_forward rule context goal) from number → number < last_number rule context →
+    is_met_forward rule context goal (number + 1) ≡ true →
+    next_met rule context goal from ≡ number + 1
+unfolding next_met Answers
+next_found rule context goal from number passed below is =
     let last = last_number rule context in
-    let stops = stops_forward rule context stop in
-    let test : ℕ → Bool = λ n. nat_lt from n && stops n in
+    let met = is_met_forward rule context goal in
+    let test : ℕ → Bool = λ n. nat_lt from n && met n in
     let later = lt-ltb from (number + 1) (omega (arith, passed.on)) in
     let found : least (suc last) test ≡ Some (number + 1) =
     answers_alone (suc last) test (least (suc last) test) (Some (number + 1))
     (least_answers (suc last) test) (
       omega (arith, below),
-      ap (λ b. b && stops (number + 1)) later ∙ is,
-      λ k before. none_at_least stops from k
+      ap (λ b. b && met (number + 1)) later ∙ is,
+      λ k before. none_at_least met from k
           (λ following. passed.none k following (omega (arith, before))),
     ) in
     ap (λ answer. unwrap_or answer last) found
 
-pub next_ends : (rule : Rule) (context : RunContext) (stop : Stop) (from number : ℕ) →
-    NoneAfter (stops_forward rule context stop) from number → last_number rule context ≤ number →
-    next_stop rule context stop from ≡ last_number rule context
-unfolding next_stop Answers
-next_ends rule context stop from number passed past =
+pub next_ends : (rule : Rule) (context : RunContext) (goal : Goal) (from number : ℕ) →
+    NoneAfter (is_met_forward rule context goal) from number → last_number rule context ≤ number →
+    next_met rule context goal from ≡ last_number rule context
+unfolding next_met Answers
+next_ends rule context goal from number passed past =
     let last = last_number rule context in
-    let stops = stops_forward rule context stop in
-    let test : ℕ → Bool = λ n. nat_lt from n && stops n in
+    let met = is_met_forward rule context goal in
+    let test : ℕ → Bool = λ n. nat_lt from n && met n in
     let found : least (suc last) test ≡ None =
     answers_alone (suc last) test (least (suc last) test) None (least_answers (suc last) test)
-    (λ k within. none_at_least stops from k
+    (λ k within. none_at_least met from k
     (λ following. passed.none k following (omega (arith, within, past)))) in
     ap (λ answer. unwrap_or answer last) found
 
@@ -99,7 +99,7 @@ last_more test begin end (Some n) false on before is = record {
   ];
 }
 
-greatest_found : (bound n : ℕ) (test : ℕ → Bool) → n < bound → test n ≡ true →
+pub greatest_found : (bound n : ℕ) (test : ℕ → Bool) → n < bound → test n ≡ true →
     NoneIn test (n + 1) bound → greatest bound test ≡ Some n
 unfolding greatest
 greatest_found zero n test below is none = absurd (omega (arith, below))
@@ -115,36 +115,44 @@ greatest_found (suc bound) n test below is none =
           ∙ ap (λ (k : ℕ). Some k) same)
     ]
 
-greatest_none : (bound : ℕ) (test : ℕ → Bool) → NoneIn test 0 bound → greatest bound test ≡ None
+pub greatest_none : (bound : ℕ) (test : ℕ → Bool) → NoneIn test 0 bound → greatest bound test ≡ None
 unfolding greatest
 greatest_none zero test none = refl
 greatest_none (suc bound) test none =
     ap (λ b. if b then Some bound else greatest bound test) (none bound (omega arith) (omega arith))
     ∙ greatest_none bound test (λ k from under. none k from (omega (arith, under)))
 
-pub previous_found : (rule : Rule) (context : RunContext) (stop : Stop) (number begin end n : ℕ) →
-    IsLast (stops_back rule context stop) begin end n → end ≤ number →
-    NoneIn (stops_back rule context stop) end number →
-    previous_stop rule context stop number ≡ n
-unfolding previous_stop
-previous_found rule context stop number begin end n last on none =
-    let test = stops_back rule context stop in
-    let found : greatest number test ≡ Some n =
-    greatest_found number n test (omega (arith, last.ends, on)) last.passes
-    (λ k from below. elim (cases_lt k end) as (λ _. test k ≡ false) [
-      | inl earlier ↦ last.none k from earlier
-      | inr not_earlier ↦ none k not_earlier below
-    ]) in
-    ap (λ answer. unwrap_or answer 0) found
+-- the last one of a stretch, past which there is none, is the greatest of all
+pub last_farther : (test : ℕ → Bool) (begin end number n : ℕ) → IsLast test begin end n →
+    end ≤ number → NoneIn test end number → IsLast test 0 number n
+last_farther test begin end number n last on none = record {
+  begins = omega arith;
+  ends = omega (arith, last.ends, on);
+  passes = last.passes;
+  none = λ k from below. elim (cases_lt k end) as (λ _. test k ≡ false) [
+    | inl earlier ↦ last.none k from earlier
+    | inr not_earlier ↦ none k not_earlier below
+  ];
+}
 
-pub previous_none : (rule : Rule) (context : RunContext) (stop : Stop) (number end : ℕ) →
-    NoneIn (stops_back rule context stop) end number → end ≤ 0 →
-    previous_stop rule context stop number ≡ 0
-unfolding previous_stop
-previous_none rule context stop number end none start =
-    let found = greatest_none number (stops_back rule context stop)
-    (λ k from below. none k (omega (arith, start)) below) in
-    ap (λ answer. unwrap_or answer 0) found
+-- the last number of all that pass is the greatest
+pub greatest_is : (test : ℕ → Bool) (bound : ℕ) (last : Option ℕ) → IsLastIn test 0 bound last →
+    greatest bound test ≡ last
+greatest_is test bound None none = greatest_none bound test none
+greatest_is test bound (Some n) last = greatest_found bound n test last.ends last.passes last.none
+
+-- one goes back to it, or to the start
+pub met_back : (rule : Rule) (context : RunContext) (goal : Goal) (here : ℕ) (last : Option ℕ) →
+    IsLastIn (is_met_back rule context goal) 0 here last →
+    previous_met rule context goal here ≡ unwrap_or last 0
+unfolding previous_met
+met_back rule context goal here last is =
+    ap (λ answer. unwrap_or answer 0) (greatest_is (is_met_back rule context goal) here last is)
+
+pub last_within : (test : ℕ → Bool) (bound : ℕ) (last : Option ℕ) → IsLastIn test 0 bound last →
+    unwrap_or last 0 ≤ bound
+last_within test bound None none = omega arith
+last_within test bound (Some n) last = omega (arith, last.ends)
 
 pub none_nearer : (test : ℕ → Bool) (begin end number : ℕ) → NoneIn test begin end →
     NoneIn test end number → NoneIn test begin number
@@ -155,53 +163,48 @@ none_nearer test begin end number first rest k from below =
     ]
 
 -- ---- to what is watched for
--- the values of watched chains, as they were at first
-abbrev pub is_seen : Rule → RunContext → Stop → ℕ → ℕ → Bool
-is_seen rule context stop from n =
-    stops_at stop (state_at rule context n)
-    || some_differ (values_of stop.watched (state_at rule context from).memory)
-    (values_of stop.watched (state_at rule context n).memory)
+-- what one goes to, coming from the state where one began
+abbrev pub is_seen : Rule → RunContext → Goal → ℕ → ℕ → Bool
+is_seen rule context goal from n =
+    goal.at (state_at rule context n)
+    || goal.between (state_at rule context from) (state_at rule context n)
 
-module _ (rule : Rule) (context : RunContext) (stop : Stop) (from number : ℕ)
-    (comes : ComesTo (is_seen rule context stop from) from (last_number rule context) number) where
-  abbrev values : ℕ → List (Option ℕ)
-  values n = values_of stop.watched (state_at rule context n).memory
+module _ (rule : Rule) (context : RunContext) (goal : Goal) (compares : ComparesValues goal)
+    (from number : ℕ)
+    (comes : ComesTo (is_seen rule context goal from) from (last_number rule context) number) where
+  abbrev change : ℕ → ℕ → Bool
+  change one other = goal.between (state_at rule context one) (state_at rule context other)
 
-  as_many : (n : ℕ) → length (values from) ≡ length (values n)
-  as_many n =
-      length-map stop.watched (value_of (state_at rule context from).memory)
-      ∙ sym (length-map stop.watched (value_of (state_at rule context n).memory))
-
-  -- up to a stop they never change
-  same : (n : ℕ) → from ≤ n → n < number → values from ≡ values n
-  same n on before = elim (cases_lt from n) as (λ _. values from ≡ values n) [
+  -- up to there nothing ever changes
+  same : (n : ℕ) → from ≤ n → n < number → change from n ≡ false
+  same n on before = elim (cases_lt from n) as (λ _. change from n ≡ false) [
     | inl later ↦
-        none_differ (values from) (values n) (as_many n)
-        (or_parts (stops_at stop (state_at rule context n)) (some_differ (values from) (values n))
-        (comes.none n later before)).1
-    | inr not_later ↦ (let here : from ≡ n = omega (arith, on, not_later) in ap values here)
+        (or_parts (goal.at (state_at rule context n)) (change from n) (comes.none n later before)).1
+    | inr not_later ↦
+        (let here : n ≡ from = omega (arith, on, not_later) in
+        ap (change from) here ∙ compares.unchanged (state_at rule context from))
   ]
 
-  -- so one stops at what is seen
+  -- so one goes to what is seen
   stops : (n : ℕ) → from ≤ n → n < number →
-      stops_forward rule context stop (n + 1) ≡ is_seen rule context stop from (n + 1)
-  unfolding stops_forward
+      is_met_forward rule context goal (n + 1) ≡ is_seen rule context goal from (n + 1)
+  unfolding is_met_forward
   stops n on before =
       let next = state_at rule context (n + 1) in
       let here : n + 1 - 1 ≡ n = omega arith in
-      ap (λ k. stops_at stop next || changes_between stop (state_at rule context k) next) here
-      ∙ ap (λ (old : List (Option ℕ)). stops_at stop next
-      || some_differ old (values_of stop.watched next.memory)) (sym (same n on before))
+      ap (λ k. goal.at next || goal.between (state_at rule context k) next) here
+      ∙ ap (λ b. goal.at next || b)
+      (compares.alike (state_at rule context from) (state_at rule context n) next (same n on before))
 
   passed : (end : ℕ) → from ≤ end → end < number →
-      NoneAfter (stops_forward rule context stop) from end
+      NoneAfter (is_met_forward rule context goal) from end
   passed end on before = record {
     on = on;
     none = λ k later within.
         (let back : k - 1 + 1 ≡ k = omega (arith, later) in
-        ap (stops_forward rule context stop) (sym back)
+        ap (is_met_forward rule context goal) (sym back)
         ∙ stops (k - 1) (omega (arith, later)) (omega (arith, later, within, before))
-        ∙ ap (is_seen rule context stop from) back
+        ∙ ap (is_seen rule context goal from) back
         ∙ comes.none k later (omega (arith, within, before)));
   }
 
@@ -209,58 +212,58 @@ module _ (rule : Rule) (context : RunContext) (stop : Stop) (from number : ℕ)
   back : ℕ
   back = number - 1
 
-  found : from < number → stops_forward rule context stop number ≡ true →
-      number ≡ next_stop rule context stop from
+  found : from < number → is_met_forward rule context goal number ≡ true →
+      number ≡ next_met rule context goal from
   unfolding back
   found moved is =
       let next : back + 1 ≡ number = omega (arith, moved) in
       let within = comes.within in
-      sym (next_found rule context stop from back
+      sym (next_found rule context goal from back
       (passed back (omega (arith, moved)) (omega (arith, moved)))
-      (omega (arith, moved, within)) (ap (stops_forward rule context stop) next ∙ is)
+      (omega (arith, moved, within)) (ap (is_met_forward rule context goal) next ∙ is)
       ∙ next)
 
   ended : from < number → number ≡ last_number rule context →
-      stops_forward rule context stop number ≡ false → number ≡ next_stop rule context stop from
+      is_met_forward rule context goal number ≡ false → number ≡ next_met rule context goal from
   unfolding back
   ended moved last is =
       let next : back + 1 ≡ number = omega (arith, moved) in
       last
-      ∙ sym (next_ends rule context stop from number
-      (subst (NoneAfter (stops_forward rule context stop) from) next
-      (none_more (stops_forward rule context stop) from back
+      ∙ sym (next_ends rule context goal from number
+      (subst (NoneAfter (is_met_forward rule context goal) from) next
+      (none_more (is_met_forward rule context goal) from back
       (passed back (omega (arith, moved)) (omega (arith, moved)))
-      (ap (stops_forward rule context stop) next ∙ is)))
+      (ap (is_met_forward rule context goal) next ∙ is)))
       (omega (arith, last)))
 
-  at_last : (is_stop : Bool) → stops_forward rule context stop number ≡ is_stop → from < number →
-      number ≡ last_number rule context → number ≡ next_stop rule context stop from
+  at_last : (is_stop : Bool) → is_met_forward rule context goal number ≡ is_stop → from < number →
+      number ≡ last_number rule context → number ≡ next_met rule context goal from
   at_last true is moved last = found moved is
   at_last false is moved last = ended moved last is
 
-  -- the next state that is seen is the next one at which one stops
-  pub next-seen : number ≡ next_stop rule context stop from
+  -- the next state that is seen is the next one to which one goes
+  pub next-seen : number ≡ next_met rule context goal from
   unfolding back
   next-seen = elim (cases_lt number (last_number rule context))
-      as (λ _. number ≡ next_stop rule context stop from) [
+      as (λ _. number ≡ next_met rule context goal from) [
         | inl below ↦
             (let seen = comes.stops below in
             let moved = seen.0 in
             let next : back + 1 ≡ number = omega (arith, moved) in
-            found moved (ap (stops_forward rule context stop) (sym next)
+            found moved (ap (is_met_forward rule context goal) (sym next)
             ∙ stops back (omega (arith, moved)) (omega (arith, moved))
-            ∙ ap (is_seen rule context stop from) next ∙ seen.1))
+            ∙ ap (is_seen rule context goal from) next ∙ seen.1))
         | inr past ↦
             (let within = comes.within in
             let last : number ≡ last_number rule context = omega (arith, within, past) in
-            elim (cases_lt from number) as (λ _. number ≡ next_stop rule context stop from) [
-              | inl moved ↦ at_last (stops_forward rule context stop number) refl moved last
+            elim (cases_lt from number) as (λ _. number ≡ next_met rule context goal from) [
+              | inl moved ↦ at_last (is_met_forward rule context goal number) refl moved last
               | inr stayed ↦
                   (let on = comes.on in
                   let here : from ≡ number = omega (arith, on, stayed) in
                   last
-                  ∙ sym (next_ends rule context stop from from
-                  (none_yet (stops_forward rule context stop) from) (omega (arith, here, last))))
+                  ∙ sym (next_ends rule context goal from from
+                  (none_yet (is_met_forward rule context goal) from) (omega (arith, here, last))))
             ])
       ]
 
@@ -319,34 +322,30 @@ none_breakpoint (false ∷ breakpoints) zero none = refl
 none_breakpoint (false ∷ breakpoints) (suc statement) none =
     none_breakpoint breakpoints statement none
 
--- ---- a stretch
-pub found_back : (rule : Rule) (context there now : RunContext) (stop : Stop)
-    (here begin end n number : ℕ) → there ≡ context → now ≡ there →
-    number ≡ number_to rule now n → IsLast (stops_back rule there stop) begin end n → end ≤ here →
-    end ≤ last_number rule context → NoneIn (stops_back rule context stop) end here →
-    number ≡ previous_stop rule context stop here
-found_back rule context there now stop here begin end n number same same_now is last on within none =
-    let found : IsLast (stops_back rule context stop) begin end n =
-    subst (λ (w : RunContext). IsLast (stops_back rule w stop) begin end n) same last in
-    let far = ap (last_number rule) (same_now ∙ same) in
-    let there_is : number ≡ n = omega (arith, is, far, within, last.ends) in
-    there_is ∙ sym (previous_found rule context stop here begin end n found on none)
+-- ---- where one stops
+pub stops_next : (rule : Rule) (context : RunContext) (stop : Stop) (from : ℕ) →
+    next_met rule context (goal_of stop) from ≡ next_stop rule context stop from
+unfolding next_met next_stop is_met_forward stops_forward
+stops_next rule context stop from = refl
 
-pub none_back : (rule : Rule) (context there : RunContext) (stop : Stop) (begin end here : ℕ) →
-    there ≡ context → NoneIn (stops_back rule there stop) begin end →
-    NoneIn (stops_back rule context stop) end here → NoneIn (stops_back rule context stop) begin here
-none_back rule context there stop begin end here same none further =
-    none_nearer (stops_back rule context stop) begin end here
-    (subst (λ (w : RunContext). NoneIn (stops_back rule w stop) begin end) same none) further
+pub stops_previous : (rule : Rule) (context : RunContext) (stop : Stop) (from : ℕ) →
+    previous_met rule context (goal_of stop) from ≡ previous_stop rule context stop from
+unfolding previous_met previous_stop is_met_back stops_back
+stops_previous rule context stop from = refl
+
+pub stops_to : (rule : Rule) (context : RunContext) (stop : Stop) (direction : Direction) (from : ℕ) →
+    met_to rule context (goal_of stop) direction from ≡ stop_to rule context stop direction from
+stops_to rule context stop Forward from = stops_next rule context stop from
+stops_to rule context stop Back from = stops_previous rule context stop from
 
 -- ---- nowhere
 -- where there is nothing at which one would stop, one does not stop
-abbrev made : List Bool → List (Option Test) → Bool → List (List ℕ) → Option ℕ → Stop
+abbrev made : List Bool → List (Option Test) → Bool → List Watched → Option ℕ → Stop
 made breakpoints tests each watched depth =
     record { breakpoints = breakpoints; tests = tests; each = each; watched = watched; depth = depth }
 
 nowhere_parts : (breakpoints : List Bool) (tests : List (Option Test)) (each : Bool)
-    (watched : List (List ℕ)) (depth : Option ℕ) (state before after : State) →
+    (watched : List Watched) (depth : Option ℕ) (state before after : State) →
     stops_nowhere (made breakpoints tests each watched depth) ≡ true →
     (stops_at (made breakpoints tests each watched depth) state
     || changes_between (made breakpoints tests each watched depth) before after) ≡ false

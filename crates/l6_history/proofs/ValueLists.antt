@@ -1,14 +1,12 @@
 -- What is seen of a state, value by value.
 use Rattle.std.proofs.Common.{◌≡◌, ℕ, ◌+◌, ◌<◌, Bool, false, List, [], ◌∷◌, Option, Some, None, drop, length, get_or, refl, sym, ap, ◌∙◌, arith, inl, inr}
 use Rattle.std.specs.Prelude.{◌||◌, ◌==◌, not}
-use Rattle.std.specs.Result.{result_ok}
 use Rattle.std.proofs.lemmas.Bool.{eqb-true, not-false, or_parts}
 use Rattle.std.proofs.lemmas.Bool.Decides.{eqb_tells}
 use Rattle.std.proofs.lemmas.List.{drop_more, get_or-map}
-use Rattle.l6_prog.specs.declared.operand.Operand.TheVariants.{Chain}
-use Rattle.l6_steps.specs.Locus.{read}
 use Rattle.l6_steps.specs.State.{Memory}
 use Rattle.l6_history.specs.Stop.{differs, some_differ, value_of, values_of}
+use Rattle.l6_history.specs.declared.watched.Watched.{Watched}
 
 -- whether some differ from here on is said by the next ones and by those after them
 pub differ_more : (old new : List (Option ℕ)) (index : ℕ) (kept value : Option ℕ) (changes : Bool) →
@@ -45,14 +43,14 @@ none_differ (one ∷ ones) (other ∷ others) many same =
     ap (λ o. o ∷ ones) (same_value one other parts.0)
     ∙ ap (λ l. other ∷ l) (none_differ ones others (omega (arith, many)) parts.1)
 
--- what a chain reads as is the value at its index
-pub read_as : (chains : List (List ℕ)) (memory : Memory) (index : ℕ) (chain : List ℕ)
-    (value : Option ℕ) → index < length chains → chain ≡ get_or chains index chain →
-    value ≡ result_ok (read memory (Chain chain)) →
-    value ≡ get_or (values_of chains memory) index value
-read_as chains memory index chain value within is reads =
+-- what is watched reads as the value at its index
+pub read_as : (watched : List Watched) (memory : Memory) (index : ℕ) (one : Watched)
+    (value : Option ℕ) → index < length watched → one ≡ get_or watched index one →
+    value ≡ value_of memory one →
+    value ≡ get_or (values_of watched memory) index value
+read_as watched memory index one value within is reads =
     reads ∙ ap (value_of memory) is
-    ∙ sym (get_or-map (value_of memory) chains index chain value within)
+    ∙ sym (get_or-map (value_of memory) watched index one value within)
 
 -- what is compared with itself does not differ
 same_differs : (value : Option ℕ) → differs value value ≡ false

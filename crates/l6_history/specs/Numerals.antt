@@ -8,6 +8,6 @@ most_kept = 16
 abbrev pub stride : ℕ
 stride = 4096
 
--- how many chains may be watched at once
+-- how many chains and words may be watched at once
 abbrev pub most_watched : ℕ
 most_watched = 8

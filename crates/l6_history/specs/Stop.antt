@@ -1,22 +1,26 @@
 -- Where one stops that goes through a run, forward or back.
-use Rattle.std.specs.Prelude.{ℕ, ◌==◌, nat_le, Bool, false, true, not, ◌&&◌, ◌||◌, List, [], ◌∷◌, length, map, replicate, Option, Some, None, Result, Ok, Err, slice_index_or, is_none}
+use Rattle.std.specs.Prelude.{ℕ, ◌==◌, nat_le, Bool, false, true, not, ◌&&◌, ◌||◌, List, [], ◌∷◌, length, map, replicate, Option, Some, None, Result, Ok, Err, slice_get, slice_index_or, is_none}
 use Rattle.std.specs.List.{list_any}
 use Rattle.std.specs.Result.{result_ok}
+use Rattle.l6_store.specs.Blocks.{block_at}
 use Rattle.l6_prog.specs.declared.condition.Test.{Test}
 use Rattle.l6_prog.specs.declared.operand.Operand.TheVariants.{Chain}
 use Rattle.l6_steps.specs.Condition.{holds}
 use Rattle.l6_steps.specs.Locus.{read}
 use Rattle.l6_steps.specs.State.{Memory, State}
 use Rattle.l6_steps.specs.declared.trap.Trap.{Trap}
+use Rattle.l6_history.specs.declared.watched.BlockWord.{BlockWord}
+use Rattle.l6_history.specs.declared.watched.Watched.{Watched}
+use Rattle.l6_history.specs.declared.watched.Watched.TheVariants.{Chain as WatchedChain, Word as WatchedWord}
 
 -- one stops at the statements that have a breakpoint, where its test holds if it has one; where a watched
--- chain reads as another value than in the state from which one comes; at each statement; and where no more
+-- chain or word reads as another value than in the state from which one comes; at each statement; and where no more
 -- calls wait than this, at statements alone if one stops at each
 pub record Stop : Type 0 where
   pub breakpoints : List Bool
   pub tests : List (Option Test)
   pub each : Bool
-  pub watched : List (List ℕ)
+  pub watched : List Watched
   pub depth : Option ℕ
 
 -- one stops nowhere in a program of so many statements
@@ -71,13 +75,18 @@ is_wanted true (Some depth) state = is_at_statement state && is_shallow (Some de
 abbrev pub stops_at : Stop → State → Bool
 stops_at stop state = breaks_at stop state || is_wanted stop.each stop.depth state
 
--- what a chain reads as, or nothing where it can't be followed
-abbrev pub value_of : Memory → List ℕ → Option ℕ
-value_of memory chain = result_ok (read memory (Chain chain))
+-- the word of a block that begins at a place, or nothing where none begins or it has no such word
+abbrev pub word_of : Memory → BlockWord → Option ℕ
+word_of memory at = slice_get (block_at memory.blocks at.place) at.word
 
--- what each of some chains reads as
-abbrev pub values_of : List (List ℕ) → Memory → List (Option ℕ)
-values_of chains memory = map (value_of memory) chains
+-- what a chain reads as, or nothing where it can't be followed; or the word of a block
+abbrev pub value_of : Memory → Watched → Option ℕ
+value_of memory (WatchedChain chain) = result_ok (read memory (Chain chain))
+value_of memory (WatchedWord at) = word_of memory at
+
+-- what each of some chains and words reads as
+abbrev pub values_of : List Watched → Memory → List (Option ℕ)
+values_of watched memory = map (value_of memory) watched
 
 -- two values differ, or some of two lists do
 abbrev pub differs : Option ℕ → Option ℕ → Bool
@@ -91,7 +100,7 @@ some_differ [] others = false
 some_differ (one ∷ ones) [] = false
 some_differ (one ∷ ones) (other ∷ others) = differs one other || some_differ ones others
 
--- a watched chain reads as another value in one state than in the other
+-- a watched chain or word reads as another value in one state than in the other
 abbrev pub changes_between : Stop → State → State → Bool
 changes_between stop before after =
     some_differ (values_of stop.watched before.memory) (values_of stop.watched after.memory)

@@ -1,11 +1,12 @@
-//! Which actions may change what chains read as.
+//! Which actions may change what chains and words read as.
 //!
-//! An operation changes the bugs to which it assigns, and some change fields. After the other actions
-//! a chain that is watched reads as before, so it need not be read.
+//! An operation changes the bugs to which it assigns, and some change fields and blocks. After the other
+//! actions what is watched reads as before, so it need not be read.
 
 ghost use Rattle.std.specs.Prelude.{◌≡◌, slice_set};
-ghost use Rattle.l6_history.specs.inner.Changing.{IsRow, IsTable, changes, changes_by, changes_some, has_fields, says};
+ghost use Rattle.l6_history.specs.inner.Changing.{IsRow, IsTable, changes, changes_by, changes_some, has_fields, reads_blocks, reads_fields, says};
 
+use crate::watched::Watched;
 use l6_prog::{Chain, MAX_OPERATIONS, Op, Program, Statement};
 use l6_steps::Position;
 use std::alloc::Global;
@@ -14,8 +15,8 @@ use std::marker::Model;
 /// How many entries a row has: for the condition of a statement, and for each operation.
 const ENTRIES: usize = MAX_OPERATIONS + 1;
 
-/// For each action of a program, whether it may change what one of some chains reads as. One without an
-/// entry may. A table takes 64 bytes for each statement.
+/// For each action of a program, whether it may change what one of some chains and words reads as. One
+/// without an entry may. A table takes 64 bytes for each statement.
 #[derive(Drop)]
 pub(crate) struct ChangeTable {
     /// For each statement, what is said of its actions, in order.
@@ -32,8 +33,8 @@ impl Model for ChangeTable {
 
 impl ChangeTable {
     /// The table of a program. Where memory for it is refused it is empty.
-    pub(crate) fn new(alloc: Global, program: &Program, chains: &[Chain]) -> Self
-        ensures { IsTable chains.now program.now result }
+    pub(crate) fn new(alloc: Global, program: &Program, watched: &[Watched]) -> Self
+        ensures { IsTable watched.now program.now result }
     {
         let statements = program.statements();
         let Ok(mut rows) = vec![in alloc; [true; ENTRIES]; statements.len()] else {
@@ -42,12 +43,12 @@ impl ChangeTable {
             };
         };
         for (number, statement) in statements.iter().enumerate() {
-            rows[number] = row_of(chains, statement);
+            rows[number] = row_of(watched, statement);
         }
         ChangeTable { rows }
     }
 
-    /// Whether the action at a position may change what one of the chains reads as.
+    /// Whether the action at a position may change what one of them reads as.
     #[inline(always)]
     pub(crate) fn says(&self, at: Position) -> bool
         ensures { result ≡ says self.now at }
@@ -60,8 +61,8 @@ impl ChangeTable {
 }
 
 /// What is said of the actions of a statement.
-fn row_of(chains: &[Chain], statement: &Statement) -> [bool; ENTRIES]
-    ensures { IsRow chains.now statement.now result }
+fn row_of(watched: &[Watched], statement: &Statement) -> [bool; ENTRIES]
+    ensures { IsRow watched.now statement.now result }
 {
     let operations = statement.operations();
     let mut row = [true; ENTRIES];
@@ -69,7 +70,7 @@ fn row_of(chains: &[Chain], statement: &Statement) -> [bool; ENTRIES]
     set_entry(&mut row, 0, false);
     set_entry(&mut row, operations.len() + 1, false);
     for (index, operation) in operations.iter().enumerate() {
-        set_entry(&mut row, index + 1, changes_some(chains, operation));
+        set_entry(&mut row, index + 1, changes_some(watched, operation));
     }
     row
 }
@@ -83,15 +84,15 @@ fn set_entry(row: &mut [bool], action: usize, may_change: bool)
     }
 }
 
-/// Whether an operation may change what one of some chains reads as.
-fn changes_some(chains: &[Chain], operation: &Op) -> bool
-    ensures { result ≡ changes_some chains.now operation.now }
+/// Whether an operation may change what one of some chains and words reads as.
+fn changes_some(watched: &[Watched], operation: &Op) -> bool
+    ensures { result ≡ changes_some watched.now operation.now }
 {
-    chains.iter().any(|chain| changes(operation, chain))
+    watched.iter().any(|one| changes(operation, one))
 }
 
-/// Whether an operation may change what a chain reads as.
-fn changes(operation: &Op, watched: &Chain) -> bool
+/// Whether an operation may change what a chain or a word reads as.
+fn changes(operation: &Op, watched: &Watched) -> bool
     ensures { result ≡ changes operation.now watched.now }
 {
     match operation {
@@ -110,12 +111,12 @@ fn changes(operation: &Op, watched: &Chain) -> bool
         | Op::RestoreContent(chain)
         | Op::Input(chain, _, _) => changes_by(chain, watched),
         Op::Exchange(one, other) => changes_by(one, watched) || changes_by(other, watched),
-        Op::Define(_, _, _, _) | Op::RestoreDefinition(_) => has_fields(watched),
+        Op::Define(_, _, _, _) | Op::RestoreDefinition(_) => reads_fields(watched),
         Op::Get(chain, _, Some(old), _) => {
-            has_fields(watched) || changes_by(chain, watched) || changes_by(old, watched)
+            reads_blocks(watched) || changes_by(chain, watched) || changes_by(old, watched)
         }
         Op::Get(chain, _, None, _) | Op::Duplicate(chain, _, _) | Op::Free(chain, _) => {
-            has_fields(watched) || changes_by(chain, watched)
+            reads_blocks(watched) || changes_by(chain, watched)
         }
         Op::SaveContent(_)
         | Op::SaveDefinition(_)
@@ -128,15 +129,38 @@ fn changes(operation: &Op, watched: &Chain) -> bool
     }
 }
 
-/// Whether an assignment to a chain may change what another reads as: where it is a bug, whatever
-/// begins with it, and else whatever has fields.
-fn changes_by(target: &Chain, watched: &Chain) -> bool
+/// Whether an assignment to a chain may change what is watched: where it is a bug, the chains that begin
+/// with it, and else whatever is read in blocks.
+fn changes_by(target: &Chain, watched: &Watched) -> bool
     ensures { result ≡ changes_by target.now watched.now }
 {
     if has_fields(target) {
-        has_fields(watched)
-    } else {
-        target.bug().number() == watched.bug().number()
+        return reads_blocks(watched);
+    }
+    let bug = target.bug();
+    match watched {
+        Watched::Chain(chain) => bug.number() == chain.bug().number(),
+        Watched::Word(_) => false,
+    }
+}
+
+/// Whether what is watched is read in blocks: beyond its bug, or as a word of one.
+fn reads_blocks(watched: &Watched) -> bool
+    ensures { result ≡ reads_blocks watched.now }
+{
+    match watched {
+        Watched::Chain(chain) => has_fields(chain),
+        Watched::Word(_) => true,
+    }
+}
+
+/// Whether what is watched is read by fields.
+fn reads_fields(watched: &Watched) -> bool
+    ensures { result ≡ reads_fields watched.now }
+{
+    match watched {
+        Watched::Chain(chain) => has_fields(chain),
+        Watched::Word(_) => false,
     }
 }
 

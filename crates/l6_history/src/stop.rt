@@ -7,19 +7,20 @@ ghost use Rattle.l6_history.specs.Numerals.{most_watched};
 ghost use Rattle.l6_history.specs.Stop.{breaks_at, is_at_breakpoint, is_shallow, is_wanted, meets, nowhere, stops_at, stops_nowhere};
 
 use crate::testing::is_met;
+use crate::watched::Watched;
 use l6_machine::Machine;
-use l6_prog::{Chain, Name, Test};
+use l6_prog::{Name, Test};
 use l6_store::Places;
 use std::alloc::{AllocError, Global};
 use std::marker::Model;
 use std::mem;
 
-/// How many chains may be watched at once.
+/// How many chains and words may be watched at once.
 pub const MAX_WATCHED: usize = 8;
 
 /// Where one stops that goes through a run: at the conditions of statements with a breakpoint, where its
-/// test holds or meets a trap, if it has one; where a watched chain reads as another value than in the
-/// state from which one comes, or can be followed in one of the two alone; at the conditions of all
+/// test holds or meets a trap, if it has one; where a watched chain or word reads as another value than in
+/// the state from which one comes, or can be read in one of the two alone; at the conditions of all
 /// statements; and where no more than so many calls wait, at those conditions alone if one stops at each.
 #[derive(Drop)]
 pub struct Stop {
@@ -29,8 +30,8 @@ pub struct Stop {
     tests: Vec<Option<Test>>,
     /// Whether one stops at each statement.
     each: bool,
-    /// The chains that are watched, with room for all that may be.
-    watched: Vec<Chain>,
+    /// What is watched, with room for all that may be.
+    watched: Vec<Watched>,
     /// One stops where no more calls than this wait.
     depth: Option<usize>,
 }
@@ -120,23 +121,23 @@ impl Stop {
         self.each = each;
     }
 
-    /// The chains that are watched, in the order in which they were added.
-    pub fn watched(&self) -> &[Chain]
+    /// What is watched, in the order in which it was added.
+    pub fn watched(&self) -> &[Watched]
         ensures value { result.now ≡ self.now.watched }
         ensures within { length result.now ≤ most_watched }
     {
         self.watched.as_slice()
     }
 
-    /// Watches a further chain. The caller owes that fewer than `MAX_WATCHED` are watched.
-    pub fn watch(&mut self, chain: Chain)
+    /// Watches a further chain or word. The caller owes that fewer than `MAX_WATCHED` are watched.
+    pub fn watch(&mut self, watched: Watched)
         requires { length self.old.watched < most_watched }
-        ensures { self.new ≡ record self.old { watched = self.old.watched ++ chain ∷ [] } }
+        ensures { self.new ≡ record self.old { watched = self.old.watched ++ watched ∷ [] } }
     {
-        let _ = self.watched.push(chain);
+        let _ = self.watched.push(watched);
     }
 
-    /// Watches a chain no longer, by its place among those that are watched. The caller owes that
+    /// Watches a chain or a word no longer, by its place among what is watched. The caller owes that
     /// there is one.
     pub fn unwatch(&mut self, index: usize)
         requires { index < length self.old.watched }
@@ -185,12 +186,12 @@ impl Stop {
         self.breakpoints.iter().any(|breakpoint| *breakpoint)
     }
 
-    /// The bug that is watched, if it is one alone, and no other chain is.
+    /// The bug that is watched, if it is one alone, and nothing else is.
     pub(crate) fn watched_bug(&self) -> Option<Name>
-        ensures alone { IfSome result (λ bug. self.now.watched ≡ (bug ∷ []) ∷ []) }
+        ensures alone { IfSome result (λ bug. self.now.watched ≡ Watched.Chain (bug ∷ []) ∷ []) }
         ensures letter { IfSome result (λ bug. first_letter ≤ bug) }
     {
-        let [chain] = self.watched.as_slice() else {
+        let [Watched::Chain(chain)] = self.watched.as_slice() else {
             return None;
         };
         if chain.names().len() == 1 {

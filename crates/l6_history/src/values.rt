@@ -1,16 +1,16 @@
-//! What watched chains read as.
+//! What is watched reads as.
 
 ghost use Rattle.std.specs.Prelude.{◌≡◌, length};
 ghost use Rattle.l6_history.specs.Stop.{differs, some_differ, values_of};
 
 use crate::stop::{MAX_WATCHED, Stop};
+use crate::watched::Watched;
 use arrayvec::ArrayVec;
 use l6_machine::Machine;
-use l6_prog::Chain;
 use l6_store::Places;
 use l6_word::Word;
 
-/// What each chain that is watched reads as, if it can be followed.
+/// What each chain and word that is watched reads as, if it can be read.
 pub(crate) fn values_of<S: Places>(
     stop: &Stop,
     machine: &Machine<S>,
@@ -23,26 +23,26 @@ pub(crate) fn values_of<S: Places>(
     values
 }
 
-/// Whether some chains read as other values than these. The caller owes a value for each chain.
+/// Whether some of what is watched reads as other values than these. The caller owes a value for each.
 #[inline(always)]
 pub(crate) fn differ<S: Places>(
     values: &[Option<Word>],
-    chains: &[Chain],
+    watched: &[Watched],
     machine: &Machine<S>,
 ) -> bool
-    requires { length values.now ≡ length chains.now }
+    requires { length values.now ≡ length watched.now }
     ensures { result ≡ some_differ values.now
-        (values_of chains.now machine.now.configuration.state.memory) }
+        (values_of watched.now machine.now.configuration.state.memory) }
 {
-    for (index, chain) in chains.iter().enumerate() {
-        if is_other(&values[index], machine.readable_value(chain)) {
+    for (index, one) in watched.iter().enumerate() {
+        if is_other(&values[index], one.value(machine)) {
             return true;
         }
     }
     false
 }
 
-/// Whether a chain reads as another value than this.
+/// Whether a chain or a word reads as another value than this.
 #[inline(always)]
 fn is_other(value: &Option<Word>, read: Option<Word>) -> bool
     ensures { result ≡ differs value.now read }
@@ -54,12 +54,12 @@ fn is_other(value: &Option<Word>, read: Option<Word>) -> bool
     }
 }
 
-/// Makes values those that chains read as. The caller owes a value for each chain.
-pub(crate) fn see<S: Places>(values: &mut [Option<Word>], chains: &[Chain], machine: &Machine<S>)
-    requires { length values.old ≡ length chains.now }
-    ensures { values.new ≡ values_of chains.now machine.now.configuration.state.memory }
+/// Makes values those that chains and words read as. The caller owes a value for each.
+pub(crate) fn see<S: Places>(values: &mut [Option<Word>], watched: &[Watched], machine: &Machine<S>)
+    requires { length values.old ≡ length watched.now }
+    ensures { values.new ≡ values_of watched.now machine.now.configuration.state.memory }
 {
-    for (index, chain) in chains.iter().enumerate() {
-        values[index] = machine.readable_value(chain);
+    for (index, one) in watched.iter().enumerate() {
+        values[index] = one.value(machine);
     }
 }

@@ -1,7 +1,7 @@
 //! What one watches for on the way to where one stops.
 //!
-//! What a chain reads as is compared with what it read as where the watch began: up to a stop it never
-//! changes.
+//! What a chain or a word reads as is compared with what it read as where the watch began: up to a stop it
+//! never changes.
 
 ghost use Rattle.std.specs.Prelude.{◌≡◌, ◌≤◌};
 ghost use Rattle.l6_prog.specs.Numerals.{first_letter};
@@ -27,7 +27,7 @@ pub(crate) struct BreakpointWatch<'a> {
 }
 
 impl<'a> BreakpointWatch<'a> {
-    /// By a stop, without its other states and the chains that it watches.
+    /// By a stop, without its other states and what it watches.
     pub(crate) fn new(stop: &'a Stop) -> Self
         ensures { result.stop.now ≡ stop.now }
     {
@@ -62,11 +62,14 @@ impl<'a, S: Places> Watch<S> for BreakpointWatch<'a> {
 }
 
 impl<'a, S: Places> Seeker<S> for BreakpointWatch<'a> {
+    ghost use Rattle.l6_history.specs.inner.Seeking.{goal_of};
     ghost use Rattle.l6_history.specs.inner.Watches.{IsForBreakpoints};
 
-    ghost IsFor = { λ w stop _. IsForBreakpoints w.stop.now stop };
+    ghost goal = { λ w. goal_of w.stop.now };
 
-    fn begin(&mut self, _: &Stop, _: &Machine<S>) {}
+    ghost IsFor = { λ w _. IsForBreakpoints w.stop.now };
+
+    fn begin(&mut self, _: &Machine<S>) {}
 }
 
 /// One watches for breakpoints, for statements, and for how many calls wait.
@@ -76,7 +79,7 @@ pub(crate) struct StateWatch<'a> {
 }
 
 impl<'a> StateWatch<'a> {
-    /// By a stop, without the chains that it watches.
+    /// By a stop, without what it watches.
     pub(crate) fn new(stop: &'a Stop) -> Self
         ensures { result.stop.now ≡ stop.now }
     {
@@ -111,11 +114,14 @@ impl<'a, S: Places> Watch<S> for StateWatch<'a> {
 }
 
 impl<'a, S: Places> Seeker<S> for StateWatch<'a> {
+    ghost use Rattle.l6_history.specs.inner.Seeking.{goal_of};
     ghost use Rattle.l6_history.specs.inner.Watches.{IsForStates};
 
-    ghost IsFor = { λ w stop _. IsForStates w.stop.now stop };
+    ghost goal = { λ w. goal_of w.stop.now };
 
-    fn begin(&mut self, _: &Stop, _: &Machine<S>) {}
+    ghost IsFor = { λ w _. IsForStates w.stop.now };
+
+    fn begin(&mut self, _: &Machine<S>) {}
 }
 
 /// One watches what a bug holds, too.
@@ -183,20 +189,23 @@ impl<'a, S: Places> Watch<S> for BugWatch<'a> {
 }
 
 impl<'a, S: Places> Seeker<S> for BugWatch<'a> {
+    ghost use Rattle.l6_history.specs.inner.Seeking.{goal_of};
     ghost use Rattle.l6_history.specs.inner.Watches.{IsForBug};
 
-    ghost IsFor = { λ w stop _. IsForBug w stop };
+    ghost goal = { λ w. goal_of w.stop };
 
-    fn begin(&mut self, _: &Stop, machine: &Machine<S>) {
+    ghost IsFor = { λ w _. IsForBug w };
+
+    fn begin(&mut self, machine: &Machine<S>) {
         self.word = machine.bug(self.bug);
     }
 }
 
-/// One watches what chains read as, too.
+/// One watches what chains and words read as, too.
 #[derive(Drop)]
 pub(crate) struct ChainWatch<'a> {
     stop: &'a Stop,
-    /// What each watched chain read as where the watch began, if it could be followed.
+    /// What each watched chain and word read as where the watch began, if it could be read.
     values: ArrayVec<Option<Word>, MAX_WATCHED>,
     /// For each action of the program, whether it may change that.
     table: ChangeTable,
@@ -218,7 +227,7 @@ impl<'a> Model for ChainWatch<'a> {
 }
 
 impl<'a> ChainWatch<'a> {
-    /// By a stop, as a machine has its chains.
+    /// By a stop, as a machine has what it watches.
     pub(crate) fn new<S: Places>(alloc: Global, stop: &'a Stop, machine: &Machine<S>) -> Self
         ensures stop { result.stop ≡ stop.now }
         ensures values { result.values
@@ -260,16 +269,19 @@ impl<'a, S: Places> Watch<S> for ChainWatch<'a> {
 }
 
 impl<'a, S: Places> Seeker<S> for ChainWatch<'a> {
+    ghost use Rattle.l6_history.specs.inner.Seeking.{goal_of};
     ghost use Rattle.l6_history.specs.inner.Watches.{IsForChains};
+
+    ghost goal = { λ w. goal_of w.stop };
 
     ghost IsFor = { IsForChains };
 
-    fn begin(&mut self, _: &Stop, machine: &Machine<S>) {
+    fn begin(&mut self, machine: &Machine<S>) {
         see(self.values.as_mut_slice(), self.stop.watched(), machine);
     }
 }
 
-/// One watches what chains read as alone: there is no state at which one stops.
+/// One watches what chains and words read as alone: there is no state at which one stops.
 #[derive(Drop)]
 pub(crate) struct ChangeWatch<'a> {
     chains: ChainWatch<'a>,
@@ -284,7 +296,7 @@ impl<'a> Model for ChangeWatch<'a> {
 }
 
 impl<'a> ChangeWatch<'a> {
-    /// The chains of a watch, without the states at which one stops.
+    /// What a watch reads, without the states at which one stops.
     pub(crate) fn new(chains: ChainWatch<'a>) -> Self
         ensures { result ≡ chains.entry }
     {
@@ -319,11 +331,15 @@ impl<'a, S: Places> Watch<S> for ChangeWatch<'a> {
 }
 
 impl<'a, S: Places> Seeker<S> for ChangeWatch<'a> {
+    ghost use Rattle.l6_history.specs.inner.Seeking.{goal_of};
     ghost use Rattle.l6_history.specs.inner.Watches.{IsForChanges};
+
+    ghost goal = { λ w. goal_of w.stop };
 
     ghost IsFor = { IsForChanges };
 
-    fn begin(&mut self, stop: &Stop, machine: &Machine<S>) {
-        self.chains.begin(stop, machine);
+    fn begin(&mut self, machine: &Machine<S>) {
+        let stop = self.chains.stop;
+        see(self.chains.values.as_mut_slice(), stop.watched(), machine);
     }
 }

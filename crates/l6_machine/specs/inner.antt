@@ -1,3 +1,4 @@
 pub mod Fields
+pub mod Flow
 pub mod Progress
 pub mod CompiledProgram

@@ -7,6 +7,7 @@ mod execution;
 mod fault;
 mod fields;
 mod finding;
+mod flow;
 mod machine;
 mod options;
 mod printing;

@@ -1,6 +1,6 @@
 -- What is true of each session to which commands lead.
-use Rattle.std.proofs.Common.{◌≡◌, ℕ, zero, suc, ◌+◌, ◌-◌, ◌<◌, ◌≤◌, Bool, true, false, List, [], ◌∷◌, ◌++◌, Option, Some, None, if◌then◌else◌, length, refl, sym, ap, ◌∙◌, subst, arith, inl, inr}
-use Rattle.std.specs.Prelude.{◌==◌, ◌&&◌, min, nat_lt, replicate, slice_index_or, slice_set, unwrap_or, ⊤}
+use Rattle.std.proofs.Common.{◌≡◌, ℕ, zero, suc, ◌+◌, ◌-◌, ◌≤◌, Bool, true, false, List, [], ◌∷◌, ◌++◌, Option, Some, None, Ok, Err, if◌then◌else◌, length, refl, sym, ◌∙◌, subst, arith, inl, inr}
+use Rattle.std.specs.Prelude.{◌==◌, ◌&&◌, min, nat_lt, replicate, slice_index_or, slice_set, unwrap_or, Result, ⊤}
 use Rattle.std.specs.List.{remove}
 use Rattle.std.proofs.Math.Nat.{min-le_right}
 use Rattle.std.proofs.lemmas.Bool.{cases_lt, lt-ltb, le-ltb}
@@ -11,19 +11,23 @@ use Rattle.l6_store.specs.Least.{least, or_else}
 use Rattle.l6_store.specs.Rule.{Rule}
 use Rattle.l6_steps.specs.Configuration.{state_at}
 use Rattle.l6_steps.specs.Numbering.{last_number}
+use Rattle.l6_steps.specs.Locus.{read}
 use Rattle.l6_steps.specs.State.{RunContext}
+use Rattle.l6_steps.specs.declared.trap.Trap.{Trap}
+use Rattle.l6_history.specs.declared.watched.Watched.{Watched}
+use Rattle.l6_history.specs.declared.watched.Watched.TheVariants.{Word as WatchedWord}
 use Rattle.l6_history.specs.Numerals.{most_watched}
 use Rattle.l6_history.specs.Seeking.{greatest, next_stop, previous_stop, stops_back, stops_forward}
 use Rattle.l6_history.specs.Stop.{Stop, is_at_breakpoint, meets}
 use Rattle.l6_session.specs.Numerals.{most_displayed, most_repeats}
 use Rattle.l6_session.specs.Saved.{after_all}
-use Rattle.l6_session.specs.SessionState.{SessionState, after, at_statements, back, back_over, back_over_statement, back_statement, back_to, changed, come_to, depth_at, first_session_state, moved, number_in, on, on_statement, on_to, on_until, one_less, one_more, over, over_statement, repeated, to_depth, to_statement, with_breakpoint}
+use Rattle.l6_session.specs.SessionState.{SessionState, after, at_statements, back, back_over, back_over_statement, back_statement, back_to, changed, come_to, depth_at, first_session_state, moved, number_in, number_of_watched, on, on_statement, on_to, on_until, one_less, one_more, over, over_statement, repeated, to_depth, to_statement, with_breakpoint, word_watched}
 use Rattle.l6_session.specs.declared.command.Command.{Command}
 use Rattle.l6_session.specs.declared.command.Command.TheVariants as command
 use Rattle.l6_session.specs.declared.command.Move.{Move}
 use Rattle.l6_session.specs.declared.command.Move.TheVariants.{Step, Back, StepStatement, BackStatement, Goto, End, Next, ReverseNext, NextStatement, ReverseNextStatement, Finish, ReverseFinish, Continue, ReverseContinue, Run, Until, UntilNext}
 use Rattle.l6_session.specs.declared.command.Setting.{Setting}
-use Rattle.l6_session.specs.declared.command.Setting.TheVariants.{Break, BreakIf, TemporaryBreak, Condition, Delete, DeleteAll, Watch, Unwatch, UnwatchChain, Display, Undisplay, UndisplayChain}
+use Rattle.l6_session.specs.declared.command.Setting.TheVariants.{Break, BreakIf, TemporaryBreak, Condition, Delete, DeleteAll, Watch, Unwatch, UnwatchThis, Display, Undisplay, UndisplayChain}
 
 -- ---- lists
 -- as many statements may have breakpoints as temporary ones, and the temporary ones are breakpoints
@@ -126,7 +130,7 @@ greatest_below (suc bound) test = chosen (test bound) bound (greatest bound test
     chosen true bound other within = omega arith
     chosen false bound other within = omega (arith, within)
 
-more_few : (most : ℕ) (chains : List (List ℕ)) (chain : List ℕ) → length chains ≤ most →
+more_few : {A : Type 0} (most : ℕ) (chains : List A) (chain : A) → length chains ≤ most →
     length (one_more most chains chain) ≤ most
 more_few most chains chain few = elim (cases_lt (length chains) most) as (λ _. length (one_more most chains chain) ≤ most) [
   | inl room ↦ subst (λ (b : Bool). length (if b then chains ++ chain ∷ [] else chains) ≤ most)
@@ -135,7 +139,7 @@ more_few most chains chain few = elim (cases_lt (length chains) most) as (λ _. 
       (sym (le-ltb (length chains) most full)) few
 ]
 
-less_few : (most : ℕ) (chains : List (List ℕ)) (number : ℕ) → length chains ≤ most →
+less_few : {A : Type 0} (most : ℕ) (chains : List A) (number : ℕ) → length chains ≤ most →
     length (one_less chains number) ≤ most
 less_few most chains number few = elim (cases_lt (number - 1) (length chains)) as (λ _. length (one_less chains number) ≤ most) [
   | inl there ↦ subst (λ (b : Bool). length (if b then remove chains (number - 1) else chains) ≤ most)
@@ -201,9 +205,9 @@ module _ (rule : Rule) (context : RunContext) where
   kept-times zero leads old kept keeps = kept
   kept-times (suc n) leads old kept keeps = keeps (repeated n leads old) (kept-times n leads old kept keeps)
 
-  kept-watched : (old : SessionState) (chains : List (List ℕ)) → Kept old → length chains ≤ most_watched →
-      Kept (record old { stop = record old.stop { watched = chains } })
-  kept-watched old chains kept few = record {
+  kept-watched : (old : SessionState) (watched : List Watched) → Kept old → length watched ≤ most_watched →
+      Kept (record old { stop = record old.stop { watched = watched } })
+  kept-watched old watched kept few = record {
     covered = kept.covered;
     backed = kept.backed;
     each = kept.each;
@@ -372,15 +376,15 @@ module _ (rule : Rule) (context : RunContext) where
     watched = omega arith;
     displayed = kept.displayed;
   }
-  kept-changed old (Watch chain) kept =
-      kept-watched old (one_more most_watched old.stop.watched chain) kept
-      (more_few most_watched old.stop.watched chain kept.watched)
+  kept-changed old (Watch watched) kept =
+      kept-watched old (one_more most_watched old.stop.watched watched) kept
+      (more_few most_watched old.stop.watched watched kept.watched)
   kept-changed old (Unwatch n) kept =
       kept-watched old (one_less old.stop.watched n) kept
       (less_few most_watched old.stop.watched n kept.watched)
-  kept-changed old (UnwatchChain chain) kept =
-      kept-watched old (one_less old.stop.watched (number_in old.stop.watched chain)) kept
-      (less_few most_watched old.stop.watched (number_in old.stop.watched chain) kept.watched)
+  kept-changed old (UnwatchThis watched) kept =
+      kept-watched old (one_less old.stop.watched (number_of_watched old.stop.watched watched)) kept
+      (less_few most_watched old.stop.watched (number_of_watched old.stop.watched watched) kept.watched)
   kept-changed old (Display chain) kept =
       kept-displayed old (one_more most_displayed old.displayed chain) kept
       (more_few most_displayed old.displayed chain kept.displayed)
@@ -391,10 +395,19 @@ module _ (rule : Rule) (context : RunContext) where
       kept-displayed old (one_less old.displayed (number_in old.displayed chain)) kept
       (less_few most_displayed old.displayed (number_in old.displayed chain) kept.displayed)
 
+  kept-word : (old : SessionState) (word : ℕ) (place : Result ℕ Trap) → Kept old →
+      Kept (word_watched old word place)
+  kept-word old word (Ok place) kept =
+      kept-changed old (Watch (WatchedWord (record { place = place; word = word }))) kept
+  kept-word old word (Err trap) kept = kept
+
   kept-after : (old : SessionState) (command : Command) → Kept old → Kept (after rule context old command)
   kept-after old (command.Move to) kept = kept-moved old to kept
   kept-after old (command.Setting setting) kept = kept-changed old setting kept
   kept-after old (command.View view) kept = kept
+  kept-after old (command.WatchWord operand word) kept =
+      kept-word old word (read (state_at rule context old.number).memory operand) kept
+  kept-after old (command.Who operand) kept = kept
 
   pub kept-all : (old : SessionState) (commands : List Command) → Kept old →
       Kept (after_all rule context old commands)

@@ -1,5 +1,5 @@
 -- The commands that are saved of a session lead to it.
-use Rattle.std.proofs.Common.{◌≡◌, ℕ, zero, suc, ◌+◌, ◌-◌, ◌<◌, ◌≤◌, Bool, true, false, List, [], ◌∷◌, ◌++◌, Option, Some, None, if◌then◌else◌, length, refl, sym, ap, ◌∙◌, append_assoc, arith}
+use Rattle.std.proofs.Common.{◌≡◌, ℕ, zero, suc, ◌+◌, ◌<◌, ◌≤◌, Bool, true, false, List, [], ◌∷◌, ◌++◌, Option, Some, None, if◌then◌else◌, length, refl, sym, ap, ◌∙◌, append_assoc, arith}
 use Rattle.std.specs.Prelude.{◌==◌, ◌&&◌, map, min, nat_lt, replicate, slice_index_or, slice_set}
 use Rattle.std.proofs.Math.Seq.{set-append_seam}
 use Rattle.std.proofs.Math.Bool.{and-false}
@@ -13,6 +13,7 @@ use Rattle.l6_steps.specs.Numbering.{last_number}
 use Rattle.l6_steps.specs.State.{RunContext}
 use Rattle.l6_history.specs.Numerals.{most_watched}
 use Rattle.l6_history.specs.Stop.{meets}
+use Rattle.l6_history.specs.declared.watched.Watched.{Watched}
 use Rattle.l6_session.specs.Numerals.{most_displayed}
 use Rattle.l6_session.specs.Saved.{LeadsBack, after_all, displayed as display_command, given_tests, lasting_breaks, saved_commands, temporary_breaks, watched as watch_command}
 use Rattle.l6_session.specs.SessionState.{SessionState, after, first_session_state, with_breakpoint}
@@ -27,7 +28,7 @@ all_append : (rule : Rule) (context : RunContext) (old : SessionState) (one othe
 all_append rule context old [] other = refl
 all_append rule context old (command ∷ one) other = all_append rule context (after rule context old command) one other
 
-abbrev made : ℕ → List Bool → List (Option Test) → List Bool → List (List ℕ) → List (List ℕ) → SessionState
+abbrev made : ℕ → List Bool → List (Option Test) → List Bool → List Watched → List (List ℕ) → SessionState
 made number breakpoints tests temporary watched displayed = record {
   number = number;
   stop = record {
@@ -113,7 +114,7 @@ module _ (rule : Rule) (context : RunContext) (n : ℕ) where
   all old commands = after_all rule context old commands
 
   lasting-all : (every : List Bool) (tests : List (Option Test)) (front is temporary : List Bool) (s : ℕ)
-      (watched displayed : List (List ℕ)) → length front ≡ s → Covered is temporary →
+      (watched : List Watched) (displayed : List (List ℕ)) → length front ≡ s → Covered is temporary →
       all (made n (front ++ none_of is) (without tests) (none_of every) watched displayed)
       (lasting_breaks s is temporary)
       ≡ made n (front ++ kept_of is temporary) (without tests) (none_of every) watched displayed
@@ -148,7 +149,7 @@ module _ (rule : Rule) (context : RunContext) (n : ℕ) where
 
   -- a statement whose temporary breakpoint is not set, or was
   one-past : (tests : List (Option Test)) (front before is temporary : List Bool) (s : ℕ) (i t : Bool)
-      (watched displayed : List (List ℕ)) →
+      (watched : List Watched) (displayed : List (List ℕ)) →
       all (made n ((front ++ i ∷ []) ++ kept_of is temporary) (without tests)
       ((before ++ t ∷ []) ++ none_of temporary) watched displayed) (temporary_breaks (s + 1) temporary)
       ≡ made n ((front ++ i ∷ []) ++ is) (without tests) ((before ++ t ∷ []) ++ temporary) watched displayed →
@@ -164,7 +165,7 @@ module _ (rule : Rule) (context : RunContext) (n : ℕ) where
 
   -- a statement without one
   one-left : (tests : List (Option Test)) (front before is temporary : List Bool) (s : ℕ) (i : Bool)
-      (watched displayed : List (List ℕ)) →
+      (watched : List Watched) (displayed : List (List ℕ)) →
       all (made n (front ++ i ∷ kept_of is temporary) (without tests) (before ++ false ∷ none_of temporary)
       watched displayed) (temporary_breaks (s + 1) temporary)
       ≡ all (made n ((front ++ i ∷ []) ++ kept_of is temporary) (without tests)
@@ -176,7 +177,7 @@ module _ (rule : Rule) (context : RunContext) (n : ℕ) where
       (temporary_breaks (s + 1) temporary)) (sym (append_assoc before (false ∷ []) (none_of temporary)))
 
   once-all : (tests : List (Option Test)) (front before is temporary : List Bool) (s : ℕ)
-      (watched displayed : List (List ℕ)) → length front ≡ s → length before ≡ s → Covered is temporary →
+      (watched : List Watched) (displayed : List (List ℕ)) → length front ≡ s → length before ≡ s → Covered is temporary →
       all (made n (front ++ kept_of is temporary) (without tests) (before ++ none_of temporary) watched
       displayed) (temporary_breaks s temporary)
       ≡ made n (front ++ is) (without tests) (before ++ temporary) watched displayed
@@ -210,7 +211,7 @@ module _ (rule : Rule) (context : RunContext) (n : ℕ) where
 
   -- the tests, where those that have one have a breakpoint
   tests-past : (front is : List Bool) (given tests : List (Option Test)) (temporary : List Bool) (s : ℕ)
-      (i : Bool) (t : Option Test) (watched displayed : List (List ℕ)) →
+      (i : Bool) (t : Option Test) (watched : List Watched) (displayed : List (List ℕ)) →
       all (made n ((front ++ i ∷ []) ++ is) ((given ++ t ∷ []) ++ without tests) temporary watched displayed)
       (given_tests (s + 1) tests)
       ≡ made n ((front ++ i ∷ []) ++ is) ((given ++ t ∷ []) ++ tests) temporary watched displayed →
@@ -226,7 +227,7 @@ module _ (rule : Rule) (context : RunContext) (n : ℕ) where
       ∙ ap (λ u. made n (front ++ i ∷ is) u temporary watched displayed) (append_assoc given (t ∷ []) tests)
 
   tests-all : (front is : List Bool) (given tests : List (Option Test)) (temporary : List Bool) (s : ℕ)
-      (watched displayed : List (List ℕ)) → length front ≡ s → length given ≡ s → Backed is tests →
+      (watched : List Watched) (displayed : List (List ℕ)) → length front ≡ s → length given ≡ s → Backed is tests →
       all (made n (front ++ is) (given ++ without tests) temporary watched displayed) (given_tests s tests)
       ≡ made n (front ++ is) (given ++ tests) temporary watched displayed
   tests-all front [] given [] temporary s watched displayed same likewise backed = refl
@@ -250,13 +251,14 @@ module _ (rule : Rule) (context : RunContext) (n : ℕ) where
       (tests-all (front ++ i ∷ []) is (given ++ Some t ∷ []) tests temporary (s + 1) watched displayed
       (further front s i same) (further given s (Some t) likewise) backed.1)
 
-  one-further : (most : ℕ) (before : List (List ℕ)) (chain : List ℕ) → length before < most →
+  one-further : {A : Type 0} (most : ℕ) (before : List A) (chain : A) → length before < most →
       (if nat_lt (length before) most then before ++ chain ∷ [] else before) ≡ before ++ chain ∷ []
   one-further most before chain room =
       ap (λ b. if b then before ++ chain ∷ [] else before) (lt-ltb (length before) most room)
 
   watch-all : (breakpoints : List Bool) (tests : List (Option Test)) (temporary : List Bool)
-      (before chains displayed : List (List ℕ)) → length before + length chains ≤ most_watched →
+      (before chains : List Watched) (displayed : List (List ℕ)) →
+      length before + length chains ≤ most_watched →
       all (made n breakpoints tests temporary before displayed) (map watch_command chains)
       ≡ made n breakpoints tests temporary (before ++ chains) displayed
   watch-all breakpoints tests temporary before [] displayed few =
@@ -269,7 +271,8 @@ module _ (rule : Rule) (context : RunContext) (n : ℕ) where
       ∙ ap (λ w. made n breakpoints tests temporary w displayed) (append_assoc before (chain ∷ []) chains)
 
   display-all : (breakpoints : List Bool) (tests : List (Option Test)) (temporary : List Bool)
-      (watched before chains : List (List ℕ)) → length before + length chains ≤ most_displayed →
+      (watched : List Watched) (before chains : List (List ℕ)) →
+      length before + length chains ≤ most_displayed →
       all (made n breakpoints tests temporary watched before) (map display_command chains)
       ≡ made n breakpoints tests temporary watched (before ++ chains)
   display-all breakpoints tests temporary watched before [] few =
@@ -283,7 +286,7 @@ module _ (rule : Rule) (context : RunContext) (n : ℕ) where
 
 -- no temporary breakpoint is on the way
 goes : (rule : Rule) (context : RunContext) (number : ℕ) (breakpoints : List Bool)
-    (tests : List (Option Test)) (every : List Bool) (watched displayed : List (List ℕ)) →
+    (tests : List (Option Test)) (every : List Bool) (watched : List Watched) (displayed : List (List ℕ)) →
     number ≤ last_number rule context →
     after rule context (made 0 breakpoints tests (none_of every) watched displayed) (Move (Goto number))
     ≡ made number breakpoints tests (none_of every) watched displayed

@@ -1,10 +1,14 @@
 -- What a session answers to a command.
-use Rattle.std.specs.Prelude.{◌≡◌, ℕ, ◌==◌, nat_lt, ◌&&◌, Bool, true, false, List, ◌++◌, codes, length, slice_index_or, Option, Some, ⊤, if◌then◌else◌}
+use Rattle.std.specs.Prelude.{◌≡◌, ℕ, ◌==◌, nat_lt, ◌&&◌, Bool, true, false, List, ◌++◌, codes, length, slice_index_or, Option, Some, Result, Ok, Err, ⊤, if◌then◌else◌}
 use Rattle.l6_prog.specs.declared.condition.Test.{Test}
 use Rattle.l6_store.specs.Rule.{Rule}
 use Rattle.l6_steps.specs.Configuration.{state_at}
 use Rattle.l6_prog.specs.declared.operand.Operand.{Operand}
+use Rattle.l6_history.specs.declared.watched.Watched.{Watched}
+use Rattle.l6_history.specs.declared.watched.Watched.TheVariants.{Word as WatchedWord}
+use Rattle.l6_steps.specs.Locus.{read}
 use Rattle.l6_steps.specs.State.{Memory, RunContext, State}
+use Rattle.l6_steps.specs.declared.trap.Trap.{Trap}
 use Rattle.l6_debug.specs.Answer as batch
 use Rattle.l6_draw.specs.StoreMap.{store_map}
 use Rattle.l6_session.specs.Blocks.{draw_text, operand_block_text}
@@ -15,8 +19,9 @@ use Rattle.l6_session.specs.Names.{Names}
 use Rattle.l6_session.specs.Reports.{info_text, near_text}
 use Rattle.l6_session.specs.Saved.{saved_lines}
 use Rattle.l6_session.specs.SessionState.{SessionState}
+use Rattle.l6_session.specs.Who.{ShowsWho}
 use Rattle.l6_session.specs.Stops.{stop_text}
-use Rattle.l6_session.specs.Texts.{breakpoint_line, few_text, numbered_line, operand_text, saved_text, statement_line, waiting_text}
+use Rattle.l6_session.specs.Texts.{breakpoint_line, few_text, numbered_line, numbered_watch, operand_text, saved_text, statement_line, waiting_text}
 use Rattle.l6_session.specs.declared.before.Before.{Before}
 use Rattle.l6_session.specs.declared.command.Cards.{Cards}
 use Rattle.l6_session.specs.declared.command.Command.{Command}
@@ -24,7 +29,7 @@ use Rattle.l6_session.specs.declared.command.Command.TheVariants as command
 use Rattle.l6_session.specs.declared.command.Move.{Move}
 use Rattle.l6_session.specs.declared.command.Move.TheVariants.{Finish, ReverseFinish}
 use Rattle.l6_session.specs.declared.command.Setting.{Setting}
-use Rattle.l6_session.specs.declared.command.Setting.TheVariants.{Break, BreakIf, TemporaryBreak, Condition, Delete, DeleteAll, Watch, Unwatch, UnwatchChain, Display, Undisplay, UndisplayChain}
+use Rattle.l6_session.specs.declared.command.Setting.TheVariants.{Break, BreakIf, TemporaryBreak, Condition, Delete, DeleteAll, Watch, Unwatch, UnwatchThis, Display, Undisplay, UndisplayChain}
 use Rattle.l6_session.specs.declared.command.View.{View}
 use Rattle.l6_session.specs.declared.command.View.TheVariants.{Print, Label, PrintLabel, Block, Where, WhereFew, Stack, Show, Fields, Draw, Store, Lists, Stats, Out, Checkpoints, Info, Save, ListHere, ListBefore, ListNear, ListCards, Help, Set, Ignore, Commands}
 
@@ -52,10 +57,28 @@ abbrev pub AnswersMove : Rule → Names → RunContext → Before → Seen → S
 AnswersMove rule names context before seen new to text =
     AnswersGone (before.depth == 0 && is_finish to) rule names context before seen new text
 
--- what is said of a chain that is to be watched or displayed, of which there are more than before or not
-abbrev pub added_text : State → List ℕ → ℕ → ℕ → List ℕ → List ℕ → List ℕ
-added_text state verb before now chain refused =
-    if nat_lt before now then numbered_line state.memory verb now chain else refused
+-- what is said of a chain that is to be displayed, of which there are more than before or not
+abbrev pub displayed_text : State → ℕ → ℕ → List ℕ → List ℕ
+displayed_text state before now chain =
+    if nat_lt before now then numbered_line state.memory (codes "display ") now chain
+    else codes "Eight chains are displayed already: undisplay one of them\n"
+
+-- and of what is to be watched
+abbrev pub watched_text : Memory → Before → SessionState → Watched → List ℕ
+watched_text memory before new one =
+    if nat_lt before.watched (length new.stop.watched)
+    then numbered_watch memory (length new.stop.watched) one
+    else codes "Eight are watched already: unwatch one of them\n"
+
+-- a word of the block to which an operand leads, or why it leads nowhere
+abbrev pub word_at_text : Memory → Before → SessionState → ℕ → Operand → Result ℕ Trap → List ℕ
+word_at_text memory before new word operand (Ok place) =
+    watched_text memory before new (WatchedWord (record { place = place; word = word }))
+word_at_text memory before new word operand (Err trap) = operand_text memory operand
+
+abbrev pub word_text : Memory → Before → SessionState → ℕ → Operand → List ℕ
+word_text memory before new word operand =
+    word_at_text memory before new word operand (read memory operand)
 
 -- what is said where there are fewer than before, or not
 abbrev pub removed_text : ℕ → ℕ → List ℕ → List ℕ
@@ -89,20 +112,16 @@ setting_text rule names context before new (Delete s) =
     statement_line (codes "No breakpoint at ") names.labels s
 setting_text rule names context before new DeleteAll =
     codes "No breakpoint is set, and nothing is watched\n"
-setting_text rule names context before new (Watch chain) =
-    added_text (state_at rule context new.number) (codes "watch ") before.watched
-    (length new.stop.watched) chain
-    (codes "Eight chains are watched already: unwatch one of them\n")
+setting_text rule names context before new (Watch one) =
+    watched_text (state_at rule context new.number).memory before new one
 setting_text rule names context before new (Unwatch n) =
     removed_text before.watched (length new.stop.watched)
-    (codes "No chain that is watched has this number: see info\n")
-setting_text rule names context before new (UnwatchChain chain) =
+    (codes "Nothing that is watched has this number: see info\n")
+setting_text rule names context before new (UnwatchThis one) =
     removed_text before.watched (length new.stop.watched)
-    (codes "This chain is not watched: see info\n")
+    (codes "This is not watched: see info\n")
 setting_text rule names context before new (Display chain) =
-    added_text (state_at rule context new.number) (codes "display ") before.displayed
-    (length new.displayed) chain
-    (codes "Eight chains are displayed already: undisplay one of them\n")
+    displayed_text (state_at rule context new.number) before.displayed (length new.displayed) chain
 setting_text rule names context before new (Undisplay n) =
     removed_text before.displayed (length new.displayed)
     (codes "No chain that is displayed has this number: see info\n")
@@ -175,3 +194,7 @@ AnswersObeyed rule names listed context before seen new (command.Setting setting
     text ≡ setting_text rule names context before new setting
 AnswersObeyed rule names listed context before seen new (command.View view) text =
     ShowsView rule names listed context new view text
+AnswersObeyed rule names listed context before seen new (command.WatchWord operand word) text =
+    text ≡ word_text (state_at rule context new.number).memory before new word operand
+AnswersObeyed rule names listed context before seen new (command.Who operand) text =
+    ShowsWho rule names context new.number operand text

@@ -5,8 +5,8 @@ use Rattle.l6_steps.specs.State.{RunContext}
 use Rattle.l6_session.specs.SessionState.{SessionState, depth_at}
 use Rattle.l6_session.specs.declared.before.Before.{Before}
 
--- the number of its state, for how many returns calls waited, and how many chains were watched and
--- displayed
+-- the number of its state, for how many returns calls waited, how many chains and words were watched, and
+-- how many chains were displayed
 abbrev pub before_of : Rule → RunContext → SessionState → Before
 before_of rule context state = record {
   number = state.number;

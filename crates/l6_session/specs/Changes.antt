@@ -6,46 +6,52 @@ use Rattle.l6_word.specs.Lines.{lines_of}
 use Rattle.l6_word.specs.Window.{Window}
 use Rattle.l6_steps.specs.State.{Memory}
 use Rattle.l6_history.specs.Stop.{differs, value_of, values_of}
+use Rattle.l6_history.specs.declared.watched.Watched.{Watched}
+use Rattle.l6_history.specs.declared.watched.Watched.TheVariants.{Chain as WatchedChain, Word as WatchedWord}
 use Rattle.l6_session.specs.Numerals.{most_changes, most_printed}
-use Rattle.l6_session.specs.Texts.{chain_text, name_text, window_text}
+use Rattle.l6_session.specs.Texts.{name_text, watched_name, window_text}
 
--- how many characters had been printed, what bugs held, what fields were defined as, and what watched
--- chains read as
+-- how many characters had been printed, what bugs held, what fields were defined as, and what was
+-- watched read as
 pub record Seen : Type 0 where
   pub printed : ℕ
   pub bugs : List ℕ
   pub definitions : List (Option Window)
   pub watched : List (Option ℕ)
 
-abbrev pub seen_of : Memory → List (List ℕ) → Seen
-seen_of memory chains = record {
+abbrev pub seen_of : Memory → List Watched → Seen
+seen_of memory watched = record {
   printed = length memory.output;
   bugs = memory.bugs;
   definitions = memory.definitions;
-  watched = values_of chains memory;
+  watched = values_of watched memory;
 }
 
--- a value, or that a chain can't be followed
-abbrev pub value_text : Option ℕ → List ℕ
-value_text None = codes "can't be followed"
-value_text (Some word) = decimal word
+-- a value, or that there is none: a chain can't be followed, or a block has no such word
+abbrev pub no_value : Watched → List ℕ
+no_value (WatchedChain chain) = codes "can't be followed"
+no_value (WatchedWord at) = codes "no such word"
 
--- what a watched chain read as, and what it reads as now
-abbrev pub values_text : Option ℕ → Option ℕ → List ℕ
-values_text was is = value_text was ++ codes " -> " ++ value_text is
+abbrev pub value_text : Watched → Option ℕ → List ℕ
+value_text watched None = no_value watched
+value_text watched (Some word) = decimal word
 
-abbrev pub change_line : List ℕ → Option ℕ → Option ℕ → List ℕ
-change_line chain was is =
-    codes "      watch " ++ chain_text chain ++ codes ": " ++ values_text was is ++ codes "\n"
+-- what is watched, what it read as, and what it reads as now
+abbrev pub values_text : Watched → Option ℕ → Option ℕ → List ℕ
+values_text watched was is = value_text watched was ++ codes " -> " ++ value_text watched is
 
--- a line for each chain that reads as another value than before
-abbrev pub watch_line : List ℕ → Option ℕ → Option ℕ → List ℕ
-watch_line chain was is = if differs was is then change_line chain was is else []
+abbrev pub change_line : Watched → Option ℕ → Option ℕ → List ℕ
+change_line watched was is =
+    codes "      watch " ++ watched_name watched ++ codes ": " ++ values_text watched was is ++ codes "\n"
 
-abbrev pub watch_lines : Memory → List (Option ℕ) → List (List ℕ) → List ℕ
-watch_lines memory (was ∷ befores) (chain ∷ chains) =
-    watch_line chain was (value_of memory chain) ++ watch_lines memory befores chains
-watch_lines memory befores chains = []
+-- a line for each that reads as another value than before
+abbrev pub watch_line : Watched → Option ℕ → Option ℕ → List ℕ
+watch_line watched was is = if differs was is then change_line watched was is else []
+
+abbrev pub watch_lines : Memory → List (Option ℕ) → List Watched → List ℕ
+watch_lines memory (was ∷ befores) (one ∷ others) =
+    watch_line one was (value_of memory one) ++ watch_lines memory befores others
+watch_lines memory befores others = []
 
 -- what a bug held, and what it holds now
 abbrev pub bug_line : ℕ → ℕ → ℕ → List ℕ
@@ -121,9 +127,9 @@ printed_lines characters =
     earlier_text (length characters - most_printed)
     ++ flat_map printed_line (lines_of (drop (length characters - most_printed) characters))
 
--- what has changed: what has been printed, watched chains, and bugs and fields
-abbrev pub changes_text : Seen → Memory → List (List ℕ) → List ℕ
-changes_text seen memory chains =
+-- what has changed: what has been printed, what is watched, and bugs and fields
+abbrev pub changes_text : Seen → Memory → List Watched → List ℕ
+changes_text seen memory watched =
     printed_lines (drop seen.printed memory.output)
-    ++ watch_lines memory seen.watched chains
+    ++ watch_lines memory seen.watched watched
     ++ lines_text seen.bugs memory.bugs seen.definitions memory.definitions

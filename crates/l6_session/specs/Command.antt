@@ -15,7 +15,7 @@ use Rattle.l6_session.specs.declared.command.View.TheVariants as views
 use Rattle.l6_session.specs.declared.command.Reading.{Reading}
 use Rattle.l6_session.specs.declared.command.Reading.TheVariants as reading
 use Rattle.l6_session.specs.declared.command.Verb.{Verb}
-use Rattle.l6_session.specs.declared.command.Verb.TheVariants.{Step, Back, StepState, BackState, Next, ReverseNext, NextState, ReverseNextState, Finish, ReverseFinish, Continue, ReverseContinue, Until, Run, Goto, Start, End, List as ListCards, Break, TemporaryBreak, Enable, Disable, Delete, Condition, Info, Watch, Unwatch, Display, Undisplay, Print, Block, Where, Stack, Show, Fields, Draw, Store, Lists, Stats, Out, Checkpoints, Save, Source, Help, Quit, Set, Ignore, Commands}
+use Rattle.l6_session.specs.declared.command.Verb.TheVariants.{Step, Back, StepState, BackState, Next, ReverseNext, NextState, ReverseNextState, Finish, ReverseFinish, Continue, ReverseContinue, Until, Run, Goto, Start, End, List as ListCards, Break, TemporaryBreak, Enable, Disable, Delete, Condition, Info, Watch, Unwatch, Display, Undisplay, Print, Block, Who, Where, Stack, Show, Fields, Draw, Store, Lists, Stats, Out, Checkpoints, Save, Source, Help, Quit, Set, Ignore, Commands}
 
 -- the words of a command, between blanks; how it is written, with what follows it; what it does in a
 -- few words; and what it does in a sentence without its stop
@@ -108,11 +108,11 @@ row_of Info =
     row "INFO I" "info|i" "where one stops"
     "shows where one stops, what is watched, and what is displayed, with numbers. A breakpoint has the number of its statement"
 row_of Watch =
-    row "WATCH" "watch CHAIN" "stop at a change"
-    "stops where the chain reads as another value, or can be followed no longer; up to 8 chains"
+    row "WATCH" "watch CHAIN|*LINK[+W]" "stop at a change"
+    "stops where the chain reads as another value, or can be followed no longer; or where word W of the block, 0 without W, is another one to which LINK leads now, or the block comes or goes. LINK is a chain or a number; up to 8 chains and words are watched"
 row_of Unwatch =
     row "UNWATCH" "unwatch CHAIN|N" "watch no longer"
-    "watches a chain no longer; N is the number that it has in info"
+    "watches a chain no longer, or a word of a block, as *1024+2; N is the number that it has in info"
 row_of Display =
     row "DISPLAY" "display CHAIN" "print at stops"
     "prints the chain at each stop; up to 8 chains"
@@ -125,6 +125,9 @@ row_of Print =
 row_of Block =
     row "BLOCK X" "block|x CHAIN|NUMBER" "its block"
     "shows the words of the block to which it leads, and what the fields that are defined now show of it"
+row_of Who =
+    row "WHO" "who CHAIN|NUMBER" "got, wrote, freed it"
+    "shows by which steps the block to which it leads was got, last written and freed, if it was: the state right before each, to which goto leads. The session stays where it is"
 row_of Where =
     row "WHERE W BT BACKTRACE FRAME F UP DOWN" "where|bt [N]" "calls that wait"
     "shows where the run is, and where the calls that wait go on, the latest first; with N no more than N lines"
@@ -186,7 +189,7 @@ verbs =
     Step ∷ Back ∷ StepState ∷ BackState ∷ Next ∷ ReverseNext ∷ NextState ∷ ReverseNextState ∷
     Finish ∷ ReverseFinish ∷ Continue ∷ ReverseContinue ∷ Until ∷ Run ∷ Goto ∷ Start ∷ End ∷
     ListCards ∷ Break ∷ TemporaryBreak ∷ Enable ∷ Disable ∷ Delete ∷ Condition ∷ Info ∷ Watch ∷
-    Unwatch ∷ Display ∷ Undisplay ∷ Print ∷ Block ∷ Where ∷ Stack ∷ Show ∷ Fields ∷ Draw ∷ Store ∷
+    Unwatch ∷ Display ∷ Undisplay ∷ Print ∷ Block ∷ Who ∷ Where ∷ Stack ∷ Show ∷ Fields ∷ Draw ∷ Store ∷
     Lists ∷ Stats ∷ Out ∷ Checkpoints ∷ Save ∷ Source ∷ Help ∷ Quit ∷ Set ∷ Ignore ∷ Commands ∷ []
 
 abbrev pub moved : Move → Reading
@@ -228,6 +231,7 @@ alone Display = shown views.Info
 alone Undisplay = reading.Missing Undisplay
 alone Print = shown views.Show
 alone Block = reading.Missing Block
+alone Who = reading.Missing Who
 alone Where = shown views.Where
 alone Stack = shown views.Stack
 alone Show = shown views.Show

@@ -17,7 +17,7 @@ use Rattle.l6_session.specs.declared.command.Cards.{Cards}
 use Rattle.l6_session.specs.declared.command.Command.{Command}
 use Rattle.l6_session.specs.declared.command.Command.TheVariants as command
 use Rattle.l6_session.specs.declared.command.Setting.{Setting}
-use Rattle.l6_session.specs.declared.command.Setting.TheVariants.{Condition, Watch, Unwatch, UnwatchChain, Display, Undisplay, UndisplayChain}
+use Rattle.l6_session.specs.declared.command.Setting.TheVariants.{Condition, Watch, Unwatch, UnwatchThis, Display, Undisplay, UndisplayChain}
 use Rattle.l6_session.specs.declared.command.Reading.{Reading}
 use Rattle.l6_session.specs.declared.command.Reading.TheVariants.{Skipped, Wrong, Nearly, Missing, Unfit, NoStatement, NoChain, NoFile, NoTest, HelpOn, Quit, Asked}
 
@@ -43,9 +43,9 @@ listed_by deck statement listed other = listed
 -- a list has no room for a chain, or does not have the one that is to be taken off it; or no breakpoint is
 -- there that could be given a test
 abbrev pub refuses_setting : Before → SessionState → Setting → Bool
-refuses_setting before new (Watch chain) = before.watched == length new.stop.watched
+refuses_setting before new (Watch watched) = before.watched == length new.stop.watched
 refuses_setting before new (Unwatch n) = before.watched == length new.stop.watched
-refuses_setting before new (UnwatchChain chain) = before.watched == length new.stop.watched
+refuses_setting before new (UnwatchThis watched) = before.watched == length new.stop.watched
 refuses_setting before new (Display chain) = before.displayed == length new.displayed
 refuses_setting before new (Undisplay n) = before.displayed == length new.displayed
 refuses_setting before new (UndisplayChain chain) = before.displayed == length new.displayed
@@ -58,6 +58,8 @@ abbrev pub refuses : Before → SessionState → Command → Bool
 refuses before new (command.Move to) = before.depth == 0 && is_finish to
 refuses before new (command.Setting setting) = refuses_setting before new setting
 refuses before new (command.View view) = false
+refuses before new (command.WatchWord operand word) = before.watched == length new.stop.watched
+refuses before new (command.Who operand) = false
 
 -- a line is wrong: it is no command, it lacks something or has too much, or it names no statement, no
 -- chain, or a file that is not opened

@@ -16,6 +16,7 @@ pub mod Blocks
 pub mod Stops
 pub mod Help
 pub mod Before
+pub mod Who
 pub mod Answers
 pub mod DeckSession
 pub mod inner

@@ -7,6 +7,9 @@ use Rattle.l6_group.specs.Element.{chain_of, operand_of}
 use Rattle.l6_group.specs.Spelling.{◌>>=◌}
 use Rattle.l6_group.specs.Test.{test_of}
 use Rattle.l6_prog.specs.declared.condition.Test.{Test}
+use Rattle.l6_word.specs.Numerals.{unit_size}
+use Rattle.l6_history.specs.declared.watched.Watched.TheVariants.{Chain as WatchedChain, Word as WatchedWord}
+use Rattle.l6_prog.specs.declared.operand.Operand.TheVariants.{Chain, Number}
 use Rattle.l6_debug.specs.Command.{number_of, words_in}
 use Rattle.l6_session.specs.Command.{alone, moved, named_among, nearly_among, shown, verbs}
 use Rattle.l6_session.specs.Names.{Names, statement_of, statement_of_label}
@@ -15,9 +18,9 @@ use Rattle.l6_session.specs.Parted.{parted}
 use Rattle.l6_session.specs.Topics.{topic_of}
 use Rattle.l6_prog.specs.declared.operand.Operand.{Operand}
 use Rattle.l6_session.specs.declared.command.Command.{Command}
-use Rattle.l6_session.specs.declared.command.Command.TheVariants.{Move, Setting, View}
+use Rattle.l6_session.specs.declared.command.Command.TheVariants.{Move, Setting, View, WatchWord, Who}
 use Rattle.l6_session.specs.declared.command.Move.TheVariants.{Step, Back, StepStatement, BackStatement, Goto, Next, ReverseNext, NextStatement, ReverseNextStatement, Continue, ReverseContinue, Until}
-use Rattle.l6_session.specs.declared.command.Setting.TheVariants.{Break, BreakIf, Condition, TemporaryBreak, Delete, Watch, Unwatch, UnwatchChain, Display, Undisplay, UndisplayChain}
+use Rattle.l6_session.specs.declared.command.Setting.TheVariants.{Break, BreakIf, Condition, TemporaryBreak, Delete, Watch, Unwatch, UnwatchThis, Display, Undisplay, UndisplayChain}
 use Rattle.l6_session.specs.declared.command.View.TheVariants.{Print, Label, PrintLabel, Block, WhereFew, ListBefore, ListNear, ListCards, Set, Ignore, Commands}
 use Rattle.l6_session.specs.declared.command.Verb.{Verb}
 use Rattle.l6_session.specs.declared.command.Verb.TheVariants as verb
@@ -61,11 +64,65 @@ abbrev pub named_by : {A : Type 0} → (A → Command) → Option A → Reading
 named_by command (Some given) = Asked (command given)
 named_by command None = NoChain
 
--- a chain that is watched or displayed no longer, by its number or by its names
-abbrev pub unwatch_by : Option ℕ → Option (List ℕ) → Reading
-unwatch_by (Some n) chain = Asked (Setting (Unwatch n))
-unwatch_by None (Some chain) = Asked (Setting (UnwatchChain chain))
-unwatch_by None None = NoChain
+-- a word of a block, after a star: what leads to the block, and which word it is, 0 without a plus sign
+abbrev pub word_index : Option ℕ → Option ℕ
+word_index None = None
+word_index (Some n) = if nat_lt n unit_size then Some n else None
+
+abbrev pub word_with : Option Operand → Option ℕ → Option (Operand × ℕ)
+word_with (Some operand) (Some word) = Some (operand, word)
+word_with operand word = None
+
+abbrev pub word_parted : List ℕ → Option (List ℕ × List ℕ) → Option (Operand × ℕ)
+word_parted word None = word_with (operand_of (without_dollar word)) (Some 0)
+word_parted word (Some (link, digits)) =
+    word_with (operand_of (without_dollar link)) (word_index (number_of digits))
+
+abbrev pub word_of : List ℕ → Option (Operand × ℕ)
+word_of word = word_parted word (parted (byte "+") word)
+
+abbrev pub after_star : List ℕ → Option (List ℕ)
+after_star [] = None
+after_star (first ∷ rest) = if first == byte "*" then Some rest else None
+
+-- what is watched: a word of a block, or a chain
+abbrev pub watch_word : Option (Operand × ℕ) → Reading
+watch_word None = NoChain
+watch_word (Some (operand, word)) = Asked (WatchWord operand word)
+
+abbrev pub watch_chain : Option (List ℕ) → Reading
+watch_chain chain = named_by (λ c. Setting (Watch (WatchedChain c))) chain
+
+abbrev pub watch_with : List ℕ → Option (List ℕ) → Reading
+watch_with word (Some rest) = watch_word (word_of rest)
+watch_with word None = watch_chain (chain_of (without_dollar word))
+
+abbrev pub watch_by : List ℕ → Reading
+watch_by word = watch_with word (after_star word)
+
+-- what is watched no longer: by its number, or as it is typed; a word of a block then by its place
+abbrev pub unwatch_at : Operand → ℕ → Reading
+unwatch_at (Number place) word =
+    Asked (Setting (UnwatchThis (WatchedWord (record { place = place; word = word }))))
+unwatch_at (Chain chain) word = NoChain
+
+abbrev pub unwatch_word : Option (Operand × ℕ) → Reading
+unwatch_word (Some (operand, word)) = unwatch_at operand word
+unwatch_word None = NoChain
+
+abbrev pub unwatch_chain : Option ℕ → Option (List ℕ) → Reading
+unwatch_chain (Some n) chain = Asked (Setting (Unwatch n))
+unwatch_chain None (Some chain) = Asked (Setting (UnwatchThis (WatchedChain chain)))
+unwatch_chain None None = NoChain
+
+abbrev pub unwatch_with : List ℕ → Option (List ℕ) → Reading
+unwatch_with word (Some rest) = unwatch_word (word_of rest)
+unwatch_with word None = unwatch_chain (number_of word) (chain_of (without_dollar word))
+
+abbrev pub unwatch_by : List ℕ → Reading
+unwatch_by word = unwatch_with word (after_star word)
+
+-- a chain that is displayed no longer, by its number or by its names
 
 abbrev pub undisplay_by : Option ℕ → Option (List ℕ) → Reading
 undisplay_by (Some n) chain = Asked (Setting (Undisplay n))
@@ -158,10 +215,8 @@ with_word names verb.TemporaryBreak word =
     named (λ s. Setting (TemporaryBreak s)) (statement_of names word)
 with_word names verb.Delete word = named (λ s. Setting (Delete s)) (statement_of names word)
 with_word names verb.Disable word = named (λ s. Setting (Delete s)) (statement_of names word)
-with_word names verb.Watch word =
-    named_by (λ c. Setting (Watch c)) (chain_of (without_dollar word))
-with_word names verb.Unwatch word =
-    unwatch_by (number_of word) (chain_of (without_dollar word))
+with_word names verb.Watch word = watch_by word
+with_word names verb.Unwatch word = unwatch_by word
 with_word names verb.Display word =
     named_by (λ c. Setting (Display c)) (chain_of (without_dollar word))
 with_word names verb.Undisplay word =
@@ -170,6 +225,7 @@ with_word names verb.Print word =
     print_by (operand_of (without_dollar word)) (statement_of_label names word)
 with_word names verb.Block word =
     named_by (λ o. View (Block o)) (operand_of (without_dollar word))
+with_word names verb.Who word = named_by (λ o. Who o) (operand_of (without_dollar word))
 with_word names verb.Info word = info_on word
 with_word names verb.Help word = help_on word
 with_word names verb.Save word = NoFile

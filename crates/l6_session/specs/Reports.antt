@@ -10,7 +10,8 @@ use Rattle.l6_steps.specs.State.{Memory}
 use Rattle.l6_session.specs.Names.{begun_with}
 use Rattle.l6_session.specs.Numerals.{card_places, near_statements}
 use Rattle.l6_session.specs.SessionState.{SessionState}
-use Rattle.l6_session.specs.Texts.{breakpoint_line, chain_line, numbered_line}
+use Rattle.l6_history.specs.declared.watched.Watched.{Watched}
+use Rattle.l6_session.specs.Texts.{breakpoint_line, chain_line, numbered_line, numbered_watch}
 
 -- the line of a statement that has a breakpoint, which may be a temporary one
 abbrev pub said_of : Bool → List ℕ
@@ -32,11 +33,16 @@ abbrev pub chain_lines : Memory → List ℕ → List (List ℕ) → List ℕ
 chain_lines memory verb chains =
     flat_map (λ chain. numbered_line memory verb chain.0 chain.1) (enumerate_from 1 chains)
 
+-- the lines of what is watched, numbered from 1 on, with what it reads as
+abbrev pub watched_lines : Memory → List Watched → List ℕ
+watched_lines memory watched =
+    flat_map (λ one. numbered_watch memory one.0 one.1) (enumerate_from 1 watched)
+
 -- where one stops, and what is displayed
 abbrev pub stops_lines : List (Label × ℕ) → Memory → SessionState → List ℕ
 stops_lines labels memory state =
     break_lines labels state.temporary state.stop.tests state.stop.breakpoints
-    ++ chain_lines memory (codes "watch ") state.stop.watched
+    ++ watched_lines memory state.stop.watched
     ++ chain_lines memory (codes "display ") state.displayed
 
 abbrev pub or_nothing : List ℕ → List ℕ

@@ -1,13 +1,14 @@
 -- The commands that lead a new session to where one is, and their lines.
 use Rattle.std.specs.Prelude.{◌≡◌, ℕ, ◌+◌, Bool, true, false, List, [], ◌∷◌, ◌++◌, codes, decimal, drop, map, Option, None, Some, if◌then◌else◌}
 use Rattle.std.specs.List.{flat_map}
+use Rattle.l6_history.specs.declared.watched.Watched.{Watched}
 use Rattle.l6_prog.specs.declared.condition.Test.{Test}
 use Rattle.l6_store.specs.Rule.{Rule}
 use Rattle.l6_steps.specs.State.{RunContext}
 use Rattle.l6_session.specs.Listing.{is_statement}
 use Rattle.l6_session.specs.Names.{Names, statement_of}
 use Rattle.l6_session.specs.SessionState.{SessionState, after, first_session_state}
-use Rattle.l6_session.specs.Texts.{chain_text, label_text, test_text}
+use Rattle.l6_session.specs.Texts.{chain_text, label_text, test_text, watched_name}
 use Rattle.l6_session.specs.declared.command.Command.{Command}
 use Rattle.l6_session.specs.declared.command.Command.TheVariants.{Move, Setting}
 use Rattle.l6_session.specs.declared.command.Move.TheVariants.{Goto}
@@ -36,8 +37,8 @@ given_tests s [] = []
 given_tests s (None ∷ tests) = given_tests (s + 1) tests
 given_tests s (Some test ∷ tests) = Setting (Condition s (Some test)) ∷ given_tests (s + 1) tests
 
-abbrev pub watched : List ℕ → Command
-watched chain = Setting (Watch chain)
+abbrev pub watched : Watched → Command
+watched one = Setting (Watch one)
 
 abbrev pub displayed : List ℕ → Command
 displayed chain = Setting (Display chain)
@@ -79,11 +80,14 @@ named_line word chain = word ++ chain_text chain ++ codes "\n"
 abbrev pub numbered_line : List ℕ → ℕ → List ℕ
 numbered_line word number = word ++ decimal number ++ codes "\n"
 
+abbrev pub watched_saved : Watched → List ℕ
+watched_saved one = codes "watch " ++ watched_name one ++ codes "\n"
+
 abbrev pub saved_line : Names → Command → List ℕ
 saved_line names (Setting (Break s)) = placed_line (codes "break") names s
 saved_line names (Setting (TemporaryBreak s)) = placed_line (codes "tbreak") names s
 saved_line names (Setting (Condition s (Some test))) = tested_line names s test
-saved_line names (Setting (Watch chain)) = named_line (codes "watch ") chain
+saved_line names (Setting (Watch one)) = watched_saved one
 saved_line names (Setting (Display chain)) = named_line (codes "display ") chain
 saved_line names (Move (Goto n)) = numbered_line (codes "goto ") n
 saved_line names other = []

@@ -1,21 +1,26 @@
 -- Sessions: at which state of a run one is, where one stops, what is displayed, and where commands lead.
-use Rattle.std.specs.Prelude.{ℕ, zero, suc, ◌+◌, ◌-◌, ◌==◌, min, nat_lt, Bool, true, false, List, [], ◌∷◌, ◌++◌, length, replicate, slice_index_or, slice_set, Option, None, Some, ◌&&◌, if◌then◌else◌}
+use Rattle.std.specs.Prelude.{ℕ, zero, suc, ◌+◌, ◌-◌, ◌==◌, min, nat_lt, Bool, true, false, List, [], ◌∷◌, ◌++◌, length, replicate, slice_index_or, slice_set, Option, None, Some, Result, Ok, Err, ◌&&◌, if◌then◌else◌}
 use Rattle.std.specs.List.{remove}
 use Rattle.l6_store.specs.Rule.{Rule}
 use Rattle.l6_steps.specs.Configuration.{state_at}
 use Rattle.l6_steps.specs.Numbering.{last_number}
+use Rattle.l6_steps.specs.Locus.{read}
 use Rattle.l6_steps.specs.State.{RunContext}
+use Rattle.l6_steps.specs.declared.trap.Trap.{Trap}
 use Rattle.l6_prog.specs.declared.condition.Test.{Test}
 use Rattle.l6_history.specs.Numerals.{most_watched}
 use Rattle.l6_history.specs.Seeking.{next_stop, previous_stop}
 use Rattle.l6_history.specs.Stop.{Stop, is_at_breakpoint, meets, nowhere}
+use Rattle.l6_history.specs.declared.watched.BlockWord.{BlockWord}
+use Rattle.l6_history.specs.declared.watched.Watched.{Watched}
+use Rattle.l6_history.specs.declared.watched.Watched.TheVariants.{Chain as WatchedChain, Word as WatchedWord}
 use Rattle.l6_session.specs.Numerals.{most_displayed, most_repeats}
 use Rattle.l6_session.specs.declared.command.Command.{Command}
 use Rattle.l6_session.specs.declared.command.Command.TheVariants as command
 use Rattle.l6_session.specs.declared.command.Move.{Move}
 use Rattle.l6_session.specs.declared.command.Move.TheVariants.{Step, Back, StepStatement, BackStatement, Goto, End, Next, ReverseNext, NextStatement, ReverseNextStatement, Finish, ReverseFinish, Continue, ReverseContinue, Run, Until, UntilNext}
 use Rattle.l6_session.specs.declared.command.Setting.{Setting}
-use Rattle.l6_session.specs.declared.command.Setting.TheVariants.{Break, BreakIf, TemporaryBreak, Condition, Delete, DeleteAll, Watch, Unwatch, UnwatchChain, Display, Undisplay, UndisplayChain}
+use Rattle.l6_session.specs.declared.command.Setting.TheVariants.{Break, BreakIf, TemporaryBreak, Condition, Delete, DeleteAll, Watch, Unwatch, UnwatchThis, Display, Undisplay, UndisplayChain}
 
 -- the number of the state at which one is; where one stops; for each statement, whether its breakpoint
 -- is removed where it is reached; and the chains that are displayed
@@ -136,14 +141,14 @@ repeated (suc n) leads old = leads (repeated n leads old)
 abbrev pub times : ℕ → (SessionState → SessionState) → SessionState → SessionState
 times n leads old = repeated (min n most_repeats) leads old
 
--- one more chain, as long as there are fewer than may be
-abbrev pub one_more : ℕ → List (List ℕ) → List ℕ → List (List ℕ)
-one_more most chains chain = if nat_lt (length chains) most then chains ++ chain ∷ [] else chains
+-- one more of some, as long as there are fewer than may be
+abbrev pub one_more : {A : Type 0} → ℕ → List A → A → List A
+one_more most all one = if nat_lt (length all) most then all ++ one ∷ [] else all
 
--- the chains without the one of this number, counted from 1 on, if there is one
-abbrev pub one_less : List (List ℕ) → ℕ → List (List ℕ)
-one_less chains number =
-    if nat_lt (number - 1) (length chains) then remove chains (number - 1) else chains
+-- some without the one of this number, counted from 1 on, if there is one
+abbrev pub one_less : {A : Type 0} → List A → ℕ → List A
+one_less all number =
+    if nat_lt (number - 1) (length all) then remove all (number - 1) else all
 
 -- two chains have the same names
 abbrev pub is_same : List ℕ → List ℕ → Bool
@@ -155,6 +160,21 @@ is_same one other = false
 abbrev pub number_in : List (List ℕ) → List ℕ → ℕ
 number_in [] chain = 1
 number_in (first ∷ others) chain = if is_same first chain then 1 else number_in others chain + 1
+
+-- the same is watched: a chain of the same names, or the same word of the block at a place
+abbrev pub is_same_word : BlockWord → BlockWord → Bool
+is_same_word one other = one.place == other.place && one.word == other.word
+
+abbrev pub is_same_watched : Watched → Watched → Bool
+is_same_watched (WatchedChain one) (WatchedChain other) = is_same one other
+is_same_watched (WatchedWord one) (WatchedWord other) = is_same_word one other
+is_same_watched one other = false
+
+-- its number among what is watched, counted from 1 on, or a number that nothing has
+abbrev pub number_of_watched : List Watched → Watched → ℕ
+number_of_watched [] wanted = 1
+number_of_watched (first ∷ others) wanted =
+    if is_same_watched first wanted then 1 else number_of_watched others wanted + 1
 
 -- the session after one goes to another state. It is at no state beyond the last, and back at none before
 -- the start. Where no call waits, there is none that could return.
@@ -194,14 +214,14 @@ changed old DeleteAll = record old {
   stop = nowhere (length old.stop.breakpoints);
   temporary = replicate (length old.temporary) false;
 }
-changed old (Watch chain) =
-    record old { stop = record old.stop { watched = one_more most_watched old.stop.watched chain } }
+changed old (Watch watched) =
+    record old { stop = record old.stop { watched = one_more most_watched old.stop.watched watched } }
 changed old (Unwatch n) =
     record old { stop = record old.stop { watched = one_less old.stop.watched n } }
-changed old (UnwatchChain chain) =
+changed old (UnwatchThis watched) =
     record old {
       stop = record old.stop {
-        watched = one_less old.stop.watched (number_in old.stop.watched chain);
+        watched = one_less old.stop.watched (number_of_watched old.stop.watched watched);
       };
     }
 changed old (Display chain) =
@@ -210,8 +230,17 @@ changed old (Undisplay n) = record old { displayed = one_less old.displayed n }
 changed old (UndisplayChain chain) =
     record old { displayed = one_less old.displayed (number_in old.displayed chain) }
 
+-- a word of the block is watched to which an operand leads, if it can be followed
+abbrev pub word_watched : SessionState → ℕ → Result ℕ Trap → SessionState
+word_watched old word (Ok place) =
+    changed old (Watch (WatchedWord (record { place = place; word = word })))
+word_watched old word (Err trap) = old
+
 -- the session after a command
 abbrev pub after : Rule → RunContext → SessionState → Command → SessionState
 after rule context old (command.Move to) = moved rule context old to
 after rule context old (command.Setting setting) = changed old setting
 after rule context old (command.View view) = old
+after rule context old (command.WatchWord operand word) =
+    word_watched old word (read (state_at rule context old.number).memory operand)
+after rule context old (command.Who operand) = old

@@ -15,6 +15,10 @@ use Rattle.l6_prog.specs.declared.condition.Comparison.TheVariants.{Equal, NotEq
 use Rattle.l6_prog.specs.declared.condition.Test.{Test}
 use Rattle.l6_prog.specs.declared.operand.Operand.{Operand}
 use Rattle.l6_prog.specs.declared.operand.Operand.TheVariants.{Chain, Number}
+use Rattle.l6_history.specs.Stop.{word_of}
+use Rattle.l6_history.specs.declared.watched.BlockWord.{BlockWord}
+use Rattle.l6_history.specs.declared.watched.Watched.{Watched}
+use Rattle.l6_history.specs.declared.watched.Watched.TheVariants.{Chain as WatchedChain, Word as WatchedWord}
 use Rattle.l6_steps.specs.Locus.{content, field_at, read}
 use Rattle.l6_steps.specs.declared.locus.Locus.TheVariants.{Bug}
 use Rattle.l6_steps.specs.declared.position.Position.{Position}
@@ -237,3 +241,37 @@ operand_text memory (Chain chain) = chain_line memory chain
 abbrev pub numbered_line : Memory → List ℕ → ℕ → List ℕ → List ℕ
 numbered_line memory verb number chain =
     verb ++ decimal number ++ codes ": " ++ chain_line memory chain
+
+-- a word of the block at a place, and what is watched, as they are typed
+abbrev pub further_word : ℕ → List ℕ
+further_word word = if word == 0 then [] else codes "+" ++ decimal word
+
+abbrev pub word_name : BlockWord → List ℕ
+word_name at = codes "*" ++ decimal at.place ++ further_word at.word
+
+abbrev pub watched_name : Watched → List ℕ
+watched_name (WatchedChain chain) = chain_text chain
+watched_name (WatchedWord at) = word_name at
+
+-- what a word of a block reads as, or why it can't be read
+abbrev pub no_word_text : Memory → ℕ → List ℕ
+no_word_text memory place =
+    if places.contains_key memory.blocks place
+    then codes " can't be read: the block there has no such word\n"
+    else codes " can't be read: no block begins there\n"
+
+abbrev pub word_read_text : Memory → ℕ → Option ℕ → List ℕ
+word_read_text memory place None = no_word_text memory place
+word_read_text memory place (Some word) = codes " = " ++ value_line memory word
+
+abbrev pub block_word_line : Memory → BlockWord → List ℕ
+block_word_line memory at = word_name at ++ word_read_text memory at.place (word_of memory at)
+
+-- what is watched, and what it reads as
+abbrev pub watched_line : Memory → Watched → List ℕ
+watched_line memory (WatchedChain chain) = chain_line memory chain
+watched_line memory (WatchedWord at) = block_word_line memory at
+
+abbrev pub numbered_watch : Memory → ℕ → Watched → List ℕ
+numbered_watch memory number watched =
+    codes "watch " ++ decimal number ++ codes ": " ++ watched_line memory watched

@@ -1,6 +1,6 @@
 //! A session with the run of a deck, which answers lines.
 
-ghost use Rattle.std.specs.Prelude.{◌≡◌, IfOk, None, false};
+ghost use Rattle.std.specs.Prelude.{◌≡◌, ◌==◌, IfOk, None, false, length};
 ghost use Rattle.l6_steps.specs.Configuration.{first_configuration};
 ghost use Rattle.l6_session.specs.DeckSession.{AnswersCommand, AnswersReading, ShowsPlace, after_reading, refuses, refuses_setting};
 ghost use Rattle.l6_session.specs.SessionState.{after, first_session_state};
@@ -175,7 +175,7 @@ impl<S: FreeLists> DeckSession<S> {
         self.is_refused |= is_refused(before, &self.session, command);
         let text = answer_of(
             alloc,
-            &self.session,
+            &mut self.session,
             &self.names,
             &self.seen,
             listed,
@@ -195,8 +195,16 @@ fn is_refused<S: Places>(before: Before, session: &Session<S>, command: &Command
     match command {
         Command::Move(to) => before.depth == 0 && to.is_finish(),
         Command::Setting(setting) => is_refused_setting(before, session, setting),
-        Command::View(_) => false,
+        Command::WatchWord(_, _) => watches_as_many(before, session),
+        Command::View(_) | Command::Who(_) => false,
     }
+}
+
+/// Whether as much is watched as before.
+fn watches_as_many<S: Places>(before: Before, session: &Session<S>) -> bool
+    ensures { result ≡ (before.watched == length session.now.state.stop.watched) }
+{
+    before.watched == session.stop().watched().len()
 }
 
 /// Whether a list had no room for a chain, or did not have the one that was to be taken off it; or no
@@ -205,8 +213,8 @@ fn is_refused_setting<S: Places>(before: Before, session: &Session<S>, setting: 
     ensures { result ≡ refuses_setting before session.now.state setting.now }
 {
     match setting {
-        Setting::Watch(_) | Setting::Unwatch(_) | Setting::UnwatchChain(_) => {
-            before.watched == session.stop().watched().len()
+        Setting::Watch(_) | Setting::Unwatch(_) | Setting::UnwatchThis(_) => {
+            watches_as_many(before, session)
         }
         Setting::Display(_) | Setting::Undisplay(_) | Setting::UndisplayChain(_) => {
             before.displayed == session.displayed().len()

@@ -2,6 +2,7 @@
 
 ghost use Rattle.std.specs.Prelude.{◌≡◌, ◌++◌, IfOk, OnOk};
 ghost use Rattle.std.specs.Option.{option_map};
+ghost use Rattle.l6_steps.specs.Configuration.{state_at};
 ghost use Rattle.l6_session.specs.Answers as spec;
 ghost use Rattle.l6_session.specs.Listing as listing;
 ghost use Rattle.l6_session.specs.Listing.{here_text, listed_text};
@@ -16,14 +17,17 @@ use crate::help::push_help;
 use crate::listing::{cards_back, cards_here, push_listed, push_own};
 use crate::names::Names;
 use crate::reports::{
-    push_break, push_checkpoints, push_info, push_numbered, push_statement, push_stats,
+    push_break, push_checkpoints, push_info, push_numbered, push_numbered_watch, push_statement,
+    push_stats,
 };
 use crate::saved::push_commands;
 use crate::seen::Seen;
 use crate::session::Session;
-use crate::stops::{details_of, push_stop};
+use crate::stops::{details_of, push_stop, value_of};
 use crate::values::push_value;
+use crate::who::who_answer;
 use l6_debug::{Command as Batch, push_answer};
+use l6_history::{BlockWord, Watched};
 use l6_machine::Machine;
 use l6_prog::{Operand, Test};
 use l6_store::Places;
@@ -44,20 +48,20 @@ const NO_CALL: &[u8] = b"No call waits: there is nothing to finish\n";
 /// What is answered where all breakpoints are removed.
 const NONE_LEFT: &[u8] = b"No breakpoint is set, and nothing is watched\n";
 
-/// What is answered where no further chain can be watched.
-const MANY_WATCHED: &[u8] = b"Eight chains are watched already: unwatch one of them\n";
+/// What is answered where nothing further can be watched.
+const MANY_WATCHED: &[u8] = b"Eight are watched already: unwatch one of them\n";
 
 /// What is answered where no further chain can be displayed.
 const MANY_DISPLAYED: &[u8] = b"Eight chains are displayed already: undisplay one of them\n";
 
-/// What is answered where no chain that is watched has the number.
-const NOT_WATCHED: &[u8] = b"No chain that is watched has this number: see info\n";
+/// What is answered where nothing that is watched has the number.
+const NOT_WATCHED: &[u8] = b"Nothing that is watched has this number: see info\n";
 
 /// What is answered where no chain that is displayed has the number.
 const NOT_DISPLAYED: &[u8] = b"No chain that is displayed has this number: see info\n";
 
-/// What is answered where a chain is not watched.
-const NO_WATCH: &[u8] = b"This chain is not watched: see info\n";
+/// What is answered where a chain or a word is not watched.
+const NO_WATCH: &[u8] = b"This is not watched: see info\n";
 
 /// What is answered where a chain is not displayed.
 const NO_DISPLAY: &[u8] = b"This chain is not displayed: see info\n";
@@ -81,27 +85,32 @@ const COMMANDS: &[u8] =
 /// What is answered where a statement without a breakpoint is to have a test.
 const NOT_THERE: &[u8] = b"No breakpoint is there: break PLACE if TEST sets one\n";
 
-/// What is answered to a command that the session has obeyed.
+/// What is answered to a command that the session has obeyed. The session stays as it is.
 ///
 /// # Errors
 ///
 /// Memory ran out.
 pub(crate) fn answer_of<S: FreeLists>(
     alloc: Global,
-    session: &Session<S>,
+    session: &mut Session<S>,
     names: &Names,
     seen: &Seen,
     listed: Option<Cards>,
     before: Before,
     command: &Command,
 ) -> Result<Vec<u8>, AllocError>
-    ensures { IfOk result (λ text. spec.AnswersObeyed S.rule names.now listed session.now.context
-        before seen.now session.now.state command.now text.items) }
+where
+    S: Drop,
+    ensures same { session.new ≡ session.old }
+    ensures text { IfOk result (λ text. spec.AnswersObeyed S.rule names.now listed
+        session.old.context before seen.now session.old.state command.now text.items) }
 {
     match command {
         Command::Move(to) => move_answer(alloc, session, names, seen, before, *to),
         Command::Setting(setting) => setting_answer(alloc, session, names, before, setting),
         Command::View(view) => view_answer(alloc, session, names, listed, view),
+        Command::WatchWord(operand, word) => { word_answer(alloc, session, before, operand, *word) }
+        Command::Who(operand) => who_answer(alloc, session, names, operand),
     }
 }
 
@@ -187,15 +196,9 @@ fn push_setting<S: Places>(
         Setting::Condition(s, test) => push_condition(text, session, names, *s, test),
         Setting::Delete(s) => push_statement(text, DELETED, names, *s),
         Setting::DeleteAll => text.extend_from_slice(NONE_LEFT),
-        Setting::Watch(chain) => {
-            if before.watched < watched {
-                push_numbered(text, b"watch ", watched, machine, chain)
-            } else {
-                text.extend_from_slice(MANY_WATCHED)
-            }
-        }
+        Setting::Watch(one) => push_watched(text, session, before, one),
         Setting::Unwatch(_) => push_removed(text, before.watched, watched, NOT_WATCHED),
-        Setting::UnwatchChain(_) => push_removed(text, before.watched, watched, NO_WATCH),
+        Setting::UnwatchThis(_) => push_removed(text, before.watched, watched, NO_WATCH),
         Setting::Display(chain) => {
             if before.displayed < displayed {
                 push_numbered(text, b"display ", displayed, machine, chain)
@@ -205,6 +208,48 @@ fn push_setting<S: Places>(
         }
         Setting::Undisplay(_) => push_removed(text, before.displayed, displayed, NOT_DISPLAYED),
         Setting::UndisplayChain(_) => push_removed(text, before.displayed, displayed, NO_DISPLAY),
+    }
+}
+
+/// What is answered where a word is to be watched of the block to which an operand leads.
+fn word_answer<S: Places>(
+    alloc: Global,
+    session: &Session<S>,
+    before: Before,
+    operand: &Operand,
+    word: u16,
+) -> Result<Vec<u8>, AllocError>
+    ensures { IfOk result (λ text. text.items ≡ spec.word_text
+        (state_at S.rule session.now.context session.now.state.number).memory before
+        session.now.state word operand.now) }
+{
+    let mut text = Vec::new(alloc);
+    match value_of(session.machine(), operand) {
+        Ok(place) => {
+            let one = Watched::Word(BlockWord { place, word });
+            push_watched(&mut text, session, before, &one)?;
+        }
+        Err(_) => push_value(&mut text, session.machine(), operand)?,
+    }
+    Ok(text)
+}
+
+/// Adds that something is watched, if more is than before, or else that there was no room.
+fn push_watched<S: Places>(
+    text: &mut Vec<u8>,
+    session: &Session<S>,
+    before: Before,
+    one: &Watched,
+) -> Result<(), AllocError>
+    ensures { OnOk result (text.new.items ≡ text.old.items ++ spec.watched_text
+        (state_at S.rule session.now.context session.now.state.number).memory before
+        session.now.state one.now) }
+{
+    let watched = session.stop().watched().len();
+    if before.watched < watched {
+        push_numbered_watch(text, watched, session.machine(), one)
+    } else {
+        text.extend_from_slice(MANY_WATCHED)
     }
 }
 

@@ -13,7 +13,7 @@ pub(crate) struct Before {
     pub(crate) number: u64,
     /// For how many returns calls waited.
     pub(crate) depth: usize,
-    /// How many chains were watched.
+    /// How many chains and words were watched.
     pub(crate) watched: usize,
     /// How many were displayed.
     pub(crate) displayed: usize,

@@ -6,6 +6,7 @@ ghost use Rattle.l6_session.specs.Command as spec;
 ghost use Rattle.l6_session.specs.DeckSession as sessions;
 ghost use Rattle.l6_session.specs.Reading as lines;
 
+use l6_history::Watched;
 use l6_prog::{Chain, Operand, Test};
 
 /// What may be asked of a session.
@@ -17,6 +18,10 @@ pub enum Command {
     Setting(Setting),
     /// Show something.
     View(View),
+    /// Watch a word, by its number, of the block to which a chain or a number leads.
+    WatchWord(Operand, u16),
+    /// Show by which steps the block was got, last written and freed to which a chain or a number leads.
+    Who(Operand),
 }
 
 /// Which state is gone to.
@@ -75,12 +80,12 @@ pub enum Setting {
     Delete(u64),
     /// All breakpoints are removed, and nothing is watched.
     DeleteAll,
-    /// One stops where a chain reads as another value, too.
-    Watch(Chain),
-    /// The chain of this number is watched no longer.
+    /// One stops where a chain or a word of a block reads as another value, too.
+    Watch(Watched),
+    /// What is watched under this number is watched no longer.
     Unwatch(u64),
-    /// A chain is watched no longer.
-    UnwatchChain(Chain),
+    /// A chain or a word of a block is watched no longer.
+    UnwatchThis(Watched),
     /// It is shown at each state what a chain reads as.
     Display(Chain),
     /// The chain of this number is displayed no longer.
@@ -216,6 +221,8 @@ pub enum Verb {
     Print,
     /// `block`.
     Block,
+    /// `who`.
+    Who,
     /// `where`.
     Where,
     /// `stack`.
@@ -354,6 +361,7 @@ impl Verb {
             Verb::Undisplay => Reading::Missing(self),
             Verb::Print => shown(View::Show),
             Verb::Block => Reading::Missing(self),
+            Verb::Who => Reading::Missing(self),
             Verb::Where => shown(View::Where),
             Verb::Stack => shown(View::Stack),
             Verb::Show => shown(View::Show),

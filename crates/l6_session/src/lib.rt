@@ -30,6 +30,8 @@ mod table;
 mod text;
 mod topics;
 mod values;
+mod watching;
+mod who;
 
 pub use answering::DeckSession;
 pub use command::{Cards, Command, Move, Reading, Setting, Verb, View};

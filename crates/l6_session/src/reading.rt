@@ -14,6 +14,7 @@ use crate::near::is_one_off;
 use crate::parted::parted;
 use crate::table::{row_of, verbs};
 use crate::topics::topic_of;
+use crate::watching::{unwatch_of, watch_of};
 use l6_debug::{first_word, number_of};
 use l6_group::{Spelling, chain_of, decimal_of, spelled, test_of};
 use l6_prog::{Chain, Operand, Test};
@@ -94,7 +95,7 @@ fn before_slash(word: &[u8]) -> &[u8]
 }
 
 /// What follows a dollar sign that a word begins with, or the whole word.
-fn without_dollar(word: &[u8]) -> &[u8]
+pub(crate) fn without_dollar(word: &[u8]) -> &[u8]
     ensures { result.now ≡ spec.without_dollar word.now }
 {
     match word.split_first() {
@@ -310,8 +311,8 @@ fn with_word(names: &Names, verb: Verb, word: &[u8]) -> Reading
         Verb::Break | Verb::Enable => break_at(names.statement_of(word)),
         Verb::TemporaryBreak => temporary_break_at(names.statement_of(word)),
         Verb::Delete | Verb::Disable => delete_at(names.statement_of(word)),
-        Verb::Watch => watch_of(chain_of(without_dollar(word))),
-        Verb::Unwatch => unwatch_of(number_of(word), chain_of(without_dollar(word))),
+        Verb::Watch => watch_of(word),
+        Verb::Unwatch => unwatch_of(word),
         Verb::Display => display_of(chain_of(without_dollar(word))),
         Verb::Undisplay => undisplay_of(number_of(word), chain_of(without_dollar(word))),
         Verb::Print => print_of(
@@ -319,6 +320,7 @@ fn with_word(names: &Names, verb: Verb, word: &[u8]) -> Reading
             names.statement_of_label(word),
         ),
         Verb::Block => block_of(operand_of(without_dollar(word))),
+        Verb::Who => who_of(operand_of(without_dollar(word))),
         Verb::Info => info_on(word),
         Verb::Help => help_on(word),
         Verb::Save | Verb::Source => Reading::NoFile,
@@ -384,7 +386,7 @@ fn help_on(word: &[u8]) -> Reading
 }
 
 /// The chain or the number that a word spells.
-fn operand_of(word: &[u8]) -> Option<Operand>
+pub(crate) fn operand_of(word: &[u8]) -> Option<Operand>
     ensures { result ≡ element.operand_of word.now }
 {
     match chain_of(word) {
@@ -469,27 +471,6 @@ fn until(statement: Option<u64>) -> Reading
     }
 }
 
-/// A chain that is watched, if it is one.
-fn watch_of(chain: Option<Chain>) -> Reading
-    ensures { result ≡ spec.named_by (λ c. Command.Setting (Setting.Watch c)) chain }
-{
-    match chain {
-        Some(chain) => Reading::Asked(Command::Setting(Setting::Watch(chain))),
-        None => Reading::NoChain,
-    }
-}
-
-/// A chain that is watched no longer, by its number or by its names.
-fn unwatch_of(number: Option<u64>, chain: Option<Chain>) -> Reading
-    ensures { result ≡ spec.unwatch_by number chain }
-{
-    match (number, chain) {
-        (Some(number), _) => Reading::Asked(Command::Setting(Setting::Unwatch(number))),
-        (None, Some(chain)) => Reading::Asked(Command::Setting(Setting::UnwatchChain(chain))),
-        (None, None) => Reading::NoChain,
-    }
-}
-
 /// A chain that is displayed no longer, by its number or by its names.
 fn undisplay_of(number: Option<u64>, chain: Option<Chain>) -> Reading
     ensures { result ≡ spec.undisplay_by number chain }
@@ -531,6 +512,16 @@ fn block_of(operand: Option<Operand>) -> Reading
 {
     match operand {
         Some(operand) => Reading::Asked(Command::View(View::Block(operand))),
+        None => Reading::NoChain,
+    }
+}
+
+/// The block whose life is shown, if it is named by a chain or a number.
+fn who_of(operand: Option<Operand>) -> Reading
+    ensures { result ≡ spec.named_by (λ o. Command.Who o) operand }
+{
+    match operand {
+        Some(operand) => Reading::Asked(Command::Who(operand)),
         None => Reading::NoChain,
     }
 }

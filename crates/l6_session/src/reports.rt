@@ -11,8 +11,8 @@ ghost use Rattle.l6_session.specs.Texts as spec;
 use crate::names::Names;
 use crate::session::Session;
 use crate::text::{push_counted, push_if, push_label};
-use crate::values::push_chain_value;
-use l6_history::{History, MAX_KEPT, Stop};
+use crate::values::{push_chain_value, push_watched_value};
+use l6_history::{History, MAX_KEPT, Stop, Watched};
 use l6_machine::{Machine, push_decimal};
 use l6_prog::{Chain, Test};
 use l6_store::Places;
@@ -51,7 +51,7 @@ fn push_stops<S: Places>(
     let machine = session.machine();
     let stop = session.stop();
     push_breakpoints(text, names, session.temporary(), stop)?;
-    push_chains(text, b"watch ", machine, stop.watched())?;
+    push_all_watched(text, machine, stop.watched())?;
     push_chains(text, b"display ", machine, session.displayed())
 }
 
@@ -171,6 +171,40 @@ fn push_chains<S: Places>(
         rest = following;
     }
     Ok(())
+}
+
+/// Adds the lines of what is watched, each with its number, and what it reads as.
+fn push_all_watched<S: Places>(
+    text: &mut Vec<u8>,
+    machine: &Machine<S>,
+    watched: &[Watched],
+) -> Result<(), AllocError>
+    ensures { OnOk result (text.new.items ≡ text.old.items
+        ++ reports.watched_lines machine.now.configuration.state.memory watched.now) }
+{
+    let mut number: usize = 1;
+    let mut rest = watched;
+    while let Some((one, following)) = rest.split_first() {
+        push_numbered_watch(text, number, machine, one)?;
+        number += 1;
+        rest = following;
+    }
+    Ok(())
+}
+
+/// Adds the line of what is watched under this number, and what it reads as.
+pub(crate) fn push_numbered_watch<S: Places>(
+    text: &mut Vec<u8>,
+    number: usize,
+    machine: &Machine<S>,
+    watched: &Watched,
+) -> Result<(), AllocError>
+    ensures { OnOk result (text.new.items ≡ text.old.items
+        ++ spec.numbered_watch machine.now.configuration.state.memory number watched.now) }
+{
+    push_counted(text, b"watch ", number)?;
+    text.extend_from_slice(b": ")?;
+    push_watched_value(text, machine, watched)
 }
 
 /// Adds the line of a chain of this number, and what it reads as.

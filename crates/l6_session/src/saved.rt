@@ -9,7 +9,8 @@ ghost use Rattle.l6_session.specs.Saved as spec;
 use crate::command::{Command, Move, Setting};
 use crate::names::Names;
 use crate::session::{Session, copy_of};
-use crate::text::{push_chain, push_counted, push_label, push_test};
+use crate::text::{push_chain, push_counted, push_label, push_test, push_watched_name};
+use l6_history::Watched;
 use l6_prog::{Chain, Test};
 use l6_store::Places;
 use std::alloc::{AllocError, Global};
@@ -96,13 +97,13 @@ fn push_tests(commands: &mut Vec<Command>, tests: &[Option<Test>]) -> Result<(),
     Ok(())
 }
 
-/// Adds that chains are watched.
-fn push_watched(commands: &mut Vec<Command>, chains: &[Chain]) -> Result<(), AllocError>
-    ensures { OnOk result (commands.new.items ≡ commands.old.items ++ map spec.watched chains.now) }
+/// Adds what is watched.
+fn push_watched(commands: &mut Vec<Command>, watched: &[Watched]) -> Result<(), AllocError>
+    ensures { OnOk result (commands.new.items ≡ commands.old.items ++ map spec.watched watched.now) }
 {
-    let mut rest = chains;
-    while let Some((chain, others)) = rest.split_first() {
-        commands.push(Command::Setting(Setting::Watch(chain.clone()?)))?;
+    let mut rest = watched;
+    while let Some((one, others)) = rest.split_first() {
+        commands.push(Command::Setting(Setting::Watch(one.clone()?)))?;
         rest = others;
     }
     Ok(())
@@ -156,7 +157,7 @@ fn push_line(text: &mut Vec<u8>, names: &Names, command: &Command) -> Result<(),
         Command::Setting(Setting::Break(s)) => push_break(text, b"break", names, *s),
         Command::Setting(Setting::TemporaryBreak(s)) => push_break(text, b"tbreak", names, *s),
         Command::Setting(Setting::Condition(s, Some(test))) => push_tested(text, names, *s, test),
-        Command::Setting(Setting::Watch(chain)) => push_named(text, b"watch ", chain),
+        Command::Setting(Setting::Watch(one)) => push_watch(text, one),
         Command::Setting(Setting::Display(chain)) => push_named(text, b"display ", chain),
         Command::Move(Move::Goto(number)) => push_numbered(text, b"goto ", *number),
         _ => Ok(()),
@@ -177,6 +178,15 @@ fn push_named(text: &mut Vec<u8>, word: &[u8], chain: &Chain) -> Result<(), Allo
 {
     text.extend_from_slice(word)?;
     push_chain(text, chain)?;
+    text.extend_from_slice(b"\n")
+}
+
+/// Adds the line of what is watched.
+fn push_watch(text: &mut Vec<u8>, watched: &Watched) -> Result<(), AllocError>
+    ensures { OnOk result (text.new.items ≡ text.old.items ++ spec.watched_saved watched.now) }
+{
+    text.extend_from_slice(b"watch ")?;
+    push_watched_name(text, watched)?;
     text.extend_from_slice(b"\n")
 }
 

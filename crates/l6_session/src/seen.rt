@@ -8,11 +8,11 @@ ghost use Rattle.l6_session.specs.Changes as spec;
 
 use crate::calls::push_definition;
 use crate::printed::push_printed;
-use crate::text::{push_chain, push_counted, push_name};
+use crate::text::{push_counted, push_name, push_watched_name};
 use arrayvec::ArrayVec;
-use l6_history::MAX_WATCHED;
+use l6_history::{MAX_WATCHED, Watched};
 use l6_machine::{Machine, push_decimal};
-use l6_prog::{Chain, DIGITS, NAMES};
+use l6_prog::{DIGITS, NAMES};
 use l6_store::Places;
 use l6_word::{Window, Word};
 use std::alloc::AllocError;
@@ -24,8 +24,8 @@ const MOST_CHANGES: usize = 8;
 /// How many bugs there are.
 const BUGS: usize = (NAMES - DIGITS) as usize;
 
-/// How many characters had been printed, what bugs held, what fields were defined as, and what watched
-/// chains read as.
+/// How many characters had been printed, what bugs held, what fields were defined as, and what was
+/// watched read as.
 #[derive(Drop)]
 pub(crate) struct Seen {
     printed: usize,
@@ -52,7 +52,7 @@ impl Model for Seen {
 }
 
 impl Seen {
-    /// What is seen of a machine of which no chain is watched.
+    /// What is seen of a machine of which nothing is watched.
     pub(crate) fn of<S: Places>(machine: &Machine<S>) -> Self
         ensures { result ≡ spec.seen_of machine.now.configuration.state.memory [] }
     {
@@ -66,15 +66,15 @@ impl Seen {
         seen
     }
 
-    /// Becomes what is seen of a machine. The caller owes no more chains than may be watched.
-    pub(crate) fn look<S: Places>(&mut self, machine: &Machine<S>, chains: &[Chain])
-        requires { length chains.now ≤ most_watched }
-        ensures { self.new ≡ spec.seen_of machine.now.configuration.state.memory chains.now }
+    /// Becomes what is seen of a machine. The caller owes no more than may be watched.
+    pub(crate) fn look<S: Places>(&mut self, machine: &Machine<S>, watched: &[Watched])
+        requires { length watched.now ≤ most_watched }
+        ensures { self.new ≡ spec.seen_of machine.now.configuration.state.memory watched.now }
     {
         self.printed = machine.output().len();
         self.bugs.copy_from_slice(machine.bugs());
         self.definitions.copy_from_slice(machine.definitions());
-        look_at(&mut self.watched, machine, chains);
+        look_at(&mut self.watched, machine, watched);
     }
 
     /// Adds what has changed.
@@ -82,15 +82,15 @@ impl Seen {
         &self,
         text: &mut Vec<u8>,
         machine: &Machine<S>,
-        chains: &[Chain],
+        watched: &[Watched],
     ) -> Result<(), AllocError>
         ensures { OnOk result (text.new.items ≡ text.old.items
-            ++ spec.changes_text self.now machine.now.configuration.state.memory chains.now) }
+            ++ spec.changes_text self.now machine.now.configuration.state.memory watched.now) }
     {
         if let Some(characters) = machine.output().get(self.printed..) {
             push_printed(text, characters)?;
         }
-        push_watches(text, machine, self.watched.as_slice(), chains)?;
+        push_watches(text, machine, self.watched.as_slice(), watched)?;
         push_lines(
             text,
             &self.bugs,
@@ -101,19 +101,19 @@ impl Seen {
     }
 }
 
-/// Becomes what chains read as. The caller owes no more chains than may be watched.
+/// Becomes what is watched reads as. The caller owes no more than may be watched.
 fn look_at<S: Places>(
     values: &mut ArrayVec<Option<Word>, MAX_WATCHED>,
     machine: &Machine<S>,
-    chains: &[Chain],
+    watched: &[Watched],
 )
-    requires { length chains.now ≤ most_watched }
-    ensures { values.new.items ≡ values_of chains.now machine.now.configuration.state.memory }
+    requires { length watched.now ≤ most_watched }
+    ensures { values.new.items ≡ values_of watched.now machine.now.configuration.state.memory }
 {
     values.clear();
-    let mut rest = chains;
-    while let Some((chain, following)) = rest.split_first() {
-        values.push(machine.readable_value(chain));
+    let mut rest = watched;
+    while let Some((one, following)) = rest.split_first() {
+        values.push(one.value(machine));
         rest = following;
     }
 }
@@ -165,68 +165,73 @@ fn push_lines(
     push_further(text, count.saturating_sub(MOST_CHANGES))
 }
 
-/// Adds the changes of what watched chains read as.
+/// Adds the changes of what is watched.
 fn push_watches<S: Places>(
     text: &mut Vec<u8>,
     machine: &Machine<S>,
     befores: &[Option<Word>],
-    chains: &[Chain],
+    watched: &[Watched],
 ) -> Result<(), AllocError>
     ensures { OnOk result (text.new.items ≡ text.old.items
-        ++ spec.watch_lines machine.now.configuration.state.memory befores.now chains.now) }
+        ++ spec.watch_lines machine.now.configuration.state.memory befores.now watched.now) }
 {
     let mut befores = befores;
-    let mut chains = chains;
-    while let (Some((was, further)), Some((chain, others))) = (
+    let mut watched = watched;
+    while let (Some((was, further)), Some((one, others))) = (
         befores.split_first(),
-        chains.split_first(),
+        watched.split_first(),
     ) {
-        push_watch(text, chain, *was, machine.readable_value(chain))?;
+        push_watch(text, one, *was, one.value(machine))?;
         befores = further;
-        chains = others;
+        watched = others;
     }
     Ok(())
 }
 
-/// Adds the change of what a watched chain reads as, if it reads as another value.
+/// Adds the change of a chain or a word that is watched, if it reads as another value.
 fn push_watch(
     text: &mut Vec<u8>,
-    chain: &Chain,
+    watched: &Watched,
     was: Option<Word>,
     is: Option<Word>,
 ) -> Result<(), AllocError>
-    ensures { OnOk result (text.new.items ≡ text.old.items ++ spec.watch_line chain.now was is) }
+    ensures { OnOk result (text.new.items ≡ text.old.items ++ spec.watch_line watched.now was is) }
 {
     if differ(&was, &is) {
-        push_change(text, chain, was, is)
+        push_change(text, watched, was, is)
     } else {
         Ok(())
     }
 }
 
-/// Adds what a watched chain read as, and what it reads as now.
+/// Adds what a chain or a word that is watched read as, and what it reads as now.
 fn push_change(
     text: &mut Vec<u8>,
-    chain: &Chain,
+    watched: &Watched,
     was: Option<Word>,
     is: Option<Word>,
 ) -> Result<(), AllocError>
-    ensures { OnOk result (text.new.items ≡ text.old.items ++ spec.change_line chain.now was is) }
+    ensures { OnOk result (text.new.items ≡ text.old.items ++ spec.change_line watched.now was is) }
 {
     text.extend_from_slice(b"      watch ")?;
-    push_chain(text, chain)?;
+    push_watched_name(text, watched)?;
     text.extend_from_slice(b": ")?;
-    push_values(text, was, is)?;
+    push_values(text, watched, was, is)?;
     text.extend_from_slice(b"\n")
 }
 
 /// Adds a value, and the one that follows it.
-fn push_values(text: &mut Vec<u8>, was: Option<Word>, is: Option<Word>) -> Result<(), AllocError>
-    ensures { OnOk result (text.new.items ≡ text.old.items ++ spec.values_text was is) }
+fn push_values(
+    text: &mut Vec<u8>,
+    watched: &Watched,
+    was: Option<Word>,
+    is: Option<Word>,
+) -> Result<(), AllocError>
+    ensures { OnOk result (text.new.items ≡ text.old.items ++ spec.values_text watched.now was is) }
 {
-    push_if_known(text, was)?;
+    push_if_known(text, watched, was)?;
     text.extend_from_slice(b" -> ")?;
-    push_if_known(text, is)
+    push_if_known(text, watched, is)
 }
 
 /// Whether two values differ.
@@ -240,13 +245,27 @@ fn differ(one: &Option<Word>, other: &Option<Word>) -> bool
     }
 }
 
-/// Adds a value, or that a chain can't be followed.
-fn push_if_known(text: &mut Vec<u8>, value: Option<Word>) -> Result<(), AllocError>
-    ensures { OnOk result (text.new.items ≡ text.old.items ++ spec.value_text value) }
+/// Adds a value, or that there is none.
+fn push_if_known(
+    text: &mut Vec<u8>,
+    watched: &Watched,
+    value: Option<Word>,
+) -> Result<(), AllocError>
+    ensures { OnOk result (text.new.items ≡ text.old.items ++ spec.value_text watched.now value) }
 {
     match value {
         Some(word) => push_decimal(text, word.get()),
-        None => text.extend_from_slice(b"can't be followed"),
+        None => text.extend_from_slice(no_value(watched)),
+    }
+}
+
+/// What is said where there is no value: a chain can't be followed, or a block has no such word.
+fn no_value(watched: &Watched) -> &'static [u8]
+    ensures { result.now ≡ spec.no_value watched.now }
+{
+    match watched {
+        Watched::Chain(_) => b"can't be followed",
+        Watched::Word(_) => b"no such word",
     }
 }
 

@@ -1,19 +1,23 @@
 //! A session: a run's history, where one stops, and what is displayed.
 
-ghost use Rattle.std.specs.Prelude.{◌≡◌, ◌≤◌, false, slice_index_or, IfOk, Some, None};
-ghost use Rattle.l6_steps.specs.Configuration.{first_configuration};
+ghost use Rattle.std.specs.Prelude.{◌≡◌, ◌≤◌, false, slice_index_or, IfOk, IfSome, Some, None};
+ghost use Rattle.l6_steps.specs.Configuration.{first_configuration, state_at};
+ghost use Rattle.l6_steps.specs.Locus.{read};
 ghost use Rattle.l6_steps.specs.Numbering.{last_number};
 ghost use Rattle.l6_steps.specs.Numerals.{most_steps};
 ghost use Rattle.l6_history.specs.History.{number_to, run_state_at};
+ghost use Rattle.l6_history.specs.Life.{life_of};
 ghost use Rattle.l6_history.specs.Seeking.{next_stop, previous_stop};
-ghost use Rattle.l6_session.specs.SessionState.{after, back, back_over_statement, back_statement, back_to, changed, come_to, depth_at, first_session_state, moved, on, on_statement, on_to, on_until, over_statement, with_breakpoint};
+ghost use Rattle.l6_session.specs.SessionState.{after, back, back_over_statement, back_statement, back_to, changed, come_to, depth_at, first_session_state, moved, on, on_statement, on_to, on_until, over_statement, with_breakpoint, word_watched};
 
-use crate::chains::number_in;
+use crate::chains::{number_in, number_of_watched};
 use crate::command::{Command, Move, Setting};
-use l6_history::{History, MAX_WATCHED, Stop};
+use crate::stops::value_of;
+use l6_history::{BlockWord, History, Life, MAX_WATCHED, Stop, Watched};
 use l6_machine::Machine;
 use l6_prog::{Chain, Operand, Test};
 use l6_store::Places;
+use l6_word::Word;
 use std::alloc::{AllocError, Global};
 use std::marker::Model;
 
@@ -23,8 +27,7 @@ pub const MAX_DISPLAYED: usize = 8;
 /// How often a command is repeated at most.
 pub const MAX_REPEATS: u64 = 65_535;
 
-/// A session with a run: at which of its states one is, where one stops, for which statements that is
-/// for once, and which chains are displayed.
+/// A session with a run: at which state one is, where one stops, where for once, and what is displayed.
 #[derive(Drop)]
 pub struct Session<S: Places> {
     history: History<S>,
@@ -60,8 +63,7 @@ impl<S: Places> Model for Session<S> {
 }
 
 impl<S: Places> Session<S> {
-    /// A session at the start, which stops nowhere and displays nothing. The caller owes a machine that
-    /// is there.
+    /// A session at the start, which stops nowhere and displays nothing. The caller owes a machine there.
     ///
     /// # Errors
     ///
@@ -131,7 +133,8 @@ impl<S: Places> Session<S> {
         match command {
             Command::Move(to) => self.go(alloc, *to),
             Command::Setting(setting) => self.set(setting),
-            Command::View(_) => {}
+            Command::WatchWord(operand, word) => self.watch_word(operand, *word),
+            Command::View(_) | Command::Who(_) => {}
         }
     }
 
@@ -176,13 +179,37 @@ impl<S: Places> Session<S> {
             Setting::Condition(statement, test) => self.condition(*statement, test),
             Setting::Delete(statement) => self.breakpoint(*statement, false, false, None),
             Setting::DeleteAll => self.delete_all(),
-            Setting::Watch(chain) => self.watch(chain),
+            Setting::Watch(watched) => self.watch(watched),
             Setting::Unwatch(place) => self.unwatch(*place),
-            Setting::UnwatchChain(chain) => self.unwatch_chain(chain),
+            Setting::UnwatchThis(watched) => self.unwatch_this(watched),
             Setting::Display(chain) => self.display(chain),
             Setting::Undisplay(place) => self.undisplay(*place),
             Setting::UndisplayChain(chain) => self.undisplay_chain(chain),
         }
+    }
+
+    /// The life of the block at a place, up to the present state. The session stays as it is.
+    pub(crate) fn life_of(&mut self, alloc: Global, place: Word) -> Life
+    where
+        S: Drop,
+        ensures same { self.new ≡ self.old }
+        ensures life { result ≡ life_of S.rule self.old.context place self.old.state.number }
+        ensures got { IfSome result.got (λ n. n ≤ last_number S.rule self.old.context) }
+        ensures written { IfSome result.written (λ n. n ≤ last_number S.rule self.old.context) }
+        ensures freed { IfSome result.freed (λ n. n ≤ last_number S.rule self.old.context) }
+    {
+        self.history.life_of(alloc, place)
+    }
+
+    /// Goes to a state to look at it, and keeps all else. The caller owes the number of a state.
+    pub(crate) fn look_at(&mut self, alloc: Global, number: u64)
+    where
+        S: Drop,
+        requires { number ≤ last_number S.rule self.old.context }
+        ensures context { self.new.context ≡ self.old.context }
+        ensures state { self.new.state ≡ record self.old.state { number = number } }
+    {
+        self.history.to(alloc, number);
     }
 
     /// For how many returns calls wait.
@@ -465,20 +492,31 @@ impl<S: Places> Session<S> {
         self.temporary.fill(false);
     }
 
-    /// Watches a further chain, if there is room.
-    fn watch(&mut self, chain: &Chain)
+    /// Watches a further chain or word, if there is room.
+    fn watch(&mut self, watched: &Watched)
         ensures context { self.new.context ≡ self.old.context }
         ensures state { self.new.state
-            ≡ changed self.old.state (Setting.Watch chain.now) }
+            ≡ changed self.old.state (Setting.Watch watched.now) }
     {
         if self.stop.watched().len() < MAX_WATCHED {
-            if let Ok(chain) = chain.clone() {
-                self.stop.watch(chain);
+            if let Some(watched) = watched_like(watched) {
+                self.stop.watch(watched);
             }
         }
     }
 
-    /// Watches the chain of this number no longer, from 1 on, if there is one.
+    /// Watches a word of the block to which an operand leads, if it can be followed and there is room.
+    fn watch_word(&mut self, operand: &Operand, word: u16)
+        ensures context { self.new.context ≡ self.old.context }
+        ensures state { self.new.state ≡ word_watched self.old.state word
+            (read (state_at S.rule self.old.context self.old.state.number).memory operand.now) }
+    {
+        if let Ok(place) = value_of(self.machine(), operand) {
+            self.watch(&Watched::Word(BlockWord { place, word }));
+        }
+    }
+
+    /// Watches what has this number no longer, from 1 on, if there is something.
     fn unwatch(&mut self, number: u64)
         ensures context { self.new.context ≡ self.old.context }
         ensures state { self.new.state
@@ -490,13 +528,13 @@ impl<S: Places> Session<S> {
         }
     }
 
-    /// Watches a chain no longer, if it is watched.
-    fn unwatch_chain(&mut self, chain: &Chain)
+    /// Watches a chain or a word no longer, if it is watched.
+    fn unwatch_this(&mut self, watched: &Watched)
         ensures context { self.new.context ≡ self.old.context }
         ensures state { self.new.state
-            ≡ changed self.old.state (Setting.UnwatchChain chain.now) }
+            ≡ changed self.old.state (Setting.UnwatchThis watched.now) }
     {
-        let number = number_in(self.stop.watched(), chain);
+        let number = number_of_watched(self.stop.watched(), watched);
         self.unwatch(number);
     }
 
@@ -533,6 +571,16 @@ impl<S: Places> Session<S> {
     {
         let number = number_in(self.displayed.as_slice(), chain);
         self.undisplay(number);
+    }
+}
+
+/// A copy of what is watched, which takes no memory.
+pub(crate) fn watched_like(watched: &Watched) -> Option<Watched>
+    ensures { result ≡ Some watched.now }
+{
+    match watched {
+        Watched::Chain(chain) => Some(Watched::Chain(chain.clone().ok()?)),
+        Watched::Word(word) => Some(Watched::Word(*word)),
     }
 }
 

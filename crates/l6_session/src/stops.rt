@@ -156,7 +156,7 @@ fn push_tested<S: Places>(
 }
 
 /// What an operand reads as.
-fn value_of<S: Places>(machine: &Machine<S>, operand: &Operand) -> Result<Word, Trap>
+pub(crate) fn value_of<S: Places>(machine: &Machine<S>, operand: &Operand) -> Result<Word, Trap>
     ensures { result ≡ read machine.now.configuration.state.memory operand.now }
 {
     match operand {

@@ -63,7 +63,7 @@ impl Row {
 }
 
 /// The commands, in the order in which help has them.
-static VERBS: [Verb; 48] = [
+static VERBS: [Verb; 49] = [
     Verb::Step,
     Verb::Back,
     Verb::StepState,
@@ -95,6 +95,7 @@ static VERBS: [Verb; 48] = [
     Verb::Undisplay,
     Verb::Print,
     Verb::Block,
+    Verb::Who,
     Verb::Where,
     Verb::Stack,
     Verb::Show,
@@ -273,15 +274,15 @@ pub(crate) fn row_of(verb: Verb) -> Row
         },
         Verb::Watch => Row {
             words: b"WATCH",
-            usage: b"watch CHAIN",
+            usage: b"watch CHAIN|*LINK[+W]",
             line: b"stop at a change",
-            sentence: b"stops where the chain reads as another value, or can be followed no longer; up to 8 chains",
+            sentence: b"stops where the chain reads as another value, or can be followed no longer; or where word W of the block, 0 without W, is another one to which LINK leads now, or the block comes or goes. LINK is a chain or a number; up to 8 chains and words are watched",
         },
         Verb::Unwatch => Row {
             words: b"UNWATCH",
             usage: b"unwatch CHAIN|N",
             line: b"watch no longer",
-            sentence: b"watches a chain no longer; N is the number that it has in info",
+            sentence: b"watches a chain no longer, or a word of a block, as *1024+2; N is the number that it has in info",
         },
         Verb::Display => Row {
             words: b"DISPLAY",
@@ -306,6 +307,12 @@ pub(crate) fn row_of(verb: Verb) -> Row
             usage: b"block|x CHAIN|NUMBER",
             line: b"its block",
             sentence: b"shows the words of the block to which it leads, and what the fields that are defined now show of it",
+        },
+        Verb::Who => Row {
+            words: b"WHO",
+            usage: b"who CHAIN|NUMBER",
+            line: b"got, wrote, freed it",
+            sentence: b"shows by which steps the block to which it leads was got, last written and freed, if it was: the state right before each, to which goto leads. The session stays where it is",
         },
         Verb::Where => Row {
             words: b"WHERE W BT BACKTRACE FRAME F UP DOWN",

@@ -10,6 +10,7 @@ use itoa::Integer;
 use l6_asm::Labels;
 use l6_draw::character_of;
 use l6_group::Label;
+use l6_history::{BlockWord, Watched};
 use l6_machine::{Position, push_decimal};
 use l6_prog::{Chain, Comparison, NAMES, Name, Operand, Test};
 use l6_store::Level;
@@ -21,6 +22,34 @@ pub(crate) fn push_chain(text: &mut Vec<u8>, chain: &Chain) -> Result<(), AllocE
     ensures { OnOk result (text.new.items ≡ text.old.items ++ spec.chain_text chain.now) }
 {
     push_names(text, chain.names())
+}
+
+/// Adds what is watched, as it is typed.
+pub(crate) fn push_watched_name(text: &mut Vec<u8>, watched: &Watched) -> Result<(), AllocError>
+    ensures { OnOk result (text.new.items ≡ text.old.items ++ spec.watched_name watched.now) }
+{
+    match watched {
+        Watched::Chain(chain) => push_chain(text, chain),
+        Watched::Word(word) => push_word_name(text, *word),
+    }
+}
+
+/// Adds a word of the block at a place, as it is typed.
+pub(crate) fn push_word_name(text: &mut Vec<u8>, at: BlockWord) -> Result<(), AllocError>
+    ensures { OnOk result (text.new.items ≡ text.old.items ++ spec.word_name at) }
+{
+    push_counted(text, b"*", at.place.get())?;
+    push_further(text, at.word)
+}
+
+/// Adds which word of a block it is, if it is not the first.
+fn push_further(text: &mut Vec<u8>, word: u16) -> Result<(), AllocError>
+    ensures { OnOk result (text.new.items ≡ text.old.items ++ spec.further_word word) }
+{
+    if word == 0 {
+        return Ok(());
+    }
+    push_counted(text, b"+", word)
 }
 
 /// Adds names.

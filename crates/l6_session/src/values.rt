@@ -3,7 +3,8 @@
 ghost use Rattle.std.specs.Prelude.{◌≡◌, ◌++◌, OnOk};
 ghost use Rattle.l6_session.specs.Texts as spec;
 
-use crate::text::{push_block_at, push_chain, push_names, push_word};
+use crate::text::{push_block_at, push_chain, push_names, push_word, push_word_name};
+use l6_history::{BlockWord, Watched};
 use l6_machine::{Machine, Trap, push_decimal};
 use l6_prog::{Chain, Name, Operand};
 use l6_store::Places;
@@ -41,6 +42,66 @@ pub(crate) fn push_chain_value<S: Places>(
             push_word_value(text, machine, word)
         }
         Err(_) => push_unfollowed(text, machine, chain),
+    }
+}
+
+/// Adds what is watched, and what it reads as, or why it can't be read.
+pub(crate) fn push_watched_value<S: Places>(
+    text: &mut Vec<u8>,
+    machine: &Machine<S>,
+    watched: &Watched,
+) -> Result<(), AllocError>
+    ensures { OnOk result (text.new.items ≡ text.old.items
+        ++ spec.watched_line machine.now.configuration.state.memory watched.now) }
+{
+    match watched {
+        Watched::Chain(chain) => push_chain_value(text, machine, chain),
+        Watched::Word(word) => push_block_word(text, machine, *word),
+    }
+}
+
+/// Adds a word of a block, and what it reads as, or why it can't be read.
+fn push_block_word<S: Places>(
+    text: &mut Vec<u8>,
+    machine: &Machine<S>,
+    at: BlockWord,
+) -> Result<(), AllocError>
+    ensures { OnOk result (text.new.items ≡ text.old.items
+        ++ spec.block_word_line machine.now.configuration.state.memory at) }
+{
+    let place = at.place;
+    let word = machine.store().word(place, at.word);
+    push_word_name(text, at)?;
+    push_word_read(text, machine, place, word)
+}
+
+/// Adds what a word of the block at a place reads as, or why it can't be read.
+fn push_word_read<S: Places>(
+    text: &mut Vec<u8>,
+    machine: &Machine<S>,
+    place: Word,
+    word: Option<Word>,
+) -> Result<(), AllocError>
+    ensures { OnOk result (text.new.items ≡ text.old.items
+        ++ spec.word_read_text machine.now.configuration.state.memory place word) }
+{
+    match word {
+        Some(word) => {
+            text.extend_from_slice(b" = ")?;
+            push_word_value(text, machine, word)
+        }
+        None => text.extend_from_slice(no_word(machine, place)),
+    }
+}
+
+/// Why a word of the block at a place can't be read.
+fn no_word<S: Places>(machine: &Machine<S>, place: Word) -> &'static [u8]
+    ensures { result.now ≡ spec.no_word_text machine.now.configuration.state.memory place }
+{
+    if machine.store().live(place).is_some() {
+        b" can't be read: the block there has no such word\n"
+    } else {
+        b" can't be read: no block begins there\n"
     }
 }
 

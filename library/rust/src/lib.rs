@@ -1,10 +1,17 @@
 //! A proved buddy system (K. C. Knowlton, A fast storage allocator, CACM 8(10), 1965). `l6_store.h` says what
 //! each call does; every method here is one of them.
+//!
+//! The feature `std`, which is on by itself, has the heap of the library, by `malloc`, and [`Store::list`]. Without it
+//! the crate needs no `std`, and its program has the heap: `rattle_alloc` and `rattle_dealloc`, as `heap.c` has them.
+#![cfg_attr(not(feature = "std"), no_std)]
 #![deny(unsafe_op_in_unsafe_fn)]
 
-use std::cell::UnsafeCell;
-use std::ffi::c_void;
-use std::fmt;
+use core::cell::UnsafeCell;
+use core::ffi::c_void;
+use core::fmt;
+
+#[cfg(feature = "std")]
+mod heap;
 
 /// A store, open or closed, as C has it.
 #[repr(C)]
@@ -33,32 +40,6 @@ extern "C" {
     fn l6_store_first(store: *const Raw, level: u32) -> i64;
     fn l6_store_next(store: *const Raw, level: u32, place: u32) -> i64;
     fn l6_store_level_for(words: u32) -> i64;
-
-    fn malloc(size: usize) -> *mut u8;
-    fn free(at: *mut u8);
-}
-
-/// A block of memory, or that there is none.
-#[repr(C)]
-struct Tried {
-    ok: bool,
-    at: *mut u8,
-}
-
-/// The heap of the library.
-#[no_mangle]
-extern "C" fn rattle_alloc(size: usize, align: usize) -> Tried {
-    // SAFETY: malloc may be called with any size.
-    let at = unsafe { malloc(size.max(align)) };
-    let ok = !at.is_null();
-    let at = if ok { at } else { std::ptr::NonNull::dangling().as_ptr() };
-    Tried { ok, at }
-}
-
-#[no_mangle]
-extern "C" fn rattle_dealloc(at: *mut u8) {
-    // SAFETY: the library gives back what rattle_alloc gave, and once.
-    unsafe { free(at) }
 }
 
 /// Why a call did nothing.
@@ -100,6 +81,7 @@ impl fmt::Display for Fault {
     }
 }
 
+#[cfg(feature = "std")]
 impl std::error::Error for Fault {}
 
 /// What a call answered.
@@ -130,8 +112,8 @@ fn level(code: i64) -> Result<u32, Fault> {
 /// A store. It is open as long as it lives, and may be sent to another thread.
 pub struct Store(UnsafeCell<Raw>);
 
-// SAFETY: a store has no part in any thread: its memory is its own, and two stores share the heap alone, which is that of
-// malloc.
+// SAFETY: a store has no part in any thread: its memory is its own, and two stores share the heap alone, which every
+// thread may call.
 unsafe impl Send for Store {}
 
 // SAFETY, of all calls below: the struct began closed, no bytes of it are changed or copied but by calls (a move
@@ -140,7 +122,7 @@ unsafe impl Send for Store {}
 impl Store {
     /// A store of 1 to 255 units of 1,024 words, without blocks.
     pub fn new(units: u32) -> Result<Self, Fault> {
-        let mut raw = Raw { is_open: 0, held: std::ptr::null_mut() };
+        let mut raw = Raw { is_open: 0, held: core::ptr::null_mut() };
         answer(unsafe { l6_store_open(&mut raw, units) })?;
         Ok(Store(UnsafeCell::new(raw)))
     }
@@ -211,14 +193,33 @@ impl Store {
     }
 
     /// The free pieces of a level, in the order in which gets take them.
+    pub fn free_pieces(&self, level: u32) -> Result<FreePieces<'_>, Fault> {
+        let next = place(unsafe { l6_store_first(self.0.get(), level) })?;
+        Ok(FreePieces { store: self, level, next })
+    }
+
+    /// The same, as a list.
+    #[cfg(feature = "std")]
     pub fn list(&self, level: u32) -> Result<Vec<u32>, Fault> {
-        let mut places = Vec::new();
-        let mut next = place(unsafe { l6_store_first(self.0.get(), level) })?;
-        while let Some(piece) = next {
-            places.push(piece);
-            next = place(unsafe { l6_store_next(self.0.get(), level, piece) })?;
-        }
-        Ok(places)
+        self.free_pieces(level).map(Iterator::collect)
+    }
+}
+
+/// The free pieces of a level.
+pub struct FreePieces<'a> {
+    store: &'a Store,
+    level: u32,
+    next: Option<u32>,
+}
+
+impl Iterator for FreePieces<'_> {
+    type Item = u32;
+
+    fn next(&mut self) -> Option<u32> {
+        let piece = self.next?;
+        // SAFETY: as of all calls; meanwhile nobody changes the store, which is borrowed.
+        self.next = place(unsafe { l6_store_next(self.store.0.get(), self.level, piece) }).unwrap_or(None);
+        Some(piece)
     }
 }
 

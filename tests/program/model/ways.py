@@ -1,4 +1,4 @@
-"""Statements that no way leads to."""
+"""Statements that no way leads to, that decide nothing, or that run on into a subroutine."""
 from __future__ import annotations
 
 from .cards import Assembly
@@ -9,6 +9,28 @@ def unreached_cards(assembly: Assembly) -> list[int]:
     """The first cards of the statements that no way leads to from the first statement."""
     reached = reached_statements(assembly.program)
     return [one.first_card for number, one in enumerate(assembly.spelled) if number not in reached]
+
+
+def idle_cards(assembly: Assembly) -> list[int]:
+    """The first cards of the statements that have a condition, and neither an operation nor an exit."""
+    return [
+        one.first_card for statement, one in zip(assembly.program, assembly.spelled)
+        if statement.condition != Condition.NONE and not statement.operations and statement.exit == Exit.NONE
+    ]
+
+
+def running_cards(assembly: Assembly) -> list[int]:
+    """The first cards of the statements without condition and exit after which comes one that is called, and to which
+    nothing goes by an exit or for a failure."""
+    program = assembly.program
+    called = {operation.called for statement in program for operation in statement.operations}
+    left_to = {statement.target for statement in program}
+    left_to |= {operation.target for statement in program for operation in statement.operations}
+    return [
+        one.first_card for number, (statement, one) in enumerate(zip(program, assembly.spelled))
+        if statement.condition == Condition.NONE and statement.exit == Exit.NONE
+        and number + 1 in called and number + 1 not in left_to
+    ]
 
 
 def reached_statements(program: Program) -> set[int]:

@@ -1,4 +1,4 @@
-use Rattle.std.proofs.Common.{arith, ℕ, ◌+◌, ◌-◌, ◌∙◌, List, ap}
+use Rattle.std.proofs.Common.{arith, ℕ, ◌-◌, ◌∙◌, List, ap}
 use Rattle.l6_word.specs.Lines.{lines_of}
 use Rattle.l6_check.specs.Indented.{label_in_front}
 use Rattle.l6_check.proofs.Indenting.{label_here, label_later}

@@ -7,5 +7,5 @@ use Rattle.l6_check.proofs.names.add_missing.Given as goal
 -- the missing labels so far are added
 abbrev pub invariant-loop-statement : goal.invariant-loop-statement
 invariant-loop-statement l =
-    AreAdded (flat_map (missing_in l.given.entries) (take l.statement-index l.statements))
+    AreAdded l.given.entries (flat_map (missing_in l.given.entries) (take l.statement-index l.statements))
     (most_names * l.statement-index) l.fn.missing l.missing

@@ -14,9 +14,9 @@ returns-in_ok-add_if_missing-in-Call c =
     let new = c.add_if_given.new.missing in
     let missing = missing_if given c.args.group.now.card in
     on_ok c.add_if_given.result c.add_if_given.ensures (λ second.
-    subst (λ (l : List (ℕ × Label)). AreAdded l 2 old new)
+    subst (λ (l : List (ℕ × Label)). AreAdded given l 2 old new)
     (sym (ap (λ o. flat_map missing (labels_in o)) c.in-Call.is))
-    (both_added _ _ 1 1 2 old c.add_if_missing.new.missing new (omega arith)
+    (both_added given _ _ 1 1 2 old c.add_if_missing.new.missing new (omega arith)
     c.in_ok-add_if_missing-in-Call.ensures second))
 
 pub returns-in_default : goal.returns-in_default
@@ -24,5 +24,5 @@ returns-in_default c =
     let given = c.args.given.now.entries in
     let group = c.args.group.now in
     let none : labels_in group.reading ≡ [] = search rules in
-    none_added (missing_in_group given group) 2 c.args.missing.now
+    none_added given (missing_in_group given group) 2 c.args.missing.now
     (ap (flat_map (missing_if given group.card)) none)

@@ -15,10 +15,10 @@ returns c =
     let leaving = c.args.statement.now.exit in
     let few : length c.operations.result.now ≤ 63 = search rules in
     on_ok c.add_of_exit.result c.add_of_exit.ensures (λ second.
-    subst (λ os. AreAdded (flat_map groups os ++ missing_in_exit given leaving) most_names old new)
+    subst (λ os. AreAdded given (flat_map groups os ++ missing_in_exit given leaving) most_names old new)
     c.operations.ensures
-    (subst (λ e. AreAdded (flat_map groups c.operations.result.now ++ missing_in_exit given e) most_names old new)
+    (subst (λ e. AreAdded given (flat_map groups c.operations.result.now ++ missing_in_exit given e) most_names old new)
     c.exit.ensures
-    (both_added (flat_map groups c.operations.result.now) (missing_in_exit given c.exit.result.now)
+    (both_added given (flat_map groups c.operations.result.now) (missing_in_exit given c.exit.result.now)
     (2 * length c.operations.result.now) 1 most_names old c.add_of_groups.new.missing new
     (omega (arith, few)) c.in_ok-add_of_groups.ensures second)))

@@ -1,4 +1,4 @@
-use Rattle.std.proofs.Common.{rules, ◌≡◌, ℕ, ◌+◌, ◌-◌, ◌++◌, [], ◌∷◌, List, length, length-take, suc, take, take_all, append_assoc, append-nil, arith, sym, ap, ◌∙◌, subst, Some, None}
+use Rattle.std.proofs.Common.{rules, ◌≡◌, ◌+◌, ◌-◌, ◌++◌, [], ◌∷◌, List, length, length-take, suc, take, take_all, append_assoc, append-nil, arith, sym, ap, ◌∙◌, subst, Some, None}
 use Rattle.l6_word.specs.Lines.{lines_of}
 use Rattle.l6_card.specs.ReadAlone.{objection_to_lines}
 use Rattle.l6_card.specs.declared.objection.Objection.{Objection}

@@ -51,6 +51,7 @@ loop-part-preserved c =
             here.here more next.parts next.counted leads here.are from))),
       );
       missing_places = c.in_ok-add_errors.ensures.missing_places c.loop-part.invariant.missing_places;
+      near = c.in_ok-add_errors.ensures.near c.loop-part.invariant.near;
       missing_few = omega (
         arith,
         next.left,

@@ -3,7 +3,7 @@ use Rattle.l6_word.specs.Lines.{lines_of}
 use Rattle.l6_card.specs.declared.objection.Objection.{Objection}
 use Rattle.l6_check.specs.Explains.{Explains}
 use Rattle.l6_group.specs.declared.label.Label.{Label}
-use Rattle.l6_check.specs.Missing.{MissingFrom, missing_said}
+use Rattle.l6_check.specs.Missing.{AreNearest, MissingFrom, missing_said}
 use Rattle.l6_check.specs.inner.Names.{most_names}
 use Rattle.l6_check.specs.OnCard.{AreOnTheirCards}
 use Rattle.l6_check.specs.Kept.{Say, AreOf}
@@ -22,6 +22,7 @@ invariant-loop-part l = record {
       MissingFrom l.given.entries (l.parts.before + 1) (parts_of (lines_of l.parts.rest.now)) more →
       MissingFrom l.given.entries 1 (parts_of (lines_of l.deck)) (so_far ++ more));
   missing_places : AreOnTheirCards l.missing;
+  near : AreNearest l.given.entries l.missing;
   missing_few : l.missing.count ≤ most_names * l.parts.before;
   few : l.reading.count ≤ most_of_statement * l.parts.before;
   numbers : l.parts.before + length l.parts.rest.now ≤ length l.deck;

@@ -1,4 +1,4 @@
-use Rattle.std.proofs.Common.{ℕ, Bool, List, sym, subst}
+use Rattle.std.proofs.Common.{ℕ, Bool, List, length, sym, subst}
 use Rattle.std.specs.List.{flat_map}
 use Rattle.l6_word.specs.Lines.{lines_of}
 use Rattle.l6_prog.specs.Target.{targets_of}
@@ -6,9 +6,11 @@ use Rattle.l6_check.specs.Kept.{Say}
 use Rattle.l6_check.specs.Warnings.{condition_card}
 use Rattle.l6_prog.specs.Statement.{Parts}
 use Rattle.l6_check.specs.Certain.{trapping_card, traps_in}
+use Rattle.l6_check.specs.Running.{calls_of, exits_of, idle_card, idles_at, running_card, runs_on_at}
 use Rattle.l6_check.specs.Ways.{AreReached, statements_where, unnamed_card}
-use Rattle.l6_check.specs.inner.Marks.{AreMarks, is_marked}
+use Rattle.l6_check.specs.inner.Marks.{AreMarks, AreMarksBelow, is_marked}
 use Rattle.l6_check.proofs.Keeping.{if_ok}
+use Rattle.l6_check.proofs.RunningSteps.{running_same}
 use Rattle.l6_check.proofs.WaySteps.{conditions_same, unnamed_same}
 use Rattle.l6_check.proofs.ways.statement_warnings.Goals as goal
 
@@ -41,6 +43,29 @@ returns-clause-unreached c =
     (sym c.deref-2.ensures.value) c.in_ok-reached.ensures in
     if_ok c.warnings_by.result c.warnings_by.ensures.unreached (λ found says.
     record { reached = is_marked marks; are = are; said = says })
+
+pub returns-clause-idle : goal.returns-clause-idle
+returns-clause-idle c =
+    if_ok c.warnings_by.result c.warnings_by.ensures.idle (λ found says.
+    subst (λ (p : List Parts).
+    Say idle_card (statements_where (idles_at p) 0 1 (lines_of c.args.deck.now)) found.idle)
+    c.statements.ensures.value says)
+
+pub returns-clause-running : goal.returns-clause-running
+returns-clause-running c =
+    let program = c.args.program.now in
+    let called = subst (λ (m : List Bool). AreMarksBelow (length program) (flat_map calls_of program) m)
+    (sym c.deref-3.ensures.value) c.in_ok-called.ensures in
+    let left_to = subst (λ (m : List Bool). AreMarksBelow (length program) (flat_map exits_of program) m)
+    (sym c.deref-4.ensures.value) c.in_ok-left_to.ensures in
+    if_ok c.warnings_by.result c.warnings_by.ensures.running (λ found says.
+    subst (λ (l : List ℕ). Say running_card l found.running)
+    (running_same program c.deref-3.result.now c.deref-4.result.now called left_to (lines_of c.args.deck.now))
+    (subst (λ (p : List Parts).
+    Say running_card
+    (statements_where (runs_on_at (is_marked c.deref-3.result.now) (is_marked c.deref-4.result.now) p) 0 1
+    (lines_of c.args.deck.now)) found.running)
+    c.statements.ensures.value says))
 
 pub returns-clause-trapping : goal.returns-clause-trapping
 returns-clause-trapping c =

@@ -1,5 +1,5 @@
 use Rattle.std.proofs.Common.{◌+◌, ◌≤◌, length}
-use Rattle.l6_check.specs.declared.ways.StatementTest.TheVariants.{Condition, Unnamed, Unreached, Trapping}
+use Rattle.l6_check.specs.declared.ways.StatementTest.TheVariants.{Condition, Unnamed, Unreached, Trapping, Idle, Running}
 use Rattle.l6_check.proofs.WaySteps.{SaysSoFar}
 use Rattle.l6_check.proofs.ways.warnings_by.Given as goal
 
@@ -10,10 +10,14 @@ invariant-loop-line l = record {
   unnamed : SaysSoFar Unnamed l.ways l.unnamed l.number l.card l.rest l.deck;
   unreached : SaysSoFar Unreached l.ways l.unreached l.number l.card l.rest l.deck;
   trapping : SaysSoFar Trapping l.ways l.trapping l.number l.card l.rest l.deck;
+  idle : SaysSoFar Idle l.ways l.idle l.number l.card l.rest l.deck;
+  running : SaysSoFar Running l.ways l.running l.number l.card l.rest l.deck;
   few : l.conditions.count ≤ l.card;
   few_unnamed : l.unnamed.count ≤ l.card;
   few_unreached : l.unreached.count ≤ l.card;
   few_trapping : l.trapping.count ≤ l.card;
+  few_idle : l.idle.count ≤ l.card;
+  few_running : l.running.count ≤ l.card;
   numbers : l.card + length l.rest ≤ length l.deck;
   below : l.number ≤ l.card;
 }

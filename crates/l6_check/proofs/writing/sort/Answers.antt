@@ -1,7 +1,11 @@
 use Rattle.std.proofs.Common.{rules}
-use Rattle.std.proofs.lemmas.List.Sorted.{IsNonDecreasingBy-from_sort_by_key, answers_always, ties_still_rise}
+use Rattle.std.proofs.lemmas.List.Sorted.{IsPermutation-trans, IsNonDecreasingBy-from_sort_by_key, answers_always, ties_still_rise}
 use Rattle.l6_check.specs.declared.finding.Finding.{Finding}
 use Rattle.l6_check.proofs.writing.sort.Goals as goal
+
+pub returns-clause-same : goal.returns-clause-same
+returns-clause-same c =
+    IsPermutation-trans _ _ _ c.sort_by_key.ensures.permutation c.sort_by_key-2.ensures.permutation
 
 pub returns-clause-cards : goal.returns-clause-cards
 returns-clause-cards c =

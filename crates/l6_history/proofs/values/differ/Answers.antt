@@ -10,16 +10,16 @@ pub returns-then-is_other : goal.returns-then-is_other
 returns-then-is_other g c =
     let index = c.loop-index.index in
     let memory = c.args.machine.now.configuration.state.memory in
-    let new = values_of c.args.chains.now memory in
-    let value = c.readable_value.result in
+    let new = values_of c.args.watched.now memory in
+    let value = c.value.result in
     let kept = c.index-values-index.result in
     let within : index < length c.args.values.now =
     omega (arith, c.requires, c.loop-index-test.true) in
-    let many = length-map c.args.chains.now (value_of memory) in
+    let many = length-map c.args.watched.now (value_of memory) in
     let within_new : index < length new = omega (arith, many, c.loop-index-test.true) in
     let seen : value ≡ get_or new index value =
-    read_as c.args.chains.now memory index c.index-chains-index.result value c.loop-index-test.true
-    c.index-chains-index.is c.readable_value.ensures in
+    read_as c.args.watched.now memory index c.index-watched-index.result value c.loop-index-test.true
+    c.index-watched-index.is c.value.ensures in
     let more = differ_more c.args.values.now new index kept value c.is_other.result within within_new
     c.index-values-index.is seen c.is_other.ensures c.loop-index.invariant.rest in
     ap (λ b. b || some_differ (drop (index + 1) c.args.values.now) (drop (index + 1) new))
@@ -31,16 +31,16 @@ pub loop-index-preserved : goal.loop-index-preserved
 loop-index-preserved g c =
     let index = c.loop-index.index in
     let memory = c.args.machine.now.configuration.state.memory in
-    let new = values_of c.args.chains.now memory in
-    let value = c.readable_value.result in
+    let new = values_of c.args.watched.now memory in
+    let value = c.value.result in
     let kept = c.index-values-index.result in
     let within : index < length c.args.values.now =
     omega (arith, c.requires, c.loop-index-test.true) in
-    let many = length-map c.args.chains.now (value_of memory) in
+    let many = length-map c.args.watched.now (value_of memory) in
     let within_new : index < length new = omega (arith, many, c.loop-index-test.true) in
     let seen : value ≡ get_or new index value =
-    read_as c.args.chains.now memory index c.index-chains-index.result value c.loop-index-test.true
-    c.index-chains-index.is c.readable_value.ensures in
+    read_as c.args.watched.now memory index c.index-watched-index.result value c.loop-index-test.true
+    c.index-watched-index.is c.value.ensures in
     let more = differ_more c.args.values.now new index kept value c.is_other.result within within_new
     c.index-values-index.is seen c.is_other.ensures c.loop-index.invariant.rest in
     record {

@@ -8,17 +8,17 @@ use Rattle.l6_history.proofs.values.see.Goals as goal
 pub loop-index-preserved : goal.loop-index-preserved
 loop-index-preserved g c =
     let index = c.loop-index.index in
-    let value = c.readable_value.result in
+    let value = c.value.result in
     let memory = c.args.machine.now.configuration.state.memory in
-    let new = values_of c.args.chains.now memory in
+    let new = values_of c.args.watched.now memory in
     let before = c.loop-index.invariant in
-    let many = length-map c.args.chains.now (value_of memory) in
+    let many = length-map c.args.watched.now (value_of memory) in
     let within : index < length c.loop-index.values =
     omega (arith, before.many, c.loop-index-test.true) in
     let within_new : index < length new = omega (arith, many, c.loop-index-test.true) in
     let seen : value ≡ get_or new index value =
-    read_as c.args.chains.now memory index c.index-chains-index.result value c.loop-index-test.true
-    c.index-chains-index.is c.readable_value.ensures in
+    read_as c.args.watched.now memory index c.index-watched-index.result value c.loop-index-test.true
+    c.index-watched-index.is c.value.ensures in
     record {
       many = length-set c.loop-index.values index value ∙ before.many;
       seen = take_more_set c.loop-index.values index value within

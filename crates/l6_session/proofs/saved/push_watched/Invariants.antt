@@ -3,10 +3,10 @@ use Rattle.std.specs.Prelude.{map}
 use Rattle.l6_session.specs.Saved.{watched}
 use Rattle.l6_session.proofs.saved.push_watched.Given as goal
 
--- the commands so far, with those of the chains that are left, are all
-abbrev pub invariant-loop-chain : goal.invariant-loop-chain
-invariant-loop-chain l =
-    l.commands.items ++ map watched l.rest ≡ l.fn.commands.items ++ map watched l.chains
+-- the commands so far, with those of what is left, are all
+abbrev pub invariant-loop-one : goal.invariant-loop-one
+invariant-loop-one l =
+    l.commands.items ++ map watched l.rest ≡ l.fn.commands.items ++ map watched l.watched
 
-abbrev pub decreases-loop-chain : goal.decreases-loop-chain
-decreases-loop-chain l = length l.rest
+abbrev pub decreases-loop-one : goal.decreases-loop-one
+decreases-loop-one l = length l.rest

@@ -1,5 +1,4 @@
 use Rattle.std.proofs.Common.{arith, refl}
-use Rattle.l6_word.specs.Lines.{lines_of}
 use Rattle.l6_check.proofs.StatementParts.{part_counted, part_next}
 use Rattle.l6_check.proofs.parts.Parts.next.Goals as goal
 

@@ -16,6 +16,6 @@ loop-number-init c =
     record {
       many = ap (λ (t : List (List Bool)). length t) rows ∙ length-replicate count (replicate 64 true)
           ∙ ap (λ (ps : List Parts). length ps) c.statements-statements.ensures.value;
-      known = subst (IsTable c.args.chains.now program) (sym rows)
-          (first_table c.args.chains.now program count 64);
+      known = subst (IsTable c.args.watched.now program) (sym rows)
+          (first_table c.args.watched.now program count 64);
     }

@@ -6,5 +6,5 @@ use Rattle.l6_history.proofs.changing.ChangeTable.new.Given as goal
 abbrev pub invariant-loop-number : goal.invariant-loop-number
 invariant-loop-number l = record {
   many : length l.rows.items ≡ length l.program;
-  known : IsTable l.chains l.program l.rows.items;
+  known : IsTable l.watched l.program l.rows.items;
 }

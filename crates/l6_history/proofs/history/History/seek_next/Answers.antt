@@ -8,9 +8,7 @@ use Rattle.l6_steps.specs.RunState.{RunState}
 use Rattle.l6_steps.specs.State.{RunContext, State}
 use Rattle.l6_machine.specs.Later.{sees}
 use Rattle.l6_history.specs.History.{number_to}
-use Rattle.l6_history.specs.Stop.{changes_between, stops_at}
 use Rattle.l6_history.proofs.Sought.{comes_alike, comes_on, is_seen, next-seen, none_on, none_yet}
-use Rattle.l6_history.proofs.Watched.{none_changed}
 use Rattle.l6_history.proofs.history.History.seek_next.Goals as goal
 
 -- it begins at the state where it is
@@ -18,13 +16,13 @@ pub stretches-init : goal.stretches-init
 stretches-init g c =
     let rule = g.S.Places.rule in
     let context = c.args.self.now.context in
-    let stop = c.args.stop.now in
+    let sought = g.W.Seeker.goal c.args.watch.now in
     let number = c.args.self.now.number in
     let watch = c.begin.new.self in
     let here = state_at rule context number in
-    let changed : (there : State) → g.W.Watch.changed watch there ≡ changes_between stop here there =
+    let changed : (there : State) → g.W.Watch.changed watch there ≡ sought.between here there =
     λ there. c.begin.ensures.changed there
-    ∙ ap (λ (s : RunState). changes_between stop s.configuration.state there) c.machine.ensures.value in
+    ∙ ap (λ (s : RunState). sought.between s.configuration.state there) c.machine.ensures.value in
     record {
       context = refl;
       low = omega (arith, c.number.ensures.value, c.number.ensures.within, c.number.ensures.bound);
@@ -34,7 +32,7 @@ stretches-init g c =
       changed = changed;
       passed = none_yet
           (λ n. sees (g.W.Watch.stops watch) (g.W.Watch.changed watch) (state_at rule context n)) number;
-      unchanged = changed here ∙ none_changed stop here;
+      unchanged = changed here ∙ c.requires.compares.unchanged here;
     }
 
 -- one more stretch is looked through
@@ -72,7 +70,7 @@ pub returns-clause-number : goal.returns-clause-number
 returns-clause-number g c =
     let rule = g.S.Places.rule in
     let context = c.args.self.now.context in
-    let stop = c.args.stop.now in
+    let sought = g.W.Seeker.goal c.args.watch.now in
     let from = c.args.self.now.number in
     let watch = c.begin.new.self in
     let old = c.stretches.self in
@@ -94,9 +92,9 @@ returns-clause-number g c =
     (λ below. subst
     (λ w. new.number < number_to rule w 18446744073709551615 → (old.number < new.number) × (seen w new.number ≡ true))
     same (c.stretch_until.ensures.stops c.stretches-test.false) (omega (arith, below, far))) in
-    next-seen rule context stop from new.number
-    (comes_alike (seen context) (is_seen rule context stop from) from last new.number comes
+    next-seen rule context sought c.requires.compares from new.number
+    (comes_alike (seen context) (is_seen rule context sought from) from last new.number comes
     (λ n.
     (let there = state_at rule context n in
-    ap (λ b. stops_at stop there || b) (sym (c.stretches.invariant.changed there))
+    ap (λ b. sought.at there || b) (sym (c.stretches.invariant.changed there))
     ∙ ap (λ b. b || g.W.Watch.changed watch there) (sym (c.stretches.invariant.stops there)))))

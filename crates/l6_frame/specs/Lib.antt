@@ -1,0 +1,4 @@
+pub mod Frame
+pub mod Numerals
+pub mod Read
+pub mod Stream

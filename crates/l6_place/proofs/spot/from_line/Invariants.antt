@@ -1,0 +1,13 @@
+use Rattle.std.proofs.Common.{◌≡◌, ◌≤◌, length}
+use Rattle.l6_place.specs.Spot as spec
+use Rattle.l6_place.proofs.spot.from_line.Given as goal
+
+-- the lines that are left are at the front of the rest
+abbrev pub invariant-loop-first : goal.invariant-loop-first
+invariant-loop-first l = record {
+  value : spec.from_line l.left l.rest ≡ spec.from_line l.line l.text;
+  within : length l.rest ≤ length l.text;
+}
+
+abbrev pub decreases-loop-first : goal.decreases-loop-first
+decreases-loop-first l = length l.rest

@@ -1,0 +1,4 @@
+pub mod Rpc
+pub mod Seen
+pub mod Takes
+pub mod Serving

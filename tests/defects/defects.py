@@ -240,7 +240,7 @@ def passes(step: str, trial: str) -> str:
             is_found, said = finds(step, trial, Path(room))
         except subprocess.TimeoutExpired:
             return f"it takes more than {SECONDS} seconds"
-    if said.endswith("0 passed, 0 failed\n"):
+    if said.splitlines()[-1:] == ["0 passed, 0 failed"]:
         return f"no trial of {step} has {trial} in its name"
     return said if is_found else "passes"
 

@@ -21,10 +21,14 @@ step sees "a step that sees it" python3 tests/sees/sees.py
 step blind "one that does not" python3 tests/sees/sees.py
 step fails "one that always fails" python3 tests/sees/sees.py
 step names "one that is named at the end, with a count that is right" python3 tests/sees/sees.py
+step ten "one of ten trials" python3 tests/sees/sees.py
+step none "one of no trial" python3 tests/sees/sees.py
 is_right=yes
 grep -q right file || is_right=''
 case $2:$is_right in
     sees:yes | blind:*) echo "1 passed, 0 failed" ;;
+    ten:*) echo "10 passed, 0 failed" ;;
+    none:*) echo "0 passed, 0 failed" ;;
     names:yes) echo "1 passed, 0 failed" ;;
     names:) printf '\\nfailed: names; status 1\\n1 passed, 0 failed\\n' ;;
     *) echo "0 passed, 1 failed" && exit 1 ;;
@@ -82,6 +86,8 @@ def trying(top: Path) -> Iterator[Trial]:
     (top / "tests/defects/small/bad.defect").unlink()
     yield "the checkout itself", "all\nis right\n", (top / "file").read_text("utf-8")
     yield "a step without a defect", "passes", defects.passes("sees", "")
+    yield "a step of ten trials without a defect", "passes", defects.passes("ten", "")
+    yield "a step without a trial", "no trial of none has a word in its name", defects.passes("none", "a word")
     yield "a step that fails without one", "0 passed, 1 failed\n", defects.passes("fails", "")
 
 

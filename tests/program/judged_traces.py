@@ -206,6 +206,7 @@ def recorded_by_hand(room: Path, library: Path) -> Iterator[Trial]:
     yield "the sizes that a program asks for", ASKED, [it for it in sizes if it in ASKED]
 
 
+# Programs that are recorded, each in a folder that is a repository of three commits.
 RECORDED = [
     ("Python", [sys.executable, "-c", "import json; [json.loads(json.dumps({'a': list(range(i % 50))})) for i in range(3000)]"]),
     ("git", ["git", "--no-pager", "log", "-3", "--stat"]),
@@ -213,20 +214,33 @@ RECORDED = [
 ]
 
 
+def repository_in(room: Path) -> Path:
+    """Makes a repository of three commits, for git to tell of: this checkout may be none itself."""
+    folder = room / "repository"
+    who = ["-c", "user.name=nobody", "-c", "user.email=nobody@example.org"]
+    subprocess.run(["git", "init", "-q", folder], check=True)
+    for number in range(3):
+        (folder / "file").write_text("line\n" * (number + 1), "ascii")
+        subprocess.run(["git", "add", "file"], cwd=folder, check=True)
+        subprocess.run(["git", *who, "commit", "-q", "-m", f"commit {number}"], cwd=folder, check=True)
+    return folder
+
+
 def recorded(program: str) -> Iterator[Trial]:
     """Programs whose gets and frees are recorded, and judged after another allocator has answered them."""
-    with tempfile.TemporaryDirectory(prefix="l6-record-") as folder:
-        room = Path(folder)
+    with tempfile.TemporaryDirectory(prefix="l6-record-") as made:
+        room = Path(made)
         library, calls, picture = (room / name for name in ("record.so", "calls", "picture.svg"))
         words = ["cc", "-O2", "-Wall", "-Wextra", "-Werror", "-shared", "-fPIC", str(LIBRARY / "record.c"), "-o", str(library)]
         yield "record.c compiles", 0, subprocess.run(words, check=False).returncode
         yield from recorded_by_hand(room, library)
+        folder = repository_in(room)
         for name, words in RECORDED:
             if not shutil.which(words[0]):
                 print(f"skipped: {name} is not installed")
                 continue
             known = {**os.environ, "L6_RECORD": str(calls), "LD_PRELOAD": str(library), "PYTHONMALLOC": "malloc"}
-            ran = subprocess.run(words, env=known, cwd=ZOO, capture_output=True, check=False)
+            ran = subprocess.run(words, env=known, cwd=folder, capture_output=True, check=False)
             converter = [sys.executable, "-B", str(LIBRARY / "record.py"), str(calls), "--most", "100000", "--svg", str(picture)]
             text = subprocess.run(converter, capture_output=True, text=True, check=True).stdout
             said = judged(program, text, "--levels", "16", "--units", "64", "--json")

@@ -238,6 +238,8 @@ def counts(gate: Gate) -> Iterator[Trial]:
         ("skipped-as-asked", (), 1),
         ("skipped-as-asked", ("--prove",), 0),
         ("fewer-trials", ("--prove",), 1),
+        ("more-trials", (), 1),
+        ("more-trials", ("--prove",), 1),
     ):
         actual, _ = gate.test(*words, fails="tests/program/program.py", how=how)
         yield f"./test {' '.join(words)}: {how}", status, actual.status

@@ -7,6 +7,8 @@ tables.py writes them, and tables.py --check only says which are not as they wou
 - the edits of each call in docs/contracts.md. An edit says which call refuses it, by a line
   `refused by: CALL`, or `refused by: CALL: PROMISE` where a call has several rows; PROMISE is how the row's
   promise begins.
+- the traps in docs/summary.md and docs/l6.1, which are those of the table in docs/language.md. What the summary
+  says in brackets behind a name is kept.
 
 The exit status is 1 if something is not as it would be written, or an edit has no row.
 """
@@ -22,12 +24,16 @@ from crates import TOP, Crate, read_crates
 
 MEASUREMENTS = TOP / "docs" / "measurements.md"
 CONTRACTS = TOP / "docs" / "contracts.md"
+LANGUAGE, SUMMARY, MANUAL = (TOP / "docs" / name for name in ("language.md", "summary.md", "l6.1"))
 HEAD = "| Crate | Functions | Code | Definitions | Proofs | Edits | Trying them |"
 EDITS_HEAD = "| Call | What it promises | Clause | Edit that is refused |"
 RULE = re.compile(r"\|(?:-+\|)+")
 FUNCTION = re.compile(r"^ *(?:pub(?:\([^)]*\))? )?(?:const )?fn \w+", re.MULTILINE)
 SPAN = re.compile(r"`([^`]+)`")
 REFUSED_BY = re.compile(r"^refused by: (?P<call>[^\n]+?)(?:: (?P<promise>[^\n]+))?$", re.MULTILINE)
+TRAP = re.compile(r"^\| (?P<number>\d+) \| (?P<name>[A-Z][A-Z ]+[A-Z]) \| (?P<when>[^|\n]+) \|$", re.MULTILINE)
+SUMMARY_HEAD = "| Trap | Name | Trap | Name |\n|---|---|---|---|\n"
+NOTE = re.compile(r"\| \d+ \| (?P<name>[A-Z ]+[A-Z]) (?P<note>\([^|]+\)) (?=\|)")
 TESTS = "l6_tests"  # the crate of tests has nothing that is counted
 
 
@@ -149,16 +155,54 @@ def cell_of(cell: str, edits: set[str], known: set[str]) -> str:
     return cell[:start] + listed + cell[end:]
 
 
+@dataclass(frozen=True)
+class Trap:
+    """A trap, as docs/language.md has it."""
+
+    number: str
+    name: str
+    when: str  # it happens
+
+
+def traps() -> list[Trap]:
+    """All traps, in order."""
+    found = TRAP.finditer(LANGUAGE.read_text("utf-8"))
+    return [Trap(it["number"], it["name"], it["when"].replace("`", "")) for it in found]
+
+
+def summary(text: str) -> str:
+    """The summary, with its table of traps: the second half beside the first."""
+    before, _, after = text.partition(SUMMARY_HEAD)
+    table, _, rest = after.partition("\n\n")
+    notes = {it["name"]: f" {it['note']}" for line in table.splitlines() for it in NOTE.finditer(line)}
+    cells = [f"{it.number} | {it.name}{notes.get(it.name, '')}" for it in traps()]
+    if len(cells) % 2:
+        cells.append(" | ")
+    half = len(cells) // 2
+    rows = [f"| {left} | {right} |" for left, right in zip(cells[:half], cells[half:])]
+    return "\n".join([f"{before}{SUMMARY_HEAD}{rows[0]}", *rows[1:], "", rest])
+
+
+def manual(text: str) -> str:
+    """The manual page, with its list of traps."""
+    before, start, after = text.partition("The traps are\n")
+    rest = after.partition(".\n")[2]
+    *first, last = (f"{it.number} {it.name}" for it in traps())
+    listed = ",\n".join(first)
+    return f"{before}{start}{listed}\nand\n{last}.\n{rest}"
+
+
 def main() -> int:
     """Writes the tables, or checks them; returns the exit status."""
     if sys.argv[1:] not in ([], ["--check"]):
         sys.exit(__doc__)
     page, wrong = contracts(CONTRACTS.read_text("utf-8"))
-    made = {MEASUREMENTS: measurements(MEASUREMENTS.read_text("utf-8")), CONTRACTS: page}
+    made = {MEASUREMENTS: measurements(MEASUREMENTS.read_text("utf-8")), CONTRACTS: page,
+            SUMMARY: summary(SUMMARY.read_text("utf-8")), MANUAL: manual(MANUAL.read_text("utf-8"))}
     for file, text in made.items():
         if file.read_text("utf-8") != text and sys.argv[1:]:
             wrong.append(
-                f"{file.relative_to(TOP)} has a table that is not as it is counted: tools/tables.py writes it"
+                f"{file.relative_to(TOP)} has a table that is not as it is made: tools/tables.py writes it"
             )
         elif file.read_text("utf-8") != text:
             file.write_text(text, "utf-8")

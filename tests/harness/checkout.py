@@ -11,10 +11,13 @@ import os
 import shutil
 import subprocess
 import sys
+import tempfile
+from collections.abc import Callable, Iterable, Iterator
 from pathlib import Path
 from typing import Any
 
 from answers import Answer
+from trials import Trial, groups_asked_for
 
 TOP = Path(__file__).resolve().parents[2]
 SCRIPTS = (
@@ -271,3 +274,20 @@ class Checkout:
         os.close(theirs)
         return answer
 
+
+Group = Callable[[Checkout], Iterator[Trial]]
+
+
+def on_checkouts(rows: Iterable[tuple[Group, ...]]) -> Iterator[Trial]:
+    """The trials of groups, or of the one that is asked for, by their names. Each row has a checkout of its own."""
+    all_rows = tuple(rows)
+    asked = groups_asked_for(group.__name__ for row in all_rows for group in row)
+    for row in all_rows:
+        wanted = [group for group in row if group.__name__ in asked]
+        if not wanted:
+            continue
+        with tempfile.TemporaryDirectory() as folder:
+            checkout = Checkout(Path(folder) / "checkout")
+            for group in wanted:
+                for name, expected, actual in group(checkout):
+                    yield f"{group.__name__}: {name}", expected, actual

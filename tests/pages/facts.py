@@ -286,7 +286,7 @@ def traps() -> Iterator[Trial]:
     table = table_with(text_of(SUMMARY), "Trap", "Name")
     halves = [(row[at], row[at + 1].partition(" (")[0]) for at in (0, 2) for row in table.rows]
     yield f"the traps in {SUMMARY}", known, halves
-    listed = manual().partition("The traps are ")[2].partition("OUTPUT FULL.")[0] + "OUTPUT FULL"
+    listed = manual().partition("The traps are ")[2].partition(".")[0]
     yield f"the traps in {MANUAL}", known, re.findall(r"(\d+) ([A-Z][A-Z ]+[A-Z])", listed)
     pattern = re.compile(r"\btraps? (\d+)\b")
     said = plain(text_of(LANGUAGE))

@@ -24,10 +24,12 @@ from page_tables import TOP, Table, canary, plain, spans_of, tables_of, text_of
 from trials import Trial, report
 
 import tables
+import whole_lists
 
 MEASUREMENTS = "docs/measurements.md"
 NAMED_DEFECTS = 32  # in docs/contracts.md
 CONTRACTS, PAGE, DEFINITIONS = "docs/contracts.md", "docs/page.md", "docs/definitions.md"
+SUMMARY, MANUAL = "docs/summary.md", "docs/l6.1"
 OF_TRIALS = (
     "docs/proof.md",
     "docs/robustness.md",
@@ -260,6 +262,8 @@ def generated() -> Iterator[Trial]:
     yield "edits without a row", [], wrong
     made = tables.measurements(text_of(MEASUREMENTS))
     yield f"{MEASUREMENTS} (tools/tables.py makes its table of crates)", made, text_of(MEASUREMENTS)
+    for page, written in ((SUMMARY, tables.summary), (MANUAL, tables.manual)):
+        yield f"{page} (tools/tables.py makes its list of traps)", written(text_of(page)), text_of(page)
 
 
 def numbers_of_operations() -> Iterator[Trial]:
@@ -321,6 +325,8 @@ def canaries(program: str) -> Iterator[Trial]:
     yield canary(CONTRACTS, "`word_of_two_to_the_36`, ", "", generated)
     yield canary(CONTRACTS, "`word_of_two_to_the_36`, ", "", contracts)
     yield canary(MEASUREMENTS, "| `l6_word` | ", "| `l6_word` | 1", generated)
+    yield canary(SUMMARY, "| 13 | BAD COUNT", "| 12 | BAD COUNT", generated)
+    yield canary(MANUAL, "7 STORE FULL,", "8 STORE FULL,", generated)
     yield canary(DEFINITIONS, "in 96 files", "in 95 files", counting_commands)
     yield canary(PAGE, "click the 8 beside", "click the 7 beside", lambda: lessons(program))
     yield canary(PAGE, "step to state 13", "step to state 12", lambda: lessons(program))
@@ -338,6 +344,7 @@ def trials(program: str) -> Iterator[Trial]:
     yield from contents()
     yield from counting_commands()
     yield from generated()
+    yield from whole_lists.trials()
     yield from numbers_of_operations()
     yield from lessons(program)
 

@@ -15,10 +15,8 @@ from __future__ import annotations
 
 import json
 import os
-import pty
 import random
 import re
-import select
 import signal
 import subprocess
 import sys
@@ -30,7 +28,7 @@ from itertools import count
 from pathlib import Path
 
 sys.path.insert(0, str(Path(__file__).resolve().parents[1] / "harness"))
-from answers import SECONDS, Answer, answer, answer_of
+from answers import Answer, answer, answer_of
 from batches import batches, prompts
 from further_jobs import aliased_job, churned_deck
 from lives import lives, words_watched
@@ -40,6 +38,7 @@ from model.groups import chain_of
 from model.machine import take_step
 from model.state import Options, State, Trap, characters_of_input
 from page_sessions import page_sessions, readme
+from terminals import Pseudoterminal
 from trials import Trial, few_pass, first_wrong, report
 
 HERE = Path(__file__).resolve().parent
@@ -267,46 +266,18 @@ def lists_of(state: State) -> str:
     return "".join(lines) or "NO FREE PIECE\n"
 
 
-class Terminal:
+class Terminal(Pseudoterminal):
     """A session on a pseudoterminal."""
-
-    def __init__(self, command: list[str]) -> None:
-        self.process, self.device = pty.fork()
-        if self.process == 0:
-            for number in (signal.SIGINT, signal.SIGQUIT, signal.SIGHUP):  # (a job in the background ignores them)
-                signal.signal(number, signal.SIG_DFL)
-            os.execv(command[0], command)
 
     def read(self, until: bytes = PROMPT) -> bytes:
         """What is shown up to a text."""
-        shown, end = b"", time.monotonic() + SECONDS
-        while not shown.endswith(until) and time.monotonic() < end:
-            if select.select([self.device], [], [], 0.1)[0]:
-                try:
-                    more = os.read(self.device, 4096)
-                except OSError:
-                    break
-                if not more:
-                    break
-                shown += more
-        return shown.replace(b"\r\n", b"\n")
+        return self.until(until).replace(b"\r\n", b"\n")
 
     def answer(self, line: bytes) -> bytes:
         """The answer to a line; the terminal repeats the line before it."""
-        os.write(self.device, line + b"\n")
+        self.give(line + b"\n")
         shown = self.read()
         return shown.removeprefix(line + b"\n").removesuffix(PROMPT)
-
-    def status(self) -> int:
-        """The status with which it ended; it is killed if it does not end."""
-        end = time.monotonic() + SECONDS
-        while time.monotonic() < end:
-            process, status = os.waitpid(self.process, os.WNOHANG)
-            if process:
-                return os.waitstatus_to_exitcode(status)
-            time.sleep(0.01)
-        os.kill(self.process, signal.SIGKILL)
-        return os.waitstatus_to_exitcode(os.waitpid(self.process, 0)[1])
 
 
 def at_terminal(program: str, folder: Path) -> Iterator[Trial]:
@@ -328,16 +299,16 @@ def at_terminal(program: str, folder: Path) -> Iterator[Trial]:
     yield "after signals", b"No call waits: there is nothing to finish\n", (
         terminal.answer(b"start"), terminal.answer(b"fin"))[1]
     yield "a byte that is no text", b"Not a command: help lists them\n", terminal.answer(b"\xff")
-    os.write(terminal.device, b"\x04")
+    terminal.give(b"\x04")
     yield "a new line at the end", b"\n", terminal.read(b"\n")
     yield "the end of the input", 0, terminal.status()
     terminal = Terminal([program, str(deck)])
     terminal.read()
-    os.write(terminal.device, b"quit\n")
+    terminal.give(b"quit\n")
     yield "quit", 0, terminal.status()
     terminal = Terminal([program, str(deck)])
     terminal.read()
-    os.write(terminal.device, b"\x03")
+    terminal.give(b"\x03")
     yield "an interrupt", -signal.SIGINT, terminal.status()
 
 

@@ -10,10 +10,8 @@ from __future__ import annotations
 import contextlib
 import fcntl
 import os
-import pty
 import random
 import re
-import select
 import shutil
 import signal
 import struct
@@ -26,12 +24,12 @@ from collections.abc import Iterator
 from pathlib import Path
 
 sys.path.insert(0, str(Path(__file__).resolve().parents[1] / "harness"))
+from terminals import SECONDS, Pseudoterminal
 from trials import Trial, groups_asked_for, report
 
 TOP = Path(__file__).resolve().parents[2]
 FRONT = [sys.executable, "-I", str(TOP / "terminal/l6db.py")]
 PROMPT = b"(l6db) "
-SECONDS = 60  # for one answer on a machine that is busy
 AFTER_A_KEY = 0.3  # seconds: a signal right after a key, before readline waits again, shows at the next key alone
 FEW, MANY = 6, 50  # commands that are stopped at random moments
 LIST = b"""* A LIST OF TWO BLOCKS, WHICH IS PRINTED
@@ -54,41 +52,17 @@ TOOLS = ("sh", "awk", "basename", "cat", "cmp", "cut", "dirname", "find", "grep"
          "sha256sum", "sort", "stty", "tr", "uname", "uniq", "xargs")
 
 
-class Terminal:
-    """A program on a pseudoterminal."""
+class Terminal(Pseudoterminal):
+    """A program on a pseudoterminal of 30 rows and 90 columns, without colours."""
 
     def __init__(self, command: list[str], **further: str) -> None:
-        self.shown = b""  # and not taken yet
-        self.process, self.device = pty.fork()
-        if self.process == 0:
-            for number in (signal.SIGINT, signal.SIGQUIT, signal.SIGHUP):
-                signal.signal(number, signal.SIG_DFL)
-            known = {**os.environ, "TERM": "xterm", "NO_COLOR": "1", "PAGER": "cat", "HOME": "/nowhere", **further}
-            os.execvpe(command[0], command, known)
+        plain = {"TERM": "xterm", "NO_COLOR": "1", "PAGER": "cat", "HOME": "/nowhere"}
+        super().__init__(command, {**os.environ, **plain, **further})
         self.resize(30, 90)
 
     def resize(self, rows: int, columns: int) -> None:
         """Gives the terminal another size."""
         fcntl.ioctl(self.device, termios.TIOCSWINSZ, struct.pack("HHHH", rows, columns, 0, 0))
-
-    def give(self, keys: bytes) -> None:
-        """Types keys."""
-        os.write(self.device, keys)
-
-    def until(self, text: bytes) -> bytes:
-        """What is shown up to a text, or all that is shown if it does not come."""
-        end = time.monotonic() + SECONDS
-        while text not in self.shown and time.monotonic() < end:
-            if select.select([self.device], [], [], 0.1)[0]:
-                try:
-                    more = os.read(self.device, 1 << 16)
-                except OSError:
-                    break
-                if not more:
-                    break
-                self.shown += more
-        before, found, self.shown = self.shown.partition(text)
-        return before + found
 
     def has(self, name: str, keys: bytes, text: bytes) -> Trial:
         """The trial that a text is shown after keys, and that the prompt comes then."""
@@ -102,17 +76,6 @@ class Terminal:
         """What is shown up to the next prompt, after a line and its echo."""
         self.give(line + b"\r")
         return self.until(b"\n") + self.until(PROMPT)
-
-    def status(self) -> int:
-        """The status with which it ends; it is killed if it does not."""
-        end = time.monotonic() + SECONDS
-        while time.monotonic() < end:
-            process, status = os.waitpid(self.process, os.WNOHANG)
-            if process:
-                return os.waitstatus_to_exitcode(status)
-            time.sleep(0.01)
-        os.kill(self.process, signal.SIGKILL)
-        return os.waitstatus_to_exitcode(os.waitpid(self.process, 0)[1])
 
     def end(self) -> int:
         """Ends it by Ctrl-D; answers its status."""

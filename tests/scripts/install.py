@@ -9,14 +9,14 @@ from __future__ import annotations
 import subprocess
 import sys
 import tempfile
-from collections.abc import Callable, Iterator
+from collections.abc import Iterator
 from pathlib import Path
 from typing import Any
 
 sys.path.insert(0, str(Path(__file__).resolve().parents[1] / "harness"))
 from answers import Answer
-from checkout import TOP, UNPROVED, Checkout
-from trials import Trial, first_wrong, groups_asked_for, report
+from checkout import TOP, UNPROVED, Checkout, Group, on_checkouts
+from trials import Trial, first_wrong, report
 
 PAGE = TOP / "docs" / "command-line.md"
 USAGE = "usage: ./install [--uninstall] [--program FILE] [PREFIX]\n"
@@ -303,7 +303,7 @@ def damaged_program(checkout: Checkout) -> Iterator[Trial]:
     yield "the program that is built again", Answer(checkout.made_of, "", 0), actual
 
 
-GROUPS: tuple[Callable[[Checkout], Iterator[Trial]], ...] = (
+GROUPS: tuple[Group, ...] = (
     arguments, installations, staged, debuggers, libraries, removals, running_program, refusals, damaged_program,
 )
 
@@ -311,11 +311,7 @@ GROUPS: tuple[Callable[[Checkout], Iterator[Trial]], ...] = (
 def trials() -> Iterator[Trial]:
     """All trials, each group on a checkout of its own."""
     yield from shipped()
-    asked = groups_asked_for(group.__name__ for group in GROUPS)
-    for group in (it for it in GROUPS if it.__name__ in asked):
-        with tempfile.TemporaryDirectory() as folder:
-            for name, expected, actual in group(Checkout(Path(folder) / "checkout")):
-                yield f"{group.__name__}: {name}", expected, actual
+    yield from on_checkouts((group,) for group in GROUPS)
 
 
 def canaries() -> Iterator[Trial]:

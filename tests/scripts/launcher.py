@@ -14,14 +14,14 @@ import subprocess
 import sys
 import tempfile
 import time
-from collections.abc import Callable, Iterator
+from collections.abc import Iterator
 from pathlib import Path
 from typing import Any
 
 sys.path.insert(0, str(Path(__file__).resolve().parents[1] / "harness"))
 from answers import Answer
-from checkout import PROGRAMS, TOP, UNPROVED, WARNED, Checkout
-from trials import Trial, first_wrong, groups_asked_for, report
+from checkout import PROGRAMS, TOP, UNPROVED, WARNED, Checkout, Group, on_checkouts
+from trials import Trial, first_wrong, report
 
 SOURCES = (
     "crates.txt", "HANDLES", "crates/l6_word/src/lib.rt", "crates/l6_word/specs/Lib.antt",
@@ -568,7 +568,7 @@ def making_all(checkout: Checkout) -> Iterator[Trial]:
         checkout.write(f"crates/{crate}/specs/Lib.antt", "proved again\n")
 
 
-GROUPS: tuple[Callable[[Checkout], Iterator[Trial]], ...] = (
+GROUPS: tuple[Group, ...] = (
     distributed, changed_sources, damaged_distribution, built_program, failed_proofs,
     edits_while_it_builds, crates_below, other_systems, damaged_programs, other_files, notes, places, cloned,
     keyboard, terminals, making_dist, making_all,
@@ -577,11 +577,7 @@ GROUPS: tuple[Callable[[Checkout], Iterator[Trial]], ...] = (
 
 def trials() -> Iterator[Trial]:
     """All trials, each group on a checkout of its own."""
-    asked = groups_asked_for(group.__name__ for group in GROUPS)
-    for group in (it for it in GROUPS if it.__name__ in asked):
-        with tempfile.TemporaryDirectory() as folder:
-            for name, expected, actual in group(Checkout(Path(folder) / "checkout")):
-                yield f"{group.__name__}: {name}", expected, actual
+    yield from on_checkouts((group,) for group in GROUPS)
 
 
 def canaries() -> Iterator[Trial]:

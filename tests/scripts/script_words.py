@@ -14,13 +14,13 @@ import subprocess
 import sys
 import tempfile
 import time
-from collections.abc import Callable, Iterator
+from collections.abc import Iterator
 from pathlib import Path
 
 sys.path.insert(0, str(Path(__file__).resolve().parents[1] / "harness"))
 from answers import Answer
-from checkout import PLAIN, TOP, UNPROVED, Checkout
-from trials import CANARY, Trial, groups_asked_for, report
+from checkout import PLAIN, TOP, UNPROVED, Checkout, Group, on_checkouts
+from trials import CANARY, Trial, report
 
 # A stand-in for sort: another order than that of bytes, unless that is asked for.
 SORT = '#!/bin/sh\n[ "${{LC_ALL-}}" = C ] && exec {sort} "$@"\nexec {sort} -r "$@"\n'
@@ -324,7 +324,7 @@ def tools(_checkout: Checkout) -> Iterator[Trial]:
 
 
 # Groups of trials; those of a line share a checkout.
-GROUPS: tuple[tuple[Callable[[Checkout], Iterator[Trial]], ...], ...] = (
+GROUPS: tuple[tuple[Group, ...], ...] = (
     (words, other_systems, sums, orders, installing),
     (
         proofs_that_fail,
@@ -344,13 +344,7 @@ GROUPS: tuple[tuple[Callable[[Checkout], Iterator[Trial]], ...], ...] = (
 
 def trials() -> Iterator[Trial]:
     """All trials."""
-    asked = groups_asked_for(group.__name__ for groups in GROUPS for group in groups)
-    for groups in GROUPS:
-        with tempfile.TemporaryDirectory() as folder:
-            checkout = Checkout(Path(folder) / "checkout")
-            for group in (it for it in groups if it.__name__ in asked):
-                for name, expected, actual in group(checkout):
-                    yield f"{group.__name__}: {name}", expected, actual
+    yield from on_checkouts(GROUPS)
 
 
 def canaries() -> Iterator[Trial]:

@@ -2,7 +2,7 @@
 
 interface Window {
   l6: unknown;
-  l6Texts: {shared: string, script: string, worker: string, examples: any[], manual: any[]};
+  l6Texts: {shared: string, script: string, worker: string, examples: any[], manual: any[], traps: Record<string, string>};
 }
 
 declare class CompressionStream {

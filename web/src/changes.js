@@ -48,32 +48,16 @@ const ENDINGS = {
 };
 
 /**
- * How the run has ended in this state, in a sentence, or "".
+ * How the run has ended in this state, in a sentence, or "". `traps` says of each trap, by its number, when it happens.
  * @param {{state: State}} view
+ * @param {Record<string, string>} traps
  * @returns {string}
  */
-export function endingOf({state}) {
-  if (state.ending === "TRAP") return TRAPS[/TRAP (\d+)/.exec(state.line)?.[1] ?? ""];
+export function endingOf({state}, traps) {
+  const number = /TRAP (\d+)/.exec(state.line)?.[1] ?? "";
+  if (state.ending === "TRAP") return `trap ${number}: ${traps[number]}`;
   return ENDINGS[state.ending] ?? "";
 }
-
-/** @type {Record<string, string>} */
-const TRAPS = {
-  1: "trap 1: a chain names a field that has no definition",
-  2: "trap 2: no block begins at the place to which the chain has come",
-  3: "trap 3: the field's word lies outside of the block",
-  4: "trap 4: a field needs a word up to 1,023, and bits from 0 to 35 in order",
-  5: "trap 5: a division by 0",
-  6: "trap 6: a block has 1 to 1,024 words",
-  7: "trap 7: no place is open for the block, and no label is given for that",
-  8: "trap 8: the input has too few characters left, and no label is given for that",
-  9: "trap 9: nothing is saved that could be restored",
-  10: "trap 10: the pushdown has 1,024 entries already",
-  11: "trap 11: 1,024 calls wait for their return already",
-  12: "trap 12: FAIL returns from a call that names no label for it",
-  13: "trap 13: 1 to 6 characters can be asked for",
-  14: "trap 14: the output would pass its limit",
-};
 
 /**
  * @param {View} before

@@ -28,10 +28,10 @@ class Page extends Typing {
    * The surveyor is an engine of its own, which reads runs while the other one answers.
    * @param {Engine} engine
    * @param {Engine} surveyor
-   * @param {import("./library.js").Group[]} examples
-   * @param {{name: string, title: string, markup: string}[]} manual
+   * @param {{examples: import("./library.js").Group[], traps: Record<string, string>,
+   *   manual: {name: string, title: string, markup: string}[]}} texts
    */
-  constructor(engine, surveyor, examples, manual) {
+  constructor(engine, surveyor, {examples, manual, traps}) {
     super();
     this.engine = engine;
     this.engine.changed = () => this.showBusy();
@@ -50,7 +50,7 @@ class Page extends Typing {
       hide: (name) => this.hideBug(name),
       next: (state) => this.nextOf(state),
       openTables: () => this.panes.open("tables"),
-    });
+    }, traps);
     this.makeTools();
     this.manual = new Manual(manual);
     this.library = new Library(this.desk(), examples);
@@ -226,10 +226,10 @@ class Page extends Typing {
 }
 
 async function begin() {
-  const {worker, examples, manual} = window.l6Texts;
+  const {worker, examples, manual, traps} = window.l6Texts;
   const bytes = await unpacked(byId("module").textContent);
   const engine = new Engine(await WebAssembly.compile(bytes), worker);
-  const page = new Page(engine, new Engine(engine.module, worker), examples, manual);
+  const page = new Page(engine, new Engine(engine.module, worker), {examples, manual, traps});
   window.l6 = page; // (for tests, and for whoever looks inside)
   if (!(await page.library.openLink()) && !page.library.restore()) page.library.welcome();
   document.body.dataset.ready = "yes";

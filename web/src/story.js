@@ -19,13 +19,16 @@ import {count, withCommas} from "./word.js";
 
 export class Story {
   /**
-   * The editor has the deck; `next` answers the step that is shown next from a state on.
+   * The editor has the deck; `next` answers the step that is shown next from a state on; `traps` says of each trap,
+   * by its number, when it happens.
    * @param {import("./editor.js").Editor} editor
    * @param {(state: import("./transcript.js").State) => Place} next
+   * @param {Record<string, string>} traps
    */
-  constructor(editor, next) {
+  constructor(editor, next, traps) {
     this.editor = editor;
     this.next = next;
+    this.traps = traps;
     /** @type {Action | null} */
     this.action = null; // that comes next
     /** @type {string[]} */
@@ -124,7 +127,7 @@ export class Story {
     const what = isUndone(shown) ? "Undone" : "Changed";
     const used = this.uses.length ? [`Use after free: ${this.uses.join("; ")}`] : [];
     const changed = changes.length ? [`${what}: ${shortened(changes).join("; ")}`] : [];
-    const all = [where, endingOf(shown.view), ...used, ...next, ...changed];
+    const all = [where, endingOf(shown.view, this.traps), ...used, ...next, ...changed];
     byId("spoken").textContent = all.filter((it) => it).join(". ");
   }
 
@@ -137,7 +140,7 @@ export class Story {
     const isFar = before !== null && !isStep && Math.abs(was - is) > 1;
     const since = isFar ? `since state ${withCommas(Math.min(was, is))}: ` : "";
     const undone = isFar ? `up to state ${withCommas(was)}: ` : "";
-    const ending = endingOf(view);
+    const ending = endingOf(view, this.traps);
     byId("changes").replaceChildren(
       ...(uses.length ? [make("b", {class: "misuse"}, `Use after free: ${uses.join("; ")}`), " "] : []),
       ...(ending ? [make("b", {class: "ending"}, ending), parts.length ? " " : ""] : []),

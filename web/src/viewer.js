@@ -36,11 +36,13 @@ const NOWHERE = {
 export class Viewer {
   /**
    * The editor has the deck. `ask` has what the reader may ask for in what is shown: `goTo` a state, `hide` a
-   * bug, and `trouble` where a question to the debugger fails; and `next`, the step that is shown next.
+   * bug, and `trouble` where a question to the debugger fails; and `next`, the step that is shown next. `traps`
+   * says of each trap, by its number, when it happens.
    * @param {import("./editor.js").Editor} editor
    * @param {Ask} ask
+   * @param {Record<string, string>} traps
    */
-  constructor(editor, ask) {
+  constructor(editor, ask, traps) {
     this.editor = editor;
     this.ask = ask;
     /** @type {Session | null} */
@@ -78,7 +80,7 @@ export class Viewer {
       goTo: (number) => this.ask.goTo(number),
       trouble: (error) => this.failed(error),
     });
-    this.story = new Story(editor, (state) => this.ask.next(state));
+    this.story = new Story(editor, (state) => this.ask.next(state), traps);
     this.listen();
   }
 

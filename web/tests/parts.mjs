@@ -123,33 +123,18 @@ same(
 
 // ---- What tests, conditions, operations, exits and traps are in words
 
-const trapsInWords = {
-  1: "names a field that has no definition",
-  2: "no block begins at the place",
-  3: "the field's word lies outside of the block",
-  4: "a word up to 1,023, and bits from 0 to 35 in order",
-  5: "a division by 0",
-  6: "a block has 1 to 1,024 words",
-  7: "no place is open for the block",
-  8: "the input has too few characters left",
-  9: "nothing is saved that could be restored",
-  10: "the pushdown has 1,024 entries",
-  11: "1,024 calls wait for their return",
-  12: "a call that names no label for it",
-  13: "1 to 6 characters can be asked for",
-  14: "the output would pass its limit",
-};
-for (const [number, part] of Object.entries(trapsInWords)) {
-  const told = endingOf({state: stateOf(`== TRAP ${number} SOME NAME AT 1.1 AFTER 9 STEPS`)});
-  tally.count(`trap ${number}`, told.startsWith(`trap ${number}: `) && told.includes(part), () => told);
-}
+const language = readFileSync(`${TOP}/docs/language.md`, "utf8");
+const traps = Object.fromEntries(Array.from(language.matchAll(/^\| (\d+) \| [A-Z ]+ \| (.*) \|$/gm), ([, number, when]) => [number, when]));
+same("how many traps there are", Object.keys(traps).length, 14);
+for (const [number, when] of Object.entries(traps))
+  same(`trap ${number}`, endingOf({state: stateOf(`== TRAP ${number} SOME NAME AT 1.1 AFTER 9 STEPS`)}, traps), `trap ${number}: ${when}`);
 for (const [line, told] of Object.entries({
        "== DONE AFTER 1 STEPS": "the run is done",
        "== FAIL AFTER 1 STEPS": "the run has failed",
        "== LIMIT AFTER 1 STEPS": "the run has made all the steps it may",
        "AT 1.1 AFTER 1 STEPS": ""
      }))
-  same(`how it ended: ${line}`, endingOf({state: stateOf(line)}), told);
+  same(`how it ended: ${line}`, endingOf({state: stateOf(line)}, traps), told);
 
 const testsInWords = {
   "A,E,5": "A is 5",

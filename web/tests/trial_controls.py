@@ -1,7 +1,6 @@
 """Each control and each key of the page, used once; none that the page has may be forgotten."""
 from __future__ import annotations
 
-import json
 
 from page import NOTE, Page, trial
 

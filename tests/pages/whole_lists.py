@@ -1,0 +1,44 @@
+"""Which files have a line for each trap or for each operation, so that a new one touches them.
+
+What tools/tables.py writes needs no hand. Each other file here is one more to be changed with a new trap or
+operation: architecture.md says how many those are, and these trials that no further one has come.
+"""
+from __future__ import annotations
+
+import re
+import subprocess
+from collections.abc import Iterable, Iterator
+
+from page_tables import TOP, text_of
+from trials import Trial
+
+TRAPS, OPERATIONS = "crates/l6_steps/specs/Trap.antt", "crates/l6_prog/src/operation.rt"
+OF_NAMES = {  # files with the names of all traps
+    TRAPS, "crates/l6_steps/src/trap.rt", "docs/language.md", "tests/program/model/printout.py", "tests/program/cases.jsonl",
+    "docs/summary.md", "docs/l6.1",  # (tools/tables.py writes these)
+}
+OF_VARIANTS = {TRAPS, "crates/l6_steps/src/trap.rt", "crates/l6_session/src/values.rt"}
+OF_OPERATIONS = 25  # files with a line for each operation, by its variant
+LIST = 0.8  # of the words make a list
+
+
+def trials() -> Iterator[Trial]:
+    """All of them."""
+    names = re.findall(r'codes "([A-Z ]+)"', text_of(TRAPS))
+    yield "files with the names of all traps", OF_NAMES, files_with(names)
+    variants = re.findall(r"^trap_number (\w+)", text_of(TRAPS), re.MULTILINE)
+    yield "files with all traps by their variants", OF_VARIANTS, files_with(variants)
+    enum = text_of(OPERATIONS).partition("pub enum Op")[2].partition("\n}")[0]
+    operations = re.findall(r"^    ([A-Z]\w+)", enum, re.MULTILINE)
+    yield "how many operations there are", 28, len(operations)
+    yield "how many files have all operations", OF_OPERATIONS, len(files_with(operations))
+
+
+def files_with(words: Iterable[str]) -> set[str]:
+    """The files of the repository, but for those of dist/, in which nearly all of these words stand."""
+    patterns = [re.compile(rf"\b{word}\b") for word in words]
+    ran = subprocess.run(["git", "ls-files", "--cached", "--others", "--exclude-standard"], cwd=TOP, capture_output=True,
+                         text=True, check=True)
+    names = [it for it in ran.stdout.splitlines() if not it.startswith("dist/") and (TOP / it).is_file()]
+    texts = {it: (TOP / it).read_bytes().decode("utf-8", "replace") for it in names}
+    return {it for it, text in texts.items() if sum(bool(one.search(text)) for one in patterns) >= LIST * len(patterns)}

@@ -1,11 +1,8 @@
 """Trials of what is seen of the page beside the manual, in a lecture, beside the calls, and in print."""
 from __future__ import annotations
 
-import json
-
-from page import TOP, Page, trial
+from page import Page, trial
 from trial_class import IN_VIEW, LETTERS
-from trial_stays import put
 
 RECURSION = """* THREE CALLS DEEP: FACTORIAL OF 3
  (N,E,3)(FACT,DO)(F,PD)(PL) DONE

@@ -213,7 +213,7 @@ function startsOfBox({x, y, shape}, link, middle) {
 function startsOfCard(block, link, row, cell) {
   const {shape} = block;
   const middle = block.x + Math.round((cell.x + cell.width / 2) / GRID) * GRID;
-  const y = block.y + row.y + ROW / 2;
+  const y = block.y + Math.round((row.y + row.height / 2) / GRID) * GRID;
   const [touchesLeft, touchesRight] = [cell.window.first === 0, cell.window.last === 35];
   const right = {x: block.x + cell.x + cell.width - IN_WINDOW, y};
   const left = {x: block.x + cell.x + IN_WINDOW, y};

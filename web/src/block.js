@@ -1,7 +1,7 @@
 // One block of the drawing: a card with its fields as windows on bits, and the bugs that lead to it above.
 
 import {svg} from "./dom.js";
-import {BIT, HEAD, NARROW, ROW} from "./shape.js";
+import {BIT, HEAD, NARROW} from "./shape.js";
 import {count, withCommas, WORD_BITS} from "./word.js";
 
 const LETTER = 7.3;          // the width of a letter
@@ -100,11 +100,19 @@ function middleText(kind, x, y, text) {
  */
 function partsOfRow(row, shape, colourOf) {
   const middle = shape.width / 2;
-  if (row.note) return [middleText("rest", middle, row.y + 16, row.note)];
-  if (shape.isBox) return [middleText("value", middle, row.y + 16, shape.text)];
+  if (row.note) return [middleText("rest", middle, lineOf(row), row.note)];
+  if (shape.isBox) return [middleText("value", middle, lineOf(row), shape.text)];
   const cells = row.cells.map((cell) => cellElement(cell, row, colourOf));
   if (row.y === HEAD) return cells;
   return [svg("line", {class: "between", x1: 0, x2: shape.width, y1: row.y, y2: row.y}), ...cells];
+}
+
+/**
+ * The line on which the letters of a row stand.
+ * @param {Row} row
+ */
+function lineOf({y, height}) {
+  return y + height / 2 + 4;
 }
 
 /**
@@ -119,7 +127,7 @@ function cellElement(cell, row, colourOf) {
     x: cell.x + 1,
     y: row.y + 1,
     width: Math.max(2, cell.width - 2),
-    height: ROW - 2,
+    height: row.height - 2,
     rx: 2
   };
   const title = `${cell.name || `word ${row.word}`} ${cell.value ?? ""}`;
@@ -136,8 +144,8 @@ function cellElement(cell, row, colourOf) {
  * @returns {Element[]}
  */
 function textsOfCell(cell, row) {
-  const {y} = row;
-  const middle = {x: cell.x + cell.width / 2, y: y + 16, "text-anchor": "middle"};
+  const y = lineOf(row);
+  const middle = {x: cell.x + cell.width / 2, y, "text-anchor": "middle"};
   if (!cell.name) return [svg("text", {...middle, class: "value"}, cell.text)];
   if (cell.width < SLIM) return hasRoomBeside(cell, row) ? [nameBeside(cell, y)] : [];
   if (cell.width < NARROW) {
@@ -146,17 +154,17 @@ function textsOfCell(cell, row) {
     const hasBoth = (cell.text.length + 1) * LETTER <= cell.width;
     if (!hasBoth) return [svg("text", {...middle, class: "value"}, cell.text)];
     return [
-      svg("text", {x: cell.x + 2, y: y + 16, class: "name"}, name),
-      svg("text", {x: cell.x + cell.width - 2, y: y + 16, class: "value", "text-anchor": "end"}, cell.text)
+      svg("text", {x: cell.x + 2, y, class: "name"}, name),
+      svg("text", {x: cell.x + cell.width - 2, y, class: "value", "text-anchor": "end"}, cell.text)
     ];
   }
   const leavesLeft = cell.link && cell.window?.first === 0 && cell.window.last !== 35;
   return [
-    svg("text", {x: cell.x + (leavesLeft ? 13 : 5), y: y + 16, class: "name"}, cell.name),
+    svg("text", {x: cell.x + (leavesLeft ? 13 : 5), y, class: "name"}, cell.name),
     svg(
       "text", {
         x: cell.x + cell.width - (cell.link && !leavesLeft ? 12 : 5),
-        y: y + 16,
+        y,
         class: "value",
         "text-anchor": "end"
       },
@@ -181,7 +189,7 @@ function hasRoomBeside(cell, row) {
  * @param {number} y
  */
 function nameBeside(cell, y) {
-  return svg("text", {x: cell.x + cell.width + 3, y: y + 16, class: "name"}, cell.name.slice(0, 1));
+  return svg("text", {x: cell.x + cell.width + 3, y, class: "name"}, cell.name.slice(0, 1));
 }
 
 /** @param {{width: number, height: number}} size */

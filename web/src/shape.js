@@ -5,6 +5,8 @@ import {characterOf, isLetter, likelyText, octal, seenThrough, widthOf, WORD_BIT
 export const GRID = 12; // all sizes and places are multiples of it
 export const BIT = 4;   // so 36 bits are 144 wide
 export const ROW = 24;
+const CLOSE = 18;    // the height of a row of a card that has many: then eight words have room where letters are large
+const FEW = 6;       // rows that are not close
 export const HEAD = 24;
 const MOST_ROWS = 8;
 const SHOWN_WORDS = 8; // of a block without fields
@@ -23,7 +25,7 @@ export const NARROW = 40; // a cell that has room for a value or a name, but har
  * A cell of a row: what it shows of which window, and where in the row.
  * @typedef {{key: string, name: string, window: Window | null, x: number, width: number, text: string,
  *   value: number | null, link?: Linked, isChanged?: boolean}} Cell
- * @typedef {{word: number, cells: Cell[], note?: string, y: number}} Row
+ * @typedef {{word: number, cells: Cell[], note?: string, y: number, height: number}} Row
  *
  * The size of chips, and the windows with links, which they do not show.
  * @typedef {{width: number, height: number, keys: Set<string>}} Chip
@@ -153,18 +155,28 @@ function cardOf(block, words, windows, links) {
       continue;
     }
     const content = words ? words[word] : null;
-    if (own.every((it) => widthOf(it) < LEGIBLE)) rows.push({word, y: 0, cells: [plainCell(content, word)]});
-    for (const lane of lanesOf(own)) rows.push({word, y: 0, cells: lane.map((it) => cellOf(it, content, links))});
+    if (own.every((it) => widthOf(it) < LEGIBLE)) rows.push({word, y: 0, height: ROW, cells: [plainCell(content, word)]});
+    for (const lane of lanesOf(own)) rows.push({word, y: 0, height: ROW, cells: lane.map((it) => cellOf(it, content, links))});
   }
   if (left > 0)
     rows.push({
       word: -1,
       y: 0,
+      height: ROW,
       cells: [],
       note: rows.length ? `${left} more ${left === 1 ? "word" : "words"}` : `${block.size} words`
     });
-  rows.forEach((row, index) => (row.y = HEAD + index * ROW));
-  return {width: WORD_BITS * BIT, height: HEAD + rows.length * ROW, rows, isBox: false};
+  return {width: WORD_BITS * BIT, height: stacked(rows), rows, isBox: false};
+}
+
+/**
+ * Puts the rows of a card below its head, one under another; answers its height.
+ * @param {Row[]} rows
+ */
+function stacked(rows) {
+  const height = rows.length > FEW ? CLOSE : ROW;
+  rows.forEach((row, index) => Object.assign(row, {y: HEAD + index * height, height}));
+  return Math.ceil((HEAD + rows.length * height) / GRID) * GRID;
 }
 
 /**
@@ -262,7 +274,7 @@ function boxOf(block, words, windows, links) {
       value: link.target
     };
   });
-  const rows = [{word: 0, cells, y: HEAD}];
+  const rows = [{word: 0, cells, y: HEAD, height: ROW}];
   return {
     width,
     height: HEAD + (cells.length || short ? ROW : 0),

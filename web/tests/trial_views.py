@@ -84,8 +84,6 @@ def a_lecture_shows_all(page: Page) -> None:
         page.open("#squares@40;lecture")
         page.same("bugs are large cards", page.value(size % ".bug-cards div"), 40)
         page.right("and below, too", page.value(size % "#bug-strip button") >= 22)
-        if height < 720:
-            continue
         page.put(" (A,GT,8)(B,GT,1)\n")
         page.do("l6.run()")
         frame = "document.getElementById('drawing').getBoundingClientRect()"

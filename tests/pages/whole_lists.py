@@ -6,7 +6,6 @@ operation: architecture.md says how many those are, and these trials that no fur
 from __future__ import annotations
 
 import re
-import subprocess
 from collections.abc import Iterable, Iterator
 
 from page_tables import TOP, text_of
@@ -20,6 +19,8 @@ OF_NAMES = {  # files with the names of all traps
 OF_VARIANTS = {TRAPS, "crates/l6_steps/src/trap.rt", "crates/l6_session/src/values.rt"}
 OF_OPERATIONS = 25  # files with a line for each operation, by its variant
 LIST = 0.8  # of the words make a list
+FOLDERS = ("crates", "docs", "library", "ports", "terminal", "tests", "tools", "web")
+MADE = {"out", "__pycache__"}  # folders of what is made
 
 
 def trials() -> Iterator[Trial]:
@@ -35,10 +36,8 @@ def trials() -> Iterator[Trial]:
 
 
 def files_with(words: Iterable[str]) -> set[str]:
-    """The files of the repository, but for those of dist/, in which nearly all of these words stand."""
+    """The files of these folders in which nearly all of these words stand."""
     patterns = [re.compile(rf"\b{word}\b") for word in words]
-    ran = subprocess.run(["git", "ls-files", "--cached", "--others", "--exclude-standard"], cwd=TOP, capture_output=True,
-                         text=True, check=True)
-    names = [it for it in ran.stdout.splitlines() if not it.startswith("dist/") and (TOP / it).is_file()]
-    texts = {it: (TOP / it).read_bytes().decode("utf-8", "replace") for it in names}
+    files = [it for folder in FOLDERS for it in (TOP / folder).rglob("*") if it.is_file() and not MADE & set(it.parts)]
+    texts = {str(it.relative_to(TOP)): it.read_bytes().decode("utf-8", "replace") for it in files}
     return {it for it, text in texts.items() if sum(bool(one.search(text)) for one in patterns) >= LIST * len(patterns)}

@@ -3,3 +3,4 @@ pub mod Stepping
 pub mod Arrivals
 pub mod Leading
 pub mod Seeing
+pub mod Fitting

@@ -15,6 +15,7 @@ mod progress;
 mod returning;
 mod views;
 mod watching;
+mod words;
 
 pub use decimal::push_decimal;
 pub use ending::Ending;

@@ -41,11 +41,11 @@ class Commands:
         self._stopped = False
         self._lock = threading.Lock()
 
-    def run(self, words: Sequence[str], folder: Path) -> Ended:
-        """Runs a command in a folder, on no input, to its end."""
+    def run(self, words: Sequence[str], folder: Path, given: Path | None = None) -> Ended:
+        """Runs a command in a folder to its end, on a file, if there is that, and else on no input."""
         start = time.monotonic()
         with tempfile.TemporaryFile() as output:
-            process = self._start(words, folder, output)
+            process = self._start(words, folder, output, given if given and given.is_file() else Path(os.devnull))
             _, status, usage = os.wait4(process.pid, 0)
             with self._lock:
                 process.returncode = os.waitstatus_to_exitcode(status)
@@ -65,15 +65,16 @@ class Commands:
                 process.send_signal(signal.SIGTERM)
 
     def _start(
-        self, words: Sequence[str], folder: Path, output: IO[bytes]
+        self, words: Sequence[str], folder: Path, output: IO[bytes], given: Path
     ) -> subprocess.Popen[bytes]:
         """Starts a command, which writes both of its outputs to a file."""
         with self._lock:
             if self._stopped:
                 raise Stopped
-            process = subprocess.Popen(
-                words, cwd=folder, stdin=subprocess.DEVNULL, stdout=output, stderr=subprocess.STDOUT
-            )
+            with given.open("rb") as standard_input:
+                process = subprocess.Popen(
+                    words, cwd=folder, stdin=standard_input, stdout=output, stderr=subprocess.STDOUT
+                )
             self._running.add(process)
             return process
 

@@ -128,7 +128,8 @@ def proved(crate: Crate, jobs: int, commands: Commands) -> Ended:
     with room_of(crate) as folder:
         verb = "run" if crate.is_program else "lib"
         try:
-            ended = commands.run(["rt", verb, "--jobs", str(jobs), *words_of(crate)], folder)
+            words = ["rt", verb, "--jobs", str(jobs), *words_of(crate)]
+            ended = commands.run(words, folder, crate.folder / "stdin")
         finally:
             bring_back(crate, folder, [KEPT])
         if ended.status == 0 and WARNED.search(ended.text):

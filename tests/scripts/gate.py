@@ -57,10 +57,11 @@ STEPS = [
     "tests/systems/ports.py",
     "tests/scripts/release.py",
 ]
-GATE_STEPS = ["rt ci", *STEPS, "tests/defects/defects.py", "tests/edits/edits.py"]
+GATE_STEPS = ["rt ci", *STEPS, "tests/program/editors.py", "tests/defects/defects.py", "tests/edits/edits.py"]
 PACKAGES = {  # without which tests are left out
     "binaryen", "nodejs", "chromium", "mypy", "shellcheck", "qemu-user-static", "busybox-static", "zsh", "fish",
-    "lintian", "firefox-esr", "node-typescript", "python3-markdown", "rlwrap", "pkgconf",
+    "lintian", "firefox-esr", "node-typescript", "python3-markdown", "rlwrap", "pkgconf", "neovim",
+    "emacs-nox",
 }
 NOT_A_STEP = {"compiled_edits.py", "hostile.py", "python_lines.py", "same_answers.py"}  # scripts of tests/ that ./test does not call
 

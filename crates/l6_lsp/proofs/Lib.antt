@@ -1,0 +1,3 @@
+pub mod SamePrograms
+pub mod Findings
+pub mod Opening

@@ -1,0 +1,10 @@
+pub mod Parameters
+pub mod Ranges
+pub mod Document
+pub mod Diagnostics
+pub mod Edits
+pub mod Renaming
+pub mod Asked
+pub mod Decks
+pub mod Serving
+pub mod inner

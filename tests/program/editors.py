@@ -1,0 +1,417 @@
+#!/usr/bin/env python3
+"""Tries the language server, `l6ed lsp`, as an editor speaks to it.
+
+editors.py PROGRAM prints each difference, and last 'N passed, M failed'. PROGRAM is l6ed. The rows of editors.jsonl are
+requests with the answers that the protocol and the manual ask for, and each deck of checks.jsonl has the findings that
+`l6 check` is to say. Texts that are changed at random are compared with Python's own, and hostile messages must end
+nothing. Editors are driven where they are installed.
+
+    python3 tests/program/editors.py PROGRAM --messages 20000
+"""
+from __future__ import annotations
+
+import argparse
+import json
+import os
+import random
+import re
+import select
+import subprocess
+import sys
+import time
+from collections.abc import Callable, Iterator
+from pathlib import Path
+from typing import Any
+
+sys.path.insert(0, str(Path(__file__).resolve().parents[1] / "harness"))
+from answers import answer, answer_of
+from editor_clients import client_trials
+from trials import Trial, first_wrong, report
+
+ROWS = Path(__file__).resolve().with_name("editors.jsonl")
+CHECKS = ROWS.with_name("checks.jsonl")
+SECONDS = 120  # for one answer on a machine that is busy
+MESSAGES = 1500  # hostile ones, unless there is another number
+CHANGES = 400  # of texts
+MOST_FINDINGS = 100  # that `l6 check` writes
+URI = "file:///a%20deck"
+FINDING = re.compile(r"^(\d+):(\d+): (error|warning): (.*)((?:\n    .*)*)", re.MULTILINE)
+METHODS = {"definition": "definition", "references": "references", "highlights": "documentHighlight",
+           "symbols": "documentSymbol", "rename": "rename", "hover": "hover", "fixes": "codeAction",
+           "hints": "inlayHint", "completion": "completion"}
+JUNK: list[Any] = [None, True, 0, -1, 1e300, 2**63, 2**64, "", "\u00e9\U0001f600", [], {}, [[]],
+                   {"line": 2**63, "character": 2**64 - 1}, "x" * 5000]
+PIECES = ["(A,E,5)", " ", "\n", "\r\n", "\r", "\u00e9", "\U0001f600", "NEXT", "IF (A,G,0) THEN ", "(", ")", "* ", "DONE"]
+
+
+class Peer:
+    """The server, and what was sent to it."""
+
+    def __init__(self, program: list[str]) -> None:
+        self.process = subprocess.Popen([*program, "lsp"], stdin=subprocess.PIPE, stdout=subprocess.PIPE,
+                                        stderr=subprocess.DEVNULL, bufsize=0)
+        assert self.process.stdin and self.process.stdout
+        self.input, self.output = self.process.stdin, self.process.stdout
+        self.waiting = b""  # bytes that came and are not taken yet
+        self.number = 0  # of the last request
+        self.version = 0  # of the last text
+
+    def give(self, body: bytes) -> None:
+        """Sends a frame."""
+        self.input.write(b"Content-Length: %d\r\n\r\n%s" % (len(body), body))
+
+    def send(self, message: object) -> None:
+        """Sends a message."""
+        self.give(json.dumps(message).encode())
+
+    def take(self) -> Any:
+        """The next message, or None if the program has ended."""
+        while True:
+            head, found, rest = self.waiting.partition(b"\r\n\r\n")
+            if found:
+                length = int(head.removeprefix(b"Content-Length: "))
+                if len(rest) >= length:
+                    self.waiting = rest[length:]
+                    return json.loads(rest[:length])
+            if not select.select([self.output], [], [], SECONDS)[0]:
+                raise TimeoutError(f"no answer within {SECONDS} seconds")
+            more = os.read(self.output.fileno(), 1 << 16)
+            if not more:
+                return None
+            self.waiting += more
+
+    def ask(self, method: str, params: object = None) -> Any:
+        """The answer to a request."""
+        self.number += 1
+        self.send({"jsonrpc": "2.0", "id": self.number, "method": method, "params": params or {}})
+        return self.take()
+
+    def note(self, method: str, **params: object) -> None:
+        """Sends a notification about a document."""
+        self.send({"jsonrpc": "2.0", "method": f"textDocument/{method}", "params": params})
+
+    def open(self, text: str, uri: str = URI) -> Any:
+        """Opens a document; returns what is published."""
+        self.version += 1
+        self.note("didOpen", textDocument={"uri": uri, "languageId": "l6", "version": self.version, "text": text})
+        return self.take()["params"]
+
+    def change(self, changes: list[object], uri: str = URI) -> Any:
+        """Changes a document; returns what is published."""
+        self.version += 1
+        self.note("didChange", textDocument={"uri": uri, "version": self.version}, contentChanges=changes)
+        return self.take()["params"]
+
+    def end(self) -> int:
+        """Closes its input; returns its exit status."""
+        self.input.close()
+        return self.process.wait(SECONDS)
+
+
+def started(program: list[str]) -> Peer:
+    """A server that is initialized."""
+    peer = Peer(program)
+    peer.ask("initialize", {"capabilities": {}})
+    peer.send({"jsonrpc": "2.0", "method": "initialized", "params": {}})
+    return peer
+
+
+def at(place: list[int]) -> dict[str, int]:
+    """A place as the protocol has it."""
+    return {"line": place[0], "character": place[1]}
+
+
+def on_line(value: dict[str, Any]) -> list[int]:
+    """A range within a line: its line, its first place, and the one after its last."""
+    start, end = value["start"], value["end"]
+    return [start["line"], start["character"], end["character"], *([] if start["line"] == end["line"] else [end])]
+
+
+def lines_of(text: str) -> list[str]:
+    """The lines of a text as editors have them, with their ends."""
+    return re.findall(r"[^\r\n]*(?:\r\n|\r|\n)|[^\r\n]+\Z", text)
+
+
+def offset(text: str, place: dict[str, int]) -> int:
+    """How many characters of a text are in front of a place."""
+    lines = lines_of(text)
+    if place["line"] >= len(lines):
+        return len(text)
+    line = lines[place["line"]].rstrip("\r\n")
+    front = line.encode("utf-16-le")[:2 * place["character"]].decode("utf-16-le")
+    return sum(map(len, lines[:place["line"]])) + len(front)
+
+
+def place_of(text: str, count: int) -> dict[str, int]:
+    """The place after so many characters of a text."""
+    front = lines_of(text[:count] + "|")
+    return {"line": len(front) - 1, "character": len(front[-1][:-1].encode("utf-16-le")) // 2}
+
+
+def edited(text: str, edits: list[dict[str, Any]]) -> str:
+    """A text after edits, all of which are about the text before them."""
+    for edit in sorted(edits, key=lambda it: offset(text, it["range"]["start"]), reverse=True):
+        start, end = (offset(text, edit["range"][side]) for side in ("start", "end"))
+        text = text[:start] + edit["newText"] + text[end:]
+    return text
+
+
+def params_of(row: dict[str, Any]) -> dict[str, Any]:
+    """The parameters of a row's request."""
+    params: dict[str, Any] = {"textDocument": {"uri": URI}}
+    if "at" in row:
+        params["position"] = at(row["at"])
+    if "to" in row:
+        params["newName"] = row["to"]
+    if "declared" in row:
+        params["context"] = {"includeDeclaration": row["declared"]}
+    if "lines" in row:
+        first, last = row["lines"]
+        params["range"] = {"start": {"line": first, "character": 0}, "end": {"line": last, "character": 99}}
+    return params
+
+
+def seen(row: dict[str, Any], said: dict[str, Any]) -> object:
+    """What a row is compared with, of an answer."""
+    deck: str = row["deck"]
+    result: Any = said.get("result")
+    if "error" in said:
+        return said["error"]["code"]
+    if row["ask"] == "completion":
+        names = [it["label"] for it in result]
+        return [[it for it in row["has"] if it not in names], [it for it in row["lacks"] if it in names]]
+    if result is None:
+        return None
+    views: dict[str, Callable[[], object]] = {
+        "definition": lambda: on_line(result["range"]),
+        "references": lambda: [on_line(it["range"]) for it in result],
+        "highlights": lambda: [[*on_line(it["range"]), it["kind"]] for it in result],
+        "symbols": lambda: [[it["name"], *on_line(it["selectionRange"])] for it in result],
+        "rename": lambda: edited(deck, result["changes"][URI]),
+        "hover": lambda: [*on_line(result["range"]), hovered(row, result["contents"]["value"])],
+        "fixes": lambda: [[it["title"], edited(deck, it["edit"]["changes"][URI])] for it in result],
+        "hints": lambda: [[it["position"]["line"], it["label"]] for it in result],
+    }
+    return views[row["ask"]]()
+
+
+def hovered(row: dict[str, Any], text: str) -> str:
+    """What is said, up to as much as the row has of it."""
+    return text[:len(row["answer"][3])] if row["answer"] else text
+
+
+def row_trials(peer: Peer) -> Iterator[Trial]:
+    """Each row of the table."""
+    for line in ROWS.read_text("utf-8").splitlines():
+        row = json.loads(line)
+        name = f"rows: {row['ask']}: {row['name']}"
+        published = peer.open(row["deck"])
+        if row["ask"] == "findings":
+            actual: object = [[*on_line(it["range"]), it["severity"], it["code"]] for it in published["diagnostics"]]
+        else:
+            actual = seen(row, peer.ask(f"textDocument/{METHODS[row['ask']]}", params_of(row)))
+        yield name, row.get("answer", [[], []]), actual
+
+
+def check_trials(peer: Peer) -> Iterator[Trial]:
+    """Each deck of checks.jsonl has the findings that the manual says: their lines, columns, kinds and words."""
+    for line in CHECKS.read_text("utf-8").splitlines():
+        row = json.loads(line)
+        said = [(int(found[1]) - 1, int(found[2]) - 1, ("error", "warning").index(found[3]) + 1,
+                 found[4] + "".join("\n" + it[4:] for it in found[5].splitlines()[1:]))
+                for found in FINDING.finditer(row["said"])]
+        # (what is counted otherwise is left out: units of UTF-16, lines that a carriage return ends; and a job's commands)
+        if not row["deck"].isascii() or re.search(r"\r(?!\n)|\$COMMANDS", row["deck"]) or len(said) >= MOST_FINDINGS:
+            continue
+        found = peer.open(row["deck"])["diagnostics"]
+        starts = [it["range"]["start"] for it in found]
+        yield f"findings: {row['name']}", said, [
+            (start["line"], start["character"], it["severity"], it["message"]) for start, it in zip(starts, found)]
+
+
+def protocol_trials(program: list[str]) -> Iterator[Trial]:
+    """What a server answers before, in and after a talk."""
+    peer = Peer(program)
+    yield "protocol: before initialize", -32002, peer.ask("textDocument/hover")["error"]["code"]
+    first = peer.ask("initialize", {"capabilities": {}})
+    yield "protocol: the id of the request", peer.number, first["id"]
+    capabilities = first["result"]["capabilities"]
+    yield "protocol: changes come by ranges", 2, capabilities["textDocumentSync"]["change"]
+    yield "protocol: units of UTF-16", "utf-16", capabilities["positionEncoding"]
+    yield "protocol: initialize twice", -32600, peer.ask("initialize")["error"]["code"]
+    yield "protocol: an unknown method", -32601, peer.ask("textDocument/unknown")["error"]["code"]
+    yield "protocol: no document", -32602, peer.ask("textDocument/hover")["error"]["code"]
+    yield "protocol: a document that is not open", -32602, peer.ask("textDocument/hover", {
+        "textDocument": {"uri": "file:///other"}, "position": at([0, 0])})["error"]["code"]
+    for name, body in (("no JSON", b"{a}"), ("no UTF-8", b'"\xff"'), ("nothing", b"")):
+        peer.give(body)
+        said = peer.take()
+        yield f"protocol: a body of {name}", (-32700, None), (said["error"]["code"], said["id"])
+    others: dict[str, object] = {"a number": 5, "no method": {"jsonrpc": "2.0"}, "a method that is no text": {"method": 1}}
+    for name, value in others.items():
+        peer.send(value)
+        yield f"protocol: {name}", -32600, peer.take()["error"]["code"]
+    ids: list[object] = [7, "seven", None, -1, 1.5, [1]]
+    for it in ids:
+        peer.send({"jsonrpc": "2.0", "id": it, "method": "unknown"})
+        yield f"protocol: the id {it}", it, peer.take()["id"]
+    peer.send({"jsonrpc": "2.0", "id": 9, "result": None})
+    peer.send({"jsonrpc": "2.0", "method": "$/cancelRequest", "params": {"id": 1}})
+    yield "protocol: answers and notifications are not answered", peer.number + 1, peer.ask("unknown")["id"]
+    yield "protocol: shutdown", None, peer.ask("shutdown")["result"]
+    yield "protocol: after shutdown", -32600, peer.ask("textDocument/hover")["error"]["code"]
+    peer.send({"jsonrpc": "2.0", "method": "exit"})
+    yield "protocol: exit after shutdown", 0, peer.process.wait(SECONDS)
+
+
+def document_trials(peer: Peer) -> Iterator[Trial]:
+    """What is published of a document that is opened, changed and closed."""
+    published = peer.open(" (PL) Y\n")
+    yield "documents: the version", peer.version, published["version"]
+    yield "documents: the name", URI, published["uri"]
+    yield "documents: a whole text", [], peer.change([{"text": " (PL)\n"}])["diagnostics"]
+    place = {"start": at([0, 5]), "end": at([0, 5])}
+    found = peer.change([{"range": place, "text": " Z"}, {"range": place, "text": " (PL)"}])["diagnostics"]
+    yield "documents: two changes, the second of the text after the first", [[0, 11, 12]], [
+        on_line(it["range"]) for it in found]
+    peer.note("didClose", textDocument={"uri": URI})
+    yield "documents: nothing of a closed one", {"uri": URI, "diagnostics": []}, peer.take()["params"]
+    yield "documents: it is closed", -32602, peer.ask("textDocument/documentSymbol", {
+        "textDocument": {"uri": URI}})["error"]["code"]
+    long = " (PL)\n" * 180_000
+    found = peer.open(long)["diagnostics"]
+    yield "documents: a deck that is too long", ["too-long"], [it["code"] for it in found]
+
+
+def change_trials(peer: Peer, count: int) -> Iterator[Trial]:
+    """Texts that are changed by ranges have the findings of the whole texts."""
+    chance = random.Random(1966)
+    text = "".join(chance.choices(PIECES, k=30))
+    peer.open(text, "a")
+    differences = 0
+    for _ in range(count):
+        start, end = sorted(chance.randrange(len(text) + 1) for _ in range(2))
+        end = min(end, start + 12)
+        start, end = (it - (text[it - 1:it + 1] == "\r\n") for it in (start, end))
+        new = "".join(chance.choices(PIECES, k=chance.randrange(9)))
+        places = {"start": place_of(text, start), "end": place_of(text, max(start, end))}
+        mine = peer.change([{"range": places, "text": new}], "a")["diagnostics"]
+        text = text[:start] + new + text[max(start, end):]
+        whole = peer.open(text, "b")["diagnostics"]
+        for found in (*mine, *whole):
+            for other in found.get("relatedInformation", ()):
+                other["location"].pop("uri")
+        differences += mine != whole
+    yield f"changes: {count} of ranges", 0, differences
+
+
+def altered(chance: random.Random, value: Any) -> Any:
+    """A value of which parts are others."""
+    if chance.random() < 0.08:
+        return chance.choice(JUNK)
+    if isinstance(value, dict):
+        value = {key: altered(chance, it) for key, it in value.items()}
+        if value and chance.random() < 0.1:
+            value.pop(chance.choice(list(value)))
+    elif isinstance(value, list):
+        value = [altered(chance, it) for it in value]
+    return value
+
+
+def hostile_message(chance: random.Random) -> Any:
+    """A message that is wrong in places."""
+    place, end = ({"line": chance.randrange(6), "character": chance.randrange(20)} for _ in range(2))
+    document = {"uri": "file:///h", "version": chance.randrange(9), "text": "".join(chance.choices(PIECES, k=40))}
+    method = chance.choice(["didOpen", "didChange", "didClose", *METHODS.values()])
+    params = {"textDocument": document, "position": place, "newName": chance.choice(["X", "DONE", "", "\u00e9"]),
+              "range": {"start": place, "end": end}, "context": {"includeDeclaration": False},
+              "contentChanges": [{"range": {"start": place, "end": end}, "text": "".join(chance.choices(PIECES, k=5))}]}
+    message = {"jsonrpc": "2.0", "method": f"textDocument/{method}", "params": params}
+    if not method.startswith("did"):
+        message["id"] = chance.choice(JUNK[:8])
+    return altered(chance, message) if chance.random() < 0.7 else message
+
+
+def hostile_trials(peer: Peer, count: int) -> Iterator[Trial]:
+    """Wrong messages end nothing: a request after each of them is answered."""
+    chance = random.Random(36)
+    answered = 0
+    for number in range(count):
+        peer.send(hostile_message(chance))
+        peer.send({"jsonrpc": "2.0", "id": f"after {number}", "method": "unknown"})
+        while (said := peer.take()) is not None and said.get("id") != f"after {number}":
+            pass
+        answered += said is not None
+    yield f"hostile: {count} messages", count, answered
+
+
+def word_trials(program: list[str]) -> Iterator[Trial]:
+    """What the words of the command line ask for, and streams that are no messages."""
+    wrong = b"l6ed: the words are wrong: l6ed lsp, or l6ed --help\n"
+    for words in ("", "dap", "lsp lsp", "--lsp"):
+        yield f"words: {words or 'none'}", answer(b"", wrong, 64), answer_of([*program, *words.split()], input=b"")
+    yield "words: --version", answer(b"l6ed 1.0\n"), answer_of([*program, "--version"], input=b"")
+    said = answer_of([*program, "--help"], input=b"")
+    yield "words: --help", (True, 0), (b"Usage: l6ed lsp\n" in said.stdout, said.status)
+    yield "streams: no message at all", answer(status=1), answer_of([*program, "lsp"], input=b"")
+    yield "streams: exit without shutdown", answer(status=1), answer_of(
+        [*program, "lsp"], input=framed({"jsonrpc": "2.0", "method": "exit"}))
+    for name, sent in (("no head", b"hello\r\n\r\n"), ("a head without a length", b"A: b\r\n\r\n"),
+                       ("a head that is too long", b"A: " + b"b" * 5000), ("a body that is too long",
+                                                                          b"Content-Length: 16777217\r\n\r\n")):
+        yield f"streams: {name}", answer(b"", b"l6ed: what came is no message\n", 4), answer_of(
+            [*program, "lsp"], input=sent)
+    yield "streams: an end in a message", answer(status=1), answer_of([*program, "lsp"], input=framed({})[:-1])
+
+
+def framed(message: object) -> bytes:
+    """The frame of a message."""
+    body = json.dumps(message).encode()
+    return b"Content-Length: %d\r\n\r\n%s" % (len(body), body)
+
+
+def piece_trials(program: list[str]) -> Iterator[Trial]:
+    """A stream that comes byte by byte, and one that comes at once, have the same answers."""
+    messages = [{"jsonrpc": "2.0", "id": 1, "method": "initialize"}, {"jsonrpc": "2.0", "id": 2, "method": "\u00e9"},
+                {"jsonrpc": "2.0", "id": 3, "method": "shutdown"}, {"jsonrpc": "2.0", "method": "exit"}]
+    stream = b"".join(map(framed, messages))
+    whole = answer_of([*program, "lsp"], input=stream)
+    peer = Peer(program)
+    for byte in stream:
+        peer.input.write(bytes([byte]))
+        time.sleep(0.0005)
+    said = peer.output.read()
+    yield "pieces: byte by byte", (whole.stdout, 0), (said, peer.process.wait(SECONDS))
+    yield "pieces: each request is answered", 3, whole.stdout.count(b"Content-Length: ")
+
+
+def trials(program: list[str], messages: int) -> Iterator[Trial]:
+    """All trials of a program."""
+    peer = started(program)
+    yield from row_trials(peer)
+    yield from check_trials(peer)
+    yield from document_trials(peer)
+    yield from change_trials(peer, CHANGES)
+    yield from hostile_trials(peer, messages)
+    yield "streams: the end of the input without an exit", 1, peer.end()
+    yield from protocol_trials(program)
+    yield from word_trials(program)
+    yield from piece_trials(program)
+    yield from client_trials(program)
+
+
+def main() -> int:
+    """Tries the program that the command line names."""
+    reader = argparse.ArgumentParser(description="Tries l6ed.")
+    reader.add_argument("program", nargs="+", help="l6ed, with words that come before those of the trials")
+    reader.add_argument("--messages", type=int, default=MESSAGES, help="how many hostile messages are sent")
+    words = reader.parse_args()
+    peer = started(words.program)
+    rows = list(row_trials(peer))
+    canary = first_wrong("an answer that is wrong", [(name, expected, not actual) for name, expected, actual in rows])
+    peer.end()
+    return report(trials(words.program, words.messages), [canary])
+
+
+if __name__ == "__main__":
+    sys.exit(main())

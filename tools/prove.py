@@ -22,7 +22,7 @@ from concurrent.futures import FIRST_COMPLETED, Future, ThreadPoolExecutor, wait
 from pathlib import Path
 
 from commands import Commands, Ended, run_program
-from crates import SOURCES, TOP, Crate, is_source, listed, read_crates
+from crates import SOURCES, TOP, Crate, is_source, read_crates, rows_of
 from lanes import processors, usable_memory
 from rooms import KEPT, LIBRARY, bring_back, room_of
 
@@ -175,8 +175,9 @@ def toolchain() -> str:
 
 
 def sources_sum(crate: Crate) -> str:
-    """A sum of the toolchain and all that a crate is made of: crates.txt, its sources, those below."""
-    parts = (toolchain(), *listed(), files_sum((*crate.below, crate)))
+    """A sum of the toolchain and all that a crate is made of: its sources, those below, their lines of crates.txt."""
+    whole = (*crate.below, crate)
+    parts = (toolchain(), rows_of(whole), files_sum(whole))
     return hashlib.sha256("\n".join(parts).encode()).hexdigest()
 
 

@@ -38,6 +38,7 @@ def in_source(file: str, pattern: str) -> int:
 
 FACTS = {
     "most_repeats": in_source("crates/l6_session/specs/Numerals.antt", r"^most_repeats = (\d+)$"),
+    "most_drawn": in_source("crates/l6_session/specs/Numerals.antt", r"^most_drawn = (\d+)$"),
     "most_printed": in_source("crates/l6_session/specs/Numerals.antt", r"^most_printed = (\d+)$"),
     "largest_top": in_source("crates/l6_places/specs/Numerals.antt", r"^largest_top = (\d+)$"),
     "largest_level": operations.SIZE_LIMIT.bit_length() - 1,
@@ -60,6 +61,7 @@ TIED: list[tuple[str, str, int]] = [
     ("docs/history.md", "Now a program has at most #,", programs.STATEMENTS_LIMIT),
     ("docs/image.md", "from 0 for 0 to # for Z", len(characters.NAMES) - 1),
     ("docs/l6db.md", "at most the last # characters of it", FACTS["most_printed"]),
+    ("docs/l6db.1", "the first # lines, or all", FACTS["most_drawn"]),
     ("docs/library.md", "1 to # units of 1,024 words", 255),
     ("docs/library.md", "a power of two up to #.", FACTS["alignment"]),
     ("docs/page.md", "Of a very long run the first # states are read", FACTS["most_states"]),

@@ -43,6 +43,27 @@ def batches(program: str, folder: Path) -> Iterator[Trial]:
     lines_saved = b"break DEEP\nwatch B\nwatch *0+3\ndisplay A\ngoto 17\ntbreak DEEP+2\ncondition DEEP (A,G,2)\n"
     yield "the lines that are saved", lines_saved, saved.read_bytes() if saved.exists() else b""
     yield from files_of_jobs(program, folder)
+    yield from drawings(program, folder)
+
+
+DRAWN = 40  # lines of a drawing that `draw` shows
+LISTED = " (0,DN,18,35)\nMORE (I,A,1)(L,GT,1,LN)\n IF (I,L,{}) THEN MORE\n"  # makes a list of so many blocks
+
+
+def drawings(program: str, folder: Path) -> Iterator[Trial]:
+    """`draw` shows the first lines of what `draw all` shows, and how many more there are."""
+    deck = folder / "listed.deck"
+    for blocks in (2, 60):
+        deck.write_text(LISTED.format(blocks), "utf-8")
+        begin, shown, whole = (
+            answer_of([program, str(deck)], input=f"end\n{line}\n".encode()).stdout.decode()
+            for line in ("#", "draw", "draw all")
+        )
+        lines = whole.removeprefix(begin).splitlines(keepends=True)
+        more = len(lines) - DRAWN
+        end = [f"and {more} more lines: draw all shows them\n"] if more > 0 else []
+        yield f"all of {blocks} blocks", True, f"{blocks} BLOCKS\n" in lines
+        yield f"a drawing of {blocks} blocks", "".join([*lines[:DRAWN], *end]), shown.removeprefix(begin)
 
 
 def files_of_jobs(program: str, folder: Path) -> Iterator[Trial]:

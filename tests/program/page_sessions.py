@@ -10,7 +10,7 @@ from trials import Trial
 
 TOP = Path(__file__).resolve().parents[2]
 DOCS = TOP / "docs"
-PAGES = {"l6db.md": 3, "tutorial.md": 1}  # the pages with sessions, and how many of these each has
+PAGES = {"l6db.md": 7, "tutorial.md": 1}  # the pages with sessions, and how many of these each has
 BLOCK = re.compile(r"```text\n(.*?)```\n", re.DOTALL)
 PLAYED = "<!-- not run: tests/program/l6db.py plays this session -->"
 COMMAND = re.compile(r"^[a-z]+( \S+)?$", re.MULTILINE)

@@ -1,4 +1,5 @@
+pub mod Explaining
+pub mod Listings
 pub mod Printouts
 pub mod Servings
 pub mod WordLines
-pub mod Listings

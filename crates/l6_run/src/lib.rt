@@ -1,6 +1,7 @@
 //! Runs, from a deck to the writer of its printout, and the images and listings of decks.
 #![tactic(auto)]
 
+mod explained;
 mod laws;
 mod lines;
 mod loaded;
@@ -9,6 +10,7 @@ mod running;
 mod texts;
 mod writer;
 
+pub use explained::{Explained, explain_deck};
 pub use l6_device::{
     HeadParts, Host, JobParts, MAX_COMMAND_BYTES, MAX_JOB_BYTES, MAX_RETRIES, Part, Patience,
     RunFault, Script, Sink, Source, Trouble, commands_have_their_limit, head_parts_of,

@@ -1,7 +1,6 @@
 pub mod Dialogues
 pub mod Repeats
 pub mod Slashes
-pub mod Pushing
 pub mod Following
 pub mod Kept
 pub mod LeadingBack

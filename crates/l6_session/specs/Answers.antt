@@ -13,13 +13,14 @@ use Rattle.l6_debug.specs.Answer as batch
 use Rattle.l6_draw.specs.StoreMap.{store_map}
 use Rattle.l6_session.specs.Blocks.{draw_text, operand_block_text}
 use Rattle.l6_session.specs.Changes.{Seen}
+use Rattle.l6_session.specs.Drawn.{some_drawn}
 use Rattle.l6_session.specs.Help.{help_text}
 use Rattle.l6_session.specs.Listing.{cards_back, here_text, listed_text, own_text}
 use Rattle.l6_session.specs.Names.{Names}
 use Rattle.l6_session.specs.Reports.{info_text, near_text}
 use Rattle.l6_session.specs.Saved.{saved_lines}
 use Rattle.l6_session.specs.SessionState.{SessionState}
-use Rattle.l6_session.specs.Who.{ShowsWho}
+use Rattle.l6_session.specs.Who.{who_text}
 use Rattle.l6_session.specs.Stops.{stop_text}
 use Rattle.l6_session.specs.Texts.{breakpoint_line, few_text, numbered_line, numbered_watch, operand_text, saved_text, statement_line, waiting_text}
 use Rattle.l6_session.specs.declared.before.Before.{Before}
@@ -31,7 +32,7 @@ use Rattle.l6_session.specs.declared.command.Move.TheVariants.{Finish, ReverseFi
 use Rattle.l6_session.specs.declared.command.Setting.{Setting}
 use Rattle.l6_session.specs.declared.command.Setting.TheVariants.{Break, BreakIf, TemporaryBreak, Condition, Delete, DeleteAll, Watch, Unwatch, UnwatchThis, Display, Undisplay, UndisplayChain}
 use Rattle.l6_session.specs.declared.command.View.{View}
-use Rattle.l6_session.specs.declared.command.View.TheVariants.{Print, Label, PrintLabel, Block, Where, WhereFew, Stack, Show, Fields, Draw, Store, Lists, Stats, Out, Checkpoints, Info, Save, ListHere, ListBefore, ListNear, ListCards, Help, Set, Ignore, Commands}
+use Rattle.l6_session.specs.declared.command.View.TheVariants.{Print, Label, PrintLabel, Block, Where, WhereFew, Stack, Show, Fields, Draw, DrawAll, Store, Lists, Stats, Out, Checkpoints, Info, Save, ListHere, ListBefore, ListNear, ListCards, Help, Set, Ignore, Commands}
 
 -- one goes out of the latest call
 abbrev pub is_finish : Move → Bool
@@ -39,23 +40,12 @@ is_finish Finish = true
 is_finish ReverseFinish = true
 is_finish other = false
 
--- a text is that of a stop; which details it has is not said here
-abbrev pub IsStop : Rule → Names → RunContext → Before → Seen → SessionState → List ℕ → Type 0
-IsStop rule names context before seen new text =
-    (details : List ℕ) × (text ≡ stop_text names.labels context (state_at rule context new.number) new
-    before.number seen details)
-
--- what is answered where one is to go out of the latest call and none waits, or else
-abbrev pub AnswersGone : Bool → Rule → Names → RunContext → Before → Seen → SessionState → List ℕ → Type 0
-AnswersGone true rule names context before seen new text =
-    text ≡ codes "No call waits: there is nothing to finish\n"
-AnswersGone false rule names context before seen new text =
-    IsStop rule names context before seen new text
-
--- what is answered where one went to another state, by what was seen where one was
-abbrev pub AnswersMove : Rule → Names → RunContext → Before → Seen → SessionState → Move → List ℕ → Type 0
-AnswersMove rule names context before seen new to text =
-    AnswersGone (before.depth == 0 && is_finish to) rule names context before seen new text
+-- what is answered where one went to another state, by what was seen where one was; or where one is to go out of
+-- the latest call and none waits
+abbrev pub move_text : Rule → Names → RunContext → Before → Seen → SessionState → Move → List ℕ
+move_text rule names context before seen new to =
+    if before.depth == 0 && is_finish to then codes "No call waits: there is nothing to finish\n"
+    else stop_text names context (state_at rule context new.number) new before.number seen
 
 -- what is said of a chain that is to be displayed, of which there are more than before or not
 abbrev pub displayed_text : State → ℕ → ℕ → List ℕ → List ℕ
@@ -162,6 +152,8 @@ ShowsView rule names listed context now (PrintLabel operand s) text =
 ShowsView rule names listed context now (Block operand) text =
     text ≡ operand_block_text (state_at rule context now.number).memory operand
 ShowsView rule names listed context now Draw text =
+    text ≡ some_drawn context.parameters.units (state_at rule context now.number).memory
+ShowsView rule names listed context now DrawAll text =
     text ≡ draw_text context.parameters.units (state_at rule context now.number).memory
 ShowsView rule names listed context now Lists text = ⊤
 ShowsView rule names listed context now Stats text = ⊤
@@ -189,7 +181,7 @@ ShowsView rule names listed context now Commands text =
 -- what was seen there, and the session after it
 abbrev pub AnswersObeyed : Rule → Names → Option Cards → RunContext → Before → Seen → SessionState → Command → List ℕ → Type 0
 AnswersObeyed rule names listed context before seen new (command.Move to) text =
-    AnswersMove rule names context before seen new to text
+    text ≡ move_text rule names context before seen new to
 AnswersObeyed rule names listed context before seen new (command.Setting setting) text =
     text ≡ setting_text rule names context before new setting
 AnswersObeyed rule names listed context before seen new (command.View view) text =
@@ -197,4 +189,4 @@ AnswersObeyed rule names listed context before seen new (command.View view) text
 AnswersObeyed rule names listed context before seen new (command.WatchWord operand word) text =
     text ≡ word_text (state_at rule context new.number).memory before new word operand
 AnswersObeyed rule names listed context before seen new (command.Who operand) text =
-    ShowsWho rule names context new.number operand text
+    text ≡ who_text rule names context new.number operand

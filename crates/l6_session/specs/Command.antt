@@ -141,8 +141,8 @@ row_of Fields =
     row "FIELDS" "fields" "definitions"
     "shows what fields are defined as"
 row_of Draw =
-    row "DRAW" "draw" "blocks and links"
-    "draws the blocks that are reached, and their links, also those that lead to no block"
+    row "DRAW" "draw [all]" "blocks and links"
+    "draws the blocks that are reached, and their links, also those that lead to no block: 40 lines, or all"
 row_of Store =
     row "STORE" "store" "map of the store"
     "shows the map of the store"

@@ -88,11 +88,10 @@ after_reading rule old reading = record old {
 abbrev pub after_line : Rule → DeckSession → List ℕ → DeckSession
 after_line rule old line = after_reading rule old (reading_of old.names line)
 
--- where a session is, as at a stop; which details are shown is not said here
-abbrev pub ShowsPlace : Rule → DeckSession → List ℕ → Type 0
-ShowsPlace rule session text =
-    (details : List ℕ) × (text ≡ place_text session.names.labels session.context
-    (state_at rule session.context session.state.number) details)
+-- where a session is, as at a stop
+abbrev pub shown_place : Rule → DeckSession → List ℕ
+shown_place rule session =
+    place_text session.names session.context (state_at rule session.context session.state.number)
 
 -- the line ends the session
 abbrev pub is_quit : Reading → Bool

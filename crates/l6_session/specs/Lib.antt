@@ -13,6 +13,7 @@ pub mod Reports
 pub mod Listing
 pub mod Saved
 pub mod Blocks
+pub mod Drawn
 pub mod Stops
 pub mod Help
 pub mod Before

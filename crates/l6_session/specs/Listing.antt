@@ -1,11 +1,12 @@
 -- Which cards a session lists, and the cards of statements.
-use Rattle.std.specs.Prelude.{ℕ, ◌+◌, ◌-◌, ◌==◌, ◌&&◌, nat_le, nat_lt, Bool, false, List, [], ◌∷◌, ◌++◌, length, codes, Option, Some, None, if◌then◌else◌}
+use Rattle.std.specs.Prelude.{ℕ, ◌+◌, ◌-◌, ◌&&◌, nat_le, nat_lt, Bool, List, [], ◌∷◌, ◌++◌, length, codes, Option, Some, None, if◌then◌else◌}
 use Rattle.std.specs.Option.{option_or}
 use Rattle.l6_card.specs.Role.{role_of}
 use Rattle.l6_word.specs.Lines.{lines_of}
-use Rattle.l6_session.specs.Names.{Names, begun_with, is_added, statement_with}
+use Rattle.l6_marks.specs.Cards.{added_text, begun_with, card_line, is_statement, statement_with}
+use Rattle.l6_session.specs.Names.{Names}
 use Rattle.l6_session.specs.Numerals.{listed_cards}
-use Rattle.l6_session.specs.Reports.{card_line, is_near, near_text}
+use Rattle.l6_session.specs.Reports.{is_near, near_text}
 use Rattle.l6_session.specs.declared.command.Cards.{Cards}
 use Rattle.l6_session.specs.declared.command.Command.{Command}
 use Rattle.l6_session.specs.declared.command.Command.TheVariants.{Move, View}
@@ -87,11 +88,6 @@ here_text deck statement None = near_text deck statement
 here_text deck statement (Some cards) =
     listed_text deck (cards_after (length (lines_of deck)) cards)
 
--- a card is one of a statement's
-abbrev pub is_statement : ℕ → Option ℕ → Bool
-is_statement statement None = false
-is_statement statement (Some number) = number == statement
-
 -- the lines of the cards of a statement; the one that is added to each deck has none
 abbrev pub own_from : ℕ → ℕ → ℕ → List (List ℕ) → List ℕ
 own_from statement card begun [] = []
@@ -100,9 +96,6 @@ own_from statement card begun (line ∷ lines) =
     then card_line (card + 1) line else [])
     ++ own_from statement (card + 1) (begun_with (role_of line) begun) lines
 
-abbrev pub added_text : Names → ℕ → List ℕ
-added_text names statement =
-    if is_added names statement then codes "      the DONE that follows the last card\n" else []
-
 abbrev pub own_text : Names → ℕ → List ℕ
-own_text names statement = own_from statement 0 0 (lines_of names.deck) ++ added_text names statement
+own_text names statement =
+    own_from statement 0 0 (lines_of names.deck) ++ added_text names.statements statement

@@ -1,6 +1,6 @@
 -- How commands name the statements of a deck: by their number, by their label, by how many statements they
 -- are after a label, and by a card of theirs, whose number follows a colon.
-use Rattle.std.specs.Prelude.{ℕ, ◌+◌, ◌-◌, ◌==◌, nat_lt, ◌&&◌, Bool, List, [], ◌∷◌, Option, Some, None, if◌then◌else◌}
+use Rattle.std.specs.Prelude.{ℕ, ◌+◌, ◌==◌, nat_lt, List, [], ◌∷◌, Option, Some, None, if◌then◌else◌}
 use Rattle.std.specs.Option.{option_or}
 use Rattle.std.specs.Str.{byte}
 use Rattle.l6_group.specs.declared.label.Label.{Label}
@@ -8,8 +8,7 @@ use Rattle.l6_group.specs.Label.{label_of}
 use Rattle.l6_group.specs.Spelling.{◌>>=◌}
 use Rattle.l6_word.specs.Lines.{lines_of}
 use Rattle.l6_card.specs.Role.{role_of}
-use Rattle.l6_card.specs.declared.role.Role.{Role}
-use Rattle.l6_card.specs.declared.role.Role.TheVariants.{First, Further}
+use Rattle.l6_marks.specs.Cards.{begun_with, statement_with}
 use Rattle.l6_asm.specs.Labels as labels
 use Rattle.l6_debug.specs.Command.{number_of}
 use Rattle.l6_session.specs.Parted.{parted}
@@ -20,17 +19,6 @@ pub record Names : Type 0 where
   pub labels : List (Label × ℕ)
   pub deck : List ℕ
   pub statements : ℕ
-
--- how many statements have begun with a card, where so many had before it
-abbrev pub begun_with : Role → ℕ → ℕ
-begun_with First before = before + 1
-begun_with _ before = before
-
--- the statement of a card, where so many have begun with it: other cards belong to none
-abbrev pub statement_with : Role → ℕ → Option ℕ
-statement_with First begun = Some (begun - 1)
-statement_with Further begun = Some (begun - 1)
-statement_with _ begun = None
 
 -- the statement of the card of this number, where the first of these lines has the number after
 -- `before`, and so many statements have begun before it
@@ -72,7 +60,3 @@ statement_by names word (Some (label, digits)) = statement_after names label dig
 
 abbrev pub statement_of : Names → List ℕ → Option ℕ
 statement_of names word = statement_by names word (parted (byte "+") word)
-
--- the last statement is added to each deck
-abbrev pub is_added : Names → ℕ → Bool
-is_added names statement = nat_lt 0 names.statements && (names.statements - 1 == statement)

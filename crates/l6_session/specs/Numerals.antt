@@ -32,14 +32,14 @@ most_changes = 8
 abbrev pub most_printed : ℕ
 most_printed = 400
 
--- in how many columns the number of a card is, and how many statements are listed before and after the one
--- that is asked for
-abbrev pub card_places : ℕ
-card_places = 5
-
+-- how many statements are listed before and after the one that is asked for
 abbrev pub near_statements : ℕ
 near_statements = 4
 
 -- how many cards are listed that follow the ones before, or that are before them
 abbrev pub listed_cards : ℕ
 listed_cards = 10
+
+-- how many lines of a drawing are shown
+abbrev pub most_drawn : ℕ
+most_drawn = 40

@@ -21,7 +21,7 @@ use Rattle.l6_session.specs.declared.command.Command.{Command}
 use Rattle.l6_session.specs.declared.command.Command.TheVariants.{Move, Setting, View, WatchWord, Who}
 use Rattle.l6_session.specs.declared.command.Move.TheVariants.{Step, Back, StepStatement, BackStatement, Goto, Next, ReverseNext, NextStatement, ReverseNextStatement, Continue, ReverseContinue, Until}
 use Rattle.l6_session.specs.declared.command.Setting.TheVariants.{Break, BreakIf, Condition, TemporaryBreak, Delete, Watch, Unwatch, UnwatchThis, Display, Undisplay, UndisplayChain}
-use Rattle.l6_session.specs.declared.command.View.TheVariants.{Print, Label, PrintLabel, Block, WhereFew, ListBefore, ListNear, ListCards, Set, Ignore, Commands}
+use Rattle.l6_session.specs.declared.command.View.TheVariants.{Print, Label, PrintLabel, Block, WhereFew, DrawAll, ListBefore, ListNear, ListCards, Set, Ignore, Commands}
 use Rattle.l6_session.specs.declared.command.Verb.{Verb}
 use Rattle.l6_session.specs.declared.command.Verb.TheVariants as verb
 use Rattle.l6_session.specs.declared.command.Reading.{Reading}
@@ -193,6 +193,17 @@ informed (Some given) = alone given
 abbrev pub info_on : List ℕ → Reading
 info_on word = informed (capitals_of word >>= topic_of)
 
+-- what is drawn: all lines
+abbrev pub is_all_spelled : Option (List ℕ) → Bool
+is_all_spelled None = false
+is_all_spelled (Some word) = bytes_eq word (codes "ALL")
+
+abbrev pub is_all : List ℕ → Bool
+is_all word = is_all_spelled (capitals_of word)
+
+abbrev pub draw_of : List ℕ → Reading
+draw_of word = if is_all word then shown DrawAll else Unfit verb.Draw
+
 -- what a command and the word after it ask for
 abbrev pub with_word : Names → Verb → List ℕ → Reading
 with_word names verb.Step word = with_number verb.Step word
@@ -226,6 +237,7 @@ with_word names verb.Print word =
 with_word names verb.Block word =
     named_by (λ o. View (Block o)) (operand_of (without_dollar word))
 with_word names verb.Who word = named_by (λ o. Who o) (operand_of (without_dollar word))
+with_word names verb.Draw word = draw_of word
 with_word names verb.Info word = info_on word
 with_word names verb.Help word = help_on word
 with_word names verb.Save word = NoFile

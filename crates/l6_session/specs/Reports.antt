@@ -1,14 +1,13 @@
 -- What a session says of itself: where one stops, what is displayed, which states are kept, and cards.
-use Rattle.std.specs.Prelude.{ℕ, ◌+◌, ◌-◌, ◌&&◌, nat_le, nat_lt, Bool, false, List, [], ◌∷◌, ◌++◌, length, replicate, codes, decimal, slice_index_or, Option, None, if◌then◌else◌}
+use Rattle.std.specs.Prelude.{ℕ, ◌+◌, ◌-◌, ◌&&◌, nat_le, nat_lt, Bool, false, List, [], ◌∷◌, ◌++◌, codes, slice_index_or, Option, None, if◌then◌else◌}
 use Rattle.std.specs.List.{enumerate_from, flat_map}
-use Rattle.std.specs.Str.{byte}
 use Rattle.l6_group.specs.declared.label.Label.{Label}
 use Rattle.l6_card.specs.Role.{role_of}
-use Rattle.l6_word.specs.Lines.{lines_of, without_return}
+use Rattle.l6_marks.specs.Cards.{begun_with, card_line}
+use Rattle.l6_word.specs.Lines.{lines_of}
 use Rattle.l6_prog.specs.declared.condition.Test.{Test}
 use Rattle.l6_steps.specs.State.{Memory}
-use Rattle.l6_session.specs.Names.{begun_with}
-use Rattle.l6_session.specs.Numerals.{card_places, near_statements}
+use Rattle.l6_session.specs.Numerals.{near_statements}
 use Rattle.l6_session.specs.SessionState.{SessionState}
 use Rattle.l6_history.specs.declared.watched.Watched.{Watched}
 use Rattle.l6_session.specs.Texts.{breakpoint_line, chain_line, numbered_line, numbered_watch}
@@ -58,12 +57,6 @@ displayed_line memory chain = codes "      " ++ chain_line memory chain
 
 abbrev pub displayed_text : Memory → List (List ℕ) → List ℕ
 displayed_text memory chains = flat_map (displayed_line memory) chains
-
--- a card with its number, at the right end of its places
-abbrev pub card_line : ℕ → List ℕ → List ℕ
-card_line card line =
-    replicate (card_places - length (decimal card)) (byte " ") ++ decimal card ++ codes " "
-    ++ without_return line ++ codes "\n"
 
 -- with a card so many statements have begun, and the last of them is near this one
 abbrev pub is_near : ℕ → ℕ → Bool

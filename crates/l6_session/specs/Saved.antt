@@ -5,7 +5,7 @@ use Rattle.l6_history.specs.declared.watched.Watched.{Watched}
 use Rattle.l6_prog.specs.declared.condition.Test.{Test}
 use Rattle.l6_store.specs.Rule.{Rule}
 use Rattle.l6_steps.specs.State.{RunContext}
-use Rattle.l6_session.specs.Listing.{is_statement}
+use Rattle.l6_marks.specs.Cards.{is_statement}
 use Rattle.l6_session.specs.Names.{Names, statement_of}
 use Rattle.l6_session.specs.SessionState.{SessionState, after, first_session_state}
 use Rattle.l6_session.specs.Texts.{chain_text, label_text, test_text, watched_name}

@@ -1,6 +1,5 @@
 -- What a session answers where it stops.
 use Rattle.std.specs.Prelude.{ℕ, ◌==◌, Bool, List, [], ◌++◌, codes, decimal, slice_index_or, Option, None, Some, Result, Ok, Err, if◌then◌else◌}
-use Rattle.l6_group.specs.declared.label.Label.{Label}
 use Rattle.l6_history.specs.Stop.{is_at_statement}
 use Rattle.l6_prog.specs.declared.condition.Test.{Test}
 use Rattle.l6_steps.specs.Condition.{holds}
@@ -10,7 +9,9 @@ use Rattle.l6_steps.specs.declared.halt.Halt.{Halt}
 use Rattle.l6_steps.specs.declared.halt.Halt.TheVariants.{Done, Fail}
 use Rattle.l6_steps.specs.declared.position.Position.{Position}
 use Rattle.l6_machine.specs.Printout.{ending_line}
+use Rattle.l6_marks.specs.Details.{details_text}
 use Rattle.l6_session.specs.Changes.{Seen, changes_text}
+use Rattle.l6_session.specs.Names.{Names}
 use Rattle.l6_session.specs.Reports.{displayed_text}
 use Rattle.l6_session.specs.SessionState.{SessionState}
 use Rattle.l6_session.specs.Texts.{label_text, test_text}
@@ -26,17 +27,22 @@ abbrev pub state_text : RunContext → State → List ℕ
 state_text context state =
     if is_last context state then ending_line state else at_text state.at ++ steps_text state.count
 
--- and then, unless the run has come to its end, the label and details: the cards of the statement and,
--- for a trap, its reason
-abbrev pub rest_text : List (Label × ℕ) → State → List ℕ → Option Halt → List ℕ
-rest_text labels state details (Some Done) = codes "\n"
-rest_text labels state details (Some Fail) = codes "\n"
-rest_text labels state details other =
-    label_text labels state.at.statement ++ codes "\n" ++ details
+-- the label of a state and its details: the cards of the statement, with the action marked, and, for a trap, its
+-- reason
+abbrev pub with_details : Names → RunContext → State → Option Halt → List ℕ
+with_details names context state ending =
+    label_text names.labels state.at.statement ++ codes "\n"
+    ++ details_text names.deck context.program state.at ending
 
-abbrev pub place_text : List (Label × ℕ) → RunContext → State → List ℕ → List ℕ
-place_text labels context state details =
-    state_text context state ++ rest_text labels state details state.ending
+-- they follow, unless the run has come to its end
+abbrev pub rest_text : Names → RunContext → State → Option Halt → List ℕ
+rest_text names context state (Some Done) = codes "\n"
+rest_text names context state (Some Fail) = codes "\n"
+rest_text names context state other = with_details names context state other
+
+abbrev pub place_text : Names → RunContext → State → List ℕ
+place_text names context state =
+    state_text context state ++ rest_text names context state state.ending
 
 -- the session stays where it was
 abbrev pub stay_text : ℕ → ℕ → List ℕ
@@ -67,9 +73,9 @@ test_at_text tests state =
 -- where a session has stopped that was at the state of a number before, and whether the test of a breakpoint
 -- there meets a trap; what has changed since; and
 -- what is displayed
-abbrev pub stop_text : List (Label × ℕ) → RunContext → State → SessionState → ℕ → Seen → List ℕ → List ℕ
-stop_text labels context state session before seen details =
-    place_text labels context state details
+abbrev pub stop_text : Names → RunContext → State → SessionState → ℕ → Seen → List ℕ
+stop_text names context state session before seen =
+    place_text names context state
     ++ test_at_text session.stop.tests state
     ++ stay_text before session.number
     ++ changes_text seen state.memory session.stop.watched

@@ -1,5 +1,5 @@
 -- What is shown of the life of a block: by which steps it was got, last written and freed.
-use Rattle.std.specs.Prelude.{◌≡◌, ℕ, List, [], ◌++◌, codes, decimal, length, Option, Some, None, Result, Ok, Err, option_map}
+use Rattle.std.specs.Prelude.{ℕ, List, [], ◌++◌, codes, decimal, length, Option, Some, None, Result, Ok, Err, option_map}
 use Rattle.std.specs.FinMap as places
 use Rattle.l6_prog.specs.declared.operand.Operand.{Operand}
 use Rattle.l6_prog.specs.declared.operand.Operand.TheVariants.{Chain, Number}
@@ -24,50 +24,39 @@ head_text place None freed = gone_text place freed
 head_text place (Some size) freed =
     codes "BLOCK " ++ decimal place ++ codes " SIZE " ++ decimal size ++ codes "\n"
 
--- the state before a step, if there is one, after what the step did; which details are shown is not said
--- here
-abbrev pub IsStep : Rule → Names → RunContext → List ℕ → Option ℕ → List ℕ → Type 0
-IsStep rule names context did None text = text ≡ []
-IsStep rule names context did (Some n) text =
-    (details : List ℕ)
-    × (text ≡ did ++ place_text names.labels context (state_at rule context n) details)
+-- the state before a step, if there is one, after what the step did
+abbrev pub step_text : Rule → Names → RunContext → List ℕ → Option ℕ → List ℕ
+step_text rule names context did None = []
+step_text rule names context did (Some n) = did ++ place_text names context (state_at rule context n)
 
-abbrev pub got_words : List ℕ
-got_words = codes "got "
+-- the three steps of a block's life
+abbrev pub steps_text : Rule → Names → RunContext → Life → List ℕ
+steps_text rule names context life =
+    step_text rule names context (codes "got ") life.got
+    ++ step_text rule names context (codes "written ") life.written
+    ++ step_text rule names context (codes "freed ") life.freed
 
-abbrev pub written_words : List ℕ
-written_words = codes "written "
+-- the block, and these steps
+abbrev pub life_text : Rule → Names → RunContext → ℕ → Option ℕ → Life → List ℕ
+life_text rule names context place size life =
+    head_text place size life.freed ++ steps_text rule names context life
 
-abbrev pub freed_words : List ℕ
-freed_words = codes "freed "
-
--- the block, and the three steps
-pub record IsLife (rule : Rule) (names : Names) (context : RunContext) (place : ℕ) (size : Option ℕ)
-    (life : Life) (text : List ℕ) : Type 0 where
-  pub got : List ℕ
-  pub written : List ℕ
-  pub freed : List ℕ
-  pub is_got : IsStep rule names context got_words life.got got
-  pub is_written : IsStep rule names context written_words life.written written
-  pub is_freed : IsStep rule names context freed_words life.freed freed
-  pub whole : text ≡ head_text place size life.freed ++ got ++ written ++ freed
-
-abbrev pub ShowsLife : Rule → Names → RunContext → ℕ → ℕ → List ℕ → Type 0
-ShowsLife rule names context number place text =
-    IsLife rule names context place
+abbrev pub block_life_text : Rule → Names → RunContext → ℕ → ℕ → List ℕ
+block_life_text rule names context number place =
+    life_text rule names context place
     (option_map length (places.get (state_at rule context number).memory.blocks place))
-    (life_of rule context place number) text
+    (life_of rule context place number)
 
 -- the block to which a chain leads, or why it leads nowhere; or the block of a number
-abbrev pub ShowsLed : Rule → Names → RunContext → ℕ → List ℕ → Result ℕ Trap → List ℕ → Type 0
-ShowsLed rule names context number chain (Ok place) text =
-    ShowsLife rule names context number place text
-ShowsLed rule names context number chain (Err trap) text =
-    text ≡ chain_line (state_at rule context number).memory chain
+abbrev pub led_text : Rule → Names → RunContext → ℕ → List ℕ → Result ℕ Trap → List ℕ
+led_text rule names context number chain (Ok place) =
+    block_life_text rule names context number place
+led_text rule names context number chain (Err trap) =
+    chain_line (state_at rule context number).memory chain
 
-abbrev pub ShowsWho : Rule → Names → RunContext → ℕ → Operand → List ℕ → Type 0
-ShowsWho rule names context number (Number place) text =
-    ShowsLife rule names context number place text
-ShowsWho rule names context number (Chain chain) text =
-    ShowsLed rule names context number chain
-    (read (state_at rule context number).memory (Chain chain)) text
+abbrev pub who_text : Rule → Names → RunContext → ℕ → Operand → List ℕ
+who_text rule names context number (Number place) =
+    block_life_text rule names context number place
+who_text rule names context number (Chain chain) =
+    led_text rule names context number chain
+    (read (state_at rule context number).memory (Chain chain))

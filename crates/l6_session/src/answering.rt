@@ -2,7 +2,7 @@
 
 ghost use Rattle.std.specs.Prelude.{◌≡◌, ◌==◌, IfOk, None, false, length};
 ghost use Rattle.l6_steps.specs.Configuration.{first_configuration};
-ghost use Rattle.l6_session.specs.DeckSession.{AnswersCommand, AnswersReading, ShowsPlace, after_reading, refuses, refuses_setting};
+ghost use Rattle.l6_session.specs.DeckSession.{AnswersCommand, AnswersReading, after_reading, refuses, refuses_setting, shown_place};
 ghost use Rattle.l6_session.specs.SessionState.{after, first_session_state};
 
 use crate::answers::answer_of;
@@ -16,7 +16,7 @@ use crate::names::Names;
 use crate::reading::reading_of;
 use crate::seen::Seen;
 use crate::session::Session;
-use crate::stops::{details_of, push_place};
+use crate::stops::push_place;
 use l6_machine::Machine;
 use l6_store::Places;
 use std::alloc::{AllocError, Global};
@@ -126,12 +126,11 @@ impl<S: FreeLists> DeckSession<S> {
     ///
     /// Memory ran out.
     pub fn place(&self, alloc: Global) -> Result<Vec<u8>, AllocError>
-        ensures { IfOk result (λ text. ShowsPlace S.rule self.now text.items) }
+        ensures { IfOk result (λ text. text.items ≡ shown_place S.rule self.now) }
     {
         let mut text = Vec::new(alloc);
         let machine = self.session.machine();
-        let details = details_of(alloc, machine, &self.names)?;
-        push_place(alloc, &mut text, machine, &self.names, details.as_slice())?;
+        push_place(alloc, &mut text, machine, &self.names)?;
         Ok(text)
     }
 

@@ -6,12 +6,14 @@ ghost use Rattle.l6_steps.specs.Configuration.{state_at};
 ghost use Rattle.l6_session.specs.Answers as spec;
 ghost use Rattle.l6_session.specs.Listing as listing;
 ghost use Rattle.l6_session.specs.Listing.{here_text, listed_text};
+ghost use Rattle.l6_session.specs.Stops.{stop_text};
 
 use crate::before::Before;
 use crate::blocks::{push_block, push_drawing};
 use crate::calls::{push_few, push_saved, push_waiting};
 use crate::cards::push_near;
 use crate::command::{Cards, Command, Move, Setting, View};
+use crate::drawn::push_some_drawn;
 use crate::free_lists::{FreeLists, push_lists};
 use crate::help::push_help;
 use crate::listing::{cards_back, cards_here, push_listed, push_own};
@@ -23,7 +25,7 @@ use crate::reports::{
 use crate::saved::push_commands;
 use crate::seen::Seen;
 use crate::session::Session;
-use crate::stops::{details_of, push_stop, value_of};
+use crate::stops::{push_stop, value_of};
 use crate::values::push_value;
 use crate::who::who_answer;
 use l6_debug::{Command as Batch, push_answer};
@@ -123,8 +125,8 @@ fn move_answer<S: Places>(
     before: Before,
     to: Move,
 ) -> Result<Vec<u8>, AllocError>
-    ensures { IfOk result (λ text. spec.AnswersMove S.rule names.now session.now.context before
-        seen.now session.now.state to text.items) }
+    ensures { IfOk result (λ text. text.items ≡ spec.move_text S.rule names.now session.now.context
+        before seen.now session.now.state to) }
 {
     if before.depth == 0 && to.is_finish() {
         let mut text = Vec::new(alloc);
@@ -142,20 +144,12 @@ fn stop_answer<S: Places>(
     seen: &Seen,
     before: Before,
 ) -> Result<Vec<u8>, AllocError>
-    ensures { IfOk result (λ text. spec.IsStop S.rule names.now session.now.context before seen.now
-        session.now.state text.items) }
+    ensures { IfOk result (λ text. text.items ≡ stop_text names.now session.now.context
+        (state_at S.rule session.now.context session.now.state.number) session.now.state
+        before.number seen.now) }
 {
     let mut text = Vec::new(alloc);
-    let details = details_of(alloc, session.machine(), names)?;
-    push_stop(
-        alloc,
-        &mut text,
-        session,
-        names,
-        seen,
-        before,
-        details.as_slice(),
-    )?;
+    push_stop(alloc, &mut text, session, names, seen, before)?;
     Ok(text)
 }
 
@@ -344,7 +338,8 @@ fn view_answer<S: FreeLists>(
         View::Stack => push_saved(&mut text, machine)?,
         View::Show => push_answer(alloc, &mut text, machine, Batch::Show)?,
         View::Fields => push_answer(alloc, &mut text, machine, Batch::Fields)?,
-        View::Draw => push_drawing(alloc, &mut text, machine)?,
+        View::Draw => push_some_drawn(alloc, &mut text, machine)?,
+        View::DrawAll => push_drawing(alloc, &mut text, machine)?,
         View::Store => push_answer(alloc, &mut text, machine, Batch::Store)?,
         View::Lists => push_lists(&mut text, machine.store())?,
         View::Stats => push_stats(&mut text, session)?,

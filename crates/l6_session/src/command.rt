@@ -115,8 +115,10 @@ pub enum View {
     Show,
     /// What fields are defined as.
     Fields,
-    /// The blocks that are reached, and where their fields lead.
+    /// The blocks that are reached, and where their fields lead: the first lines of that.
     Draw,
+    /// All lines of it.
+    DrawAll,
     /// The map of the store.
     Store,
     /// The free pieces of the store, by their levels.

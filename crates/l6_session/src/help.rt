@@ -6,7 +6,7 @@ ghost use Rattle.l6_session.specs.Help as spec;
 
 use crate::command::Verb;
 use crate::table::{row_of, verbs};
-use crate::text::push_blanks;
+use l6_marks::push_blanks;
 use std::alloc::{AllocError, Global};
 
 /// In how many columns help has how a command is written.

@@ -11,6 +11,7 @@ mod chains;
 mod command;
 mod console;
 mod conversation;
+mod drawn;
 mod free_lists;
 mod help;
 mod laws;

@@ -2,13 +2,13 @@
 
 ghost use Rattle.std.specs.Prelude.{◌≡◌, ◌<◌, ◌^◌, ◌++◌, length, OnOk, Some};
 ghost use Rattle.l6_session.specs.Listing as spec;
-ghost use Rattle.l6_session.specs.Names as names;
 ghost use Rattle.l6_word.specs.Lines.{lines_of};
 
-use crate::cards::{is_near, push_card};
+use crate::cards::is_near;
 use crate::command::{Cards, Command, View};
-use crate::names::{Names, begun_with, statement_with};
-use l6_card::{Role, role_of};
+use crate::names::Names;
+use l6_card::role_of;
+use l6_marks::{begun_with, is_of, push_added, push_card};
 use l6_word::first_line;
 use std::alloc::AllocError;
 
@@ -17,9 +17,6 @@ pub(crate) const LISTED_CARDS: u64 = 10;
 
 /// What is said where no card is listed.
 const NO_CARD: &[u8] = b"No card is there\n";
-
-/// What is said of the statement that has no card.
-const ADDED: &[u8] = b"      the DONE that follows the last card\n";
 
 /// The cards that were listed last, after a command at a statement, where these were before it.
 pub(crate) fn listed_after(
@@ -192,22 +189,7 @@ pub(crate) fn push_own(text: &mut Vec<u8>, names: &Names, statement: u64) -> Res
     ensures { OnOk result (text.new.items ≡ text.old.items ++ spec.own_text names.now statement) }
 {
     push_own_cards(text, names.deck(), statement)?;
-    push_added(text, names, statement)
-}
-
-/// Adds what is said of the statement that has no card, if it is this one.
-pub(crate) fn push_added(
-    text: &mut Vec<u8>,
-    names: &Names,
-    statement: u64,
-) -> Result<(), AllocError>
-    ensures { OnOk result (text.new.items ≡ text.old.items ++ spec.added_text names.now statement) }
-{
-    if names.is_added(statement) {
-        text.extend_from_slice(ADDED)
-    } else {
-        Ok(())
-    }
+    push_added(text, names.statements(), statement)
 }
 
 /// Adds the lines of the cards of a statement.
@@ -228,14 +210,4 @@ fn push_own_cards(text: &mut Vec<u8>, deck: &[u8], statement: u64) -> Result<(),
         rest = following;
     }
     Ok(())
-}
-
-/// Whether a card is one of a statement's, where so many have begun with it.
-fn is_of(statement: u64, role: Role, begun: usize) -> bool
-    ensures { result ≡ spec.is_statement statement (names.statement_with role begun) }
-{
-    match statement_with(role, begun) {
-        Some(number) => number == statement,
-        None => false,
-    }
 }

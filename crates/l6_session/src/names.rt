@@ -8,9 +8,10 @@ ghost use Rattle.l6_session.specs.Names as spec;
 
 use crate::parted::parted;
 use l6_asm::Labels;
-use l6_card::{Role, role_of};
+use l6_card::role_of;
 use l6_debug::number_of;
 use l6_group::label_of;
+use l6_marks::{begun_with, statement_with};
 use l6_word::first_line;
 use std::marker::Model;
 
@@ -82,11 +83,11 @@ impl Names {
         }
     }
 
-    /// Whether a statement is the one that is added to each deck, and that has no card.
-    pub(crate) fn is_added(&self, statement: u64) -> bool
-        ensures { result ≡ spec.is_added self.now statement }
+    /// How many statements the program has.
+    pub(crate) fn statements(&self) -> usize
+        ensures { result ≡ self.now.statements }
     {
-        0 < self.statements && self.statements as u64 - 1 == statement
+        self.statements
     }
 
     /// The number that a word gives.
@@ -164,25 +165,4 @@ fn statement_on(wanted: u64, deck: &[u8]) -> Option<u64>
         rest = following;
     }
     None
-}
-
-/// How many statements have begun with a card, where so many had before it.
-pub(crate) fn begun_with(role: Role, before: usize) -> usize
-    requires { before < 2 ^ 63 }
-    ensures { result ≡ spec.begun_with role before }
-{
-    match role {
-        Role::First => before + 1,
-        _ => before,
-    }
-}
-
-/// The number of the statement of a card, where so many have begun with it.
-pub(crate) fn statement_with(role: Role, begun: usize) -> Option<u64>
-    ensures { result ≡ spec.statement_with role begun }
-{
-    match role {
-        Role::First | Role::Further => Some(begun.saturating_sub(1) as u64),
-        _ => None,
-    }
 }

@@ -29,6 +29,9 @@ pub(crate) const MIN_NEAR: usize = 4;
 /// The word before the test of a breakpoint.
 const IF: &[u8] = b"IF";
 
+/// The word for all of a drawing.
+const ALL: &[u8] = b"ALL";
+
 /// The word for the cards before those that were listed last.
 const BEFORE: &[u8] = b"-";
 
@@ -321,6 +324,7 @@ fn with_word(names: &Names, verb: Verb, word: &[u8]) -> Reading
         ),
         Verb::Block => block_of(operand_of(without_dollar(word))),
         Verb::Who => who_of(operand_of(without_dollar(word))),
+        Verb::Draw => draw_of(word),
         Verb::Info => info_on(word),
         Verb::Help => help_on(word),
         Verb::Save | Verb::Source => Reading::NoFile,
@@ -358,6 +362,27 @@ fn numbered(verb: Verb, number: u64) -> Reading
         Verb::Goto => moved(Move::Goto(number)),
         Verb::Where => Reading::Asked(Command::View(View::WhereFew(number))),
         _ => Reading::Unfit(verb),
+    }
+}
+
+/// What is drawn by a word: all lines.
+fn draw_of(word: &[u8]) -> Reading
+    ensures { result ≡ spec.draw_of word.now }
+{
+    if is_all(word) {
+        Reading::Asked(Command::View(View::DrawAll))
+    } else {
+        Reading::Unfit(Verb::Draw)
+    }
+}
+
+/// Whether a word is `all`.
+fn is_all(word: &[u8]) -> bool
+    ensures { result ≡ spec.is_all word.now }
+{
+    match capitals_of(word) {
+        Some(word) => word.as_slice() == ALL,
+        None => false,
     }
 }
 

@@ -2,7 +2,7 @@
 
 ghost use Rattle.std.specs.Prelude.{◌≡◌, ◌++◌, [], ◌∷◌, drop, map, IfOk, OnOk};
 ghost use Rattle.std.specs.List.{flat_map};
-ghost use Rattle.l6_session.specs.Listing as listing;
+ghost use Rattle.l6_marks.specs.Cards as cards;
 ghost use Rattle.l6_session.specs.Names as places;
 ghost use Rattle.l6_session.specs.Saved as spec;
 
@@ -237,7 +237,7 @@ fn push_place(text: &mut Vec<u8>, names: &Names, statement: u64) -> Result<(), A
 
 /// Whether the word after a blank names a statement.
 fn is_named(names: &Names, placed: &[u8], statement: u64) -> bool
-    ensures { result ≡ listing.is_statement statement
+    ensures { result ≡ cards.is_statement statement
         (places.statement_of names.now (drop 1 placed.now)) }
 {
     let word = placed.get(1..).unwrap_or(&[]);

@@ -1,21 +1,19 @@
-//! What is answered where a session stops. The marks on the cards of an action, and why a run has trapped,
-//! are tested, and not proved.
+//! What is answered where a session stops.
 
-ghost use Rattle.std.specs.Prelude.{◌≡◌, ◌++◌, IfOk, OnOk};
+ghost use Rattle.std.specs.Prelude.{◌≡◌, ◌++◌, OnOk};
 ghost use Rattle.l6_steps.specs.Condition.{holds};
 ghost use Rattle.l6_steps.specs.Configuration.{state_at};
 ghost use Rattle.l6_steps.specs.Locus.{read};
 ghost use Rattle.l6_session.specs.Stops as spec;
 
 use crate::before::Before;
-use crate::cards::push_action;
 use crate::names::Names;
 use crate::reports::{push_displayed, test_at};
 use crate::seen::Seen;
 use crate::session::Session;
 use crate::text::{push_label, push_test};
-use crate::values::push_trap;
 use l6_machine::{Halt, Machine, Position, Trap, ending_line, push_decimal};
+use l6_marks::push_details;
 use l6_prog::{Operand, Test};
 use l6_store::Places;
 use l6_word::Word;
@@ -27,40 +25,36 @@ const START: &[u8] = b"      This is the start: nothing comes before\n";
 /// What is said where it stays at another state.
 const STAYS: &[u8] = b"      The session stays here\n";
 
-/// The cards of the statement of a state with the action marked, and why it trapped, if it did.
-pub(crate) fn details_of<S: Places>(
-    alloc: Global,
-    machine: &Machine<S>,
-    names: &Names,
-) -> Result<Vec<u8>, AllocError> {
-    let mut text = Vec::new(alloc);
-    push_action(&mut text, names, machine.program(), machine.at())?;
-    if let Some(Halt::Trap(trap)) = machine.ending() {
-        push_trap(&mut text, trap)?;
-    }
-    Ok(text)
-}
-
-/// Adds the line of a state, and these details of it, unless the run has come to its end there.
+/// Adds the line of a state, and its details, unless the run has come to its end there.
 pub(crate) fn push_place<S: Places>(
     alloc: Global,
     text: &mut Vec<u8>,
     machine: &Machine<S>,
     names: &Names,
-    details: &[u8],
 ) -> Result<(), AllocError>
     ensures { OnOk result (text.new.items ≡ text.old.items ++ spec.place_text
-        names.now.labels machine.now.context machine.now.configuration.state details.now) }
+        names.now machine.now.context machine.now.configuration.state) }
 {
     push_state(alloc, text, machine)?;
     match machine.ending() {
         Some(Halt::Done) | Some(Halt::Fail) => text.extend_from_slice(b"\n"),
-        _ => {
-            push_label(text, u64::from(machine.at().statement), names.labels())?;
-            text.extend_from_slice(b"\n")?;
-            text.extend_from_slice(details)
-        }
+        ending => push_rest(text, machine, names, ending),
     }
+}
+
+/// Adds the label of a state that has not come to its end, or has by this trap, and its details.
+fn push_rest<S: Places>(
+    text: &mut Vec<u8>,
+    machine: &Machine<S>,
+    names: &Names,
+    ending: Option<Halt>,
+) -> Result<(), AllocError>
+    ensures { OnOk result (text.new.items ≡ text.old.items ++ spec.with_details
+        names.now machine.now.context machine.now.configuration.state ending) }
+{
+    push_label(text, u64::from(machine.at().statement), names.labels())?;
+    text.extend_from_slice(b"\n")?;
+    push_details(text, names.deck(), machine.program(), machine.at(), ending)
 }
 
 /// Adds where a state is, or how the run has ended.
@@ -98,8 +92,7 @@ fn push_after(text: &mut Vec<u8>, count: u64) -> Result<(), AllocError>
     text.extend_from_slice(b" STEPS")
 }
 
-/// Adds where a session has stopped, with these details, what has changed since it stopped before, and
-/// what is displayed.
+/// Adds where a session has stopped, what has changed since it stopped before, and what is displayed.
 pub(crate) fn push_stop<S: Places>(
     alloc: Global,
     text: &mut Vec<u8>,
@@ -107,14 +100,13 @@ pub(crate) fn push_stop<S: Places>(
     names: &Names,
     seen: &Seen,
     before: Before,
-    details: &[u8],
 ) -> Result<(), AllocError>
-    ensures { OnOk result (text.new.items ≡ text.old.items ++ spec.stop_text names.now.labels
+    ensures { OnOk result (text.new.items ≡ text.old.items ++ spec.stop_text names.now
         session.now.context (state_at S.rule session.now.context session.now.state.number)
-        session.now.state before.number seen.now details.now) }
+        session.now.state before.number seen.now) }
 {
     let machine = session.machine();
-    push_place(alloc, text, machine, names, details)?;
+    push_place(alloc, text, machine, names)?;
     push_test_at(text, machine, session.stop().tests())?;
     push_stay(text, before.number, session.history().number())?;
     seen.push_changes(text, machine, session.stop().watched())?;

@@ -340,9 +340,9 @@ pub(crate) fn row_of(verb: Verb) -> Row
         },
         Verb::Draw => Row {
             words: b"DRAW",
-            usage: b"draw",
+            usage: b"draw [all]",
             line: b"blocks and links",
-            sentence: b"draws the blocks that are reached, and their links, also those that lead to no block",
+            sentence: b"draws the blocks that are reached, and their links, also those that lead to no block: 40 lines, or all",
         },
         Verb::Store => Row {
             words: b"STORE",

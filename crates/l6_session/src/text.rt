@@ -1,7 +1,6 @@
 //! Parts of texts.
 
-ghost use Rattle.std.specs.Prelude.{◌≡◌, ◌<◌, ◌≤◌, ◌++◌, ◌^◌, OnOk, IfSome, None, replicate};
-ghost use Rattle.std.specs.Str.{byte};
+ghost use Rattle.std.specs.Prelude.{◌≡◌, ◌<◌, ◌≤◌, ◌++◌, ◌^◌, OnOk, IfSome, None};
 ghost use Rattle.std.specs.Option.{option_map};
 ghost use Rattle.l6_word.specs.Numerals.{largest_level};
 ghost use Rattle.l6_session.specs.Texts as spec;
@@ -68,16 +67,6 @@ pub(crate) fn push_name(text: &mut Vec<u8>, number: u8) -> Result<(), AllocError
 {
     if number < NAMES {
         text.push(character_of(number))?;
-    }
-    Ok(())
-}
-
-/// Adds so many blanks.
-pub(crate) fn push_blanks(text: &mut Vec<u8>, count: usize) -> Result<(), AllocError>
-    ensures { OnOk result (text.new.items ≡ text.old.items ++ replicate count (byte " ")) }
-{
-    for _ in 0..count {
-        text.push(b' ')?;
     }
     Ok(())
 }

@@ -1,4 +1,4 @@
-//! What chains and numbers read as, in words. Why a run has trapped is tested, and not proved.
+//! What chains and numbers read as, in words.
 
 ghost use Rattle.std.specs.Prelude.{◌≡◌, ◌++◌, OnOk};
 ghost use Rattle.l6_session.specs.Texts as spec;
@@ -242,32 +242,3 @@ const NO_LINK: &[u8] = b", which is no block: it was never set, or was set to 0\
 /// What is said of another number at which no block begins.
 const NO_BLOCK: &[u8] =
     b", where no block begins: it holds no link, or the block there was freed\n";
-
-/// Adds what a trap means.
-pub(crate) fn push_trap(text: &mut Vec<u8>, trap: Trap) -> Result<(), AllocError> {
-    let reason: &[u8] = match trap {
-        Trap::UndefinedField => b"a chain names a field that has no definition",
-        Trap::NotABlock =>
-            b"no block begins where a chain or an operand leads: a link was not set, or the block there was freed",
-        Trap::WordOutsideBlock =>
-            b"the word of a field is past the end of the block to which the chain leads",
-        Trap::BadDefinition =>
-            b"a definition has a word past 1023, a bit past 35, or a first bit after its last",
-        Trap::ZeroDivisor => b"a division by 0",
-        Trap::BadSize => b"a block of no word, or of more than 1024, was asked for",
-        Trap::StoreFull =>
-            b"no place is open for a block of this size, and the operation has no label for that",
-        Trap::InputEnded =>
-            b"the input has too few characters left, and the operation has no label for that",
-        Trap::PushdownEmpty => b"nothing is saved that could be restored",
-        Trap::PushdownFull => b"the pushdown has all the entries that it may have",
-        Trap::ReturnsFull =>
-            b"as many calls wait for their return as may: a recursion without an end?",
-        Trap::NoFailExit => b"FAIL returns from a call that has no fail label",
-        Trap::BadCount => b"fewer than 1 or more than 6 characters are asked for",
-        Trap::OutputFull => b"the output would pass its limit (--output)",
-    };
-    text.extend_from_slice(b"      because ")?;
-    text.extend_from_slice(reason)?;
-    text.extend_from_slice(b"\n")
-}

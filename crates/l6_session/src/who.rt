@@ -9,7 +9,7 @@ ghost use Rattle.l6_session.specs.Who as spec;
 
 use crate::names::Names;
 use crate::session::Session;
-use crate::stops::{details_of, push_place};
+use crate::stops::push_place;
 use crate::text::push_counted;
 use crate::values::push_chain_value;
 use l6_history::Life;
@@ -17,14 +17,6 @@ use l6_prog::{Chain, Operand};
 use l6_store::{Level, Places};
 use l6_word::Word;
 use std::alloc::{AllocError, Global};
-
-/// The texts of the steps of a block's life.
-#[derive(Drop)]
-struct Steps {
-    got: Vec<u8>,
-    written: Vec<u8>,
-    freed: Vec<u8>,
-}
 
 /// What is answered of the block to which an operand leads. The session stays as it is.
 ///
@@ -40,8 +32,8 @@ pub(crate) fn who_answer<S: Places>(
 where
     S: Drop,
     ensures same { session.new ≡ session.old }
-    ensures text { IfOk result (λ text. spec.ShowsWho S.rule names.now session.old.context
-        session.old.state.number operand.now text.items) }
+    ensures text { IfOk result (λ text. text.items ≡ spec.who_text S.rule names.now
+        session.old.context session.old.state.number operand.now) }
 {
     match operand {
         Operand::Number(place) => life_answer(alloc, session, names, *place),
@@ -76,34 +68,30 @@ fn life_answer<S: Places>(
 where
     S: Drop,
     ensures same { session.new ≡ session.old }
-    ensures text { IfOk result (λ text. spec.ShowsLife S.rule names.now session.old.context
-        session.old.state.number place text.items) }
+    ensures text { IfOk result (λ text. text.items ≡ spec.block_life_text S.rule names.now
+        session.old.context session.old.state.number place) }
 {
     let level = session.machine().store().live(place);
     let life = session.life_of(alloc, place);
     let steps = steps_of(alloc, session, names, life)?;
-    joined(alloc, place, level, life.freed, &steps)
+    joined(alloc, place, level, life.freed, steps.as_slice())
 }
 
-/// The texts of the steps of a life. The session stays as it is. The caller owes steps of the run.
+/// The text of the steps of a life. The session stays as it is. The caller owes steps of the run.
 fn steps_of<S: Places>(
     alloc: Global,
     session: &mut Session<S>,
     names: &Names,
     life: Life,
-) -> Result<Steps, AllocError>
+) -> Result<Vec<u8>, AllocError>
 where
     S: Drop,
     requires got { IfSome life.got (λ n. n ≤ last_number S.rule session.old.context) }
     requires written { IfSome life.written (λ n. n ≤ last_number S.rule session.old.context) }
     requires freed { IfSome life.freed (λ n. n ≤ last_number S.rule session.old.context) }
     ensures same { session.new ≡ session.old }
-    ensures got { IfOk result (λ steps. spec.IsStep S.rule names.now session.old.context
-        spec.got_words life.got steps.got.items) }
-    ensures written { IfOk result (λ steps. spec.IsStep S.rule names.now session.old.context
-        spec.written_words life.written steps.written.items) }
-    ensures freed { IfOk result (λ steps. spec.IsStep S.rule names.now session.old.context
-        spec.freed_words life.freed steps.freed.items) }
+    ensures text { IfOk result (λ text. text.items
+        ≡ spec.steps_text S.rule names.now session.old.context life) }
 {
     let number = session.history().number();
     let steps = steps_seen(alloc, session, names, life);
@@ -111,13 +99,13 @@ where
     steps
 }
 
-/// The texts of the steps of a life, by going to the states before them. The caller owes steps of the run.
+/// The text of the steps of a life, by going to the states before them. The caller owes steps of the run.
 fn steps_seen<S: Places>(
     alloc: Global,
     session: &mut Session<S>,
     names: &Names,
     life: Life,
-) -> Result<Steps, AllocError>
+) -> Result<Vec<u8>, AllocError>
 where
     S: Drop,
     requires got { IfSome life.got (λ n. n ≤ last_number S.rule session.old.context) }
@@ -126,85 +114,73 @@ where
     ensures context { session.new.context ≡ session.old.context }
     ensures state { session.new.state
         ≡ record session.old.state { number = session.new.state.number } }
-    ensures got { IfOk result (λ steps. spec.IsStep S.rule names.now session.old.context
-        spec.got_words life.got steps.got.items) }
-    ensures written { IfOk result (λ steps. spec.IsStep S.rule names.now session.old.context
-        spec.written_words life.written steps.written.items) }
-    ensures freed { IfOk result (λ steps. spec.IsStep S.rule names.now session.old.context
-        spec.freed_words life.freed steps.freed.items) }
+    ensures text { IfOk result (λ text. text.items
+        ≡ spec.steps_text S.rule names.now session.old.context life) }
 {
-    let got = step_text(alloc, session, names, b"got ", life.got)?;
-    let written = step_text(alloc, session, names, b"written ", life.written)?;
-    let freed = step_text(alloc, session, names, b"freed ", life.freed)?;
-    Ok(Steps {
-        got,
-        written,
-        freed,
-    })
+    let mut text = Vec::new(alloc);
+    push_step(alloc, &mut text, session, names, b"got ", life.got)?;
+    push_step(alloc, &mut text, session, names, b"written ", life.written)?;
+    push_step(alloc, &mut text, session, names, b"freed ", life.freed)?;
+    Ok(text)
 }
 
-/// The text of a step, if there is one, by going to the state before it. The caller owes a step of the run.
-fn step_text<S: Places>(
+/// Adds a step, if there is one, by going to the state before it. The caller owes a step of the run.
+fn push_step<S: Places>(
     alloc: Global,
+    text: &mut Vec<u8>,
     session: &mut Session<S>,
     names: &Names,
     did: &[u8],
     number: Option<u64>,
-) -> Result<Vec<u8>, AllocError>
+) -> Result<(), AllocError>
 where
     S: Drop,
     requires { IfSome number (λ n. n ≤ last_number S.rule session.old.context) }
     ensures context { session.new.context ≡ session.old.context }
     ensures state { session.new.state
         ≡ record session.old.state { number = session.new.state.number } }
-    ensures text { IfOk result (λ text. spec.IsStep S.rule names.now session.old.context
-        did.now number text.items) }
+    ensures text { OnOk result (text.new.items ≡ text.old.items
+        ++ spec.step_text S.rule names.now session.old.context did.now number) }
 {
     match number {
         Some(number) => {
             session.look_at(alloc, number);
-            state_text(alloc, session, names, did)
+            push_seen(alloc, text, session, names, did)
         }
-        None => Ok(Vec::new(alloc)),
+        None => Ok(()),
     }
 }
 
-/// What a step did, and the state before it, where the session is.
-fn state_text<S: Places>(
+/// Adds what a step did, and the state before it, where the session is.
+fn push_seen<S: Places>(
     alloc: Global,
+    text: &mut Vec<u8>,
     session: &Session<S>,
     names: &Names,
     did: &[u8],
-) -> Result<Vec<u8>, AllocError>
-    ensures { IfOk result (λ text. spec.IsStep S.rule names.now session.now.context
-        did.now (Some session.now.state.number) text.items) }
+) -> Result<(), AllocError>
+    ensures { OnOk result (text.new.items ≡ text.old.items ++ spec.step_text S.rule names.now
+        session.now.context did.now (Some session.now.state.number)) }
 {
-    let mut text = Vec::new(alloc);
-    let machine = session.machine();
-    let details = details_of(alloc, machine, names)?;
     text.extend_from_slice(did)?;
-    push_place(alloc, &mut text, machine, names, details.as_slice())?;
-    Ok(text)
+    push_place(alloc, text, session.machine(), names)
 }
 
-/// Which block it is, and the texts of its steps.
+/// Which block it is, and the text of its steps.
 fn joined(
     alloc: Global,
     place: Word,
     level: Option<Level>,
     freed: Option<u64>,
-    steps: &Steps,
+    steps: &[u8],
 ) -> Result<Vec<u8>, AllocError>
     requires { IfSome level (λ level. level ≤ largest_level) }
     ensures { IfOk result (λ text. text.items
-        ≡ spec.head_text place (option_map (λ level. 2 ^ level) level) freed
-        ++ steps.now.got.items ++ steps.now.written.items ++ steps.now.freed.items) }
+        ≡ spec.head_text place (option_map (λ level. 2 ^ level) level) freed ++ steps.now) }
 {
     let mut text = Vec::new(alloc);
     push_head(&mut text, place, level, freed)?;
-    text.extend_from_slice(steps.got.as_slice())?;
-    text.extend_from_slice(steps.written.as_slice())?;
-    text.extend_from_slice(steps.freed.as_slice())?;
+    text.extend_from_slice(steps)?;
     Ok(text)
 }
 

@@ -1,6 +1,6 @@
 use Rattle.l6_session.specs.Answers.{label_text}
 use Rattle.l6_session.specs.Texts.{operand_text}
-use Rattle.l6_session.proofs.Pushing.{on_ok, text_on}
+use Rattle.l6_marks.proofs.Pushing.{on_ok, text_on}
 use Rattle.l6_session.proofs.answers.push_both.Goals as goal
 
 -- what it reads as, and the statement

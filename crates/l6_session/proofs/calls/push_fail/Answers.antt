@@ -1,7 +1,7 @@
 use Rattle.std.proofs.Common.{◌++◌, ap, sym, ◌∙◌}
 use Rattle.std.specs.Prelude.{codes, decimal}
 use Rattle.l6_session.specs.Texts.{fail_text, label_text}
-use Rattle.l6_session.proofs.Pushing.{on_ok, text_on}
+use Rattle.l6_marks.proofs.Pushing.{on_ok, text_on}
 use Rattle.l6_session.proofs.calls.push_fail.Goals as goal
 
 -- the words, the number and the label of the statement

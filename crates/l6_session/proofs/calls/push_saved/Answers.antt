@@ -2,7 +2,7 @@ use Rattle.std.proofs.Common.{◌++◌, ap, length, ◌∙◌}
 use Rattle.std.specs.Prelude.{codes}
 use Rattle.std.specs.List.{flat_map}
 use Rattle.l6_session.specs.Texts.{content_line, count_line, definition_line}
-use Rattle.l6_session.proofs.Pushing.{on_ok, text_on}
+use Rattle.l6_marks.proofs.Pushing.{on_ok, text_on}
 use Rattle.l6_session.proofs.calls.push_saved.Goals as goal
 
 -- the counts, each with the lines of what it counts

@@ -3,7 +3,7 @@ use Rattle.std.specs.Prelude.{replicate}
 use Rattle.std.specs.Str.{byte}
 use Rattle.l6_session.specs.Help.{cell_text}
 use Rattle.l6_session.specs.Numerals.{cell_places}
-use Rattle.l6_session.proofs.Pushing.{added_length, on_ok, text_on}
+use Rattle.l6_marks.proofs.Pushing.{added_length, on_ok, text_on}
 use Rattle.l6_session.proofs.help.push_first.Goals as goal
 
 -- the cell, and as many blanks as its length leaves

@@ -2,7 +2,7 @@ use Rattle.std.proofs.Common.{◌++◌, ap, ◌∙◌}
 use Rattle.std.specs.Prelude.{codes}
 use Rattle.l6_session.specs.Command.{verbs}
 use Rattle.l6_session.specs.Help.{listed}
-use Rattle.l6_session.proofs.Pushing.{on_ok, text_on, when_ok}
+use Rattle.l6_marks.proofs.Pushing.{on_ok, text_on, when_ok}
 use Rattle.l6_session.proofs.help.push_help.Goals as goal
 
 -- what is said before the list, the list, and what is said after it

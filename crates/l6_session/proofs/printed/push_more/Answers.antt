@@ -1,6 +1,6 @@
 use Rattle.std.proofs.Common.{◌++◌, append_assoc, ◌∙◌}
 use Rattle.std.specs.Prelude.{codes, decimal}
-use Rattle.l6_session.proofs.Pushing.{on_ok, text_on, when_ok}
+use Rattle.l6_marks.proofs.Pushing.{on_ok, text_on, when_ok}
 use Rattle.l6_session.proofs.printed.push_more.Goals as goal
 
 -- the words, the number, and the words after it

@@ -1,6 +1,6 @@
 use Rattle.std.proofs.Common.{◌++◌}
 use Rattle.std.specs.Prelude.{codes}
-use Rattle.l6_session.proofs.Pushing.{on_ok, text_on, when_ok}
+use Rattle.l6_marks.proofs.Pushing.{on_ok, text_on, when_ok}
 use Rattle.l6_session.proofs.printed.push_shown.Goals as goal
 
 -- the words, and the line

@@ -3,7 +3,7 @@ use Rattle.std.specs.Prelude.{codes}
 use Rattle.std.proofs.lemmas.List.{append-nil}
 use Rattle.l6_steps.specs.Configuration.{state_at}
 use Rattle.l6_session.specs.Reports.{or_nothing, stops_lines}
-use Rattle.l6_session.proofs.Pushing.{none_added, on_ok, when_ok}
+use Rattle.l6_marks.proofs.Pushing.{none_added, on_ok, when_ok}
 use Rattle.l6_session.proofs.reports.push_info.Goals as goal
 
 -- no line was added

@@ -2,7 +2,7 @@ use Rattle.std.proofs.Common.{◌++◌}
 use Rattle.std.specs.Prelude.{codes}
 use Rattle.l6_session.specs.Changes.{values_text}
 use Rattle.l6_session.specs.Texts.{watched_name}
-use Rattle.l6_session.proofs.Pushing.{on_ok, text_on, when_ok}
+use Rattle.l6_marks.proofs.Pushing.{on_ok, text_on, when_ok}
 use Rattle.l6_session.proofs.seen.push_change.Goals as goal
 
 -- the words, what is watched, and its values

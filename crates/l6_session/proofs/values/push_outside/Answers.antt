@@ -1,7 +1,7 @@
 use Rattle.std.proofs.Common.{[], ◌∷◌, ◌++◌, ap, ◌∙◌}
 use Rattle.std.specs.Prelude.{codes, decimal}
 use Rattle.l6_session.specs.Texts.{chain_text}
-use Rattle.l6_session.proofs.Pushing.{on_ok, text_on, when_ok}
+use Rattle.l6_marks.proofs.Pushing.{on_ok, text_on, when_ok}
 use Rattle.l6_session.proofs.values.push_outside.Goals as goal
 
 -- the field, and the pointer

@@ -1,6 +1,6 @@
 use Rattle.std.specs.Prelude.{codes}
 use Rattle.l6_session.specs.Texts.{broken_text}
-use Rattle.l6_session.proofs.Pushing.{on_ok, text_on}
+use Rattle.l6_marks.proofs.Pushing.{on_ok, text_on}
 use Rattle.l6_session.proofs.values.push_unfollowed.Goals as goal
 
 -- the words, and why

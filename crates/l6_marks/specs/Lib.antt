@@ -1,0 +1,5 @@
+pub mod Numerals
+pub mod Cards
+pub mod Marks
+pub mod Reasons
+pub mod Details

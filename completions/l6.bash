@@ -13,7 +13,8 @@ _l6() {
     case $COMP_CWORD:$verb in
         1:*) choices='asm list check run load renew debug trace help --help --version' ;;
         2:help) choices='asm list check run load renew debug trace' ;;
-        *:run | *:load | *:debug) choices='--store --steps --output --help' ;;
+        *:run) choices='--store --steps --output --explain --help' ;;
+        *:load | *:debug) choices='--store --steps --output --help' ;;
         *:trace) choices='--store --any-place --levels --units --first --piece --json --help' ;;
         *:check) choices='--long --name --help' ;;
         *:asm | *:list | *:renew) choices='--help' ;;

@@ -26,6 +26,8 @@ complete -c l6 -n "__fish_seen_subcommand_from check; and not __fish_seen_subcom
 complete -c l6 -n $stores -l store -x -d 'Units of 1024 words that the store has, 1 to 255'
 complete -c l6 -n $runs -l steps -x -d 'Steps that the run may make, 0 to 1000000000'
 complete -c l6 -n $runs -l output -x -d 'Bytes that the run may print, 0 to 16777216'
+complete -c l6 -n "__fish_seen_subcommand_from run; and not __fish_seen_subcommand_from help" -l explain \
+    -d 'Say on standard error where a trap was met, and why'
 complete -c l6 -n $traces -l any-place -d 'Judge the answers, whatever the allocator\'s rule of choice'
 complete -c l6 -n $traces -l levels -x -d 'The largest block has 2^K smallest pieces, 0 to 20'
 complete -c l6 -n $traces -l units -x -d 'The allocator has so many of these, 1 to 16777216'

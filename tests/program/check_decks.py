@@ -132,7 +132,7 @@ def large(program: str) -> Iterator[Trial]:
 
 def card_in_model(deck: bytes) -> int:
     """The card on which the model has a deck's error, or 0."""
-    said, _ = answer_of_job(CHECK, deck, Options())
+    said, _, _ = answer_of_job(CHECK, deck, Options())
     return int(said.partition(b":")[0]) if said else 0
 
 

@@ -53,15 +53,16 @@ def job_of(number: int) -> Job:
     rest = commands(chance) if verb == "debug" else b""
     rest += an_input(chance)
     alter = chance if verb in ("load", "renew") and chance.random() < 0.8 else None
-    return Job([verb, *options(chance, verb)], deck, rest, alter)
+    return Job([verb, *options(chance, verb, number % 2 == 0)], deck, rest, alter)
 
 
-def options(chance: random.Random, verb: str) -> list[str]:
+def options(chance: random.Random, verb: str, is_explained: bool) -> list[str]:
     """The program's options: a small store and few steps, so that a job takes little time."""
     if verb in ("asm", "list", "renew"):
         return []
+    explained = ["--explain"] if verb == "run" and is_explained else []
     steps = chance.choice([60, 300, 1_000, 3_000, 12_000]) if chance.random() < 0.95 else chance.randint(0, 9)
-    words = ["--steps", str(steps), "--store", chance.choice(["1", "2", "3", "8", "8", "64"])]
+    words = [*explained, "--steps", str(steps), "--store", chance.choice(["1", "2", "3", "8", "8", "64"])]
     return words + (["--output", str(chance.choice([0, 1, 5, 60, 1_000, 100_000]))] if chance.random() < 0.3 else [])
 
 

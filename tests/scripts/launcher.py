@@ -453,8 +453,26 @@ def terminals(checkout: Checkout) -> Iterator[Trial]:
         ("run", 5, ""), ("load", 4, ""), ("check", 4, ""), ("trace", 4, ""),
     ):
         yield f"what {verb} says at a terminal with status {status}", (said, status), refused_at_terminal(checkout, verb, status)
+    for words, given in (
+        (["run"], ["run", "--explain"]), (["run", "--steps", "5"], ["run", "--explain", "--steps", "5"]),
+        (["run", "--explain"], ["run", "--explain"]), (["load"], ["load"]),
+    ):
+        asked = asked_at_terminal(checkout, words)
+        yield f"the words {words} with a terminal for errors", "".join(f"<{it}>\n" for it in given), asked
     actual = checkout.run("l6", "run", has_rt=False, STATUS="4")
     yield "what run says over a pipe with status 4", Answer(f"{checkout.made_of}<run>\n", "", 4), actual
+
+
+def asked_at_terminal(checkout: Checkout, words: list[str]) -> str:
+    """The words that the program is given where standard error is a terminal."""
+    ours, theirs = os.openpty()
+    made = subprocess.run(
+        ["./l6", *words], cwd=checkout.top, stdin=subprocess.DEVNULL, stdout=subprocess.PIPE, stderr=theirs,
+        env={"PATH": str(checkout.folder / "plain")}, check=False, text=True,
+    )
+    os.close(theirs)
+    os.close(ours)
+    return made.stdout.partition("\n")[2]
 
 
 def refused_at_terminal(checkout: Checkout, verb: str, status: int) -> tuple[str, int]:

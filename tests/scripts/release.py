@@ -139,6 +139,8 @@ COMPLETIONS: dict[str, set[str]] = {
     "l6 r": {"run", "renew"},
     "l6 --v": {"--version"},
     "l6 run --s": {"--store", "--steps"},
+    "l6 run --e": {"--explain"},
+    "l6 load --e": set(),
     "l6 asm --": {"--help"},
     "l6 debug --store 2 --o": {"--output"},
     "l6 help l": {"list", "load"},

@@ -10,6 +10,8 @@ use Rattle.l6_device.specs.declared.fault.Part.TheVariants.{Deck, Image, Input, 
 use Rattle.l6_device.specs.declared.fault.RunFault.{RunFault}
 use Rattle.l6_device.specs.declared.fault.RunFault.TheVariants.{TooLong, Asm, Load, Read, Write, NoMemory}
 use Rattle.l6_device.proofs.DeviceUses.{retries_alone}
+use Rattle.l6_run.specs.Explains.{Explains}
+use Rattle.l6_run.specs.declared.explained.Explained as explained
 use Rattle.l6_run.specs.Prints.{Prints, PrintsLoaded, RefusesDeck, RefusesImage}
 use Rattle.l6_run.specs.Serves.{Serves}
 use Rattle.l6_run.specs.Texts.{RefusesCards, RefusesRewriting, RewritesImage, WritesImage}
@@ -17,7 +19,7 @@ use Rattle.l6_run.proofs.Servings.{unreported_reader}
 use Rattle.l6_debug.proofs.Sessions.{unreported_debugger_state}
 use Rattle.l6_debug.specs.Serving as sessions
 use Rattle.l6.specs.declared.job.Outcome.{Outcome}
-use Rattle.l6.specs.declared.job.Outcome.TheVariants.{Checked, Ran, Written}
+use Rattle.l6.specs.declared.job.Outcome.TheVariants.{Checked, Explained, Ran, Written}
 use Rattle.l6.specs.declared.job.Verb.{Verb}
 use Rattle.l6.specs.declared.job.Verb.TheVariants as verbs
 use Rattle.l6.specs.Checks.{ChecksDeck, RefusesCheck}
@@ -96,6 +98,22 @@ run_refused verb options job deck input old new fault is head following served =
     (subst (λ (d : List ℕ). Serves (Prints options d (input_of job)) (RefusesDeck d (input_of job))
     old new (Err fault)) head
     (subst (λ (i : List ℕ). Serves (Prints options deck i) (RefusesDeck deck i) old new (Err fault))
+    following served)))
+
+-- the same of a run that was to be explained
+pub explanation_refused : (verb : Verb) (options : OptionValues) (job deck input : List ℕ)
+    (old new : Option (List ℕ)) (fault : RunFault) → verb ≡ verbs.Explain → deck ≡ head_of job →
+    input ≡ input_of job →
+    Serves (Explains options deck input) (RefusesDeck deck input) old new (Err fault) →
+    JobOutcome verb options job old new (Err fault)
+explanation_refused verb options job deck input old new fault is head following served =
+    subst (λ (v : Verb). JobOutcome v options job old new (Err fault)) (sym is)
+    (renamed explained.Explained Outcome Explained (Explains options (head_of job) (input_of job))
+    (Answers verbs.Explain options job) (Refuses verbs.Explain job) old new fault
+    (λ outcome text answers. answers)
+    (subst (λ (d : List ℕ). Serves (Explains options d (input_of job)) (RefusesDeck d (input_of job))
+    old new (Err fault)) head
+    (subst (λ (i : List ℕ). Serves (Explains options deck i) (RefusesDeck deck i) old new (Err fault))
     following served)))
 
 -- why an image was not run is why the job was not done whose head is its text
@@ -179,6 +197,9 @@ unreported_job (verbs.Check shown) options job part old new result served =
 unreported_job verbs.Run options job part old new result served =
     unreported_reader (Answers verbs.Run options job) (Refuses verbs.Run job) part old new result
     (λ _ refused. refused) served
+unreported_job verbs.Explain options job part old new result served =
+    unreported_reader (Answers verbs.Explain options job) (Refuses verbs.Explain job) part old new
+    result (λ _ refused. refused) served
 unreported_job verbs.Load options job part old new result served =
     unreported_reader (Answers verbs.Load options job) (Refuses verbs.Load job) part old new result
     (λ _ refused. refused) served

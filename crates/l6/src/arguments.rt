@@ -120,7 +120,7 @@ pub fn task_of<'a>(alloc: Global, words: &'a [String]) -> Result<Task<'a>, Words
         Some(("list", _)) => Some(without_options(Verb::List)),
         Some(("check", chosen)) => Some(without_options(Verb::Check(shown_of(chosen)))),
         Some(("renew", _)) => Some(without_options(Verb::Renew)),
-        Some(("run", chosen)) => requested(Verb::Run, chosen),
+        Some(("run", chosen)) => requested(run_verb(chosen), chosen),
         Some(("load", chosen)) => requested(Verb::Load, chosen),
         Some(("debug", chosen)) => requested(Verb::Debug, chosen),
         _ => None,
@@ -169,7 +169,7 @@ fn program<'a>(alloc: Global) -> Result<Command<'a>, AllocError> {
         .subcommand(described(alloc, "asm", help::ASM))?
         .subcommand(described(alloc, "list", help::LIST))?
         .subcommand(check(alloc)?)?
-        .subcommand(with_options(described(alloc, "run", help::RUN), alloc)?)?
+        .subcommand(run(alloc)?)?
         .subcommand(with_options(described(alloc, "load", help::LOAD), alloc)?)?
         .subcommand(described(alloc, "renew", help::RENEW))?
         .subcommand(with_options(described(alloc, "debug", help::DEBUG), alloc)?)?
@@ -194,6 +194,24 @@ fn check<'a>(alloc: Global) -> Result<Command<'a>, AllocError> {
         "The name of the deck's file, for the beginning of each line",
     );
     described(alloc, "check", help::CHECK).arg(long)?.arg(name)
+}
+
+/// The command `run`.
+fn run<'a>(alloc: Global) -> Result<Command<'a>, AllocError> {
+    let explain = Arg::new(alloc, "explain")
+        .long("explain")
+        .help("Say on standard error where a trap was met, and why")
+        .action(ArgAction::SetTrue);
+    with_options(described(alloc, "run", help::RUN), alloc)?.arg(explain)
+}
+
+/// How a deck was chosen to be run.
+fn run_verb<'a>(chosen: &ArgMatches<'_>) -> Verb<'a> {
+    if chosen.get_flag("explain") {
+        Verb::Explain
+    } else {
+        Verb::Run
+    }
 }
 
 /// How what is said of a deck was chosen to be shown.

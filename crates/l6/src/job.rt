@@ -10,8 +10,9 @@ ghost use Rattle.l6.specs.JobResult.{JobOutcome, IsUnwrittenBy, JobResult};
 use crate::checking::{Shown, write_deck_check};
 use l6_debug::debug_deck;
 use l6_run::{
-    Ending, Options, Part, Patience, RunFault, Sink, Source, head_parts_of, parts_of, read_part,
-    rewrite_image_text, run_deck, run_image_text, write_deck_image, write_deck_listing,
+    Ending, Explained, Options, Part, Patience, RunFault, Sink, Source, explain_deck,
+    head_parts_of, parts_of, read_part, rewrite_image_text, run_deck, run_image_text,
+    write_deck_image, write_deck_listing,
 };
 use std::alloc::Global;
 
@@ -26,6 +27,8 @@ pub enum Verb<'a> {
     Check(Shown<'a>),
     /// The head of the job is a deck, which is run with the input of the job.
     Run,
+    /// The same, and of a trap is said where it was met, and why.
+    Explain,
     /// The head of the job is the text of an image, which is run with the input of the job.
     Load,
     /// The head of the job is the text of an image, which is rewritten in the current version.
@@ -36,7 +39,7 @@ pub enum Verb<'a> {
 }
 
 /// What was done with a job.
-#[derive(Clone, Copy, Debug, PartialEq, Eq, Hash)]
+#[derive(Debug, Drop, PartialEq, Eq)]
 pub enum Outcome {
     /// A text was written, and nothing was run.
     Written,
@@ -44,6 +47,8 @@ pub enum Outcome {
     Checked(u32),
     /// A run was made, ended so, and was printed.
     Ran(Ending),
+    /// The same, with what is said of how it ended.
+    Explained(Explained),
 }
 
 /// Reads a job whole, does with its parts what the verb says, and writes the answer.
@@ -108,6 +113,17 @@ fn serve<W: Sink>(
         Verb::Run => {
             let ending = run_deck(alloc, parts.head, parts.input, writer, options, patience)?;
             Ok(Outcome::Ran(ending))
+        }
+        Verb::Explain => {
+            let explained = explain_deck(
+                alloc,
+                parts.head,
+                parts.input,
+                writer,
+                options,
+                patience,
+            )?;
+            Ok(Outcome::Explained(explained))
         }
         Verb::Load => {
             let ending = run_image_text(alloc, parts.head, parts.input, writer, options, patience)?;

@@ -17,7 +17,7 @@ use std::io::Write;
 use std::process::ExitCode;
 
 /// Does what was asked for with the job or the trace that the reader gives, and says on `errors` why it was not done,
-/// or why nothing could be asked for. Answers how the process is to end. A text that `errors` does not
+/// why a run has trapped if that is asked for, or why nothing could be asked for. Answers how the process is to end. A text that `errors` does not
 /// take is lost.
 pub fn exit_code<R: Source, W: Sink, E: Write>(
     alloc: Global,
@@ -52,12 +52,18 @@ pub fn exit_code<R: Source, W: Sink, E: Write>(
     }
 }
 
-/// Says on `errors` why something was not done. Answers how the process is to end.
+/// Says on `errors` why something was not done, or why a run has trapped. Answers how the process is to end.
 fn code_of<E: Write>(errors: &mut E, answer: &Result<Outcome, RunFault>) -> ExitCode
     ensures { exit_status result ≡ status_of answer.now }
 {
-    if let Err(fault) = answer {
-        let _ = writeln!(errors, "l6: {fault}");
+    match answer {
+        Ok(Outcome::Explained(explained)) => {
+            let _ = errors.write_all(explained.why.as_slice());
+        }
+        Ok(_) => {}
+        Err(fault) => {
+            let _ = writeln!(errors, "l6: {fault}");
+        }
     }
     ExitCode::from(status(answer))
 }

@@ -16,11 +16,10 @@ pub fn status(answer: &Result<Outcome, RunFault>) -> u8
     ensures { result ≡ spec.status_of answer.now }
 {
     match answer {
-        Ok(Outcome::Written | Outcome::Ran(Ending::Done)) => 0,
+        Ok(Outcome::Written) => 0,
         Ok(Outcome::Checked(errors)) => status_of_errors(*errors),
-        Ok(Outcome::Ran(Ending::Fail)) => 1,
-        Ok(Outcome::Ran(Ending::Trap(_))) => 2,
-        Ok(Outcome::Ran(Ending::Limit)) => 3,
+        Ok(Outcome::Ran(ending)) => status_of_ending(*ending),
+        Ok(Outcome::Explained(explained)) => status_of_ending(explained.ending),
         Err(
             RunFault::TooLong(_)
             | RunFault::Asm(
@@ -38,6 +37,18 @@ pub fn status(answer: &Result<Outcome, RunFault>) -> u8
             | RunFault::Write(_)
             | RunFault::NoMemory,
         ) => 5,
+    }
+}
+
+/// The exit status of a run that has ended so.
+fn status_of_ending(ending: Ending) -> u8
+    ensures { result ≡ spec.status_of_ending ending }
+{
+    match ending {
+        Ending::Done => 0,
+        Ending::Fail => 1,
+        Ending::Trap(_) => 2,
+        Ending::Limit => 3,
     }
 }
 

@@ -10,6 +10,7 @@ from .jobs import CHECK, RUNNING, VERBS, answer_of_job
 from .state import Options
 
 WRONG_WORDS = 64  # the exit status
+EXPLAIN = "--explain"  # an option of `run` alone
 RANGES = {"--store": (1, 255), "--steps": (0, 1_000_000_000), "--output": (0, 16_777_216)}
 
 
@@ -25,19 +26,22 @@ class Answer:
 def answer_of(words: list[str], read: Callable[[], bytes]) -> Answer:
     """The answer to a command. Where its words are wrong, its job is not read."""
     try:
-        verb, options = command_of(words)
-        stdout, status = answer_of_job(verb, read(), options)
+        verb, options, is_explained = command_of(words)
+        stdout, said, status = answer_of_job(verb, read(), options)
     except Fault as fault:
         return Answer(b"", fault.line.encode("ascii", "replace"), fault.status)
-    return Answer(stdout, b"", status)
+    return Answer(stdout, said if is_explained else b"", status)
 
 
-def command_of(words: list[str]) -> tuple[str, Options]:
-    """The verb and the options that words say."""
+def command_of(words: list[str]) -> tuple[str, Options, bool]:
+    """The verb and the options that words say, and whether a trap is explained."""
     if not words or words[0] not in (*VERBS, CHECK) or "--help" in words:
         raise Fault(f"words: {'|'.join(VERBS)} [--store M] [--steps N] [--output N]", WRONG_WORDS)
     verb, *rest = words
     given: dict[str, int] = {}
+    is_explained = verb == "run" and EXPLAIN in rest
+    if is_explained:
+        rest.remove(EXPLAIN)
     while rest:
         option, equals, value = rest.pop(0).partition("=")
         if option not in RANGES or option in given or verb not in RUNNING:
@@ -45,7 +49,7 @@ def command_of(words: list[str]) -> tuple[str, Options]:
         if not equals:
             value = rest.pop(0) if rest else ""
         given[option] = value_of(option, value)
-    return verb, Options(**{option.removeprefix("--"): value for option, value in given.items()})
+    return verb, Options(**{option.removeprefix("--"): value for option, value in given.items()}), is_explained
 
 
 def value_of(option: str, value: str) -> int:

@@ -6,6 +6,7 @@ from dataclasses import dataclass
 from .cards import assemble
 from .characters import characters_of
 from .debugger import Session
+from .explanation import explanation_of
 from .faults import Fault
 from .images import image_of, load
 from .listing import listing_of
@@ -31,21 +32,23 @@ class Job:
     input: bytes
 
 
-def answer_of_job(verb: str, text: bytes, options: Options) -> tuple[bytes, int]:
-    """What goes to standard output for a job, and the exit status."""
+def answer_of_job(verb: str, text: bytes, options: Options) -> tuple[bytes, bytes, int]:
+    """What goes to standard output for a job, what is said of a trap if that is asked for, and the exit status."""
     job = job_of(verb, text)
     if verb == CHECK:
         card = card_with_error(job.deck)
-        return (b"%d: error\n" % card, 4) if card else (b"", 0)
+        return (b"%d: error\n" % card, b"", 4) if card else (b"", b"", 0)
     if verb == "list":
-        return listing_of(assemble(job.deck)), 0
+        return listing_of(assemble(job.deck)), b"", 0
     program = load(job.deck) if verb in LOADING else assemble(job.deck).program
     if verb not in RUNNING:
-        return image_of(program), 0
+        return image_of(program), b"", 0
     characters = characters_of_input(job.input)
     if verb == "debug":
-        return Session(program, characters, options).transcript(job.commands), 0
-    return printout_of(State(program, characters, options))
+        return Session(program, characters, options).transcript(job.commands), b"", 0
+    state = State(program, characters, options)
+    printout, status = printout_of(state)
+    return printout, b"" if verb in LOADING else explanation_of(state, job.deck), status
 
 
 def card_with_error(deck: bytes) -> int:

@@ -1,7 +1,7 @@
 use Rattle.std.proofs.Common.{ap, ◌∙◌}
 use Rattle.std.proofs.lemmas.Result.{err_from_is_err_and}
 use Rattle.l6_device.specs.JobParts.{commands_of, deck_of}
-use Rattle.l6.proofs.Serving.{check_refused, debug_refused, image_refused, load_refused, renewal_refused, run_refused}
+use Rattle.l6.proofs.Serving.{check_refused, debug_refused, explanation_refused, image_refused, load_refused, renewal_refused, run_refused}
 use Rattle.l6.proofs.job.serve.Goals as goal
 
 pub returns-in_err-write_deck_image-in-Asm-clause-done :
@@ -32,6 +32,22 @@ returns-in_err-ending-in-Run-clause-done g c =
     rw (p.1, p.2) (run_refused _ _ c.args.job.now _ _ _ _ _ c.in-Run.is
     c.parts_of-parts.ensures.head c.parts_of-parts.ensures.input
     c.in_err-ending-in-Run.ensures.done)
+
+pub returns-in_err-explained-in-Explain-clause-done :
+    goal.returns-in_err-explained-in-Explain-clause-done
+returns-in_err-explained-in-Explain-clause-done g c =
+    let p = err_from_is_err_and c.from_residual-in_err-explained-in-Explain.result
+    c.from_residual-in_err-explained-in-Explain.ensures.1 in
+    rw (p.1, p.2) (explanation_refused _ _ c.args.job.now _ _ _ _ _ c.in-Explain.is
+    c.parts_of-parts.ensures.head c.parts_of-parts.ensures.input
+    c.in_err-explained-in-Explain.ensures.done)
+
+pub returns-in_err-explained-in-Explain-clause-retries :
+    goal.returns-in_err-explained-in-Explain-clause-retries
+returns-in_err-explained-in-Explain-clause-retries g c =
+    let p = err_from_is_err_and c.from_residual-in_err-explained-in-Explain.result
+    c.from_residual-in_err-explained-in-Explain.ensures.1 in
+    rw (p.1, p.2) (c.in_err-explained-in-Explain.ensures.retries)
 
 pub returns-in_err-ending-in-Load-clause-done : goal.returns-in_err-ending-in-Load-clause-done
 returns-in_err-ending-in-Load-clause-done g c =

@@ -25,7 +25,6 @@ from model import (
     groups,
     jobs,
     operations,
-    printout,
     programs,
     state,
     store,
@@ -36,6 +35,7 @@ from page_tables import TOP, canary, plain, spans_of, table_with, tables_of, tex
 from trials import Trial, report
 
 LANGUAGE, SUMMARY, MANUAL = "docs/language.md", "docs/summary.md", "docs/l6.1"
+OF_TRAPS = "crates/l6_steps/specs/Trap.antt"  # their definition
 ROBUSTNESS, DEBUGGER, ALLOCATOR = "docs/robustness.md", "docs/debugger.md", "docs/allocator.md"
 TRACE, SESSIONS = "docs/trace.md", "docs/l6db.md"
 MOST_CHAINS = 8  # that a session watches, and displays
@@ -280,7 +280,8 @@ def options(program: str) -> Iterator[Trial]:
 
 def traps() -> Iterator[Trial]:
     """The numbers and the names of all traps."""
-    known = [(str(number), name) for number, name in enumerate(printout.TRAPS)][1:]
+    names = re.findall(r'^trap_name \w+ = codes "([A-Z ]+)"$', text_of(OF_TRAPS), re.MULTILINE)
+    known = [(str(number), name) for number, name in enumerate(names, 1)]
     table = table_with(text_of(LANGUAGE), "Trap", "Name")
     yield f"the traps in {LANGUAGE}", known, [(row[0], row[1]) for row in table.rows]
     table = table_with(text_of(SUMMARY), "Trap", "Name")

@@ -13,10 +13,10 @@ from trials import Trial
 
 TRAPS, OPERATIONS = "crates/l6_steps/specs/Trap.antt", "crates/l6_prog/src/operation.rt"
 OF_NAMES = {  # files with the names of all traps
-    TRAPS, "crates/l6_steps/src/trap.rt", "docs/language.md", "tests/program/model/printout.py", "tests/program/cases.jsonl",
+    TRAPS, "crates/l6_steps/src/trap.rt", "docs/language.md", "tests/program/cases.jsonl",
     "docs/summary.md", "docs/l6.1",  # (tools/tables.py writes these)
 }
-OF_VARIANTS = {TRAPS, "crates/l6_steps/src/trap.rt", "crates/l6_session/src/values.rt"}
+OF_VARIANTS = {TRAPS, "crates/l6_steps/src/trap.rt", "crates/l6_marks/src/reason.rt", "crates/l6_marks/specs/Reasons.antt"}
 OF_OPERATIONS = 25  # files with a line for each operation, by its variant
 LIST = 0.8  # of the words make a list
 FOLDERS = ("crates", "docs", "library", "ports", "terminal", "tests", "tools", "web")

@@ -1,14 +1,15 @@
 """Printouts: what a run prints, and the line that tells how it has ended."""
 from __future__ import annotations
 
+import re
+from pathlib import Path
+
 from .machine import take_step
 from .state import Ending, State
 
-TRAPS = [  # names, each at the number of its trap
-    "", "UNDEFINED FIELD", "NOT A BLOCK", "WORD OUTSIDE BLOCK", "BAD DEFINITION", "ZERO DIVISOR",
-    "BAD SIZE", "STORE FULL", "INPUT ENDED", "PUSHDOWN EMPTY", "PUSHDOWN FULL", "RETURNS FULL",
-    "NO FAIL EXIT", "BAD COUNT", "OUTPUT FULL",
-]
+PAGE = Path(__file__).resolve().parents[3] / "docs" / "language.md"
+ROW = re.compile(r"^\| \d+ \| ([A-Z][A-Z ]+[A-Z]) \| .+ \|$", re.MULTILINE)  # of its table of traps
+TRAPS = ["", *ROW.findall(PAGE.read_text("utf-8"))]  # names, each at the number of its trap
 AT_LIMIT = 3  # the exit status of a run that was stopped
 
 

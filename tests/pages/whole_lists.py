@@ -17,7 +17,7 @@ OF_NAMES = {  # files with the names of all traps
     "docs/summary.md", "docs/l6.1",  # (tools/tables.py writes these)
 }
 OF_VARIANTS = {TRAPS, "crates/l6_steps/src/trap.rt", "crates/l6_marks/src/reason.rt", "crates/l6_marks/specs/Reasons.antt"}
-OF_OPERATIONS = 25  # files with a line for each operation, by its variant
+OF_OPERATIONS = 26  # files with a line for each operation, by its variant
 LIST = 0.8  # of the words make a list
 FOLDERS = ("crates", "docs", "library", "ports", "terminal", "tests", "tools", "web")
 MADE = {"out", "__pycache__"}  # folders of what is made

@@ -291,3 +291,19 @@ def on_checkouts(rows: Iterable[tuple[Group, ...]]) -> Iterator[Trial]:
             for group in wanted:
                 for name, expected, actual in group(checkout):
                     yield f"{group.__name__}: {name}", expected, actual
+
+
+def on_terminal(
+    checkout: Checkout, words: list[str], stream: str, **further: str
+) -> tuple[subprocess.CompletedProcess[str], str]:
+    """What becomes of ./l6 where one of its streams is a terminal, and what is shown there."""
+    ours, theirs = os.openpty()
+    output, errors = (theirs, subprocess.DEVNULL) if stream == "stdout" else (subprocess.PIPE, theirs)
+    environment = {"PATH": str(checkout.folder / "plain"), **further}
+    made = subprocess.run(["./l6", *words], cwd=checkout.top, stdin=subprocess.DEVNULL, stdout=output, stderr=errors,
+                          env=environment, check=False, text=True)
+    os.write(theirs, b"|")
+    os.close(theirs)
+    shown = os.read(ours, 4096).decode().replace("\r", "")
+    os.close(ours)
+    return made, shown.removesuffix("|")

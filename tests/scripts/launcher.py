@@ -20,7 +20,7 @@ from typing import Any
 
 sys.path.insert(0, str(Path(__file__).resolve().parents[1] / "harness"))
 from answers import Answer
-from checkout import PROGRAMS, TOP, UNPROVED, WARNED, Checkout, Group, on_checkouts
+from checkout import PROGRAMS, TOP, UNPROVED, WARNED, Checkout, Group, on_checkouts, on_terminal
 from trials import Trial, first_wrong, report
 
 SOURCES = (
@@ -435,16 +435,8 @@ def keyboard(checkout: Checkout) -> Iterator[Trial]:
 def terminals(checkout: Checkout) -> Iterator[Trial]:
     """At a terminal, and there alone, `./l6 check` is asked to show cards."""
     for words, given in ((["check"], ["check", "--long"]), (["check", "--help"], ["check", "--help"]), (["list"], ["list"])):
-        ours, theirs = os.openpty()
-        with subprocess.Popen(
-            ["./l6", *words], cwd=checkout.top, stdin=subprocess.DEVNULL, stdout=theirs, stderr=subprocess.DEVNULL,
-            env={"PATH": str(checkout.folder / "plain")},
-        ) as running:
-            running.wait()
-        os.close(theirs)
-        shown = os.read(ours, 4096).decode().replace("\r", "")
-        os.close(ours)
-        yield f"the words {words} with a terminal for output", "".join(f"<{it}>\n" for it in given), shown.partition("\n")[2]
+        asked = asked_at_terminal(checkout, words, "stdout")
+        yield f"the words {words} with a terminal for output", "".join(f"<{it}>\n" for it in given), asked
     actual = checkout.run("l6", "check", has_rt=False)
     yield "the words of check over a pipe", f"{checkout.made_of}<check>\n", actual.stdout
     hint = "l6: `./l6 check` says where a deck is wrong, and why\n"
@@ -463,30 +455,16 @@ def terminals(checkout: Checkout) -> Iterator[Trial]:
     yield "what run says over a pipe with status 4", Answer(f"{checkout.made_of}<run>\n", "", 4), actual
 
 
-def asked_at_terminal(checkout: Checkout, words: list[str]) -> str:
-    """The words that the program is given where standard error is a terminal."""
-    ours, theirs = os.openpty()
-    made = subprocess.run(
-        ["./l6", *words], cwd=checkout.top, stdin=subprocess.DEVNULL, stdout=subprocess.PIPE, stderr=theirs,
-        env={"PATH": str(checkout.folder / "plain")}, check=False, text=True,
-    )
-    os.close(theirs)
-    os.close(ours)
-    return made.stdout.partition("\n")[2]
+def asked_at_terminal(checkout: Checkout, words: list[str], stream: str = "stderr") -> str:
+    """The words that the program is given where standard error or output is a terminal."""
+    made, shown = on_terminal(checkout, words, stream)
+    return (shown if stream == "stdout" else made.stdout).partition("\n")[2]
 
 
 def refused_at_terminal(checkout: Checkout, verb: str, status: int) -> tuple[str, int]:
     """What is said on standard error, which is a terminal, where the program ends so; and the exit status."""
-    ours, theirs = os.openpty()
-    made = subprocess.run(
-        ["./l6", verb], cwd=checkout.top, stdin=subprocess.DEVNULL, stdout=subprocess.DEVNULL, stderr=theirs,
-        env={"PATH": str(checkout.folder / "plain"), "STATUS": str(status)}, check=False,
-    )
-    os.write(theirs, b"|")
-    os.close(theirs)
-    said = os.read(ours, 4096).decode().replace("\r", "")
-    os.close(ours)
-    return said.removesuffix("|"), made.returncode
+    made, said = on_terminal(checkout, [verb], "stderr", STATUS=str(status))
+    return said, made.returncode
 
 
 def making_dist(checkout: Checkout) -> Iterator[Trial]:

@@ -47,7 +47,7 @@ PAGES = [
     "tests/program/model/README.md",
     "tools/README.md",
 ]
-FOLDERS = ("crates", "tests", "terminal", "tools", "web", "ports", "completions", "licenses", "bench", "examples", "docs", "dist", "library", ".ci")
+FOLDERS = ("crates", "tests", "terminal", "tools", "web", "ports", "completions", "licenses", "bench", "examples", "docs", "dist", "editors", "library", ".ci")
 SUFFIXES = r"rt|antt|py|mjs|js|jsonl|c|h|sh|css|html|json|deck|session|transcript|svg|md|edit|1"
 FILE = re.compile(rf"[\w.-]*(?:/[\w.-]+)*\.(?:{SUFFIXES})")
 # Names of files that a reader has, or that a script makes.

@@ -4,13 +4,14 @@
 editors.py PROGRAM prints each difference, and last 'N passed, M failed'. PROGRAM is l6ed. The rows of editors.jsonl are
 requests with the answers that the protocol and the manual ask for, and each deck of checks.jsonl has the findings that
 `l6 check` is to say. Texts that are changed at random are compared with Python's own, and hostile messages must end
-nothing. Editors are driven where they are installed.
+nothing; each request for memory is refused in turn. Editors are driven where they are installed.
 
     python3 tests/program/editors.py PROGRAM --messages 20000
 """
 from __future__ import annotations
 
 import argparse
+import itertools
 import json
 import os
 import random
@@ -18,14 +19,16 @@ import re
 import select
 import subprocess
 import sys
+import tempfile
 import time
 from collections.abc import Callable, Iterator
 from pathlib import Path
 from typing import Any
 
 sys.path.insert(0, str(Path(__file__).resolve().parents[1] / "harness"))
-from answers import answer, answer_of
+from answers import Answer, answer, answer_of
 from editor_clients import client_trials
+from refused_memory import Shim
 from trials import Trial, first_wrong, report
 
 ROWS = Path(__file__).resolve().with_name("editors.jsonl")
@@ -385,6 +388,32 @@ def piece_trials(program: list[str]) -> Iterator[Trial]:
     yield "pieces: each request is answered", 3, whole.stdout.count(b"Content-Length: ")
 
 
+def refused_trials(program: list[str]) -> Iterator[Trial]:
+    """Each request for memory of a talk is refused in turn: a beginning of its answers goes out, and nothing is kept."""
+    document = {"uri": URI, "version": 1, "text": "LOOP   (A,PD) LOPP\n       (A,E,1) LOOP\n"}
+    place = {"textDocument": document, "position": at([0, 1]), "newName": "B", "range": {"start": at([0, 0]), "end": at([1, 0])},
+             "contentChanges": [{"text": "LOOP   (A,PD) LOOP\n"}]}
+    notes = [{"jsonrpc": "2.0", "method": f"textDocument/{it}", "params": place} for it in ("didOpen", "didChange")]
+    asked = [{"jsonrpc": "2.0", "id": it, "method": f"textDocument/{it}", "params": place} for it in METHODS.values()]
+    first = [{"jsonrpc": "2.0", "id": 1, "method": "initialize"}, notes[0], *asked, notes[1], *asked]
+    last = [{"jsonrpc": "2.0", "id": 2, "method": "shutdown"}, {"jsonrpc": "2.0", "method": "exit"}]
+    stream = b"".join(map(framed, [*first, *last]))
+    whole = answer_of([*program, "lsp"], input=stream)
+    with tempfile.TemporaryDirectory() as folder:
+        shim = Shim(program[0], folder)
+        refused = 0
+        for request in itertools.count(1):
+            made, counted = shim.run(["lsp"], stream, request)
+            if counted and not counted.was_refused:
+                break
+            refused += made != whole
+            expected = Answer(made.stdout, b"l6ed: out of memory\n", 5) if made != whole else whole
+            is_front = whole.stdout.startswith(made.stdout)
+            kept = counted.kept if counted else None
+            yield f"memory: request {request} is refused", (expected, True, 0), (made, is_front, kept)
+        yield "memory: the requests end the talk", True, refused > 500
+
+
 def trials(program: list[str], messages: int) -> Iterator[Trial]:
     """All trials of a program."""
     peer = started(program)
@@ -397,6 +426,7 @@ def trials(program: list[str], messages: int) -> Iterator[Trial]:
     yield from protocol_trials(program)
     yield from word_trials(program)
     yield from piece_trials(program)
+    yield from refused_trials(program)
     yield from client_trials(program)
 
 

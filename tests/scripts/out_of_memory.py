@@ -55,6 +55,7 @@ CONSTANTS = {
     "LINES_AT_ONCE": (1_024, "lines of an image that go out together"),
     "LINE_BYTES": (13, "bytes of a line of an image, twelve digits and a line feed"),
     "CHUNK": (65_536, "bytes that are read at once"),
+    "PIECE": (65_536, "bytes that are read at once from an editor"),
 }
 # The numbers that a capacity may be, by the files that have them: how each is bound, and why it is one.
 COUNTS = {
@@ -98,6 +99,7 @@ KEPT_ALLOCATORS = {
     "l6_raw/src/region.rt": {"new", "duplicate", "drop"},
     "l6_store_c/src/loose.rt": {"of", "into_box"},  # (a box that is taken apart, and made again)
     "l6_offset_c/src/loose.rt": {"of", "into_box"},  # (the same)
+    "l6ed/src/wire.rt": {"new", "send"},  # (a wire makes the frames that are sent, and is gone with the talk)
     "l6_card/src/reader.rt": None,  # (a reader makes the lists of a deck, and is gone once the deck is read)
 }
 STRUCT = re.compile(r"^(?:pub(?:\([^)]*\))? )?struct \w+[^;{]*\{.*?^\}", re.M | re.S)

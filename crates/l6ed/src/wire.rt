@@ -6,7 +6,7 @@ use l6_rpc::{Channel, ChannelFault};
 use std::alloc::{AllocError, Global};
 
 /// How many bytes one read asks for.
-const CHUNK: usize = 65_536;
+const PIECE: usize = 65_536;
 
 /// A reader and a writer of frames.
 #[derive(Drop)]
@@ -17,7 +17,7 @@ pub(crate) struct Wire<R, W> {
     /// What has come, and is not taken yet.
     inbox: Inbox,
     /// Where reads go.
-    chunk: Vec<u8>,
+    piece: Vec<u8>,
 }
 
 impl<R: Source + Drop, W: Sink + Drop> Wire<R, W> {
@@ -32,17 +32,17 @@ impl<R: Source + Drop, W: Sink + Drop> Wire<R, W> {
             reader,
             writer,
             inbox: Inbox::new(alloc),
-            chunk: vec![in alloc; 0; CHUNK]?,
+            piece: vec![in alloc; 0; PIECE]?,
         })
     }
 
     /// Reads more into the inbox. Answers whether there was more.
     fn read_more(&mut self) -> Result<bool, ChannelFault> {
         for _ in 0..u64::MAX {
-            match self.reader.read(self.chunk.as_mut_slice()) {
+            match self.reader.read(self.piece.as_mut_slice()) {
                 Ok(0) => return Ok(false),
                 Ok(count) => {
-                    self.inbox.add(&self.chunk.as_slice()[..count])?;
+                    self.inbox.add(&self.piece.as_slice()[..count])?;
                     return Ok(true);
                 }
                 Err(Trouble::Interrupted) => {}

@@ -44,6 +44,7 @@ UNIT_MARKS = 16  # of a unit: what of it was used
 CHECKPOINTS = 16  # that are kept at most
 STRIDE = 4_096  # states from one checkpoint to the next
 DOUBLED = 2  # a list that grows by doubling has at most so many times the room that it needs
+WORDS = 4_096  # requested for the words of the command line, and given back before the job is read: each option takes some
 
 
 @dataclass(frozen=True)
@@ -157,7 +158,7 @@ def memory_canaries() -> Iterator[Trial]:
     peak = PIECE + DOUBLED * (room.needed + 1)
     for what, requests in (
         ("too much at one time", Requests(1, False, 0, peak + 1, 1)),
-        ("too much in all", Requests(1, False, 0, 1, DOUBLED * peak + 1)),
+        ("too much in all", Requests(1, False, 0, 1, DOUBLED * peak + WORDS + 1)),
         ("a block that is kept", Requests(1, False, 1, 1, 1)),
     ):
         name, expected, actual = room.trial(WrongShim(right, requests))
@@ -251,7 +252,7 @@ class Room:
         ended, requests = shim.run(self.args, self.stdin, has_little_room=False)
         needed = len(self.stdin) + len(self.expected.stdout) + self.needed
         peak, too_many = PIECE + DOUBLED * needed, "no report"
-        most_in_all = DOUBLED * peak + self.requested_again
+        most_in_all = DOUBLED * peak + WORDS + self.requested_again
         if requests:
             bounds = [("at one time", requests.peak, peak), ("in all", requests.total, most_in_all)]
             excess = [f"{many} {what}, of {most}" for what, many, most in bounds if many > most]

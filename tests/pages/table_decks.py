@@ -287,7 +287,7 @@ def commands_and_verbs(program: str) -> Iterator[Trial]:
     table = table_with(text_of(LANGUAGE), "Words", "What is done", "Options")
     of_language = [spans_of(words)[0].split()[1] for words in table.column("Words")]
     with_options = [
-        spans_of(words)[0].split()[1] for words, _, options in table.rows if options == "all three"
+        spans_of(words)[0].split()[1] for words, _, options in table.rows if options.startswith("all three")
     ]
     of_sheet = re.findall(r"`l6 (\w+) < JOB`", text_of(SUMMARY))
     listed = re.findall(

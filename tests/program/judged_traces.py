@@ -10,7 +10,9 @@ import shutil
 import subprocess
 import sys
 import tempfile
+import xml.etree.ElementTree
 from collections.abc import Iterator
+from itertools import pairwise
 from pathlib import Path
 
 sys.path.insert(0, str(Path(__file__).resolve().parents[1] / "harness"))
@@ -20,8 +22,10 @@ from trials import Trial
 
 TOP = Path(__file__).resolve().parents[2]
 ZOO, LIBRARY = TOP / "bench/zoo", TOP / "library"
+SVG = "{http://www.w3.org/2000/svg}"
 CALLS = 1_000_000  # of an allocator with another rule
-SUMMARY = {"findings", "gets", "frees", "refused", "most_used", "most_lost"}
+SUMMARY = {"findings", "gets", "frees", "refused", "most_used", "most_lost", "split", "joined"}
+OF_REFUSALS = {"largest_refused", "free_places", "largest_piece"}  # which the summary has, too, where there are some
 
 # A trace for a pool of one unit of 16 places, from place 16 on, and the findings, without the summary.
 BY_HAND: list[tuple[str, str, list[str]]] = [
@@ -72,12 +76,25 @@ def by_hand(program: str) -> Iterator[Trial]:
     said = judged(program, "get a 40 = 64\nget b 16 = 100\nget c 100 = 128\nend 3\n", "--levels", "4", "--units", "1",
                   "--first", "0", "--piece", "16")
     yield "bytes in pieces", ["line 2: misaligned: the place is between pieces"], said.stdout.decode().splitlines()[:1]
+    yield from large_pools(program)
     said = judged(program, "get a 1 = 16\nput\n")
     yield "a line that is no call", answer(b"", b"l6: line 2: not a call\n", 4), said
     said = judged(program, "get a 1 = 16\nget b 1 = ")
     yield "a last line that is cut off", answer(b"", b"l6: line 2: not a call: the trace is cut off\n", 4), said
     said = judged(program, "get a 1 = 16\nend 1\n", "--units", "16384")
     yield "a pool too large", answer(b"", b"l6: places out of range\n", 4), said
+
+
+def large_pools(program: str) -> Iterator[Trial]:
+    """More levels and more units than the store of the language has."""
+    for name, text, options in (
+        ("20 levels", "get a 1048576 = 1048576\nget b 1 = 2097152\nget c 600000 = none\nfree b = 20\nend 4\n", "--levels 20 --units 2"),
+        ("300 units", "get a 1024 = 307200\nget b 1 = 1024\nfree b = 10\nend 3\n", "--units 300"),
+    ):
+        said = judged(program, text, *options.split())
+        yield f"a pool of {name}", ("findings 0", 0), (said.stdout.decode().splitlines()[0], said.status)
+        wrong = judged(program, text.replace("get b 1 =", "get b 2 ="), *options.split())
+        yield f"a pool of {name}, and a joining too many", 1, wrong.status
 
 
 def summary(program: str) -> Iterator[Trial]:
@@ -91,8 +108,12 @@ def summary(program: str) -> Iterator[Trial]:
         "levels that were split: 1 2 3 4", "levels that were joined: 1 2 3 4",
     ], said.splitlines()
     said = judged(program, text, "--levels", "4", "--units", "1", "--json").stdout.decode()
-    expected = {"findings": 0, "gets": 3, "frees": 2, "refused": 1, "most_used": 5, "most_lost": 1}
+    expected = {"findings": 0, "gets": 3, "frees": 2, "refused": 1, "largest_refused": 4, "most_used": 5, "most_lost": 1,
+                "free_places": 11, "largest_piece": 8, "split": [1, 2, 3, 4], "joined": [1, 2, 3, 4]}
     yield "the summary as JSON", expected, json.loads(said)
+    said = judged(program, "get a 3 = 16\nend 1\n", "--levels", "4", "--units", "1", "--json").stdout.decode()
+    expected = {"findings": 0, "gets": 1, "frees": 0, "refused": 0, "most_used": 4, "most_lost": 1, "split": [3, 4], "joined": []}
+    yield "the summary as JSON, without a refusal", expected, json.loads(said)
 
 
 def wrong_trace(number: int) -> str:
@@ -131,9 +152,9 @@ def from_json(text: str) -> list[Finding]:
 def modelled(program: str) -> Iterator[Trial]:
     """Random traces, which the model judges too. Which of several blocks in the way is named is not compared."""
     for number in range(150):
-        text = wrong_trace(number)
-        said = judged(program, text, "--levels", "4", "--units", "3", "--json")
-        lists = [findings_of(text, 4, 3, 16), from_json(said.stdout.decode())]
+        text, first = wrong_trace(number), (16, 0, 5)[number % 3]
+        said = judged(program, text, "--levels", "4", "--units", "3", "--first", str(first), "--json")
+        lists = [findings_of(text, 4, 3, first), from_json(said.stdout.decode())]
         expected, actual = ([it if it[1] != "overlaps" else it[:2] for it in found] for found in lists)
         yield f"a wrong trace {number}", (expected, int(bool(expected))), (actual, said.status)
 
@@ -179,31 +200,191 @@ def zoo(program: str) -> Iterator[Trial]:
 
 
 # What a program asks for, as record.c writes it down; the trace that is made of it with pieces of 16 bytes, a largest
-# block of 16 and one unit of these, by hand: 17 bytes take two pieces, and 33 four, each at the lowest half.
-CALLS_BY_HAND = "+ aa 17\n+ bb 16\n- cc\n+ dd 33\n- aa\n"
-TRACE_BY_HAND = "get aa 2 = 16\nget bb 1 = 18\nget dd 3 = 20\nfree aa = 0\nend 4\n"
-ASKING = """#include <stdlib.h>
+# block of 16 and one unit of these, by hand: 17 bytes take two pieces, and 33 four, each at the lowest half. More than a line
+# may ask for is more than any block has.
+CALLS_BY_HAND = "+ aa 17\n+ bb 16\n- cc\n+ dd 33\n- aa\n+ ee 99999999999\n"
+CUT_OFF = "record.py: {} is cut off: the program was killed, or it could not be written\n"
+TRACE_BY_HAND = "get aa 2 = 16\nget bb 1 = 18\nget dd 3 = 20\nfree aa = 0\nget ee 999999999 = none\nend 5\n"
+# A trace for one unit of 16 places, of which three answers are wrong, and the same as the program answers; then the places in
+# blocks and in the largest free piece after each call, by hand.
+DRAWN = [
+    "get a 2 = 16\nget b 1 = 18 words 1\nget c 3 = 20\nget d 1 = 21\nget d 2 = 25\nget d 8 = 32\nget d 5 = 24\nget e 4 = none\nfree c\n"
+    "free d = 3\nend 10\n",
+    "get a 2: 16, level 1, halved 3\nget b 1: 18, level 0, halved 0\nget c 3: 20, level 2, halved 0\n" + 3 * "get d 9: none\n"
+    + "get d 5: 24, level 3, halved 0\nget e 4: none\nfree c: joined 0\nfree d: joined 1\nlevel 3: 24\n",
+]
+USED_BY_HAND, LARGEST_BY_HAND = [2, 3, 7, 7, 7, 7, 15, 15, 11, 3], [8, 8, 8, 8, 8, 8, 1, 1, 4, 8]
+# One block that is got and freed so often that a trace of all would be too long. By hand: of a name of 64 bytes the two lines
+# have 76 and 74 bytes, and 111,848 times as many, with the last line, are the most that fit.
+OFTEN, OFTEN_ENDS = f"+ {64 * 'a'} 16\n- {64 * 'a'}\n" * 120_000, "end 223696\n"
+ASKING = """#define _GNU_SOURCE
+#include <stdint.h>
+#include <stdlib.h>
 int main(void) {
     char *volatile one = malloc(1005), *volatile two = calloc(10, 208), *volatile three = realloc(one, 3007);
+    volatile size_t most = SIZE_MAX / 2 - 100;
+    if (realloc(three, most) != NULL)
+        return 1;
+    void *volatile four = reallocarray(three, 11, 409);
     free(two);
-    free(three);
+    free(four);
     return 0;
 }
 """
-ASKED = ["1005", "2080", "3007"]
+ASKED = ["1005", "2080", "3007", "4499"]
+# A program whose child asks for so much that what is written down would fill the room for lines.
+FORKING = """#include <stdlib.h>
+#include <sys/wait.h>
+#include <unistd.h>
+int main(void) {
+    void *volatile block = malloc(1005);
+    pid_t child = fork();
+    for (int i = 0; child == 0 && i < 20000; i++) {
+        void *volatile other = malloc(2080);
+        free(other);
+    }
+    if (child != 0)
+        waitpid(child, NULL, 0);
+    free(block);
+    return 0;
+}
+"""
+# A program that asks for one byte more each time. Files may have 8 KiB at first, and any size after half of them.
+GROWING = """#define _GNU_SOURCE
+#include <signal.h>
+#include <stdlib.h>
+#include <sys/resource.h>
+int main(void) {
+    struct rlimit limit;
+    signal(SIGXFSZ, SIG_IGN);
+    getrlimit(RLIMIT_FSIZE, &limit);
+    limit.rlim_cur = 8192;
+    setrlimit(RLIMIT_FSIZE, &limit);
+    limit.rlim_cur = limit.rlim_max;
+    for (size_t i = 1; i <= 20000; i++) {
+        void *volatile block = malloc(i);
+        if (block == NULL || (i == 10000 && setrlimit(RLIMIT_FSIZE, &limit) != 0))
+            return 1;
+    }
+    return 0;
+}
+"""
+# Functions that stand between the recorder and the C library: while a block is given back, another one is got, of 4001 bytes.
+SLOW = """#include <stdlib.h>
+void __libc_free(void *block);
+void *__libc_realloc(void *block, size_t size);
+static void *volatile other;
+void free(void *block) {
+    other = block != NULL ? malloc(4001) : NULL;
+    __libc_free(block);
+}
+void *realloc(void *block, size_t size) {
+    other = block != NULL ? malloc(4001) : NULL;
+    return __libc_realloc(block, size);
+}
+"""
+# A program that starts itself, which then asks for more than it did.
+STARTING = """#include <stdlib.h>
+#include <sys/wait.h>
+#include <unistd.h>
+int main(int count, char **words) {
+    for (int i = 0; count > 1 && i < 20000; i++) {
+        void *volatile other = malloc(2080);
+        free(other);
+    }
+    if (count > 1)
+        return 0;
+    void *volatile block = malloc(1005);
+    if (fork() == 0)
+        return execl(words[0], words[0], "started", (char *)NULL);
+    wait(NULL);
+    free(block);
+    return 0;
+}
+"""
+
+
+def lines_of(picture: str) -> list[list[int]]:
+    """The numbers that a picture's lines show, by the largest one beside them: first those of the largest free piece."""
+    root = xml.etree.ElementTree.fromstring(picture)
+    most = max(int(it.text or "") for it in root.iter(f"{SVG}text") if (it.text or "").isdigit())
+    box = next(it for it in root.iter(f"{SVG}rect") if it.get("fill") == "none")
+    above, high = (float(box.get(name, "")) for name in ("y", "height"))
+    heights = [[float(point.partition(",")[2]) for point in it.get("points", "").split()] for it in root.iter(f"{SVG}polyline")]
+    return [[round((above + high - height) * most / high) for height in line] for line in heights]
+
+
+def drawn(text: str, *options: str) -> list[list[int]]:
+    """What draw.py draws of a trace."""
+    words = [sys.executable, "-B", str(LIBRARY / "draw.py"), *options]
+    return lines_of(subprocess.run(words, input=text, capture_output=True, text=True, check=True).stdout)
+
+
+def drawn_by_hand() -> Iterator[Trial]:
+    """Pictures of a short trace, of one in bytes, of one that is longer than a picture is wide, and of none."""
+    for name, text in zip(("another allocator", "the program"), DRAWN):
+        yield f"the answers of {name}, drawn", [LARGEST_BY_HAND, USED_BY_HAND], drawn(text, "--levels", "4", "--units", "1")
+    in_bytes = drawn("get a 33 = 64\nget b 16 = 15\nfree a\n", "--levels", "3", "--units", "1", "--first", "0", "--piece", "16")
+    yield "a trace in bytes, drawn", [[4, 4, 8], [4, 4, 0]], in_bytes
+    often = "get a 8 = 0\nfree a = 0\n" * 1000
+    yield "each part of a long trace, drawn", [[0] * 400, [8] * 400], drawn(often, "--levels", "3", "--units", "1", "--first", "0")
+    yield "no trace, drawn", [[8], [0]], drawn("", "--levels", "3", "--units", "1")
 
 
 def recorded_by_hand(room: Path, library: Path) -> Iterator[Trial]:
     """The sizes that are written down, and the trace that is made of some."""
     calls = room / "by-hand"
-    calls.write_text(CALLS_BY_HAND, "ascii")
     words = [sys.executable, "-B", str(LIBRARY / "record.py"), str(calls), "--levels", "4", "--units", "1"]
+    for name, ending, said in (("", ".\n", ""), (", cut off", "", CUT_OFF), (", cut off in a line", "+ ff", CUT_OFF)):
+        calls.write_text(CALLS_BY_HAND + ending, "ascii")
+        made = subprocess.run(words, capture_output=True, text=True, check=False)
+        actual = made.stdout, made.stderr, made.returncode
+        yield f"a trace of calls by hand{name}", (TRACE_BY_HAND, said.format(calls), 0), actual
+    calls.write_text(OFTEN, "ascii")
     made = subprocess.run(words, capture_output=True, text=True, check=False)
-    yield "a trace of calls by hand", (TRACE_BY_HAND, 0), (made.stdout, made.returncode)
-    program = compiled(ASKING, room, "asking")
-    subprocess.run([program], env={"L6_RECORD": str(calls), "LD_PRELOAD": str(library)}, check=True)
-    sizes = [line.split()[2] for line in calls.read_text("ascii").splitlines() if line.startswith("+")]
-    yield "the sizes that a program asks for", ASKED, [it for it in sizes if it in ASKED]
+    yield "a trace of as many calls as may be", (OFTEN_ENDS, 0, True), (
+        made.stdout[-len(OFTEN_ENDS):], made.returncode, len(made.stdout) <= 16_777_216)
+    for name, source, expected in (
+        ("a program", ASKING, ASKED),
+        ("a program with a child", FORKING, ASKED[:1]),
+        ("a program that starts another", STARTING, ASKED[:1]),
+    ):
+        program = compiled(source, room, name.replace(" ", "-"))
+        subprocess.run([program], env={"L6_RECORD": str(calls), "LD_PRELOAD": str(library)}, check=True)
+        *lines, end = [line.split() for line in calls.read_text("ascii").splitlines()]
+        yield f"the end of the record of {name}", ["."], end
+        yield f"the sizes that {name} asks for", expected, [it[2] for it in lines if it[0] == "+" and it[2] in ASKED]
+        held: set[str] = set()
+        unknown = []
+        for sign, address, *_ in lines:
+            if sign == "-" and address not in held:
+                unknown.append(address)
+            (held.add if sign == "+" else held.discard)(address)
+        yield f"the blocks that {name} frees, and was not given", [], unknown
+    yield from in_order(room, library)
+    yield from cut_off(room, library)
+
+
+def in_order(room: Path, library: Path) -> Iterator[Trial]:
+    """A free is noted before the block is given back: else another thread may get it first, and a live block is got again."""
+    program, calls, slow = compiled(ASKING, room, "asking"), room / "in-order", room / "slow.so"
+    slow.with_suffix(".c").write_text(SLOW, "ascii")
+    subprocess.run(["cc", "-O2", "-shared", "-fPIC", str(slow.with_suffix(".c")), "-o", str(slow)], check=True)
+    subprocess.run([program], env={"L6_RECORD": str(calls), "LD_PRELOAD": f"{library}:{slow}"}, check=True)
+    lines = calls.read_text("ascii").splitlines()
+    late = [it for it in pairwise(lines) if it[0].startswith("-") != it[1].endswith(" 4001")]
+    yield "what is given back before that is noted", ([], True), (late, sum(it.startswith("-") for it in lines) >= 3)
+
+
+def cut_off(room: Path, library: Path) -> Iterator[Trial]:
+    """A program of which only a part can be recorded ends as it does, and its record is that part, without a gap or an end."""
+    program, calls = compiled(GROWING, room, "growing"), room / "cut-off"
+    ran = subprocess.run([program], env={"L6_RECORD": str(calls), "LD_PRELOAD": str(library)}, check=False)
+    *lines, _ = calls.read_text("ascii").split("\n")  # (the last one is cut)
+    sizes = [it.split()[-1] for it in lines if it.startswith("+")]
+    yield "a program whose record can't be written", 0, ran.returncode
+    yield "a record that is cut off", [str(it + 1) for it in range(len(sizes))], sizes
+    yield "how much of it is recorded", True, 100 < len(sizes) < 1000
 
 
 # Programs that are recorded, each in a folder that is a repository of three commits.
@@ -212,6 +393,9 @@ RECORDED = [
     ("git", ["git", "--no-pager", "log", "-3", "--stat"]),
     ("sqlite3", ["sqlite3", ":memory:", "create table t(a); insert into t values(1),(2),(3); select sum(a) from t;"]),
 ]
+
+
+WIDE = ["--levels", "20", "--units", "1"]  # the memory that they are given, of 16 MiB
 
 
 def repository_in(room: Path) -> Path:
@@ -230,7 +414,7 @@ def recorded(program: str) -> Iterator[Trial]:
     """Programs whose gets and frees are recorded, and judged after another allocator has answered them."""
     with tempfile.TemporaryDirectory(prefix="l6-record-") as made:
         room = Path(made)
-        library, calls, picture = (room / name for name in ("record.so", "calls", "picture.svg"))
+        library, calls = room / "record.so", room / "calls"
         words = ["cc", "-O2", "-Wall", "-Wextra", "-Werror", "-shared", "-fPIC", str(LIBRARY / "record.c"), "-o", str(library)]
         yield "record.c compiles", 0, subprocess.run(words, check=False).returncode
         yield from recorded_by_hand(room, library)
@@ -241,19 +425,20 @@ def recorded(program: str) -> Iterator[Trial]:
                 continue
             known = {**os.environ, "L6_RECORD": str(calls), "LD_PRELOAD": str(library), "PYTHONMALLOC": "malloc"}
             ran = subprocess.run(words, env=known, cwd=folder, capture_output=True, check=False)
-            converter = [sys.executable, "-B", str(LIBRARY / "record.py"), str(calls), "--most", "100000", "--svg", str(picture)]
+            converter = [sys.executable, "-B", str(LIBRARY / "record.py"), str(calls), "--most", "100000", *WIDE]
             text = subprocess.run(converter, capture_output=True, text=True, check=True).stdout
-            said = judged(program, text, "--levels", "16", "--units", "64", "--json")
+            said = judged(program, text, *WIDE, "--json")
             it = json.loads(said.stdout.decode().splitlines()[-1])
             least = 20_000 if name == "Python" else 100
             yield f"{name}, recorded", (0, 0, 0, True), (ran.returncode, said.status, it["findings"], text.count("\n") > least)
-            yield f"{name}, drawn", 2, picture.read_text("ascii").count("<polyline")
+            apart = abs(it["most_used"] - max(drawn(text, *WIDE)[1]))  # (a tenth of a step is 440 places)
+            yield f"{name}, drawn", True, apart < 440
 
 
 def summed(said: Answer[bytes]) -> tuple[int, bool]:
     """How many findings there are, and whether some get was refused and the status is right."""
     it = json.loads(said.stdout.decode().splitlines()[-1])
-    return it["findings"], it["refused"] > 0 and said.status == int(it["findings"] > 0) and set(it) == SUMMARY
+    return it["findings"], it["refused"] > 0 and said.status == int(it["findings"] > 0) and set(it) - OF_REFUSALS == SUMMARY
 
 
 def trials(program: str) -> Iterator[Trial]:
@@ -262,4 +447,5 @@ def trials(program: str) -> Iterator[Trial]:
     yield from summary(program)
     yield from modelled(program)
     yield from zoo(program)
+    yield from drawn_by_hand()
     yield from recorded(program)

@@ -245,17 +245,24 @@ fn push_summary_words(
         push_counted(text, b", in the largest piece ", largest)?;
     }
     text.extend_from_slice(b"\nlevels that were split:")?;
-    push_levels(text, &summary.split, b" ")?;
+    push_levels(text, &summary.split, b" ", b" ")?;
     text.extend_from_slice(b"\nlevels that were joined:")?;
-    push_levels(text, &summary.joined, b" ")?;
+    push_levels(text, &summary.joined, b" ", b" ")?;
     Ok(text.extend_from_slice(b"\n")?)
 }
 
-/// Adds the levels that are marked.
-fn push_levels(text: &mut Vec<u8>, levels: &[bool; 32], before: &[u8]) -> Result<(), AllocError> {
+/// Adds the levels that are marked, with these texts before the first one and between two.
+fn push_levels(
+    text: &mut Vec<u8>,
+    levels: &[bool; 32],
+    first: &[u8],
+    between: &[u8],
+) -> Result<(), AllocError> {
+    let mut before = first;
     for level in 0..=MOST_LEVEL {
         if levels[usize::from(level)] {
             push_counted(text, before, u32::from(level))?;
+            before = between;
         }
     }
     Ok(())
@@ -272,9 +279,20 @@ fn push_summary_object(
     push_counted(text, b",\"gets\":", summary.gets)?;
     push_counted(text, b",\"frees\":", summary.frees)?;
     push_counted(text, b",\"refused\":", summary.refused)?;
+    if let Some(level) = summary.largest_refused {
+        push_counted(text, b",\"largest_refused\":", u32::from(level))?;
+    }
     push_counted(text, b",\"most_used\":", summary.most_used)?;
     push_counted(text, b",\"most_lost\":", summary.most_lost)?;
-    Ok(text.extend_from_slice(b"}\n")?)
+    if let Some((free, largest)) = summary.scattered {
+        push_counted(text, b",\"free_places\":", free)?;
+        push_counted(text, b",\"largest_piece\":", largest)?;
+    }
+    text.extend_from_slice(b",\"split\":[")?;
+    push_levels(text, &summary.split, b"", b",")?;
+    text.extend_from_slice(b"],\"joined\":[")?;
+    push_levels(text, &summary.joined, b"", b",")?;
+    Ok(text.extend_from_slice(b"]}\n")?)
 }
 
 /// Adds a number of lines.

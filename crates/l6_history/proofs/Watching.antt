@@ -93,6 +93,6 @@ changes_alike stop one other there same =
     (length-map stop.watched (value_of one.memory)
     ∙ sym (length-map stop.watched (value_of other.memory))) same))
 
--- so where one stops is told by what is read
+-- so a stop compares values alone
 pub stops_compare : (stop : Stop) → ComparesValues (goal_of stop)
 stops_compare stop = record { unchanged = none_changed stop; alike = changes_alike stop }

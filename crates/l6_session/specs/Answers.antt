@@ -99,7 +99,7 @@ setting_text rule names context before new (BreakIf s test) =
     tested_text names s (Some test)
 setting_text rule names context before new (Condition s test) = condition_text new names s test
 setting_text rule names context before new (Delete s) =
-    statement_line (codes "No breakpoint at ") names.labels s
+    statement_line (codes "No breakpoint is left at ") names.labels s
 setting_text rule names context before new DeleteAll =
     codes "No breakpoint is set, and nothing is watched\n"
 setting_text rule names context before new (Watch one) =

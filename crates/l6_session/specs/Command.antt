@@ -97,10 +97,10 @@ row_of TemporaryBreak =
     "like break, but the breakpoint is removed where the run first comes to it"
 row_of Enable =
     row "ENABLE" "enable PLACE" "stop there again"
-    "sets the breakpoint of a statement, as break does"
+    "sets the breakpoint of a statement, without a test, as break does"
 row_of Disable =
     row "DISABLE" "disable PLACE" "no longer there"
-    "removes the breakpoint of a statement, as delete does"
+    "removes the breakpoint of a statement and its test, as delete does"
 row_of Delete =
     row "DELETE D CLEAR" "delete|d [PLACE]" "no longer there"
     "removes the breakpoint of a statement; without PLACE all breakpoints, and nothing is watched any longer"
@@ -177,7 +177,7 @@ row_of Ignore =
     row "IGNORE" "ignore" "see continue"
     "changes nothing: continue N passes over the stops before the Nth"
 row_of Condition =
-    row "CONDITION" "condition PLACE [TEST]" "stop there if so"
+    row "CONDITION COND" "condition|cond PLACE [TEST]" "stop there if so"
     "stops at the breakpoint where the test holds, or meets a trap; without TEST always. TEST is a group of a card, as (A,G,5)"
 row_of Commands =
     row "COMMANDS" "commands" "see display"

@@ -42,7 +42,7 @@ const BREAK: &[u8] = b"Breakpoint at ";
 const ONCE: &[u8] = b"Temporary breakpoint at ";
 
 /// What is said of one at which one stops no longer.
-const DELETED: &[u8] = b"No breakpoint at ";
+const DELETED: &[u8] = b"No breakpoint is left at ";
 
 /// What is answered where no call could return.
 const NO_CALL: &[u8] = b"No call waits: there is nothing to finish\n";

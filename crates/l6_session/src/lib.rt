@@ -41,5 +41,6 @@ pub use conversation::{Answerer, converse};
 pub use free_lists::FreeLists;
 pub use laws::{saved_commands_lead_back, sessions_have_their_limits};
 pub use names::Names;
-pub use reading::file_of;
+pub use reading::{file_of, given_test_of};
 pub use session::{MAX_DISPLAYED, MAX_REPEATS, Session};
+pub use text::nearest_label;

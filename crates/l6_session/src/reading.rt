@@ -245,8 +245,8 @@ fn is_if(word: &[u8]) -> bool
     }
 }
 
-/// The test of a group, with its parentheses.
-fn given_test_of(word: &[u8]) -> Option<Test>
+/// The test of a group, with its parentheses: `None` where it has none, or is no test.
+pub fn given_test_of(word: &[u8]) -> Option<Test>
     ensures { result ≡ spec.given_test_of word.now }
 {
     if word.len() < 2 || word[0] != b'(' || word[word.len() - 1] != b')' {

@@ -252,13 +252,13 @@ pub(crate) fn row_of(verb: Verb) -> Row
             words: b"ENABLE",
             usage: b"enable PLACE",
             line: b"stop there again",
-            sentence: b"sets the breakpoint of a statement, as break does",
+            sentence: b"sets the breakpoint of a statement, without a test, as break does",
         },
         Verb::Disable => Row {
             words: b"DISABLE",
             usage: b"disable PLACE",
             line: b"no longer there",
-            sentence: b"removes the breakpoint of a statement, as delete does",
+            sentence: b"removes the breakpoint of a statement and its test, as delete does",
         },
         Verb::Delete => Row {
             words: b"DELETE D CLEAR",
@@ -411,8 +411,8 @@ pub(crate) fn row_of(verb: Verb) -> Row
             sentence: b"changes nothing: continue N passes over the stops before the Nth",
         },
         Verb::Condition => Row {
-            words: b"CONDITION",
-            usage: b"condition PLACE [TEST]",
+            words: b"CONDITION COND",
+            usage: b"condition|cond PLACE [TEST]",
             line: b"stop there if so",
             sentence: b"stops at the breakpoint where the test holds, or meets a trap; without TEST always. TEST is a group of a card, as (A,G,5)",
         },

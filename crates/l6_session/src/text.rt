@@ -211,7 +211,7 @@ pub(crate) fn push_label(
     ensures { OnOk result
         (text.new.items ≡ text.old.items ++ spec.label_text labels.now.entries statement) }
 {
-    let Some((label, number)) = nearest(statement, labels) else {
+    let Some((label, number)) = nearest_label(statement, labels) else {
         return Ok(());
     };
     text.extend_from_slice(b" ")?;
@@ -232,7 +232,7 @@ fn push_distance(text: &mut Vec<u8>, from: u64, statement: u64) -> Result<(), Al
 }
 
 /// The last label at or before a statement, and its statement.
-fn nearest(statement: u64, labels: &Labels) -> Option<(&Label, u64)>
+pub fn nearest_label(statement: u64, labels: &Labels) -> Option<(&Label, u64)>
     ensures { option_map (λ found. (found.0.now, found.1)) result
         ≡ spec.nearest_from None statement labels.now.entries }
 {

@@ -1,7 +1,7 @@
 use Rattle.std.proofs.Common.{◌≡◌, None}
 use Rattle.std.specs.Option.{option_map}
 use Rattle.l6_session.specs.Texts.{nearest_from}
-use Rattle.l6_session.proofs.text.nearest.Given as goal
+use Rattle.l6_session.proofs.text.nearest_label.Given as goal
 
 -- the answer is that of the labels that are left, and of what is found so far
 abbrev pub invariant-loop-label : goal.invariant-loop-label

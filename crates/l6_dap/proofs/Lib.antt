@@ -1,0 +1,11 @@
+pub mod Dropped
+pub mod Entries
+pub mod Framing
+pub mod Groups
+pub mod Listed
+pub mod Reading
+pub mod Sending
+pub mod Stops
+pub mod Unwatching
+pub mod Watching
+pub mod Words

@@ -1,0 +1,15 @@
+-- A run that is launched, and what its editor asked for and was sent.
+use Rattle.std.specs.Prelude.{ℕ, List}
+use Rattle.l6_session.specs.Names.{Names}
+use Rattle.l6_session.specs.inner.SessionRun.{SessionRun}
+use Rattle.l6_dap.specs.declared.debuggee.Breakpoint.{Breakpoint}
+
+-- the session with the run; how statements are named; the path of the deck; the breakpoints that were asked for last, by
+-- cards and by labels; and how many bytes of the printout were sent
+pub record Debugged : Type 0 where
+  pub run : SessionRun
+  pub names : Names
+  pub path : List ℕ
+  pub on_cards : List Breakpoint
+  pub on_labels : List Breakpoint
+  pub printed : ℕ

@@ -1,0 +1,96 @@
+-- What the messages of an editor do to the run that is launched, and how they are answered.
+use Rattle.std.specs.Prelude.{◌≡◌, ℕ, List, [], Bool, true, false, codes, Option, Some, None, ◌||◌}
+use Rattle.std.specs.Str.{bytes_eq}
+use Rattle.serde_json.specs.Data.{Data}
+use Rattle.l6_machine.specs.Options.{store_rule}
+use Rattle.l6_rpc.specs.Rpc.{Reads}
+use Rattle.l6_session.specs.SessionState.{moved}
+use Rattle.l6_session.specs.declared.command.Move.{Move}
+use Rattle.l6_session.specs.inner.SessionRun.{SessionRun}
+use Rattle.l6_dap.specs.Breakpoints.{SetsUnless, are_elsewhere}
+use Rattle.l6_dap.specs.Debugged.{Debugged}
+use Rattle.l6_dap.specs.Messages.{Outcome, answer}
+use Rattle.l6_dap.specs.Messages.Outcome.{answered as is_answered}
+use Rattle.l6_dap.specs.Paths.{source_in}
+use Rattle.l6_dap.specs.Printed.{printed_by, sent, unsent}
+use Rattle.l6_dap.specs.Requests.{arguments_in, command_in, entries_of, is_passed_over, kind_of, move_asked, seq_in}
+use Rattle.l6_dap.specs.Showing.{Shows}
+use Rattle.l6_dap.specs.Watches.{SetsWatches}
+use Rattle.l6_dap.specs.declared.breakpoints.Kind.{Kind}
+use Rattle.l6_dap.specs.declared.nodes.Node.{Node}
+
+-- a run after a move
+abbrev pub after_move : SessionRun → Move → SessionRun
+after_move run to = record {
+  context = run.context;
+  state = moved store_rule run.context run.state to;
+}
+
+abbrev pub debugged_after : Debugged → Move → Debugged
+debugged_after old to = record old { run = after_move old.run to }
+
+-- the requests besides moves that may change which run is launched, where it is, or where one stops: all others only
+-- look, or are not known
+abbrev pub may_change : List ℕ → Bool
+may_change command = bytes_eq command (codes "launch") || bytes_eq command (codes "restart")
+    || bytes_eq command (codes "configurationDone") || bytes_eq command (codes "setBreakpoints")
+    || bytes_eq command (codes "setFunctionBreakpoints") || bytes_eq command (codes "setDataBreakpoints")
+
+-- the run that is launched, if there is one, and the nodes whose variables an editor may ask for
+pub record AdapterState : Type 0 where
+  pub debugged : Option Debugged
+  pub nodes : List Node
+
+-- the run that is launched makes a move, and what it printed is sent; no node is known any more
+pub record Makes (to : Move) (old new : AdapterState) (events : List (List ℕ)) : Type 0 where
+  pub moves : (it : Debugged) → old.debugged ≡ Some it → new.debugged ≡ Some (sent (debugged_after it to))
+  pub prints : (it : Debugged) → old.debugged ≡ Some it → printed_by events ≡ unsent (debugged_after it to)
+  pub nodes : new.nodes ≡ []
+
+-- breakpoints are set as is asked for, or chains are watched, and what is said of them is answered
+abbrev pub SetsBreakpoints : Kind → Option Data → Debugged → Debugged → Outcome → Type 0
+SetsBreakpoints kind arguments old new outcome =
+    (said : Data) × (outcome ≡ is_answered said)
+    × SetsUnless (are_elsewhere kind old.path (source_in arguments)) kind (entries_of arguments) old new said
+
+abbrev pub SetsChains : List Data → Debugged → Debugged → Outcome → Type 0
+SetsChains entries old new outcome =
+    (said : Data) × (outcome ≡ is_answered said) × SetsWatches entries old new said
+
+-- what a request that is no move does to a run that is launched
+pub record Serves (command : List ℕ) (arguments : Option Data) (old new : Debugged) (before after : List Node) (outcome : Outcome) : Type 0 where
+  pub sets : (kind : Kind) → kind_of command ≡ Some kind →
+      SetsBreakpoints kind arguments old new outcome
+  pub watches : command ≡ codes "setDataBreakpoints" → SetsChains (entries_of arguments) old new outcome
+  pub shows : Shows old.names old.run before after command arguments outcome
+
+-- the requests that launch a run, or launch it again
+abbrev pub is_launch : List ℕ → Bool
+is_launch command = bytes_eq command (codes "launch") || bytes_eq command (codes "restart")
+
+-- what a request does that is no move
+pub record Others (command : List ℕ) (arguments : Option Data) (old new : AdapterState) (outcome : Outcome) : Type 0 where
+  pub serves : is_launch command ≡ false → (it : Debugged) → old.debugged ≡ Some it →
+      (next : Debugged) × (new.debugged ≡ Some next)
+      × Serves command arguments it next old.nodes new.nodes outcome
+  pub keeps : may_change command ≡ false → new.debugged ≡ old.debugged
+
+-- what a request does to the run that is launched, how it is answered, and what each of the events that follow says that
+-- the run has printed
+pub record Does (command : List ℕ) (arguments : Option Data) (old new : AdapterState) (outcome : Outcome) (events : List (List ℕ)) : Type 0 where
+  pub moves : (to : Move) → move_asked command arguments ≡ Some to → Makes to old new events
+  pub others : move_asked command arguments ≡ None → Others command arguments old new outcome
+
+-- what a message does, and what is sent: one answer to a request, and then events; nothing where the message is passed
+-- over
+pub record Obeys (old new : AdapterState) (message : Data) (answered : Option Data) (events : List (List ℕ)) : Type 0 where
+  pub passed : is_passed_over message ≡ true → (answered ≡ None) × (events ≡ []) × (new ≡ old)
+  pub request : is_passed_over message ≡ false →
+      (seq : ℕ) × (outcome : Outcome)
+      × (answered ≡ Some (answer seq (seq_in message) (command_in message) outcome))
+      × Does (command_in message) (arguments_in message) old new outcome events
+
+-- what the body of a message leads to, if it is a text of JSON
+abbrev pub Takes : AdapterState → AdapterState → List ℕ → Option Data → List (List ℕ) → Type 0
+Takes old new body answered events =
+    (message : Data) → Reads body message → Obeys old new message answered events

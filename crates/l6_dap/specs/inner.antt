@@ -1,0 +1,4 @@
+pub mod Asked
+pub mod Setting
+pub mod Shown
+pub mod Watching

@@ -1,0 +1,264 @@
+//! The adapter: what each request leads to.
+
+ghost use Rattle.std.specs.Prelude.{◌≡◌, [], ℕ, IfOk, None, Some};
+ghost use Rattle.std.specs.Option.{option_map};
+ghost use Rattle.serde_json.specs.View.{view};
+ghost use Rattle.l6_dap.specs.Messages.{Outcome, answer};
+ghost use Rattle.l6_dap.specs.Runs as spec;
+ghost use Rattle.l6_dap.specs.inner.Asked.{arguments_of, outcome_of};
+
+use crate::answer::{Answer, message_of, refused};
+use crate::asking::{begin, debug, go, moved_body};
+use crate::debuggee::Debuggee;
+use crate::evaluating::asked_move;
+use crate::events::{Event, Events};
+use crate::files::Files;
+use crate::launching::{NotLaunched, launched, relaunched};
+use crate::nodes::Nodes;
+use crate::request::Request;
+use l6_rpc::OutOfMemory;
+use l6_session::Move;
+use serde_json::{Value, json};
+use std::alloc::Global;
+use std::marker::Model;
+
+/// What is said of a request that needs a run, where none is launched.
+const NO_RUN: &str = "no run is launched";
+
+/// A debug adapter.
+#[derive(Drop)]
+pub struct Adapter {
+    /// The number of the latest message that was sent.
+    number: u64,
+    debuggee: Option<Debuggee>,
+    nodes: Nodes,
+}
+
+/// What a message leads to.
+#[derive(Drop)]
+pub struct Reply {
+    /// The answer, if the message is a request.
+    pub answer: Option<Value>,
+    /// The events that follow it, in order.
+    pub events: Vec<Event>,
+    /// The exit status, if the program ends.
+    pub status: Option<u8>,
+}
+
+impl Model for Adapter {
+    ghost use Rattle.l6_dap.specs.Runs as runs;
+
+    ghost Value = { runs.AdapterState };
+
+    ghost view = { λ a. record { debugged = a.debuggee; nodes = a.nodes } };
+}
+
+impl Adapter {
+    /// An adapter that has launched nothing.
+    pub fn new(alloc: Global) -> Self
+        ensures { result ≡ record { debugged = None; nodes = [] } }
+    {
+        Adapter {
+            number: 0,
+            debuggee: None,
+            nodes: Nodes::new(alloc),
+        }
+    }
+
+    /// Takes the body of a message: a request has one answer, and perhaps events after it.
+    ///
+    /// # Errors
+    ///
+    /// Memory ran out.
+    pub fn take<F: Files>(
+        &mut self,
+        alloc: Global,
+        files: &mut F,
+        body: &[u8],
+    ) -> Result<Reply, OutOfMemory>
+        ensures { IfOk result (λ reply. spec.Takes self.old self.new body.now
+            (option_map view reply.answer) reply.events.items) }
+    {
+        match Value::from_slice(alloc, body) {
+            Ok(message) => {
+                let reply = self.take_message(alloc, files, &message)?;
+                Ok(reply)
+            }
+            Err(error) => {
+                if error.is_memory() {
+                    return Err(OutOfMemory);
+                }
+                self.take_message(alloc, files, &Value::Null)
+            }
+        }
+    }
+
+    /// Takes a message. One that is no request asks for nothing, which is refused.
+    fn take_message<F: Files>(
+        &mut self,
+        alloc: Global,
+        files: &mut F,
+        message: &Value,
+    ) -> Result<Reply, OutOfMemory>
+        ensures { IfOk result (λ reply. spec.Obeys self.old self.new (view message.now)
+            (option_map view reply.answer) reply.events.items) }
+    {
+        match Request::of(message) {
+            Some(request) => self.reply(alloc, files, request),
+            None => Ok(Reply {
+                answer: None,
+                events: Vec::new(alloc),
+                status: None,
+            }),
+        }
+    }
+
+    /// Does what a request asks for, and answers it.
+    fn reply<F: Files>(
+        &mut self,
+        alloc: Global,
+        files: &mut F,
+        request: Request<'_>,
+    ) -> Result<Reply, OutOfMemory>
+        ensures { IfOk result (λ reply. (seq : ℕ) × (outcome : Outcome)
+            × (option_map view reply.answer ≡ Some (answer seq request.entry.seq
+            request.entry.command.now outcome))
+            × spec.Does request.entry.command.now (arguments_of request.entry) self.old self.new
+            outcome reply.events.items) }
+    {
+        let number = self.number.saturating_add(1);
+        let mut events = Events::after(alloc, number);
+        let answer = self.obey(alloc, files, &mut events, request)?;
+        let answer = message_of(alloc, number, request, answer)?;
+        self.number = events.number();
+        let status = match request.command {
+            "disconnect" => Some(0),
+            _ => None,
+        };
+        Ok(Reply {
+            answer: Some(answer),
+            events: events.into_list(),
+            status,
+        })
+    }
+
+    /// Does what a request asks for.
+    fn obey<F: Files>(
+        &mut self,
+        alloc: Global,
+        files: &mut F,
+        events: &mut Events,
+        request: Request<'_>,
+    ) -> Result<Answer, OutOfMemory>
+        ensures { IfOk result (λ it. events.old ≡ [] →
+            spec.Does request.entry.command.now (arguments_of request.entry) self.old self.new
+            (outcome_of it) events.new) }
+    {
+        match asked_move(request) {
+            Some(to) => self.make(alloc, events, request, to),
+            None => self.serve(alloc, files, events, request),
+        }
+    }
+
+    /// Makes a move, if a run is launched.
+    fn make(
+        &mut self,
+        alloc: Global,
+        events: &mut Events,
+        request: Request<'_>,
+        to: Move,
+    ) -> Result<Answer, OutOfMemory>
+        ensures { IfOk result (λ it. events.old ≡ [] → spec.Makes to self.old self.new events.new) }
+    {
+        self.nodes.clear();
+        match &mut self.debuggee {
+            None => refused(alloc, NO_RUN),
+            Some(debuggee) => {
+                go(alloc, events, debuggee, to)?;
+                let body = moved_body(alloc, debuggee, request.command)?;
+                Ok(Answer::Body(body))
+            }
+        }
+    }
+
+    /// Does what a request asks for that is no move.
+    fn serve<F: Files>(
+        &mut self,
+        alloc: Global,
+        files: &mut F,
+        events: &mut Events,
+        request: Request<'_>,
+    ) -> Result<Answer, OutOfMemory>
+        ensures { IfOk result (λ it. spec.Others request.entry.command.now (arguments_of request.entry)
+            self.old self.new (outcome_of it)) }
+    {
+        match request.command {
+            "initialize" => Ok(Answer::Body(abilities(alloc)?)),
+            "launch" => self.launch(alloc, files, events, request),
+            "threads" => {
+                Ok(Answer::Body(json!(in alloc; {"threads": [{"id": 1, "name": "run"}]})?))
+            }
+            "setExceptionBreakpoints" | "disconnect" => Ok(Answer::Done),
+            "restart" => self.restart(alloc, files, events),
+            _ => match &mut self.debuggee {
+                None => refused(alloc, NO_RUN),
+                Some(debuggee) => debug(alloc, events, debuggee, &mut self.nodes, request),
+            },
+        }
+    }
+
+    /// Launches a run. The editor may set breakpoints then.
+    fn launch<F: Files>(
+        &mut self,
+        alloc: Global,
+        files: &mut F,
+        events: &mut Events,
+        request: Request<'_>,
+    ) -> Result<Answer, OutOfMemory> {
+        match launched(alloc, files, request) {
+            Ok(debuggee) => {
+                self.debuggee = Some(debuggee);
+                self.nodes.clear();
+                events.tell_plainly(alloc, "initialized")?;
+                Ok(Answer::Done)
+            }
+            Err(NotLaunched::NoMemory) => Err(OutOfMemory),
+            Err(NotLaunched::Because(why)) => Ok(Answer::Refused(why)),
+        }
+    }
+
+    /// Launches the run again, with the breakpoints and the watches that it had: of the files as they are now, or, if
+    /// the deck has errors now, of the deck as it was.
+    fn restart<F: Files>(
+        &mut self,
+        alloc: Global,
+        files: &mut F,
+        events: &mut Events,
+    ) -> Result<Answer, OutOfMemory> {
+        let Some(before) = self.debuggee.take() else {
+            return refused(alloc, NO_RUN);
+        };
+        let mut debuggee = relaunched(alloc, files, before)?;
+        self.nodes.clear();
+        begin(alloc, events, &mut debuggee)?;
+        self.debuggee = Some(debuggee);
+        Ok(Answer::Done)
+    }
+}
+
+/// What the adapter can do, as the protocol says it.
+fn abilities(alloc: Global) -> Result<Value, OutOfMemory> {
+    let value = json!(in alloc; {
+        "supportsConfigurationDoneRequest": true,
+        "supportsConditionalBreakpoints": true,
+        "supportsDataBreakpoints": true,
+        "supportsEvaluateForHovers": true,
+        "supportsExceptionInfoRequest": true,
+        "supportsFunctionBreakpoints": true,
+        "supportsRestartRequest": true,
+        "supportsStepBack": true,
+        "supportsSteppingGranularity": true,
+        "supportsTerminateRequest": true
+    })?;
+    Ok(value)
+}

@@ -1,23 +1,23 @@
 #!/usr/bin/env python3
-"""Tries the language server, `l6ed lsp`, as an editor speaks to it.
+"""Tries the language server, `l6ed lsp`, as an editor speaks to it, and the debug adapter, `l6ed dap`.
 
-editors.py PROGRAM prints each difference, and last 'N passed, M failed'. PROGRAM is l6ed. The rows of editors.jsonl are
-requests with the answers that the protocol and the manual ask for, and each deck of checks.jsonl has the findings that
-`l6 check` is to say. Texts that are changed at random are compared with Python's own, and hostile messages must end
-nothing; each request for memory is refused in turn. Editors are driven where they are installed.
+editors.py PROGRAM DEBUGGER prints each difference, and last 'N passed, M failed'. PROGRAM is l6ed, and DEBUGGER is l6db.
+The rows of editors.jsonl are requests with the answers that the protocol and the manual ask for, and each deck of
+checks.jsonl has the findings that `l6 check` is to say. Texts that are changed at random are compared with Python's own,
+and hostile messages must end nothing; each request for memory is refused in turn. adapter.py has the trials of the
+adapter. With --whole there are more hostile messages, and editors are driven where they are installed.
 
-    python3 tests/program/editors.py PROGRAM --messages 20000
+    python3 tests/program/editors.py PROGRAM DEBUGGER --messages 20000
 """
 from __future__ import annotations
 
 import argparse
+import html
 import itertools
 import json
-import os
 import random
 import re
-import select
-import subprocess
+import shutil
 import sys
 import tempfile
 import time
@@ -25,63 +25,39 @@ from collections.abc import Callable, Iterator
 from pathlib import Path
 from typing import Any
 
-sys.path.insert(0, str(Path(__file__).resolve().parents[1] / "harness"))
+sys.path[:0] = [str(Path(__file__).resolve().parents[1] / it) for it in ("harness", "../tools")]
+import editor_picture
+from adapter import DOUBLE, adapter_canary, adapter_trials
 from answers import Answer, answer, answer_of
 from editor_clients import client_trials
+from peers import JUNK, SECONDS, Frames, frame_of, framed
 from refused_memory import Shim
 from trials import Trial, first_wrong, report
 
 ROWS = Path(__file__).resolve().with_name("editors.jsonl")
 CHECKS = ROWS.with_name("checks.jsonl")
-SECONDS = 120  # for one answer on a machine that is busy
-MESSAGES = 1500  # hostile ones, unless there is another number
+MESSAGES = 200  # hostile ones, unless there is another number
+WHOLE = 2_000  # with --whole
 CHANGES = 400  # of texts
+MOST = 1 << 24  # bytes that a message may have
 MOST_FINDINGS = 100  # that `l6 check` writes
 URI = "file:///a%20deck"
 FINDING = re.compile(r"^(\d+):(\d+): (error|warning): (.*)((?:\n    .*)*)", re.MULTILINE)
 METHODS = {"definition": "definition", "references": "references", "highlights": "documentHighlight",
            "symbols": "documentSymbol", "rename": "rename", "hover": "hover", "fixes": "codeAction",
            "hints": "inlayHint", "completion": "completion"}
-JUNK: list[Any] = [None, True, 0, -1, 1e300, 2**63, 2**64, "", "\u00e9\U0001f600", [], {}, [[]],
-                   {"line": 2**63, "character": 2**64 - 1}, "x" * 5000]
+OFFERED = ["codeAction", "completion", "definition", "documentHighlight", "documentSymbol", "hover", "inlayHint", "references",
+           "rename"]
 PIECES = ["(A,E,5)", " ", "\n", "\r\n", "\r", "\u00e9", "\U0001f600", "NEXT", "IF (A,G,0) THEN ", "(", ")", "* ", "DONE"]
 
 
-class Peer:
+class Peer(Frames):
     """The server, and what was sent to it."""
 
     def __init__(self, program: list[str]) -> None:
-        self.process = subprocess.Popen([*program, "lsp"], stdin=subprocess.PIPE, stdout=subprocess.PIPE,
-                                        stderr=subprocess.DEVNULL, bufsize=0)
-        assert self.process.stdin and self.process.stdout
-        self.input, self.output = self.process.stdin, self.process.stdout
-        self.waiting = b""  # bytes that came and are not taken yet
+        super().__init__([*program, "lsp"])
         self.number = 0  # of the last request
         self.version = 0  # of the last text
-
-    def give(self, body: bytes) -> None:
-        """Sends a frame."""
-        self.input.write(b"Content-Length: %d\r\n\r\n%s" % (len(body), body))
-
-    def send(self, message: object) -> None:
-        """Sends a message."""
-        self.give(json.dumps(message).encode())
-
-    def take(self) -> Any:
-        """The next message, or None if the program has ended."""
-        while True:
-            head, found, rest = self.waiting.partition(b"\r\n\r\n")
-            if found:
-                length = int(head.removeprefix(b"Content-Length: "))
-                if len(rest) >= length:
-                    self.waiting = rest[length:]
-                    return json.loads(rest[:length])
-            if not select.select([self.output], [], [], SECONDS)[0]:
-                raise TimeoutError(f"no answer within {SECONDS} seconds")
-            more = os.read(self.output.fileno(), 1 << 16)
-            if not more:
-                return None
-            self.waiting += more
 
     def ask(self, method: str, params: object = None) -> Any:
         """The answer to a request."""
@@ -104,11 +80,6 @@ class Peer:
         self.version += 1
         self.note("didChange", textDocument={"uri": uri, "version": self.version}, contentChanges=changes)
         return self.take()["params"]
-
-    def end(self) -> int:
-        """Closes its input; returns its exit status."""
-        self.input.close()
-        return self.process.wait(SECONDS)
 
 
 def started(program: list[str]) -> Peer:
@@ -241,6 +212,7 @@ def protocol_trials(program: list[str]) -> Iterator[Trial]:
     capabilities = first["result"]["capabilities"]
     yield "protocol: changes come by ranges", 2, capabilities["textDocumentSync"]["change"]
     yield "protocol: units of UTF-16", "utf-16", capabilities["positionEncoding"]
+    yield "protocol: what is offered", OFFERED, sorted(it.removesuffix("Provider") for it in capabilities if it[-8:] == "Provider")
     yield "protocol: initialize twice", -32600, peer.ask("initialize")["error"]["code"]
     yield "protocol: an unknown method", -32601, peer.ask("textDocument/unknown")["error"]["code"]
     yield "protocol: no document", -32602, peer.ask("textDocument/hover")["error"]["code"]
@@ -277,6 +249,11 @@ def document_trials(peer: Peer) -> Iterator[Trial]:
     found = peer.change([{"range": place, "text": " Z"}, {"range": place, "text": " (PL)"}])["diagnostics"]
     yield "documents: two changes, the second of the text after the first", [[0, 11, 12]], [
         on_line(it["range"]) for it in found]
+    yield from odd_changes(peer)
+    found = peer.open("LOOP (PL)\nX (PL)\nLOOP (PL) X\n")["diagnostics"]
+    yield "documents: who says what is found", ["l6"], [it["source"] for it in found]
+    yield "documents: the card that gives a label first", [[(URI, [0, 0, 9])]], [
+        [(one["location"]["uri"], on_line(one["location"]["range"])) for one in it["relatedInformation"]] for it in found]
     peer.note("didClose", textDocument={"uri": URI})
     yield "documents: nothing of a closed one", {"uri": URI, "diagnostics": []}, peer.take()["params"]
     yield "documents: it is closed", -32602, peer.ask("textDocument/documentSymbol", {
@@ -284,6 +261,24 @@ def document_trials(peer: Peer) -> Iterator[Trial]:
     long = " (PL)\n" * 180_000
     found = peer.open(long)["diagnostics"]
     yield "documents: a deck that is too long", ["too-long"], [it["code"] for it in found]
+
+
+def odd_changes(peer: Peer) -> Iterator[Trial]:
+    """Changes past the end of a line or of the text, as the protocol has them; and what is no change, and changes nothing."""
+    peer.open("(PL)\n (PL)\n")
+    found = peer.change([{"range": {"start": at([0, 900]), "end": at([0, 901])}, "text": " Y"},
+                         {"range": {"start": at([0, 0]), "end": at([0, 0])}, "text": " "}])["diagnostics"]
+    yield "documents: a change past the end of a line", [[0, 6, 7]], [on_line(it["range"]) for it in found]
+    found = peer.change([{"range": {"start": at([50, 7]), "end": at([60, 0])}, "text": " (PL) Z\n"}])["diagnostics"]
+    yield "documents: a change past the last line", [[0, 6, 7], [2, 6, 7]], [on_line(it["range"]) for it in found]
+    wrong: dict[str, Any] = {
+        "a list that is a text": "x", "no text": [{"rangeLength": 3}], "a text that is a number": [{"text": 5}],
+        "a line below 0": [{"range": {"start": at([-1, 0]), "end": at([0, 1])}, "text": "A"}],
+        "a range that ends before it starts": [{"range": {"start": at([0, 3]), "end": at([0, 1])}, "text": "A"}],
+        "a range of one place": [{"range": {"start": at([0, 0])}, "text": "A"}], "a range that is none": [{"range": None, "text": "A"}],
+        "a column that is too large": [{"range": {"start": at([0, 2**64]), "end": at([0, 2**64])}, "text": "A"}]}
+    for name, changes in wrong.items():
+        yield f"documents: {name} changes nothing", found, peer.change(changes)["diagnostics"]
 
 
 def change_trials(peer: Peer, count: int) -> Iterator[Trial]:
@@ -350,27 +345,24 @@ def hostile_trials(peer: Peer, count: int) -> Iterator[Trial]:
 
 def word_trials(program: list[str]) -> Iterator[Trial]:
     """What the words of the command line ask for, and streams that are no messages."""
-    wrong = b"l6ed: the words are wrong: l6ed lsp, or l6ed --help\n"
-    for words in ("", "dap", "lsp lsp", "--lsp"):
+    wrong = b"l6ed: the words are wrong: l6ed lsp, l6ed dap, or l6ed --help\n"
+    for words in ("", "dap dap", "lsp lsp", "--lsp"):
         yield f"words: {words or 'none'}", answer(b"", wrong, 64), answer_of([*program, *words.split()], input=b"")
     yield "words: --version", answer(b"l6ed 1.0\n"), answer_of([*program, "--version"], input=b"")
     said = answer_of([*program, "--help"], input=b"")
-    yield "words: --help", (True, 0), (b"Usage: l6ed lsp\n" in said.stdout, said.status)
+    yield "words: --help", (True, 0), (b"Usage: l6ed lsp | dap\n" in said.stdout, said.status)
     yield "streams: no message at all", answer(status=1), answer_of([*program, "lsp"], input=b"")
     yield "streams: exit without shutdown", answer(status=1), answer_of(
         [*program, "lsp"], input=framed({"jsonrpc": "2.0", "method": "exit"}))
     for name, sent in (("no head", b"hello\r\n\r\n"), ("a head without a length", b"A: b\r\n\r\n"),
-                       ("a head that is too long", b"A: " + b"b" * 5000), ("a body that is too long",
-                                                                          b"Content-Length: 16777217\r\n\r\n")):
+                       ("a head that is too long", b"A: " + b"b" * 5000), ("a head of 16 MiB", b"A: b\r\n" * (MOST // 6)),
+                       ("a body that is too long", b"Content-Length: 16777217\r\n\r\n")):
         yield f"streams: {name}", answer(b"", b"l6ed: what came is no message\n", 4), answer_of(
             [*program, "lsp"], input=sent)
+    body = b'{"id": 1, "method": "%s"}' % (b"x" * (MOST - 23))
+    said = answer_of([*program, "lsp"], input=frame_of(body), preexec_fn=None)
+    yield "streams: the longest body", (MOST, True, 1), (len(body), b'"code":-32002' in said.stdout, said.status)
     yield "streams: an end in a message", answer(status=1), answer_of([*program, "lsp"], input=framed({})[:-1])
-
-
-def framed(message: object) -> bytes:
-    """The frame of a message."""
-    body = json.dumps(message).encode()
-    return b"Content-Length: %d\r\n\r\n%s" % (len(body), body)
 
 
 def piece_trials(program: list[str]) -> Iterator[Trial]:
@@ -414,9 +406,28 @@ def refused_trials(program: list[str]) -> Iterator[Trial]:
         yield "memory: the requests end the talk", True, refused > 500
 
 
-def trials(program: list[str], messages: int) -> Iterator[Trial]:
+def picture_trials(peer: Peer, program: str, is_whole: bool) -> Iterator[Trial]:
+    """The picture of neovim's screen has each card of its deck, and each finding; where neovim is, it is made again."""
+    picture = editor_picture.PICTURE.read_text("utf-8")
+    shown = [html.unescape(it) for it in re.findall(r">([^<]+)</text>", picture)]
+    missing = [it for it in editor_picture.DECK.splitlines() if it.replace(" ", "") not in "".join(shown).replace(" ", "")]
+    yield "picture: the cards that it does not show", [], missing
+    page = (ROWS.parents[2] / "docs/editors.md").read_text("utf-8")
+    yield "picture: the page has its deck", True, f"```figure\n{editor_picture.DECK}```\n" in page
+    said = [it["message"].split("\n") for it in peer.open(editor_picture.DECK)["diagnostics"]]
+    yield "picture: the findings", 3, len(said)
+    for sentence, advice in said:
+        yield f"picture: {sentence}", True, any(sentence in it and advice in it for it in shown)
+    if not is_whole or not shutil.which("nvim"):
+        print(f"skipped: the picture made again: {'neovim is missing' if is_whole else 'as was asked'}")
+        return
+    yield "picture: made again", picture, editor_picture.svg(editor_picture.screen_of(Path(program)))
+
+
+def trials(program: list[str], debugger: str, messages: int, is_whole: bool) -> Iterator[Trial]:
     """All trials of a program."""
     peer = started(program)
+    yield from picture_trials(peer, program[0], is_whole)
     yield from row_trials(peer)
     yield from check_trials(peer)
     yield from document_trials(peer)
@@ -427,20 +438,26 @@ def trials(program: list[str], messages: int) -> Iterator[Trial]:
     yield from word_trials(program)
     yield from piece_trials(program)
     yield from refused_trials(program)
-    yield from client_trials(program)
+    yield from adapter_trials(program, debugger, messages)
+    if is_whole:
+        yield from client_trials(program, DOUBLE)
 
 
 def main() -> int:
     """Tries the program that the command line names."""
     reader = argparse.ArgumentParser(description="Tries l6ed.")
-    reader.add_argument("program", nargs="+", help="l6ed, with words that come before those of the trials")
-    reader.add_argument("--messages", type=int, default=MESSAGES, help="how many hostile messages are sent")
+    reader.add_argument("program", help="l6ed")
+    reader.add_argument("debugger", help="l6db, which leads where the adapter is to lead")
+    reader.add_argument("--messages", type=int, help="how many hostile messages are sent")
+    reader.add_argument("--whole", action="store_true", help="whether all is tried that the gate tries")
     words = reader.parse_args()
-    peer = started(words.program)
+    program = [words.program]
+    peer = started(program)
     rows = list(row_trials(peer))
     canary = first_wrong("an answer that is wrong", [(name, expected, not actual) for name, expected, actual in rows])
     peer.end()
-    return report(trials(words.program, words.messages), [canary])
+    messages = words.messages or (WHOLE if words.whole else MESSAGES)
+    return report(trials(program, words.debugger, messages, words.whole), [canary, adapter_canary(program)])
 
 
 if __name__ == "__main__":

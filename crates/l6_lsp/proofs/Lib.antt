@@ -1,3 +1,5 @@
 pub mod SamePrograms
 pub mod Findings
 pub mod Opening
+mod Errors
+pub mod Mended

@@ -9,11 +9,13 @@ use Rattle.l6_rpc.specs.declared.refusal.Refusal.TheVariants.{NoMethod, NoParame
 use Rattle.l6_rpc.specs.declared.service.Note.{Note}
 use Rattle.l6_lsp.specs.declared.decks.Decks.{Decks}
 use Rattle.l6_lsp.specs.declared.document.Document.{Document}
-use Rattle.l6_lsp.specs.declared.asked.Asked.TheVariants.{Place}
+use Rattle.l6_lsp.specs.declared.asked.Asked.TheVariants.{Lines, Place}
+use Rattle.l6_lsp.specs.declared.asked.LinesAsked.TheVariants.{Fixes}
 use Rattle.l6_lsp.specs.declared.asked.PlaceAsked.TheVariants.{Rename}
 use Rattle.l6_lsp.specs.Asked.{asked_by}
 use Rattle.l6_lsp.specs.Document.{after_message, deck_of}
 use Rattle.l6_lsp.specs.Diagnostics.{IsPublished, IsWithdrawn}
+use Rattle.l6_lsp.specs.Fixes.{AreFixes}
 use Rattle.l6_lsp.specs.Renaming.{IsRenaming}
 use Rattle.l6_lsp.specs.Parameters.{text_at, uri_of, version_of}
 
@@ -82,8 +84,9 @@ pub record Notes (old : Decks) (method : List ℕ) (message : Data) (sent : Opti
   pub others : method ≢ codes "textDocument/didOpen" → method ≢ codes "textDocument/didChange" →
       method ≢ codes "textDocument/didClose" → IsIgnored old sent new
 
--- how a request is answered: an unknown method by its error, and likewise one that names no open document; and a
--- rename, if it is not refused, by edits that leave the deck's program as it was. Of other answers this says nothing
+-- how a request is answered: an unknown method by its error, and likewise one that names no open document; a rename, if
+-- it is not refused, by edits that leave the deck's program as it was; and what is offered for findings, by changes with
+-- which less is found. Of other answers this says nothing
 pub record Answers (decks : Decks) (method : List ℕ) (message : Data) (outcome : Result Value Refusal) :
     Type 0 where
   pub unknown : asked_by method ≡ None → outcome ≡ Err NoMethod
@@ -93,3 +96,6 @@ pub record Answers (decks : Decks) (method : List ℕ) (message : Data) (outcome
   pub renamed : (uri : List ℕ) (document : Document) (value : Value) → asked_by method ≡ Some (Place Rename) →
       uri_of message ≡ Some uri → document_of decks uri ≡ Some document → outcome ≡ Ok value →
       IsRenaming uri document.text.items (text_at (codes "/params/newName") message) (view value)
+  pub mended : (uri : List ℕ) (document : Document) (value : Value) → asked_by method ≡ Some (Lines Fixes) →
+      uri_of message ≡ Some uri → document_of decks uri ≡ Some document → outcome ≡ Ok value →
+      AreFixes uri document.text.items (view value)

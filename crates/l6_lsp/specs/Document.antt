@@ -1,17 +1,19 @@
 -- The texts that an editor has open.
-use Rattle.std.specs.Prelude.{ℕ, List, Option, Some, None, codes, option_and_then}
+use Rattle.std.specs.Prelude.{ℕ, List, Option, Some, None, codes, option_and_then, if◌then◌else◌}
 use Rattle.serde_json.specs.Data.{Data, Items, no_items, item}
 use Rattle.serde_json.specs.Find.{get, pointer, as_str, as_array}
 use Rattle.l6_place.specs.declared.spot.Spot.{Spot}
 use Rattle.l6_place.specs.Spot.{changed}
 use Rattle.l6_device.specs.JobParts as parts
+use Rattle.l6_lsp.specs.Edits.{is_up_to}
 use Rattle.l6_lsp.specs.Parameters.{range_in}
 
 -- the text after a change to these bytes, by its range: all of it where there is none, and the same text where the
--- range is none
+-- range is none, or ends before it starts
 abbrev pub after_range : List ℕ → List ℕ → Option (Spot × Spot) → List ℕ
 after_range text bytes None = text
-after_range text bytes (Some range) = changed text range.0 range.1 bytes
+after_range text bytes (Some range) =
+    if is_up_to range.0 range.1 then changed text range.0 range.1 bytes else text
 
 abbrev pub after_text : List ℕ → List ℕ → Option Data → List ℕ
 after_text text bytes None = bytes

@@ -3,6 +3,7 @@ pub mod Ranges
 pub mod Document
 pub mod Diagnostics
 pub mod Edits
+pub mod Fixes
 pub mod Renaming
 pub mod Asked
 pub mod Decks

@@ -5,7 +5,7 @@ ghost use Rattle.serde_json.specs.View.{view};
 ghost use Rattle.l6_lsp.specs.Decks as spec;
 ghost use Rattle.l6_lsp.specs.Parameters.{text_at, uri_of, version_of};
 ghost use Rattle.l6_lsp.specs.Serving.{IsEmpty};
-ghost use Rattle.l6_lsp.specs.inner.Answers.{IsAnswer, IsPlaceAnswer};
+ghost use Rattle.l6_lsp.specs.inner.Answers.{IsAnswer, IsLinesAnswer, IsPlaceAnswer};
 
 use crate::asked::{Asked, LinesAsked, PlaceAsked, asked_by};
 use crate::completion::completion;
@@ -117,7 +117,7 @@ fn answer_of(
             None => Ok(Err(Refusal::NoParameters)),
             Some((start, end)) => {
                 let lines = (start.line, end.line);
-                Ok(Ok(answer_on(alloc, asked, uri, document.deck(), lines)?))
+                Ok(Ok(answer_on(alloc, asked, uri, document, lines)?))
             }
         },
         Asked::Place(asked) => match message.pointer("/params/position").and_then(spot_in) {
@@ -135,13 +135,15 @@ fn answer_on(
     alloc: Global,
     asked: LinesAsked,
     uri: &str,
-    deck: &[u8],
+    document: &Document,
     lines: (u64, u64),
-) -> Result<Value, OutOfMemory> {
+) -> Result<Value, OutOfMemory>
+    ensures { IfOk result (IsLinesAnswer asked uri.now document.now.text.items) }
+{
     let (first, last) = lines;
     match asked {
-        LinesAsked::Fixes => fixes(alloc, uri, deck, first, last),
-        LinesAsked::Hints => hints(alloc, deck, first, last),
+        LinesAsked::Fixes => fixes(alloc, uri, document, first, last),
+        LinesAsked::Hints => hints(alloc, document.deck(), first, last),
     }
 }
 

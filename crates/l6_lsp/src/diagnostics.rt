@@ -76,7 +76,7 @@ fn diagnostics(alloc: Global, uri: &str, deck: &[u8]) -> Result<Value, OutOfMemo
 }
 
 /// The findings of a deck.
-fn findings_of(alloc: Global, deck: &[u8]) -> Result<Vec<Finding<'_>>, OutOfMemory>
+pub(crate) fn findings_of(alloc: Global, deck: &[u8]) -> Result<Vec<Finding<'_>>, OutOfMemory>
     requires { length deck.now ≤ most_deck_bytes }
     ensures { IfOk result (λ findings. AreAllOf deck.now findings.items) }
 {

@@ -4,6 +4,7 @@ ghost use Rattle.std.specs.Prelude.{◌≡◌, IfOk, option_map, vec_len};
 ghost use Rattle.serde_json.specs.View.{view, items_view};
 ghost use Rattle.l6_lsp.specs.Document as spec;
 
+use crate::edits::is_up_to;
 use crate::parameters::{range_in, text_at};
 use l6_device::{head_parts_of, parts_of};
 use l6_place::changed;
@@ -69,7 +70,7 @@ fn changes_of(message: &Value) -> Option<&Vec<Value>>
 }
 
 /// The text after a change: the whole text, where it gives no range; and where it gives one, what stands there
-/// then. Anything else is no change.
+/// then. Anything else is no change, and so is a range whose end is before its start.
 fn after_change(alloc: Global, text: Vec<u8>, change: &Value) -> Result<Vec<u8>, AllocError>
     ensures { IfOk result (λ text_after.
         text_after.items ≡ spec.after_change text.items (view change.now)) }
@@ -81,7 +82,13 @@ fn after_change(alloc: Global, text: Vec<u8>, change: &Value) -> Result<Vec<u8>,
         return bytes.as_bytes().to_vec(alloc);
     };
     match range_in(range) {
-        Some((start, end)) => changed(alloc, text.as_slice(), start, end, bytes.as_bytes()),
+        Some((start, end)) => {
+            if is_up_to(start, end) {
+                changed(alloc, text.as_slice(), start, end, bytes.as_bytes())
+            } else {
+                Ok(text)
+            }
+        }
         None => Ok(text),
     }
 }

@@ -57,7 +57,7 @@ fn are_before(limit: Spot, ranges: &[(Spot, Spot)]) -> bool
 }
 
 /// Whether a place is not after another.
-fn is_up_to(one: Spot, other: Spot) -> bool
+pub(crate) fn is_up_to(one: Spot, other: Spot) -> bool
     ensures { result ≡ spec.is_up_to one other }
 {
     one.line < other.line || (one.line == other.line && one.character <= other.character)

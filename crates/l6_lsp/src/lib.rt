@@ -2,12 +2,16 @@
 #![tactic(auto)]
 
 mod asked;
+mod candidates;
+mod card_list;
+mod chains;
 mod completion;
 mod decks;
 mod diagnostics;
 mod document;
 mod edits;
 mod fixes;
+mod group_candidates;
 mod hover;
 mod labels;
 mod meaning;

@@ -177,7 +177,7 @@ const PRINT_TEXT: Meaning = Meaning {
     sentence: "Prints the text.",
 };
 
-const PRINT_LINE: Meaning = Meaning {
+pub(crate) const PRINT_LINE: Meaning = Meaning {
     word: "PL",
     form: "(PL)",
     sentence: "Prints a line feed.",
@@ -299,6 +299,9 @@ pub(crate) const OPERATIONS: [Meaning; 28] = [
     PRINT_TEXT,
     PRINT_LINE,
 ];
+
+/// Those of the tests.
+pub(crate) const TESTS: [Meaning; 6] = [EQUAL, NOT_EQUAL, GREATER, LESS, ALL_ONES, ALL_ZEROS];
 
 /// What an operation does.
 pub(crate) fn meaning_of(operation: &Op<Label>) -> Meaning {

@@ -3,7 +3,6 @@ use Rattle.serde_json.specs.View.{view}
 use Rattle.serde_json.proofs.Views.{view-Array}
 use Rattle.l6_check.specs.Listed.{AreAllOf}
 use Rattle.l6_check.specs.declared.finding.Finding.{Finding}
-use Rattle.l6_lsp.specs.Diagnostics as spec
 use Rattle.l6_lsp.proofs.Findings.{said_next, all_said}
 use Rattle.l6_lsp.proofs.diagnostics.diagnostics.Goals as goal
 

@@ -1,4 +1,4 @@
-// The debugger l6db for Node, around the module of the proved program.
+// The debugger l6db for Node: a session at a terminal, around the engine of engine.js.
 //
 // Over pipes, with --batch, --echo, --prompt, --help or --version, with L6DB_PLAIN set or at a dumb terminal, the module
 // is run as it is: it reads standard input line by line, as the native program does. At a terminal another process runs
@@ -6,95 +6,24 @@
 // session: a run follows from its deck, its input and its options, so a new engine is led to the same state by the
 // commands that `save` answers.
 //
-// `bundle` puts the module after it, in gzip and base 64, and the commands (terminal/words). The result runs as a
-// module (l6db.mjs) and as a script without an ending (bin/l6db), so it imports by calls.
+// `bundle` puts the commands (terminal/words) after it.
 
-const MOST_WORDS = 15;           // that the module takes; no right command line has so many
-const MOST_MEMORY = 0xffff_0000; // bytes that the module can address
-const PAUSE = 10;                // milliseconds until a device that is busy is asked again
-const PATIENCE = 500;            // milliseconds until it is shown that a command goes on
-
-const NO_MEMORY = "l6db: out of memory\n";
-const NO_TEXT = "l6db: a word is not UTF-8\n";
-const DEVICE_FAILED = 5; // exit statuses
-const WRONG_WORDS = 64;
+const NAME = "l6db";
+const PATIENCE = 500; // milliseconds until it is shown that a command goes on
 const PROMPT = "(l6db) ";
 const WRONG = "Not a command: help lists them\n";
+const VALUED = new Set(["--input", "-x", "--prompt", "--store", "--steps", "--output"]); // options that a value follows
+const MARK = /^\$(?:INPUT|COMMANDS)/im; // what follows are no cards
+const LABEL = /^[A-Z][A-Z0-9]{0,5}(?![A-Z0-9])/gim;
 const PLAIN = /^(?:--batch|--echo|--prompt(?:=.*)?|-h|--help|-V|--version)$/;
 
-// The numbers that the program knows errors by, which are those of Linux, and what it asks of `open`.
-const ERRORS = {EPERM: 1, ENOENT: 2, EINTR: 4, EIO: 5, EBADF: 9, ENOMEM: 12, EACCES: 13, EEXIST: 17, ENOTDIR: 20, EISDIR: 21,
-  ENOSPC: 28, EROFS: 30, EPIPE: 32};
-const [WRITES, CREATES, ONLY_NEW, EMPTIES, APPENDS] = [0o3, 0o100, 0o200, 0o1000, 0o2000];
-
 async function main() {
-  const words = process.argv.slice(2, 2 + MOST_WORDS);
-  if (words.some((word) => /[\ufffd\ud800-\udfff]/u.test(word))) return refused(NO_TEXT, WRONG_WORDS);
+  const words = words_of_command_line();
+  if (!words) return refused("l6db: a word is not UTF-8\n", WRONG_WORDS);
   const isTyped = process.stdin.isTTY && process.stdout.isTTY && !process.env.L6DB_PLAIN && process.env.TERM !== "dumb";
   if (isTyped && words.length && !words.some((word) => PLAIN.test(word))) return new Front(words).play();
   return engine(words);
 }
-
-async function refused(why, status) {
-  process.stderr.write(why);
-  return status;
-}
-
-// ---- The engine: the module, with the files of this process
-
-// Plays a session by the module; answers the exit status.
-async function engine(words) {
-  const files = await import("node:fs");
-  const {gunzipSync} = await import("node:zlib");
-  const {isatty} = await import("node:tty");
-  const module = new WebAssembly.Module(gunzipSync(Buffer.from(MODULE, "base64")));
-  let host;
-  const memory = (at, count) => new Uint8Array(host.memory.buffer, at >>> 0, count >>> 0);
-  const imports = {
-    read: (file, into, room) => tried(() => files.readSync(file, memory(into, room))),
-    write: (file, from, count) => tried(() => files.writeSync(file, memory(from, count))),
-    open: (path, bytes, flags) =>
-      tried(() => files.openSync(Buffer.from(memory(path, bytes)).toString(), opening(files.constants, flags))),
-    close: (file) => tried(() => files.closeSync(file) ?? 0),
-    isatty: (file) => Number(isatty(file)),
-  };
-  try {
-    host = new WebAssembly.Instance(module, {host: imports}).exports;
-    for (const word of ["l6db", ...words]) {
-      const bytes = Buffer.from(word);
-      const address = host.host_word(bytes.length);
-      if (address === 0) throw new RangeError("there is no memory for the words");
-      memory(address, bytes.length).set(bytes);
-    }
-    host.host_limit(MOST_MEMORY);
-    return host.host_run();
-  } catch (error) {
-    if (!(error instanceof RangeError)) throw error;
-    return refused(NO_MEMORY, DEVICE_FAILED);
-  }
-}
-
-// What a call to the system answers, 0 at an end; below zero where it fails. A busy device is asked again.
-function tried(call) {
-  for (;;) {
-    try {
-      return call();
-    } catch (error) {
-      if (error.code === "EOF") return 0; // (as a console of Windows ends)
-      if (error.code !== "EAGAIN") return -(ERRORS[error.code] ?? ERRORS.EIO);
-      Atomics.wait(new Int32Array(new SharedArrayBuffer(4)), 0, 0, PAUSE);
-    }
-  }
-}
-
-// How a file is opened on this system, by the numbers that the program has for it.
-function opening(system, flags) {
-  const access = [system.O_RDONLY, system.O_WRONLY, system.O_RDWR][flags & WRITES] ?? system.O_RDONLY;
-  return access | (flags & CREATES && system.O_CREAT) | (flags & ONLY_NEW && system.O_EXCL)
-    | (flags & EMPTIES && system.O_TRUNC) | (flags & APPENDS && system.O_APPEND);
-}
-
-// ---- The terminal
 
 // An engine in another process, asked one line at a time, as terminal/engine.py does it. It repeats each line before
 // its answer. To each line a second one is added, a mark that is drawn for each engine, so that nothing which a deck
@@ -245,17 +174,25 @@ class Front {
   }
 }
 
-// The labels of the deck among the words of the command line.
+// The labels of the deck that the words of the command line name.
 function labels_of(files, words) {
-  for (const word of words.filter((it) => !it.startsWith("-"))) {
-    try {
-      const found = [...files.readFileSync(word, "latin1").matchAll(/^([A-Z0-9]{1,6})\b/gm)];
-      if (found.length) return found.map(([, label]) => label);
-    } catch {
-      // (it is no file)
-    }
+  const deck = deck_in(words);
+  try {
+    const [cards] = files.readFileSync(deck ?? "", "latin1").split(MARK);
+    return [...new Set(Array.from(cards.matchAll(LABEL), ([label]) => label.toUpperCase()))].sort();
+  } catch {
+    return []; // (it is no file)
   }
-  return [];
+}
+
+// The file of the deck among the words; the values of options are none.
+function deck_in(words) {
+  let isValue = false;
+  return words.find((word) => {
+    const isDeck = !isValue && !word.startsWith("-");
+    isValue = !isValue && VALUED.has(word);
+    return isDeck;
+  });
 }
 
 // Where the lines that were typed are kept.

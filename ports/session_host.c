@@ -1,8 +1,8 @@
-// What the debugger asks of its host, for Node: memory, its words, files and the terminal.
+// What the programs l6db and l6ed ask of their host, for Node: memory, their words, files and the terminal.
 //
 // The program calls the functions of the first part, as on Linux it calls those of the C library. They call those
-// that session.js has for the module to import: each answers a number, and where the system refuses, errno's
-// number below zero. One instance of the module plays one session.
+// that engine.js has for the module to import: each answers a number, and where the system refuses, errno's
+// number below zero. One instance of the module plays one session. web/build says by PROGRAM which program it is.
 
 #include "../web/memory.h"
 
@@ -52,10 +52,10 @@ long lseek(int file, long offset, int whence) {
     return -1;
 }
 
-// ---- What session.js calls
+// ---- What engine.js calls
 
 // The proved program's own beginning. Its linkage is the one thing in the program that the build widens.
-extern int program(void) __asm__("l6db::main+start");
+extern int program(void) __asm__(PROGRAM "::main+start");
 
 // Plays the session; the exit status.
 EXPORT(host_run) int host_run(void) { return program(); }

@@ -12,7 +12,7 @@ use thiserror::Error;
 #[derive(Clone, Copy, Debug, Error, PartialEq, Eq)]
 pub(crate) enum EdFault {
     /// The words are wrong.
-    #[error("the words are wrong: l6ed lsp, or l6ed --help")]
+    #[error("the words are wrong: l6ed lsp, l6ed dap, or l6ed --help")]
     Usage,
     /// What came is no message.
     #[error("what came is no message")]

@@ -1,11 +1,15 @@
-//! The program `l6ed`: decks in editors. `l6ed lsp` is a language server, over standard input and standard output.
+//! The program `l6ed`: decks in editors. `l6ed lsp` is a language server and `l6ed dap` a debug adapter, each over standard
+//! input and standard output.
 #![tactic(auto)]
 
 mod fault;
+mod files;
 mod request;
 mod wire;
 
 use fault::EdFault;
+use files::HostFiles;
+use l6_dap::{Adapter, serve};
 use l6_device::Host;
 use l6_lsp::serve_decks;
 use request::{Request, request_of};
@@ -18,9 +22,10 @@ use wire::Wire;
 const HELP: &str = "\
 Decks of L6 in editors
 
-Usage: l6ed lsp
+Usage: l6ed lsp | dap
 
   lsp        Answers as a language server, over standard input and standard output
+  dap        Answers as a debug adapter, over standard input and standard output
   --help     Says this
   --version  Says which version this is
 ";
@@ -45,10 +50,14 @@ fn run(rt: &HostRuntime) -> Result<u8, EdFault> {
         Some(Request::Help) => say(rt, HELP),
         Some(Request::Version) => say(rt, "l6ed 1.0\n"),
         Some(Request::Lsp) => {
-            let reader = Host::new(rt.stdin());
-            let writer = Host::new(rt.stdout());
-            let mut wire = Wire::new(rt.alloc(), reader, writer)?;
+            let mut wire = Wire::new(rt.alloc(), Host::new(rt.stdin()), Host::new(rt.stdout()))?;
             Ok(serve_decks(rt.alloc(), &mut wire)?)
+        }
+        Some(Request::Dap) => {
+            let mut wire = Wire::new(rt.alloc(), Host::new(rt.stdin()), Host::new(rt.stdout()))?;
+            let mut adapter = Adapter::new(rt.alloc());
+            let mut files = HostFiles { rt };
+            Ok(serve(rt.alloc(), &mut adapter, &mut files, &mut wire)?)
         }
     }
 }

@@ -5,6 +5,8 @@
 pub(crate) enum Request {
     /// A language server.
     Lsp,
+    /// A debug adapter.
+    Dap,
     /// How the program is called.
     Help,
     /// Which version it is.
@@ -19,6 +21,7 @@ pub(crate) fn request_of(words: &[String]) -> Option<Request> {
     };
     match word.as_str() {
         "lsp" => Some(Request::Lsp),
+        "dap" => Some(Request::Dap),
         "--help" | "-h" => Some(Request::Help),
         "--version" | "-V" => Some(Request::Version),
         _ => None,

@@ -13,9 +13,9 @@ syntax match l6Group /([^()]*)/ contains=l6Octal,l6Number,l6Operation,l6Text
 " the second element of a group, or its only one, is the operation
 syntax match l6Operation /\%([(][^(),]*,\)\@<=\s*[A-Z0-9]\{1,2}[OH]\?\ze\s*[,)]/ contained
 syntax match l6Operation /(\@<=\s*PL\s*)\@=/ contained
+syntax match l6Number /\<\d\+\>/ contained
 syntax match l6Octal /\%(,\s*[A-Z0-9]\{1,2}O\s*,\s*\)\@<=[0-7]\+/ contained
 syntax match l6Text /(\@<=[^(),]*\ze,\s*PH\s*)/ contained
-syntax match l6Number /\<\d\+\>/ contained
 " what stands past column 72 does not count
 syntax match l6Ignored /\%>72v.\+/ containedin=ALL
 highlight default link l6Comment Comment

@@ -102,6 +102,8 @@ class Proving:
         if ended.status:
             print(ended.text, end="", file=sys.stderr)
             self._say(f"{crate.name} is not proved")
+        else:
+            self._say(f"{crate.name} is proved, in {ended.processor_seconds:.0f} s of processor time")
         return ended.status == 0
 
     def _say(self, what: str) -> None:

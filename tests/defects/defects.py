@@ -14,7 +14,7 @@ has lines
 and perhaps more pairs. A step fails by a trial that fails, or by having other trials than tests/counts says. (Of some
 trials nothing says how many there are.) Of the page `trial` is one trial in Chromium.
 
-defects.py tries those on which verdicts (beside this script) has no verdict of the files as they are, 40 of them at
+defects.py tries those on which verdicts (beside this script) has no verdict of the files as they are, 12 of them at
 most, and a twentieth of the others; the commit chooses. With --all all are tried, with --only WORD those with a word
 in their names. What a step found is written to verdicts. The last line is 'N passed, M failed'.
 """
@@ -46,16 +46,19 @@ from trials import ONLY, Trial, report
 VERDICTS = HERE / "verdicts"
 LINE = re.compile(r"(?P<name>[\w/]+) (?P<sum>[0-9a-f]{64})")
 SAMPLE = 20  # of so many defects that were found before one is tried again
-MOST = 40  # of those without a verdict so many are tried, so that the step takes minutes
+MOST = 12  # of those without a verdict so many are tried, so that the step takes five minutes
 AT_ONCE = 4
 SECONDS = 900  # for a step
 ESCAPES = {"n": "\n", "t": "\t"}
-LEAST = 269  # defects that there are
+LEAST = 430  # defects that there are
 # The folders of modules that scripts of trials import by their names alone.
 MODULES = ("tests/harness", "tests/*", "tests/program/model", "tools", "tools/drawing")
 PAGE = "page"  # the step of which a trial is made in Chromium
 COUNT = re.compile(r"^(\d+) passed, (\d+) failed$")
-OF_NODE = {"ports/command.js": "l6.mjs", "ports/session.js": "l6db.mjs"}  # scripts, and the programs made of them
+OF_NODE = {  # scripts, and the programs made of them
+    "ports/command.js": ("l6.mjs",), "ports/session.js": ("l6db.mjs",), "ports/server.js": ("l6ed.mjs",),
+    "ports/engine.js": ("l6db.mjs", "l6ed.mjs"),
+}
 MODULE = re.compile(r"const MODULE = `([^`]*)`")
 PROVENANCE = """
 top=$PWD && . tools/program.sh && file=dist/$1 &&
@@ -204,12 +207,12 @@ def make_again(files: Iterable[str], top: Path) -> None:
 
     Else a step would only say that they are made of other scripts.
     """
-    for name in (OF_NODE[file] for file in files if file in OF_NODE):
+    for name in dict.fromkeys(name for file in files for name in OF_NODE.get(file, ())):
         words = ["dist/l6.html", f"dist/{name}"]
-        if name == "l6db.mjs":
+        if name != "l6.mjs":
             packed = MODULE.search((top / "dist" / name).read_text("utf-8"))
             (top / "dist/kept.wasm").write_bytes(gzip.decompress(base64.b64decode(packed[1] if packed else "")))
-            words = ["--session", "dist/kept.wasm", f"dist/{name}"]
+            words = ["--module", "dist/kept.wasm", f"dist/{name}"]
         for command in (["ports/bundle", *words], ["sh", "-c", PROVENANCE, "sh", name]):
             ran = subprocess.run(command, cwd=top, capture_output=True, text=True)
             if ran.returncode:
@@ -257,7 +260,7 @@ def write(verdicts: dict[str, str]) -> None:
 
 
 def chosen(defects: list[Defect], is_all: bool, commit: str) -> list[Defect]:
-    """The defects that are tried: of those without a verdict of the files as they are the first 40 in an order that the
+    """The defects that are tried: of those without a verdict of the files as they are the first 12 in an order that the
     commit makes, and some of the others; or all of them."""
     before = known()
     def place_of(name: str) -> int:

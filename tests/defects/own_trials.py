@@ -105,10 +105,10 @@ def keys(top: Path) -> Iterator[Trial]:
 
 
 def choosing(top: Path) -> Iterator[Trial]:
-    """Of those without a verdict 40 are tried, and a twentieth of the others; all are, if that is asked for."""
+    """Of those without a verdict 12 are tried, and a twentieth of the others; all are, if that is asked for."""
     known = [Defect(top / f"small/{number}.defect") for number in range(400)]
     with mock.patch.object(Defect, "key", "a sum"):
-        for sum_of, least, most in (("a sum", 5, 40), ("another sum", 40, 40)):
+        for sum_of, least, most in (("a sum", 5, 40), ("another sum", 12, 12)):
             with mock.patch.object(defects, "known", lambda: {it.name: sum_of for it in known}):
                 count = len(defects.chosen(known, False, "a commit"))
                 yield f"how many of 400 are tried with {sum_of}", True, least <= count <= most

@@ -7,7 +7,8 @@ again. Only that an edit is refused is ever written: one that is not refused, or
 
 The toolchain's line names a kit and its logic. Kits of one logic accept the same proofs, so a verdict depends on
 the logic alone. What another kit's search finds, the sample tells: the gate tries again all edits of a few crates,
-which the commit chooses.
+which the commit chooses. No crate is among them that has much code below it: all of that would be proved again for it,
+and what its verdicts depend on changes with nearly every version, so its edits are tried again soon enough.
 """
 from __future__ import annotations
 
@@ -19,7 +20,7 @@ import os
 import re
 import subprocess
 import tempfile
-from collections.abc import Iterable, Iterator, Mapping
+from collections.abc import Container, Iterable, Iterator, Mapping
 from pathlib import Path
 
 from crates import TOP, Crate, rows_of
@@ -124,18 +125,19 @@ def harness_sum() -> str:
     return total.hexdigest()
 
 
-def sample(sizes: Mapping[str, int], commit: str) -> set[str]:
+def sample(sizes: Mapping[str, int], commit: str, costly: Container[str] = ()) -> set[str]:
     """The crates whose edits are tried again, by how many edits each has: they have a twentieth of all.
 
-    A commit chooses them, so that each has its turn. They are whole crates, since all edits of a crate begin with
-    one proof of it.
+    A commit chooses them, so that each has its turn, but for those that are costly. They are whole crates, since all
+    edits of a crate begin with one proof of it.
     """
     chosen: set[str] = set()
     wanted = -(-sum(sizes.values()) // SAMPLE)
     for name in sorted(sizes, key=lambda it: hashlib.sha256(f"{commit} {it}".encode()).hexdigest()):
         if sum(sizes[it] for it in chosen) >= wanted:
             break
-        chosen.add(name)
+        if name not in costly:
+            chosen.add(name)
     return chosen
 
 

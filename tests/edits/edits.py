@@ -33,6 +33,8 @@ from lanes import Lanes, processors
 from prove import prove
 from trials import Trial, report
 
+MOST_LINES = 6_000  # of a crate and those below it that are proved again for a sample
+
 
 def main() -> int:
     """Tries the edits, prints what became of them, and returns the exit status."""
@@ -53,7 +55,8 @@ def main() -> int:
         return report(texts(benches))
     again = {it.crate.name for it in benches} if options.anew else set()
     if options.sample:
-        again |= sample({it.crate.name: len(it.trials) for it in benches}, commit())
+        costly = {it.crate.name for it in benches if sum(one.lines for one in (*it.crate.below, it.crate)) > MOST_LINES}
+        again |= sample({it.crate.name: len(it.trials) for it in benches}, commit(), costly)
         print(f"tried again, whatever is known of them: all edits of {', '.join(sorted(again))}")
     return report(all_tried(benches, options.jobs, commands, again))
 

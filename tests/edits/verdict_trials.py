@@ -183,6 +183,8 @@ def samples(edits: Edits) -> Iterator[Trial]:
     least = -(-sum(sizes.values()) // SAMPLE)
     yield "the least size of a sample", True, all(sum(sizes[it] for it in names) >= least for names in found)
     yield "the crates of 500 samples", set(sizes), set.union(*found)
+    cheap = [sample(sizes, f"commit {n}", {"crate_25", "crate_3"}) for n in range(500)]
+    yield "the crates of 500 samples but those that are costly", set(sizes) - {"crate_25", "crate_3"}, set.union(*cheap)
     yield "of how many edits one is tried again", 20, SAMPLE
 
 

@@ -21,8 +21,8 @@ from trials import Trial, groups_asked_for
 
 TOP = Path(__file__).resolve().parents[2]
 SCRIPTS = (
-    "l6", "l6db", "install", "terminal", "tools", "docs/l6.1", "docs/l6db.1", "completions", "LICENSE-MIT", "LICENSE-APACHE", "THIRD-PARTY.md",
-    "licenses", ".gitattributes", "library",
+    "l6", "l6db", "l6ed", "install", "terminal", "tools", "docs/l6.1", "docs/l6db.1", "docs/l6ed.1", "completions", "editors",
+    "LICENSE-MIT", "LICENSE-APACHE", "THIRD-PARTY.md", "licenses", ".gitattributes", "library",
 )
 SECONDS = 60  # for one command
 SOURCES = ("src", "specs", "proofs")
@@ -91,15 +91,17 @@ for name in "${1##*/}-static" "${1##*/}-aarch64"; do
     sed "2i it=$name" "$1" > "$2/$name"
     echo "host of $name" > "$2/$name.made_of"
 done
+echo "the module of ${1##*/}" > "$2/${1##*/}.bc.xz"
 """,
     "ports/bundle": """#!/bin/sh
 from="${1%/*}/l6"
-[ "$1" != --session ] || { shift; from="${2%/*}/l6db"; }
+[ "$1" != --module ] || { shift; from="${2%.mjs}"; }
 sed "2i it=${2##*/}" "$from" > "$2"
 echo "module of $1" | sed 's|/.*/||' > "$2.made_of"
 """,
     "ports/libraries": """#!/bin/sh
 for name in l6_store l6_offset; do
+    cp "${0%/ports/libraries}/crates/${name}_c/out/lib${name}_c.a" "$1/$name.a" || exit 1
     for kind in aarch64 riscv64 nosse; do
         echo "an archive for $kind, of $(cat "$1/$name.a")" > "$1/$name-$kind.a"
         echo "module of $name" > "$1/$name-$kind.a.made_of"

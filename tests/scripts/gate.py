@@ -20,12 +20,14 @@ from collections.abc import Callable, Iterator
 from pathlib import Path
 from unittest import mock
 
-sys.path[:0] = [str(Path(__file__).resolve().parents[1] / it) for it in ("harness", "systems")]
+sys.path[:0] = [str(Path(__file__).resolve().parents[1] / it) for it in ("harness", "program", "systems")]
 from answers import Answer, answer_of
 from checkout import TOP, Checkout
 from node_lines import node_lines
 from ran_lines import Ran, lines_with_code
 from trials import ONLY, Trial, at_least, few_pass, first_wrong, groups_asked_for, report, tally
+
+import same_answers
 
 # The steps of ./test and of the gate, in their order: the words by which each is known.
 STEPS = [
@@ -49,6 +51,7 @@ STEPS = [
     "tests/pages/named.py",
     "tests/program/l6db.py",
     "tests/program/terminal.py",
+    "tests/program/editors.py",
     "tests/scripts/launcher.py",
     "tests/scripts/install.py",
     "tests/scripts/script_words.py",
@@ -57,13 +60,13 @@ STEPS = [
     "tests/systems/ports.py",
     "tests/scripts/release.py",
 ]
-GATE_STEPS = ["rt ci", *STEPS, "tests/program/editors.py", "tests/defects/defects.py", "tests/edits/edits.py"]
+GATE_STEPS = ["rt ci", *STEPS, "tests/defects/defects.py", "tests/edits/edits.py"]
 PACKAGES = {  # without which tests are left out
     "binaryen", "nodejs", "chromium", "mypy", "shellcheck", "qemu-user-static", "busybox-static", "zsh", "fish",
     "lintian", "firefox-esr", "node-typescript", "python3-markdown", "rlwrap", "pkgconf", "neovim",
-    "emacs-nox",
+    "emacs-nox", "vim-nox",
 }
-NOT_A_STEP = {"compiled_edits.py", "hostile.py", "python_lines.py", "same_answers.py"}  # scripts of tests/ that ./test does not call
+NOT_A_STEP = {"adapter.py", "compiled_edits.py", "hostile.py", "python_lines.py", "same_answers.py"}  # scripts of tests/ that ./test does not call
 
 STAND_IN = """#!/bin/sh
 # A stand-in for python3 and rt: notes its words, and prints a count, which $HOW makes a bad one in what $FAILS
@@ -96,7 +99,8 @@ COUNTS = "".join(
     f"{name} {2 if name == 'dist' else COUNTED} {2 if name == 'dist' else COUNTED}\n"
     for name in (TOP / "tests/counts").read_text("utf-8").split()[::3]
 )
-OF_SHELL = "dist"  # the step of the gate that calls no script
+OF_SHELL = "dist"  # the step of the gate that is no script
+MODULE = "tools/module.py"  # what it calls
 
 
 class Gate:
@@ -125,7 +129,8 @@ class Gate:
         log = self.checkout.state / "steps"
         log.unlink(missing_ok=True)
         actual = self.checkout.run("test", *words, FIRST=str(self.first), FAILS=fails, HOW=how)
-        return actual, log.read_text().splitlines() if log.exists() else []
+        calls = log.read_text().splitlines() if log.exists() else []
+        return actual, [call for call in calls if MODULE not in call]
 
     def names(self, *words: str) -> list[str]:
         """The names of the steps, as they are said when each begins."""
@@ -192,6 +197,8 @@ def other_programs(gate: Gate) -> Iterator[Trial]:
     said = "dist/l6 has other bytes than the program of these sources" in actual.stdout
     yield "another program", (1, True, ["dist"]), (actual.status, said, failures_in(actual))
     built.write_bytes(whole)
+    actual, _ = gate.test("--prove", fails=MODULE, how="a-status")
+    yield "another module", (1, ["dist"]), (actual.status, failures_in(actual))
     gate.checkout.write("crates/l6/src/main.rt", "another main\n")
     actual, _ = gate.test("--prove")
     said = "dist/l6 is not the program of these sources" in actual.stdout
@@ -376,7 +383,7 @@ def lines_that_are_run() -> Iterator[Trial]:
             ran.add(functions)
             seen = ran.lines() & {it + 1 for it in lines_with_code(SCRIPT)}
             yield f"lines that were run, with a part that was run {count} times", {3, 4, 9} | ({7} if count else set()), seen
-            made = {name: actual for name, _, actual in node_lines(room, {program: script})}
+            made = {name: actual for name, _, actual in node_lines(room, {program: (script,)})}
             yield f"lines that are missed with {count}", [expected], [it for name, it in made.items() if "per cent" in name]
 
 
@@ -403,10 +410,27 @@ def machine_of_the_gate() -> Iterator[Trial]:
             yield f"what the user {user} has then", ("the gate with --prove", 3), (ended.stdout.splitlines()[-1], ended.returncode)
 
 
+def answers_of_another_kit() -> Iterator[Trial]:
+    """What programs of two toolchains answer is compared: that of one is not taken for that of the other."""
+    with tempfile.TemporaryDirectory() as folder:
+        one, another = Path(folder, "one"), Path(folder, "another")
+        for program, said in ((one, "run list"), (another, "run check")):
+            program.write_text(f'#!/bin/sh\ncase "{said}" in *"$1"*) cat ;; *) exit 3 ;; esac\n', "utf-8")
+            program.chmod(0o755)
+        jobs: list[same_answers.Job] = [(verb, [verb], b"a deck\n") for verb in ("run", "list", "check")]
+        with mock.patch.object(same_answers, "jobs_of", lambda _: jobs), mock.patch.object(same_answers, "DECKS", [one]):
+            cases: tuple[tuple[Path, list[str]], ...] = ((one, []), (another, ["list", "check"]))
+            for other, differing in cases:
+                wrong = [name for name, expected, actual in same_answers.compared(str(one), str(other)) if expected != actual]
+                yield f"what differs from {other.name}", [f"the same answer: {verb}" for verb in differing], wrong
+
+
 ON_CHECKOUTS: tuple[Callable[[Gate], Iterator[Trial]], ...] = (
     steps_that_fail, counts, other_programs, another_kit, no_program, words_of_the_command,
 )
-ALONE: tuple[Callable[[], Iterator[Trial]], ...] = (harnesses, scripts, lines_that_are_run, machine_of_the_gate)
+ALONE: tuple[Callable[[], Iterator[Trial]], ...] = (
+    harnesses, scripts, lines_that_are_run, machine_of_the_gate, answers_of_another_kit,
+)
 
 
 def trials() -> Iterator[Trial]:

@@ -3,6 +3,7 @@
 
 import {byId, make} from "./dom.js";
 import {save} from "./download.js";
+import {DEFAULTS} from "./options.js";
 import {verdictOf} from "./verify.js";
 
 const MOST_BYTES = 2_000_000; // of a file
@@ -23,8 +24,15 @@ export class Answers {
   constructor(source) {
     this.source = source;
     byId("read-answers").addEventListener("click", () => byId("answers-dialog").showModal());
-    for (const id of ["answer-files", "answer-folder"])
-      byId(id).addEventListener("change", () => this.read([...(byId(id).files ?? [])]));
+    for (const id of ["answer-files", "answer-folder"]) byId(id).addEventListener("change", () => this.chosen(byId(id)));
+  }
+
+  // Reads the files of a box, and empties it, so that the same ones can be chosen again.
+  /** @param {HTMLInputElement} box */
+  chosen(box) {
+    const files = [...(box.files ?? [])];
+    box.value = "";
+    this.read(files);
   }
 
   // Saves the answer as a file to hand in.
@@ -84,17 +92,29 @@ export class Answers {
   }
 
   /**
+   * Whether a deck solves an exercise, with the input and the options of that, whatever those of the page are.
    * @param {any} exercise
    * @param {string} deck
    */
   async verdict(exercise, deck) {
     try {
-      const job = this.source.job();
-      return await verdictOf(exercise, {deck, input: exercise.input ?? "", options: job.options}, this.source.ask);
+      const {input = "", options} = exercise;
+      return await verdictOf(exercise, {deck, input, options: {...DEFAULTS, ...options}}, this.source.ask);
     } catch (error) {
       return error instanceof Error ? error.message : String(error);
     }
   }
+}
+
+/**
+ * A name, and a button that saves the answer as a file.
+ * @param {(name: string) => void} handIn
+ */
+export function handInForm(handIn) {
+  const name = make("input", {type: "text", id: "answer-name", placeholder: "your name", "aria-label": "Your name"});
+  const hand = () => handIn(name.value);
+  const button = make("button", {type: "button", id: "hand-in", onclick: hand}, "Save answer");
+  return make("p", {class: "hand-in"}, name, button);
 }
 
 /**

@@ -102,10 +102,12 @@ function directWay(block, link, to) {
     const [y, x, at] = [bottom + 9, to.x - 10, to.y + to.height / 2 + APART];
     return [{x: start, y: bottom}, {x: start, y}, {x, y}, {x, y: at}, {x: to.x, y: at}];
   }
+  // (links to and fro have bows of their own)
   const isBelow = to.y > block.y;
-  const [from, at] = isBelow ? [bottom, to.y] : [block.y, endBottom];
+  const [from, at, aside] = isBelow ? [bottom, to.y, APART] : [block.y, endBottom, -APART];
   const bow = (at - from) / 3;
-  return [{x: start, y: from}, {x: start, y: from + bow}, {x: end, y: at - bow}, {x: end, y: at}];
+  const [x, there] = [start + aside, end + aside];
+  return [{x, y: from}, {x, y: from + bow + aside}, {x: there, y: at - bow + aside}, {x: there, y: at}];
 }
 
 // Where an arrow from above comes in: beside the bugs.

@@ -10,7 +10,7 @@ const MOST_WORDS = 20_000; // of all blocks that are shown
 /** @typedef {{place: number, size: number, links: {field: string, target: number}[]}} DrawnBlock */
 /**
  * What is drawn: the bugs that lead to blocks, those that the reader hid, and the blocks by their places.
- * @typedef {{bugs: Map<string, number>, hiddenBugs: [string, number][], blocks: Map<number, DrawnBlock>}} Chosen
+ * @typedef {{bugs: Map<string, number>, hiddenBugs: string[], blocks: Map<number, DrawnBlock>}} Chosen
  */
 
 /**
@@ -41,7 +41,7 @@ export function choose(drawn, store, hiddenBugs = []) {
     }
   }
   return {
-    draw: {bugs, hiddenBugs: [...drawn.bugs].filter(([name]) => hiddenBugs.includes(name)), blocks},
+    draw: {bugs, hiddenBugs, blocks},
     shown:
       {places: [...near, ...lost], hidden: drawn.count - near.length, hiddenLost: lostCount - lost.length},
   };

@@ -42,7 +42,7 @@ function fill(element, attributes, children) {
     if (name.startsWith("on"))
       element.addEventListener(name.slice(2), value);
     else
-      element.setAttribute(name, value === true ? "" : String(value));
+      element.setAttribute(name, value === true && !name.startsWith("aria-") ? "" : String(value));
   }
   element.append(...children.filter((it) => it !== null && it !== undefined && it !== false));
   return element;

@@ -83,6 +83,7 @@ export class Drawing {
     this.colours.clear();
     this.directions.clear();
     this.kinds.forget();
+    this.isTidy = false;
     this.replan();
     this.chosen = null;
     this.light([]);
@@ -91,7 +92,6 @@ export class Drawing {
   // Another plan is made where the drawing is shown next.
   replan() {
     this.plan = null;
-    this.isTidy = false;
     this.folded.clear();
   }
 
@@ -228,9 +228,8 @@ export class Drawing {
   // Another picture, of the blocks that are there now alone; again, that of the whole run.
   tidy() {
     if (!this.view) return;
-    const isTidy = !this.isTidy;
+    this.isTidy = !this.isTidy;
     this.replan();
-    this.isTidy = isTidy;
     this.show(this.view, this.before);
   }
 
@@ -366,7 +365,8 @@ export class Drawing {
       Enter: isBlock && (() => this.pick(focused)),
       " ": isBlock && (() => this.pick(focused))
     };
-    const what = keys[/** @type {keyof typeof keys} */ (event.key)];
+    const name = event.key.length > 1 ? event.key : event.key.toLowerCase(); // (Caps Lock may be on)
+    const what = keys[/** @type {keyof typeof keys} */ (name)];
     if (event.ctrlKey || event.metaKey || event.altKey) return;
     if (turn && event.shiftKey)
       camera.pan(-turn[0] * PAN, -turn[1] * PAN);

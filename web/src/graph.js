@@ -206,10 +206,9 @@ function bugsLeading(view, before, chronicle, dangling) {
   const leading = new Map();
   for (const [name, place] of view.draw.bugs)
     if (!isNumber(name, view.state.number, chronicle)) leading.set(name, place);
-  const hidden = new Set(view.draw.hiddenBugs.map((/** @type {[string, number]} */ [name]) => name));
   const broken = new Set();
   for (const {bug, target} of dangling) {
-    if (!bug || hidden.has(bug)) continue;
+    if (!bug) continue;
     leading.set(bug, target);
     broken.add(bug);
   }

@@ -2,7 +2,7 @@
 // the largest free piece. A click goes to a state.
 
 import {make, svg} from "./dom.js";
-import {withCommas} from "./word.js";
+import {count, withCommas} from "./word.js";
 
 const SAMPLES = 60; // states that are asked for
 const WIDTH = 600;
@@ -59,13 +59,16 @@ export class History {
     const {session, view} = this;
     this.frame.hidden = !this.box.checked || !view;
     if (!this.box.checked || !view || !session) return;
+    let {samples} = this;
     try {
-      this.samples ??= await session.totals(await numbersOf(session));
+      samples ??= await session.totals(await numbersOf(session));
     } catch (error) {
       this.trouble(error);
       return;
     }
-    if (this.session === session && this.view && this.samples) this.put(this.samples, this.view.state.number);
+    if (this.session !== session || !this.view || !samples) return; // (another deck was opened meanwhile)
+    this.samples = samples;
+    this.put(samples, this.view.state.number);
   }
 
   /**
@@ -83,7 +86,8 @@ export class History {
     });
     const now =
       svg("line", {class: "now-line", x1: x(number), x2: x(number), y1: 0, y2: HEIGHT});
-    const title = `Over ${withCommas(last + 1)} states, of ${withCommas(most)} words: ${inWords(samples)}`;
+    const states = count(samples[samples.length - 1].number + 1, "state");
+    const title = `Over ${states}, of ${withCommas(most)} words: ${inWords(samples)}`;
     const picture = svg(
       "svg", {
         viewBox: `0 0 ${WIDTH} ${HEIGHT}`,

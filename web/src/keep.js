@@ -7,22 +7,24 @@ const MOST_DECKS = 10;
 const MOST_CHARACTERS = 400_000; // of a deck that is kept
 const AFTER = 300;               // milliseconds without a key
 const TITLE = 40;                // characters
+const REFUSED = "This browser keeps nothing of your work: save it as a file.";
+const TOO_LONG = "So long a deck is not kept: save it as a file.";
 
 /**
- * A deck with all that belongs to it.
+ * A deck with all that belongs to it, and the exercise or the task.
  * @typedef {{deck: string, input: string, options: object, number?: number | null, breakpoints?: number[],
- *   kinds?: string, exercise?: string, when?: number}} Work
+ *   kinds?: string, exercise?: string, task?: string, given?: import("./links.js").Given, address?: string,
+ *   when?: number}} Work
  */
 
 export class Keeper {
   /**
-   * `source` answers the work as it is now, and `refused` is called once, where nothing can be kept.
-   * @param {{work: () => Work, refused: () => void}} source
+   * `source` answers the work as it is now, and `refused` is called where it is not kept, once for each reason.
+   * @param {{work: () => Work, refused: (why: string) => void}} source
    */
   constructor(source) {
     this.source = source;
-    this.isKept = true; // whether the browser kept what was written last
-    this.isSaid = false;
+    this.said = ""; // why the work is not kept
     /** @type {ReturnType<typeof setTimeout> | undefined} */
     this.timer = undefined;
   }
@@ -37,16 +39,31 @@ export class Keeper {
   save() {
     clearTimeout(this.timer);
     const work = this.source.work();
-    if (work.deck.length > MOST_CHARACTERS) return;
-    this.write(WORK, {...work, when: Date.now()});
+    const isLong = work.deck.length > MOST_CHARACTERS;
+    this.say(isLong ? TOO_LONG : this.write(WORK, {...work, when: Date.now()}) ? "" : REFUSED);
   }
 
-  // The work is done with: another deck was opened. It is among the last decks then.
+  // The work is done with: another deck was opened. It is among the last decks then, or else stays where it is.
   leave() {
     clearTimeout(this.timer);
+    if (this.list()) this.remove(WORK);
+  }
+
+  // Puts the work among the last decks; answers whether it is there. Where there is no room for all, the oldest go.
+  list() {
     const work = this.work();
-    if (work) this.write(DECKS, [work, ...this.decks().filter((it) => it.deck !== work.deck)].slice(0, MOST_DECKS));
-    this.remove(WORK);
+    if (!work) return true;
+    const decks = [work, ...this.decks().filter((it) => it.deck !== work.deck)].slice(0, MOST_DECKS);
+    while (decks.length > 0 && !this.write(DECKS, decks)) decks.pop();
+    if (!decks.length) this.say(REFUSED);
+    return decks.length > 0;
+  }
+
+  // Says why the work is not kept, unless that was said last.
+  /** @param {string} why */
+  say(why) {
+    if (why && why !== this.said) this.source.refused(why);
+    this.said = why;
   }
 
   /** @returns {Work | null} what was typed last, and not left since */
@@ -78,22 +95,21 @@ export class Keeper {
     try {
       window.localStorage.removeItem(name);
     } catch {
-      this.isKept = false;
+      // (then nothing was kept there, either)
     }
   }
 
   /**
+   * Answers whether it is kept.
    * @param {string} name
    * @param {unknown} value
    */
   write(name, value) {
     try {
       window.localStorage.setItem(name, JSON.stringify(value));
-      this.isKept = true;
+      return true;
     } catch {
-      this.isKept = false;
-      if (!this.isSaid) this.source.refused();
-      this.isSaid = true;
+      return false;
     }
   }
 }

@@ -80,7 +80,8 @@ export function press(page, event) {
   // (arrows move the slider; Home and End go to the run's own, which it may not know yet)
   const isControl = kind === "range" && /^Arrow/.test(key);
   if (isControl) return;
-  const isPressed = /^(BUTTON|SUMMARY)$/.test(target.tagName) && (key === " " || key === "Enter");
+  const isPressable = /^(BUTTON|SUMMARY)$/.test(target.tagName) || kind === "checkbox";
+  const isPressed = isPressable && (key === " " || key === "Enter");
   const held =
     [event.ctrlKey && "Ctrl", event.metaKey && "Meta", event.shiftKey && key.length > 1 && "Shift"];
   const isLetter = key.length === 1 && key !== " ";

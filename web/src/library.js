@@ -1,12 +1,13 @@
 // Where decks come from and go to: the menu of examples and exercises, files, and links.
 
+import {handInForm} from "./answers.js";
 import {byId, make} from "./dom.js";
 import {save} from "./download.js";
 import {readFile} from "./files.js";
 import {job} from "./job.js";
 import {titleOf} from "./keep.js";
-import {linkOf, readLink} from "./links.js";
-import {DEFAULTS} from "./options.js";
+import {exercisePart, linkOf, readLink, taskWith} from "./links.js";
+import {areOptionsOf} from "./options.js";
 import {differenceOf} from "./printouts.js";
 import {Solved} from "./solved.js";
 import {withCommas} from "./word.js";
@@ -25,7 +26,7 @@ const TO_BEGIN = "Beside this is what it is to print. Type, and press Run.";
  *   bySize?: boolean, kinds?: string}} Own
  *
  * An exercise, which has a key, or a task.
- * @typedef {Task & {key?: string, task: string}} Exercise
+ * @typedef {Task & {key?: string, task: string, options?: object}} Exercise
  * @typedef {Own & {key: string, title: string, task?: string, printout?: string}} Example
  * @typedef {{name: string, items: Example[]}} Group of the menu
  *
@@ -71,7 +72,12 @@ export class Library {
           make("optgroup", {label: name}, ...items.map((it) => make("option", {value: it.key}, nameOf(it))))
       )
     );
-    byId("example").value = this.example?.key ?? "";
+    byId("example").value = this.chosenKey;
+  }
+
+  // What of the menu is open: an example, or an exercise with a deck of the reader's own, or "".
+  get chosenKey() {
+    return (this.example ?? this.exercise)?.key ?? "";
   }
 
   get isTask() {
@@ -90,13 +96,10 @@ export class Library {
 
   /** @param {string} key */
   chooseExample(key) {
-    if (!key || !this.mayLeave()) {
-      byId("example").value = this.example?.key ?? "";
-      return;
-    }
+    if (!key || !this.mayLeave()) return this.fillMenu();
     if (key.startsWith(LAST)) return this.openLast(Number(key.slice(LAST.length)));
     history.replaceState(null, "", `#${key}`);
-    this.openExample(key);
+    return this.openExample(key);
   }
 
   // Opens one of the reader's last decks again.
@@ -117,7 +120,7 @@ export class Library {
 
   /** @param {Work} work */
   openWork(work) {
-    this.put(work, null, exerciseOf(work.exercise ? this.find(work.exercise) : null));
+    this.put(work, null, this.exerciseWith(work));
     this.hasWork = true;
     this.desk.keeper.save();
     if (typeof work.number === "number") this.offerState(work.number, "These are your deck and your input.");
@@ -142,16 +145,19 @@ export class Library {
     }
     this.example = example;
     this.exercise = exercise;
-    byId("example").value = (example ?? exercise)?.key ?? "";
     this.desk.put(own);
     this.isChanged = this.hasWork = false;
     this.fillMenu();
     this.showExercise();
   }
 
-  // The deck, the input or an option was changed: what was said of the answer holds no more.
+  // The deck or the input was changed: what was said of the answer holds no more.
   changed() {
     this.isChanged = this.hasWork = true;
+    this.forgetVerdict();
+  }
+
+  forgetVerdict() {
     if (this.exercise) this.showVerdict("", TO_BEGIN);
   }
 
@@ -177,30 +183,31 @@ export class Library {
       reads ? "Input: put data of your own here" : "Input: this deck reads none";
   }
 
-  // What is printed is right: the exercise is solved if the hidden inputs and the conditions are, too.
+  // What is printed is right: the exercise is solved if it is with the exercise's own input and options, and if the
+  // hidden inputs and the conditions are, too.
   /** @param {Exercise} exercise */
   async solveIfRight(exercise) {
-    const {tests = [], conditions = {}} = exercise;
-    if (!tests.length && !Object.keys(conditions).length) return this.solve(exercise);
-    const {deck} = this.desk.job();
+    const {tests = [], conditions = {}, input: wanted = ""} = exercise;
+    const {deck, input, options} = this.desk.job();
+    const isOther = input !== wanted || !areOptionsOf(exercise, options);
+    if (!isOther && !tests.length && !Object.keys(conditions).length) return this.solve(exercise);
     this.showVerdict("", "This is printed. Hidden inputs are tried ..");
     const why = await this.desk.verdict(exercise);
     if (this.exercise !== exercise || this.desk.job().deck !== deck) return undefined;
     if (!why) return this.solve(exercise);
-    this.showVerdict("wrong-answer", `Not yet: just this is printed, but ${why}.`);
+    const what = input === wanted ? "options" : "input";
+    const which = isOther && !why.startsWith("with ") ? `with the ${what} of the exercise ` : "";
+    this.showVerdict("wrong-answer", `Not yet: just this is printed, but ${which}${why}.`);
     return undefined;
   }
 
-  // A name, and a button that saves the answer as a file.
-  handIn() {
-    const kind = {type: "text", id: "answer-name", placeholder: "your name", "aria-label": "Your name"};
-    const name = make("input", kind);
-    const hand = () => this.desk.handIn(name.value);
-    const button = make("button", {type: "button", id: "hand-in", onclick: hand}, "Save answer");
-    return make("p", {class: "hand-in"}, name, button);
-  }
-
   // ---- Exercises
+
+  // The exercise to which a link, or the work that is kept, belongs, or null.
+  /** @param {any} own */
+  exerciseWith(own) {
+    return exerciseOf(own.exercise ? this.find(own.exercise) : null) ?? taskWith(own);
+  }
 
   showExercise() {
     const frame = byId("exercise");
@@ -210,7 +217,7 @@ export class Library {
     frame.replaceChildren(
       make("p", {}, make("b", {}, exercise.key ? "Exercise " : "Task "), exercise.task),
       make("pre", {tabindex: 0, "aria-label": "What it is to print"}, exercise.printout),
-      make("div", {class: "verdict-row"}, make("p", {id: "verdict", role: "status"}), this.handIn())
+      make("div", {class: "verdict-row"}, make("p", {id: "verdict", role: "status"}), handInForm(this.desk.handIn))
     );
     this.showVerdict("", TO_BEGIN, ...this.ownSolution(exercise));
   }
@@ -257,7 +264,6 @@ export class Library {
     if (exercise.key) {
       this.solved.add(exercise.key, this.desk.job().deck);
       this.fillMenu();
-      byId("example").value = exercise.key;
       this.isChanged = false; // (the answer is kept)
     }
     const lost = exercise.key && !this.solved.isKept;
@@ -305,17 +311,13 @@ export class Library {
   /** @param {object} more */
   linkNow(more = {}) {
     const now = this.desk.job();
-    const {example, exercise} = this;
+    const {example} = this;
     const isSame = example && example.deck === now.deck && (example.input ?? "") === now.input &&
-      JSON.stringify(now.options) === JSON.stringify({...DEFAULTS, ...example.options});
+      areOptionsOf(example, now.options);
     const kinds = this.desk.kinds() || undefined;
-    const task = exercise?.key ? {exercise: exercise.key} :
-                                 exercise && {
-      task: exercise.task, printout: exercise.printout, tests: exercise.tests, conditions: exercise.conditions
-    };
     return linkOf({
       ...now,
-      ...task,
+      ...exercisePart(this.exercise),
       kinds,
       example: isSame && !kinds ? example.key : null,
       breakpoints: this.desk.breakpoints(),
@@ -373,9 +375,7 @@ export class Library {
 
   /** @param {any} link */
   openOwn(link) {
-    const own = link.exercise ? this.find(link.exercise) : null;
-    const {task, printout, tests, conditions, input} = link;
-    this.put(link, null, exerciseOf(own) ?? (task ? {task, printout, tests, conditions, input} : null));
+    this.put(link, null, this.exerciseWith(link));
     if (link.number !== null) this.offerState(link.number, "This deck came with the link, and was not run.");
   }
 

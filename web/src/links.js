@@ -9,17 +9,19 @@ const LINK = /^#(deck=|job=)?([\w-]+)(?:@(\d{1,10}))?(?:!(\d[\d,]*))?(;lecture|;
 const SUMMED = /^(#job=.*)~([0-9a-z]{1,7})$/;
 const POLYNOMIAL = 0xedb88320; // of the checksum, CRC-32
 
+/** @typedef {{input: string, options: object}} Given what a task gives: its input, and the options of its runs */
+
 /**
  * @param {{example?: string | null, breakpoints: number[], number: number | null, lecture?: boolean,
  *   embed?: boolean, deck?: string, input?: string, options?: object, kinds?: string, exercise?: string,
- *   task?: string, printout?: string, tests?: object[], conditions?: object}} link
+ *   task?: string, printout?: string, tests?: object[], conditions?: object, given?: Given}} link
  */
 export async function linkOf({example, breakpoints, number, lecture = false, embed = false, ...own}) {
   const tail = `${number === null ? "" : `@${number}`}${
     breakpoints.length ? `!${breakpoints.join(",")}` : ""}${embed ? ";embed" : lecture ? ";lecture" : ""}`;
   if (example) return `#${example}${tail}`;
-  const {deck, input, options, exercise, task, printout, kinds, tests, conditions} = own;
-  const whole = {deck, input, options, exercise, task, printout, kinds, tests, conditions};
+  const {deck, input, options, exercise, task, printout, kinds, tests, conditions, given} = own;
+  const whole = {deck, input, options, exercise, task, printout, kinds, tests, conditions, given};
   const packed = await pack(JSON.stringify(whole));
   const link = `#job=${packed}${tail}`;
   return `${link}~${sumOf(link)}`;
@@ -54,21 +56,54 @@ export async function readLink(hash) {
   if (!found[1]) return {example: found[2], ...more};
   try {
     const own = JSON.parse(await unpack(found[2]));
-    const {deck, input, options, exercise, task, printout, kinds, tests, conditions} = own;
+    const {deck, input, options, exercise, kinds} = own;
     if (typeof deck !== "string" || typeof input !== "string") return {damaged: "it has no deck in it"};
-    const isTask = typeof task === "string" && typeof printout === "string";
     return {
       deck,
       input,
       options: numbersOf(options),
       ...(typeof exercise === "string" ? {exercise} : {}),
-      ...(isTask ? {task, printout, tests: testsOf(tests), conditions: conditionsOf(conditions)} : {}),
+      ...taskPartOf(own),
       ...(typeof kinds === "string" && kinds ? {kinds} : {}),
       ...more
     };
   } catch {
     return {damaged: "what is packed in it can't be unpacked; perhaps it was cut off"};
   }
+}
+
+/**
+ * What a link, or the work that is kept, has of the exercise or the task that it belongs to.
+ * @param {import("./library.js").Exercise | null} exercise
+ */
+export function exercisePart(exercise) {
+  if (!exercise || exercise.key) return {exercise: exercise?.key};
+  const {task, printout, tests, conditions, input = "", options = {}} = exercise;
+  return {task, printout, tests, conditions, given: {input, options}};
+}
+
+// What a link, or the work that is kept, says of a task, or null.
+/**
+ * @param {any} own
+ * @returns {{task: string, printout: string, tests: import("./verify.js").Test[],
+ *   conditions: import("./verify.js").Conditions, given?: Given} | null}
+ */
+function taskPartOf({task, printout, tests, conditions, given}) {
+  if (typeof task !== "string" || typeof printout !== "string" || !task) return null;
+  const its = typeof given?.input === "string" ? {given: {input: given.input, options: numbersOf(given.options)}} : {};
+  return {task, printout, tests: testsOf(tests), conditions: conditionsOf(conditions), ...its};
+}
+
+/**
+ * The task that a link, or the work that is kept, belongs to, or null. Its input and options are those that were
+ * given with it, whatever the reader has put there since.
+ * @param {any} own
+ */
+export function taskWith(own) {
+  const part = taskPartOf(own);
+  if (!part) return null;
+  const {given = {input: String(own.input ?? ""), options: numbersOf(own.options)}, ...task} = part;
+  return {...task, ...given};
 }
 
 // The options of a link or a file that are numbers.

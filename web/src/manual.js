@@ -56,7 +56,9 @@ export class Manual {
     const found = /^(?:(\w[\w-]*)\.md)?(?:#(.*))?$/.exec(link.getAttribute("href") ?? "");
     const deck = /l6\.html(#[\w@!,;-]+)$/.exec(link.getAttribute("href") ?? "");
     event.preventDefault();
-    if (deck)
+    if (deck && location.hash === deck[1])
+      window.dispatchEvent(new Event("hashchange")); // (of the same address the browser says nothing)
+    else if (deck)
       location.hash = deck[1];
     else if (found && (!found[1] || this.pages.some(({name}) => name === found[1])))
       this.show(found[1] ?? this.shown ?? "", found[2]);

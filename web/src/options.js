@@ -48,6 +48,15 @@ export function memoryChosen() {
   return isRight("memory") ? valueOf("memory") * MEBIBYTE : RANGES.memory[1] * MEBIBYTE;
 }
 
+/**
+ * Whether options are those of an example or an exercise.
+ * @param {{options?: object}} own
+ * @param {object} options
+ */
+export function areOptionsOf(own, options) {
+  return JSON.stringify(options) === JSON.stringify({...DEFAULTS, ...own.options});
+}
+
 /** @param {object} options */
 export function showOptions(options) {
   for (const [name, value] of Object.entries({...DEFAULTS, ...options})) byId(name).value = String(value);

@@ -8,6 +8,7 @@ import {Engine} from "./engine.js";
 import {Keeper} from "./keep.js";
 import {press} from "./keys.js";
 import {Library} from "./library.js";
+import {exercisePart} from "./links.js";
 import {Manual} from "./manual.js";
 import {OPTIONS} from "./options.js";
 import {Panes} from "./panes.js";
@@ -80,7 +81,7 @@ class Page extends Typing {
     });
     this.keeper = new Keeper({
       work: () => this.work(),
-      refused: () => this.tell("This browser keeps nothing of your work: save it as a file."),
+      refused: (why) => setTimeout(() => this.tell(why), 0), // (after what is told of a deck that is opened)
     });
     this.panes = new Panes(() => this.viewer.resized());
     this.pictures = new Pictures({
@@ -142,8 +143,23 @@ class Page extends Typing {
       number: this.view?.state.number ?? null,
       breakpoints: [...this.editor.breakpoints],
       kinds: this.viewer.drawing.kinds.code,
-      exercise: this.library.exercise?.key
+      ...exercisePart(this.library.exercise),
+      address: location.hash
     };
+  }
+
+  // Opens what the address says, else what was typed last, else the first deck. What was typed at this very address
+  // is there again where the page is loaded anew; where a link opens something else, it is among the last decks.
+  async begin() {
+    const {library, keeper} = this;
+    const address = location.hash;
+    if (isAgain() && keeper.work()?.address === address) {
+      if (address.endsWith(";lecture")) this.panes.lecture(true);
+      library.restore();
+      return;
+    }
+    if (address.length > 1 && !address.endsWith(";embed")) keeper.list();
+    if (!(await library.openLink()) && !library.restore()) library.welcome();
   }
 
   // ---- Events
@@ -202,11 +218,18 @@ class Page extends Typing {
     window.addEventListener("beforeunload", (event) => {
       if (this.library.isChanged) event.preventDefault();
     });
-    document.addEventListener("dragover", (event) => event.preventDefault());
-    document.addEventListener("drop", (event) => {
-      event.preventDefault();
-      this.openFile(event.dataTransfer?.files[0]);
-    });
+    for (const kind of /** @type {const} */ (["dragover", "drop"]))
+      document.addEventListener(kind, (event) => this.dragged(event));
+  }
+
+  // A file that is dropped is opened. A text goes into the box under it, as everywhere, and elsewhere does nothing.
+  /** @param {DragEvent} event */
+  dragged(event) {
+    const isFile = event.dataTransfer?.types.includes("Files");
+    const isOverBox = event.target instanceof Element && event.target.matches("textarea, input");
+    if (!isFile && isOverBox) return;
+    event.preventDefault();
+    if (event.type === "drop") this.openFile(event.dataTransfer?.files[0]);
   }
 
   numberTyped() {
@@ -225,13 +248,19 @@ class Page extends Typing {
   }
 }
 
+// Whether the page is loaded anew, or is come back to, and no link was followed.
+function isAgain() {
+  const [way] = /** @type {PerformanceNavigationTiming[]} */ (performance.getEntriesByType("navigation"));
+  return way?.type === "reload" || way?.type === "back_forward";
+}
+
 async function begin() {
   const {worker, examples, manual, traps} = window.l6Texts;
   const bytes = await unpacked(byId("module").textContent);
   const engine = new Engine(await WebAssembly.compile(bytes), worker);
   const page = new Page(engine, new Engine(engine.module, worker), {examples, manual, traps});
   window.l6 = page; // (for tests, and for whoever looks inside)
-  if (!(await page.library.openLink()) && !page.library.restore()) page.library.welcome();
+  await page.begin();
   document.body.dataset.ready = "yes";
 }
 

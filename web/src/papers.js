@@ -113,8 +113,14 @@ export class Papers {
     }
   }
 
+  // Where the browser lets nothing be copied, that is said, and the text is selected for the keys that copy.
   async copy() {
-    await navigator.clipboard.writeText(this.text);
-    byId("paper-note").textContent = "copied";
+    try {
+      await navigator.clipboard.writeText(this.text);
+      byId("paper-note").textContent = "copied";
+    } catch {
+      getSelection()?.selectAllChildren(byId("paper"));
+      byId("paper-note").textContent = "The browser did not let it be copied. It is selected; the download has all.";
+    }
   }
 }

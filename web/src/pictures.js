@@ -120,14 +120,19 @@ export class Pictures {
     if (found) saveBlob("drawing.png", await pngOf(found.picture, found.size));
   }
 
-  // Keeps the state that is shown for the handout.
+  // Keeps the state that is shown for the handout, once.
   keep() {
     const [found, view] = [this.drawn(), this.source.view()];
     if (!found || !view) return;
     const {number} = view.state;
     const copy = standalone(found.picture, found.size);
     const title = `State ${withCommas(number)}: ${this.source.says()}`;
-    byId("handout").append(make("figure", {}, make("figcaption", {}, title), copy));
+    const figure = make("figure", {"data-state": number}, make("figcaption", {}, title), copy);
+    const old = byId("handout").querySelector(`[data-state="${number}"]`);
+    if (old)
+      old.replaceWith(figure);
+    else
+      byId("handout").append(figure);
     this.source.tell(`State ${withCommas(number)} will be printed.`);
   }
 

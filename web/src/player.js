@@ -33,8 +33,9 @@ export class Player {
 
   /** @param {() => Promise<void>} go */
   async beat(go) {
+    const {timer} = this;
     await go();
-    if (!this.isPlaying) return;
+    if (this.timer !== timer) return; // (it was paused meanwhile; where it plays again, it has another beat)
     if (this.atEnd()) return this.pause();
     document.body.classList.toggle("quick", Number(byId("speed").value) < QUICK);
     this.timer = setTimeout(() => this.beat(this.step), Number(byId("speed").value));

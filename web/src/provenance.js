@@ -15,8 +15,8 @@ import {follow} from "./chain.js";
  */
 
 /**
- * The pointers that dangle in a view, of bugs and of the blocks that are drawn, and the freed blocks to which
- * they lead where nothing is now.
+ * The pointers that dangle in a view, of bugs that are not hidden and of the blocks that are drawn, and the freed
+ * blocks to which they lead where nothing is now.
  * @param {import("./view.js").View} view
  * @param {Chronicle | null} chronicle
  * @param {number[]} shown
@@ -32,7 +32,8 @@ export function danglingOf(view, chronicle, shown, windows) {
     const life = deadLife(chronicle, key, number);
     if (life) pointers.push({...holder, target: life.place, life, now: chronicle.lifeAt(life.place, number)});
   };
-  for (const [name, value] of view.bugs) if (value) look(name, {bug: name});
+  const {hiddenBugs} = view.draw;
+  for (const [name, value] of view.bugs) if (value && !hiddenBugs.includes(name)) look(name, {bug: name});
   for (const place of shown) {
     const life = chronicle.lifeAt(place, number);
     if (life) for (const window of windows) look(`${life.id} ${window.key}`, {from: place, window});

@@ -16,6 +16,7 @@ import {View} from "./view.js";
 const FAR = 1_000_000;           // the state from which on the way there takes longer than the answers
 const MOST_KEPT = 24_000_000;    // characters of answers whose states are kept
 const MOST_ANSWER = 3_000_000;   // characters of the answers to one question, about
+const NEAR = 3;                  // states that are kept anyhow
 const MOST_OUT = 200_000;        // characters of output that are shown
 const SHORT_WAY = 4096;          // states that are gone through for the breakpoint before
 const MOST_GOES = 100_000;       // in one question
@@ -131,6 +132,12 @@ export class Session {
     return view;
   }
 
+  // How many states that are as large as this one can be kept beside it.
+  /** @param {View} view */
+  roomBeside(view) {
+    return Math.max(1, Math.floor(MOST_KEPT / view.cost) - NEAR);
+  }
+
   /** @param {number} number */
   has(number) {
     return this.views.has(number);
@@ -149,11 +156,15 @@ export class Session {
   // Asks for the states around one, and keeps them.
   /** @param {number} number */
   async fetch(number) {
+    const {hidden} = this;
     const room = Math.max(1, Math.min(number < FAR ? 6 : 60, Math.floor(MOST_ANSWER / this.size)));
     const before = Math.min(number, Math.floor(room / 4));
     const views = await this.look(number - before, room);
     await this.addWords(views);
-    views.forEach((view) => this.keep(view));
+    if (hidden === this.hidden)
+      views.forEach((view) => this.keep(view));
+    else // (a bug was hidden meanwhile, or is shown again)
+      await this.fetch(number);
   }
 
   /**

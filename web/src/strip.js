@@ -285,7 +285,7 @@ export class Strip {
 
   /** @param {number} unit */
   pickUnit(unit) {
-    if (!this.view || unit < 0 || unit >= this.count) return;
+    if (!this.view || !Number.isInteger(unit) || unit < 0 || unit >= this.count) return;
     this.unit = unit;
     this.draw();
   }

@@ -31,20 +31,20 @@ export class TaskMaker {
     byId("task-printout").value = this.source.printed();
   }
 
-  // The conditions as they are written.
+  // The conditions as they are written. One that can't be read is an error.
   conditions() {
-    const [bug, field, length] = byId("task-list").value.trim().toUpperCase().split(/[\s,]+/);
-    return conditionsOf({
-      noLost: byId("task-lost").checked,
-      uses: byId("task-uses").value.trim().toUpperCase(),
-      list: {bug, field, length: length === undefined ? NaN : Number(length)}
-    });
+    const [listed, uses] = ["task-list", "task-uses"].map((id) => byId(id).value.trim().toUpperCase());
+    const [bug, field, length, ...more] = listed.split(/[\s,]+/);
+    const list = {bug, field, length: length === undefined || more.length ? NaN : Number(length)};
+    const found = conditionsOf({noLost: byId("task-lost").checked, uses, list});
+    if (listed && !found.list) throw new Error(`A list is a bug, a field and how many blocks, as L N 5, and not “${listed}”.`);
+    if (uses && !found.uses) throw new Error(`A field that is used is a letter or a digit, and not “${uses}”.`);
+    return found;
   }
 
   // The hidden inputs, each with what the solution prints.
   async tests() {
-    const parts = byId("task-tests").value.split(/^---+\s*$/m).map((it) => it.replace(/^\n/, ""));
-    const inputs = parts.filter((it) => it.trim());
+    const inputs = inputsOf(byId("task-tests").value);
     const tests = [];
     for (const input of inputs) tests.push({input, printout: await this.source.printoutOf(this.solution, input)});
     return tests;
@@ -105,6 +105,12 @@ export class TaskMaker {
     byId("task-dialog").close();
     this.source.open(task);
   }
+}
+
+// The hidden inputs that a text has, between lines of ---. A blank line is part of an input.
+/** @param {string} text */
+export function inputsOf(text) {
+  return text.split(/^---+[ \t]*(?:\n|$)/m).filter((it) => it.trim());
 }
 
 // The task of a file's text, or null.

@@ -3,6 +3,7 @@
 
 import {follow, valueOf} from "./chain.js";
 import {make} from "./dom.js";
+import {chainsOf} from "./group.js";
 import {operationAt} from "./steps.js";
 import {count, withCommas} from "./word.js";
 
@@ -170,21 +171,7 @@ async function freeOf(place, view, session) {
 function chainsAt(deck, state) {
   const operation = operationAt(deck, state);
   const groups = operation ? [operation] : deck.statements[state.statement ?? -1]?.tests ?? [];
-  return groups.flatMap(({elements}) => chainsOf(elements, !operation)).filter((it) => /^[A-Z]/.test(it));
-}
-
-/**
- * @param {string[]} elements
- * @param {boolean} isTest
- */
-function chainsOf(elements, isTest) {
-  const [first, verb = "", third = "", fourth = ""] = elements;
-  if (isTest) return verb.length === 1 ? [first, third] : [first];
-  if (elements.length === 4 && /^D.$/.test(verb)) return [first, third, fourth];
-  if (verb === "FC") return [third];
-  if (["FD", "DO", "PH"].includes(verb) || elements.length === 1) return [];
-  if (/^.[OH]$/.test(verb) && elements.length === 3) return [first];
-  return elements.length < 3 ? [first] : [first, third];
+  return groups.flatMap(({elements}) => chainsOf(elements, !operation));
 }
 
 /**

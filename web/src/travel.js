@@ -7,7 +7,8 @@ import {count, withCommas} from "./word.js";
 
 const SHORT_RUN = 2_000_000; // steps of a run that is made ahead, to know how many states there are
 const LARGE_STATE = 1_000_000; // characters of answers from which on the next states are asked for ahead
-const AHEAD = 3; // states that are asked for ahead, each by a worker of its own
+const AHEAD = 10;  // states that are asked for ahead, if so many can be kept
+const WORKERS = 3; // that ask for them at the same time
 
 /** @typedef {import("./session.js").Session} Session */
 /** @typedef {import("./view.js").View} View */
@@ -48,29 +49,34 @@ export class Travel extends Core {
       const isNear = Math.abs(view.state.number - before.state.number) <= 1;
       const isBack = view.state.number < before.state.number;
       this.show(view, this.view || isNear || isStep ? before : null, isStep ?? isNear);
-      this.engine.most = session.size > LARGE_STATE ? AHEAD : 1;
+      this.engine.most = session.size > LARGE_STATE ? WORKERS : 1;
       if (this.engine.most > 1) setTimeout(() => this.foresee(session, view.state.number, isBack), 0);
     });
   }
 
   /**
    * Of very large states the next ones are asked for while the reader looks at this one, so that steps that follow
-   * at once do not wait for one another.
+   * at once do not wait for one another. Each worker takes one after another, as long as this state is shown: what
+   * the reader asks for meanwhile waits for no more than that.
    * @param {Session} session
    * @param {number} number
    * @param {boolean} isBack
    */
   async foresee(session, number, isBack) {
-    if (session !== this.session || this.view?.state.number !== number || this.player.isPlaying) return;
+    const {view} = this;
+    const isShown = () => session === this.session && view === this.view && !this.player.isPlaying;
+    if (view?.state.number !== number || !isShown()) return;
     this.foreseeing++;
     try {
-      const asked = [];
-      let at = number;
-      for (let ahead = 0; ahead < AHEAD; ahead++) {
+      /** @type {number[]} */
+      const wanted = [];
+      const most = Math.min(AHEAD, session.roomBeside(view));
+      for (let at = number; wanted.length < most; wanted.push(at))
         at = isBack ? await session.steps.back(at) : await session.steps.on(at);
-        asked.push(session.view(at));
-      }
-      await Promise.all(asked);
+      const inTurn = async () => {
+        while (wanted.length && isShown()) await session.view(wanted.shift() ?? number);
+      };
+      await Promise.all(Array.from({length: WORKERS}, inTurn));
     } catch {
       // (it is asked for again where it is wanted)
     }

@@ -107,7 +107,9 @@ export class Typing extends Travel {
   }
 
   optionChanged() {
+    this.pause();
     sayWrongOptions();
+    this.library.forgetVerdict();
     if (this.library.hasWork) this.keeper.typed();
     if (!this.view && !this.session) return;
     this.session = null;

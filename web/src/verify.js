@@ -1,6 +1,7 @@
 // Whether an answer solves a task: what it prints for the input that is seen and for the hidden ones, and what
 // its blocks are like at the end of each run.
 
+import {chainBehind, chainsOf} from "./group.js";
 import {Session} from "./session.js";
 import {seenThrough} from "./word.js";
 
@@ -61,12 +62,11 @@ async function wrongAtEnd(session, {noLost, list, uses}) {
  * @param {string} field
  */
 export function isUsed(reading, field) {
-  /** @type {{elements: string[]}[]} */
-  const groups = reading.statements.flatMap((it) => [...it.tests, ...it.operations]);
-  const isChainOf = (/** @type {string} */ it) =>
-    /^[A-Z][A-Z0-9]{1,5}$/.test(it) && it.slice(1).includes(field);
-  // (the second element is what is done)
-  return groups.some(({elements: [first, verb, ...more]}) => verb !== "PH" && [first, ...more].some(isChainOf));
+  const chains = reading.statements.flatMap(({tests, operations}) => [
+    ...tests.flatMap(({elements}) => chainsOf(elements, true)),
+    ...operations.flatMap(({elements}) => [...chainsOf(elements, false), chainBehind(elements)])
+  ]);
+  return chains.some((it) => it.slice(1).includes(field));
 }
 
 /**

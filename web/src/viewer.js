@@ -108,6 +108,7 @@ export class Viewer {
   forget() {
     this.view = this.before = this.session = null;
     this.drawing.forget();
+    this.showTidy();
     this.strip.latest = undefined;
   }
 
@@ -167,7 +168,10 @@ export class Viewer {
    * @param {Session} session
    */
   async showTrap(view, session) {
-    this.trapTold = null;
+    if (this.trapTold) {
+      this.trapTold = null;
+      this.light();
+    }
     byId("trap").hidden = true;
     byId("trap").replaceChildren();
     if (view.state.ending !== "TRAP") return;
@@ -235,8 +239,12 @@ export class Viewer {
 
   tidy() {
     this.drawing.tidy();
-    byId("tidy").setAttribute("aria-pressed", String(this.drawing.isTidy));
+    this.showTidy();
     this.redraw();
+  }
+
+  showTidy() {
+    byId("tidy").setAttribute("aria-pressed", String(this.drawing.isTidy));
   }
 
   /**

@@ -74,9 +74,9 @@ class Browser:
         os.close(self._from)
         self._folder.cleanup()
 
-    def resize(self, width: int, height: int, dark: bool = False, phone: bool = False) -> None:
-        """Sets the window's size in pixels, and whether the reader likes it dark."""
-        size = {"width": width, "height": height, "deviceScaleFactor": 1, "mobile": phone}
+    def resize(self, width: int, height: int, dark: bool = False, phone: bool = False, dots: int = 1) -> None:
+        """Sets the window's size in pixels, how many dots each has across, and whether the reader likes it dark."""
+        size = {"width": width, "height": height, "deviceScaleFactor": dots, "mobile": phone}
         self._call("Emulation.setDeviceMetricsOverride", **size)
         self._features = {"prefers-color-scheme": "dark" if dark else "light", "prefers-reduced-motion": "reduce"}
         self._media()
@@ -99,6 +99,15 @@ class Browser:
             raise NotBegun(f"the page is not ready within {SECONDS} seconds") from error
         if self.value("document.body.dataset.ready") != "yes":
             raise NotBegun(self.value("document.getElementById('run-note').textContent"))
+
+    def reload(self) -> None:
+        """Loads the page anew, as its reader does, and waits until it is ready."""
+        self.value("l6.library.isChanged = false")  # (or the browser would ask)
+        begun = len(self.events)
+        self._call("Page.reload")
+        while not any(it["method"] == "Page.frameNavigated" for it in self.events[begun:]):
+            self._saw(self._read())  # (nothing can be asked of a page on its way out)
+        self.wait("document.body?.dataset.ready !== undefined")
 
     def value(self, script: str):
         """What a script answers; a promise is waited for."""

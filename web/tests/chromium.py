@@ -29,8 +29,15 @@ import trial_stays  # noqa: E402, F401
 import trial_walks  # noqa: E402, F401
 import trial_views  # noqa: E402, F401
 import trial_outside  # noqa: E402, F401
+import trial_seldom  # noqa: E402, F401
 import trial_looks  # noqa: E402
 import trial_lines  # noqa: E402, F401
+import trial_small  # noqa: E402, F401
+import trial_tasks  # noqa: E402, F401
+import trial_kept  # noqa: E402, F401
+import trial_hands  # noqa: E402, F401
+import trial_letters  # noqa: E402, F401
+import trial_marks  # noqa: E402, F401
 from browser import Browser, NotBegun  # noqa: E402
 from lines import LINES, CountedBrowser  # noqa: E402
 from page import TOP, TRIALS, Page  # noqa: E402
@@ -56,11 +63,13 @@ def canaries(page: Page) -> None:
 
 
 def try_one(page: Page, one: Callable[[Page], None]) -> None:
-    """Does one trial."""
+    """Does one trial. Whatever breaks it, the others are tried."""
     try:
         one(page)
-    except AssertionError as error:
-        page.right("it ends", False, str(error))
+    except NotBegun:
+        raise
+    except Exception as error:
+        page.right("it ends", False, f"{type(error).__name__}: {error}")
 
 
 def try_all(page: Page, trials: list[Callable[[Page], None]], tells: bool) -> None:

@@ -6,6 +6,7 @@
 import {execFileSync} from "node:child_process";
 import {readdirSync, readFileSync} from "node:fs";
 
+import {bytesOf, textOfBytes} from "../src/bytes.js";
 import {follow} from "../src/chain.js";
 import {changesOf, endingOf} from "../src/changes.js";
 import {findingsOf} from "../src/checker.js";
@@ -37,6 +38,11 @@ same("the right half", seenThrough(1026 + 2 ** 18 * 5, {word: 0, first: 18, last
 same("the left half", seenThrough(1026 + 2 ** 18 * 5, {word: 0, first: 0, last: 17}), 5);
 same("all of a word", seenThrough(2 ** 36 - 1, {word: 0, first: 0, last: 35}), 2 ** 36 - 1);
 same("AB is 2146", [textOf(2146), likelyText(2146), likelyText(5)], ["AB", "AB", ""]);
+
+// ---- Bytes: a character that is none is no other character
+
+same("characters as bytes", [...bytesOf("A\u0080\u00ff\u0100\u0129\u0141\uff41")], [65, 128, 255, 255, 255, 255, 255]);
+same("bytes as characters", textOfBytes(Uint8Array.of(65, 128, 255)), "A\u0080\u00ff");
 
 // ---- Decks: the reading of the page has the program's statements, and each finding has its sentence
 

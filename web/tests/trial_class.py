@@ -38,6 +38,9 @@ TRAPS = {  # decks that trap, and what is said of it
     " (PN,PD)\n": "PN: N has no definition here.",
     " (0,DN,18,35)(PN,PD)\n": "PN ends before N: P is 0, no block.",
     GONE: "AN ends before N: A is 1024, whose block was freed at state 5 by (B,FR).",
+    # (a place that was freed three times, of which the latest counts)
+    " (0,DN,18,35)(C,GT,1)(C,FR)(B,GT,1)(B,FR)(B,GT,1)(A,E,B)(B,FR)\n+(C,GT,2)(C,FR)\n (AN,PD)\n":
+        "AN ends before N: A is 1024, whose block was freed at state 11 by (C,FR).",
     " (0,DN,18,35)(B,GT,4)(BN,E,1030)(BNN,PD)\n":
         "BNN ends before N: N of block 1024 is 1030, which was never a block.",
     " (A,GT,2)(B,E,A)(B,A,1)(B,FR)\n": "B is 1025, which is inside the block at 1024.",

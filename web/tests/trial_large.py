@@ -4,7 +4,7 @@ from __future__ import annotations
 from page import Page, trial
 
 MANY = " (0,DN,0,35)\nG (L,GT,1,LN,F)(C,A,1)\n IF (C,L,250000) THEN G\nF DONE\n"
-# The states to which the next three presses of Back lead.
+# The states to which the next ten presses of Back lead.
 AHEAD = """window.ahead = () => {
     const {reading, trail} = l6.session;
     const isSilent = ({statement, action}) => {
@@ -12,7 +12,7 @@ AHEAD = """window.ahead = () => {
         return action === 0 ? !at.condition : action > at.operations.length && !at.exit;
     };
     const found = [];
-    for (let at = l6.view.state.number - 1; found.length < 3; at--)
+    for (let at = l6.view.state.number - 1; found.length < 10; at--)
         if (!isSilent(trail.near(at - 1, -1))) found.push(at);
     return found;
 }"""
@@ -171,22 +171,21 @@ def what_waits(page: Page) -> None:
 
 @trial
 def steps_in_a_large_store(page: Page) -> None:
-    """Of 180,000 blocks a step takes less than 0.3 seconds, also where several follow at once."""
+    """Of 180,000 blocks a step takes less than 0.3 seconds, also where ten follow at once."""
     page.open()
     page.put(" (0,DN,18,35)\nG (L,GT,1,LN)(C,A,1)\n IF (C,L,180000) THEN G\n", store=255, steps=100_000_000)
     page.do("l6.run()")
     page.do("l6.back()")
     page.value(AHEAD)
     took = []
-    for _ in range(3):
-        page.value("(async () => { while (l6.engine.isBusy || l6.isForeseeing) await new Promise(it => setTimeout(it, 50)); })()")
-        page.same("three states are asked for ahead", page.value("ahead().map(it => l6.session.has(it))"), [True] * 3)
-        page.same("by three workers", page.value("l6.engine.others.length"), 2)
-        for _ in range(3):  # (at once)
-            page.right("it is there", page.value("l6.session.has(ahead()[0])"))
-            took.append(page.took(lambda: page.value(
-                "(async () => { await l6.back(); document.body.getBoundingClientRect(); })()")))
-    page.right("a step", sorted(it for it, _ in took)[4] < 300, str([[round(it) for it in both] for both in took]))
+    page.browser.wait("!l6.engine.isBusy && !l6.isForeseeing", 400)  # (ten runs of 1.5 million steps)
+    page.same("ten states are asked for ahead", page.value("ahead().map(it => l6.session.has(it))"), [True] * 10)
+    page.same("by three workers", page.value("l6.engine.others.length"), 2)
+    for _ in range(10):  # (at once)
+        page.right("it is there", page.value("l6.session.has(ahead()[0])"))
+        took.append(page.took(lambda: page.value(
+            "(async () => { await l6.back(); document.body.getBoundingClientRect(); })()"))[0])
+    page.right("each step but one", sorted(took)[-2] < 300, str([round(it) for it in took]))
     page.has("what is not drawn is said", page.text("warnings"), "Not drawn: 179,")
     page.has("and up to where the run is read", page.value("document.getElementById('warnings').title"),
              "The run is read up to state ")

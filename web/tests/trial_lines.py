@@ -80,10 +80,66 @@ def the_camera_glides(page: Page) -> None:
 
 @trial
 def a_clipboard_that_refuses(page: Page) -> None:
-    """The code of a frame is told where it can't be copied."""
+    """The code of a frame is told where it can't be copied, and papers are selected."""
     page.open("#first")
     page.value("navigator.clipboard.writeText = () => Promise.reject(new Error('no'))")
     page.value("document.getElementById('share').open = true")
     page.click("frame-code")
     page.browser.wait("document.getElementById('run-note').textContent.includes('iframe')")
     page.has("its code", page.text("run-note"), "#first@0;embed\"")
+    page.do("l6.papers.open('listing')")
+    page.click("copy")
+    page.browser.wait("document.getElementById('paper-note').textContent.includes('did not let')")
+    page.same("papers are selected", page.value("getSelection().toString().trim()"), page.text("paper").strip())
+
+
+@trial
+def an_answer_that_comes_late(page: Page) -> None:
+    """What was asked of the session before is not kept for the deck that is open now, whenever the answer comes."""
+    page.open("#lost@14")
+    page.value("l6.panes.open('tables'), document.getElementById('over-states').click()")
+    page.browser.wait("l6.viewer.history.samples !== null")
+    page.value("""(() => {
+        const {history} = l6.viewer, {session} = history;
+        window.answers = [];
+        session.totals = () => new Promise(settle => answers.push(settle));
+        history.samples = null;
+        window.drawn = history.draw();
+    })()""")
+    page.browser.wait("answers.length === 1")
+    page.example("queue", 3)
+    page.browser.wait("l6.viewer.history.samples !== null")
+    before = page.value("JSON.stringify(l6.viewer.history.samples)")
+    page.value("answers[0]([{number: 0, used: 1, free: 2, largest: 3}]), drawn")
+    page.same("the samples of the deck that is open", page.value("JSON.stringify(l6.viewer.history.samples)"), before)
+
+
+@trial
+def papers_that_are_too_long_to_show(page: Page) -> None:
+    """Of what is too long to be shown the begin is, with a word; what is downloaded and what is copied has all."""
+    page.open("#first")
+    page.value("""window.kept = [], URL.createObjectURL = it => { kept.push(it); return 'about:blank#'; },
+        HTMLAnchorElement.prototype.click = () => {},
+        navigator.clipboard.writeText = it => { window.copied = it; return Promise.resolve(); }""")
+    page.put(" (A,E,1234567)\nL (A,PD)(PL)(N,A,1)\n IF (N,L,60000) THEN L\n")
+    page.do("l6.papers.open('printout')")
+    page.browser.wait("document.getElementById('paper-note').textContent.includes('exit status')")
+    shown = page.text("paper")
+    page.same("what is shown", [len(shown) < 410_000, shown.endswith(".. (the download has all)")], [True, True])
+    page.click("download")
+    page.click("copy")
+    whole = page.value("kept[0].text()")
+    page.same("what is downloaded", [whole.count("1234567\n"), whole.endswith("STEPS\n")], [60_000, True])
+    page.same("what is copied", page.value("copied.length"), len(whole))
+
+
+@trial
+def characters_without_a_byte(page: Page) -> None:
+    """A character that is no byte is none that cards have, and is taken for no other one."""
+    page.open()
+    for wide in ("\u0141", "\u0441", "\uff21"):
+        page.put(f" ({wide},E,5)(A,PD)\n")
+        page.do("l6.papers.open('printout')")
+        page.browser.wait("document.getElementById('paper-note').textContent !== '..'")
+        page.has(f"a deck with {wide!r}", page.text("paper-note"), "card 1: no reading")
+        page.value("document.getElementById('papers-dialog').close()")

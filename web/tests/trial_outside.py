@@ -55,6 +55,7 @@ def a_frame_of_another_page(page: Page) -> None:
     page.click("frame-code")
     page.browser.wait("window.copied")
     page.has("its code", page.value("copied"), "#reverse@121;embed\"")
+    page.has("which has the whole address", page.value("copied"), f'src="{page.value("location.href").split("#")[0]}#')
 
 
 @trial
@@ -98,7 +99,7 @@ def a_handout(page: Page) -> None:
     put(page, "tree")
     for state in (60, 137):
         page.do(f"l6.state({state})")
-        page.value("l6.pictures.keep()")
+        page.value("l6.pictures.keep(), l6.pictures.keep()")  # (a state that is kept twice is there once)
     page.value("l6.editor.drawCards()")
     page.browser.printing(True)
     shown = "(it => Boolean(document.querySelector(it).offsetHeight))"

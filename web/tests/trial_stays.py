@@ -352,7 +352,7 @@ def a_camera(page: Page) -> None:
     page.same("0 shows all", page.value(spot), fitted)
     page.do("l6.state(60)")
     page.browser.key("0")
-    page.right("0 again shows the blocks that are there now", page.value(spot)[2] >= fitted[2])
+    page.right("0 again shows the blocks that are there now", page.value(spot)[2] > fitted[2])
     page.right("all of them", page.value("l6.viewer.drawing.graph.blocks.every(it => l6.viewer.drawing.camera.sees(it))"))
     page.browser.key("0")
     page.same("and once more all", page.value(spot), fitted)

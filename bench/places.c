@@ -9,7 +9,8 @@
        mix        gets and frees of 1 to 256 places, about half of the memory in blocks
 
    and KIND is proved, lists, or classes, which is the way of S. Aaltonen's OffsetAllocator, written for this: a class of sizes for
-   each float with 3 bits of mantissa, two levels of bits that say which have free pieces, and neighbours that are joined. */
+   each float with 3 bits of mantissa, two levels of bits that say which have free pieces, and neighbours that are joined. With
+   -DWITH_VMA there is vma, too (places_vma.cpp). */
 #include <assert.h>
 #include <stdint.h>
 #include <stdio.h>
@@ -203,6 +204,12 @@ static void classes_free(int64_t place) {
         pieces[piece.after].before = made;
 }
 
+#ifdef WITH_VMA
+void start_vma(int top);
+int64_t vma_get(int level);
+void vma_free(int64_t place);
+#endif
+
 static const struct kind {
     const char *name;
     void (*start)(int top);
@@ -212,6 +219,9 @@ static const struct kind {
     {"proved", start_proved, proved_get, proved_free},
     {"lists", start_lists, lists_get, lists_free},
     {"classes", start_classes, classes_get, classes_free},
+#ifdef WITH_VMA
+    {"vma", start_vma, vma_get, vma_free},
+#endif
 };
 
 static uint64_t one_block(const struct kind *kind, long rounds) {

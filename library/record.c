@@ -5,16 +5,20 @@
        L6_RECORD=calls LD_PRELOAD=./record.so PROGRAM
 
    A line is + ADDRESS SIZE or - ADDRESS, in hexadecimal and decimal. record.py makes a trace of them. The program itself is
-   not changed; a child that it forks records nothing. */
+   not changed; a child that it forks records nothing, and neither does a program that this child becomes. The last line is a
+   point. It is missing where the program was killed or the file can't be written, after which nothing more is recorded; then
+   record.py says so. */
 #define _GNU_SOURCE
 #include <dlfcn.h>
 #include <errno.h>
 #include <fcntl.h>
+#include <malloc.h>
 #include <stdatomic.h>
 #include <stddef.h>
 #include <stdint.h>
 #include <stdlib.h>
 #include <string.h>
+#include <sys/file.h>
 #include <unistd.h>
 
 static void *(*real_malloc)(size_t);
@@ -28,14 +32,17 @@ static size_t early_taken;
 static char lines[1 << 16];
 static size_t count;
 static int file = -1;
+static int is_cut; /* whether a write has failed: what comes after it would be a record with a gap */
 static pid_t owner;
 static atomic_flag busy = ATOMIC_FLAG_INIT;
 
 static void flush(void) {
     for (size_t done = 0; done < count;) {
         ssize_t wrote = write(file, lines + done, count - done);
-        if (wrote < 0 && errno != EINTR)
+        if (wrote < 0 && errno != EINTR) {
+            is_cut = 1;
             break;
+        }
         done += wrote > 0 ? (size_t)wrote : 0;
     }
     count = 0;
@@ -51,14 +58,7 @@ static void put(uint64_t number, unsigned base) {
         lines[count++] = digits[--length];
 }
 
-static void note(char sign, const void *block, size_t size) {
-    if (file < 0 || block == NULL || getpid() != owner)
-        return;
-    int kept = errno;
-    while (atomic_flag_test_and_set(&busy)) {
-    }
-    if (count > sizeof lines - 64)
-        flush();
+static void put_line(char sign, const void *block, size_t size) {
     lines[count++] = sign;
     lines[count++] = ' ';
     put((uintptr_t)block, 16);
@@ -67,6 +67,18 @@ static void note(char sign, const void *block, size_t size) {
         put(size, 10);
     }
     lines[count++] = '\n';
+}
+
+static void note(char sign, const void *block, size_t size) {
+    if (file < 0 || block == NULL || getpid() != owner)
+        return;
+    int kept = errno;
+    while (atomic_flag_test_and_set(&busy)) {
+    }
+    if (count > sizeof lines - 64 && !is_cut)
+        flush();
+    if (!is_cut)
+        put_line(sign, block, size);
     atomic_flag_clear(&busy);
     errno = kept;
 }
@@ -79,18 +91,34 @@ static void look_up(void) {
     real_malloc = (void *(*)(size_t))dlsym(RTLD_NEXT, "malloc");
 }
 
+/* Opens the file, and empties it; or -1. A process that is recorded holds the lock, so one that it starts has none. */
+static int opened(const char *name) {
+    int made = open(name, O_WRONLY | O_CREAT | O_CLOEXEC, 0666);
+    if (made < 0)
+        return -1;
+    if (flock(made, LOCK_EX | LOCK_NB) == 0 && (ftruncate(made, 0) == 0 || errno == EINVAL)) /* EINVAL: it is a pipe */
+        return made;
+    close(made);
+    return -1;
+}
+
 __attribute__((constructor)) static void start(void) {
     const char *name = getenv("L6_RECORD");
     if (real_malloc == NULL)
         look_up();
     owner = getpid();
     if (name != NULL)
-        file = open(name, O_WRONLY | O_CREAT | O_TRUNC | O_CLOEXEC, 0666);
+        file = opened(name);
 }
 
 __attribute__((destructor)) static void end(void) {
-    if (file >= 0 && getpid() == owner)
+    if (file >= 0 && getpid() == owner && !is_cut) {
+        if (count > sizeof lines - 64)
+            flush();
+        lines[count++] = '.';
+        lines[count++] = '\n';
         flush();
+    }
     file = -1;
 }
 
@@ -140,7 +168,17 @@ void *realloc(void *block, size_t size) {
     void *other = real_realloc(block, size);
     if (other != NULL)
         note('+', other, size);
+    else if (size != 0 && block != NULL) /* it was refused, and the block is as before */
+        note('+', block, malloc_usable_size(block));
     return other;
+}
+
+void *reallocarray(void *block, size_t number, size_t size) {
+    if (size != 0 && number > SIZE_MAX / size) {
+        errno = ENOMEM;
+        return NULL;
+    }
+    return realloc(block, number * size);
 }
 
 void *memalign(size_t align, size_t size) {

@@ -32,7 +32,11 @@ class Engine:
             start_new_session=True,
         )
         self._mark = f"mark-{os.urandom(8).hex()}\n".encode()
-        self.first = self._talk(b"")
+        try:
+            self.first = self._talk(b"")
+        except KeyboardInterrupt:  # (nobody else knows this engine)
+            self.stop()
+            raise
 
     def ask(self, line: str) -> str:
         """The answer to a line that has words."""

@@ -15,6 +15,7 @@ def main() -> int:
     """Begins the session; answers the exit status. (Any Python 3 reads this file.)"""
     if sys.version_info < (3, 8):
         os.execv(sys.argv[1], sys.argv[1:])
+    sys.dont_write_bytecode = True  # (where this is installed nothing is added, so that all can be removed)
     sys.path.insert(0, os.path.dirname(os.path.abspath(__file__)))
     from front import play
 

@@ -1,6 +1,6 @@
 # shellcheck shell=sh
 # Finds the program l6 that belongs to the sources of this checkout. This file is sourced, with $top set to
-# the top of the repository; with $program_name set to l6db it finds that program.
+# the top of the repository; with $program_name set to l6db or l6ed it finds that program.
 #
 # A program has a provenance beside it, a file that says what it was made from:
 #
@@ -15,7 +15,10 @@
 # dist/ has programs for several systems. Which of them are tried here is said by candidates().
 # dist/l6.sources has the sum of each source, so that those that differ can be named.
 
-[ "${program_name-}" = l6db ] || program_name=l6
+case ${program_name-} in
+    l6db | l6ed) ;;
+    *) program_name=l6 ;;
+esac
 distributed=${top:?}/dist/$program_name
 built=$top/crates/$program_name/out/$program_name
 source_list=$top/dist/l6.sources
@@ -98,13 +101,10 @@ is_whole() {
 
 # Prints the names of the programs of dist/ that are for this system, those first that are tried first.
 candidates() {
-    case $program_name:$(uname -sm) in
-        l6db:"Linux x86_64") echo l6db l6db-static l6db.mjs ;;
-        l6db:"Linux aarch64") echo l6db-aarch64 l6db.mjs ;;
-        l6db:*) echo l6db.mjs ;;
-        *:"Linux x86_64") echo l6 l6-static l6.mjs ;;
-        *:"Linux aarch64") echo l6-aarch64 l6.mjs ;;
-        *) echo l6.mjs ;;
+    case $(uname -sm) in
+        "Linux x86_64") echo "$program_name $program_name-static $program_name.mjs" ;;
+        "Linux aarch64") echo "$program_name-aarch64 $program_name.mjs" ;;
+        *) echo "$program_name.mjs" ;;
     esac
 }
 
@@ -121,7 +121,7 @@ start() {
 starts() {
     start "$1" --version < /dev/null > /dev/null 2>&1
     case $?:$program_name in
-        64:l6 | 0:l6db) return 0 ;;
+        64:l6 | 0:l6db | 0:l6ed) return 0 ;;
     esac
     return 1
 }

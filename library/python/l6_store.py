@@ -40,7 +40,7 @@ class _Raw(ctypes.Structure):
 
 
 _POINTER, _NUMBER, _WORD = ctypes.POINTER(_Raw), ctypes.c_uint32, ctypes.c_uint64
-_CALLS = {
+_CALLS: dict[str, list[type[ctypes.c_uint32] | type[ctypes.c_uint64]]] = {
     "open": [_NUMBER], "close": [], "get": [_NUMBER], "peek": [_NUMBER], "free": [_NUMBER], "live": [_NUMBER],
     "reset": [], "read": [_NUMBER, _NUMBER], "write": [_NUMBER, _NUMBER, _WORD], "copy": [_NUMBER, _NUMBER],
     "moves": [], "units": [], "free_words": [], "largest": [], "pieces": [_NUMBER], "first": [_NUMBER],

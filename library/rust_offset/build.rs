@@ -1,13 +1,21 @@
-//! Tells where the archive is: in the folder that L6_OFFSET_LIB names, in dist/ of the repository, or where ./install puts it.
+//! Tells where the archive is: in the folder that L6_OFFSET_LIB names, in dist/ of the repository, or where ./install puts it. That of
+//! dist/ is the one for the processor and system that the program is for: without a system, as for a kernel, the one without SSE.
 
 use std::path::Path;
 
 fn main() {
-    let here = std::env::var("CARGO_MANIFEST_DIR").unwrap_or_default();
-    let named = std::env::var("L6_OFFSET_LIB").unwrap_or_default();
+    let of = |name: &str| std::env::var(name).unwrap_or_default();
+    let (here, named) = (of("CARGO_MANIFEST_DIR"), of("L6_OFFSET_LIB"));
+    let kind = match (of("CARGO_CFG_TARGET_ARCH").as_str(), of("CARGO_CFG_TARGET_OS").as_str()) {
+        ("x86_64", "none") => "-nosse".to_string(),
+        ("x86_64", _) => String::new(),
+        (processor, _) => format!("-{processor}"),
+    };
     let dist = format!("{here}/../../dist");
-    let installed = format!("{here}/../../../../lib");
-    let archives = [(&named, "l6_offset.a"), (&dist, "l6_offset.a"), (&installed, "libl6_offset.a")];
+    // (an installed one is for the machine that it is on)
+    let installed = if of("HOST") == of("TARGET") { format!("{here}/../../../../lib") } else { String::new() };
+    let of_kind = format!("l6_offset{kind}.a");
+    let archives = [(&named, "l6_offset.a"), (&dist, &of_kind), (&installed, "libl6_offset.a")];
     if let Some((folder, file)) = archives.iter().find(|(folder, file)| Path::new(folder).join(file).is_file()) {
         println!("cargo:rustc-link-search=native={folder}");
         println!("cargo:rustc-link-lib=static:+verbatim={file}");

@@ -1,6 +1,6 @@
 //! Places without words: an offset allocator by the buddy system, proved. `l6_offset.h` says what each call does; every
 //! method here is one of them. The crate needs no `std`. Its program has the heap, `rattle_alloc` and `rattle_dealloc`, as
-//! `heap.c` or the crate `l6_store` has them.
+//! `heap.c` or the crate `l6_store` has them: with `use l6_store as _;` somewhere in it, a program links the latter.
 #![no_std]
 #![deny(unsafe_op_in_unsafe_fn)]
 

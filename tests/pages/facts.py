@@ -6,7 +6,9 @@ codes, operations, commands, faults and statuses stand in docs/language.md, on t
 the manual page docs/l6.1 and in the program's help. The model has each of them once, written by hand from the
 manual.
 
-Tables of which each row is a deck are run.
+Beside the pages are completions, headers of C and the files for editors: what they say of options, limits, columns and
+findings is compared, too (option_lists.py, page_figures.py, editor_files.py), and so are the versions that programs need
+(page_needs.py) and the papers that texts cite (citations.py).
 """
 from __future__ import annotations
 
@@ -30,7 +32,11 @@ from model import (
     store,
     trace,
 )
+from citations import citations
+from editor_files import editor_files
+from option_lists import option_lists
 from page_figures import figures, in_source
+from page_needs import needs
 from page_tables import TOP, canary, plain, spans_of, table_with, tables_of, text_of
 from trials import Trial, report
 
@@ -232,6 +238,33 @@ def statuses() -> Iterator[Trial]:
     yield "the exit statuses of docs/l6db.1", list(STATUSES), list(found)
     for status, meaning in STATUSES.items():
         yield f"the exit status {status} of docs/l6db.1", meaning, found.get(status, "")[:len(meaning)]
+
+
+# Numbers that pages write as words.
+WORDS = ("no", "one", "two", "three", "four", "five", "six", "seven", "eight", "nine", "ten", "eleven", "twelve")
+
+
+def in_words(program: str) -> Iterator[Trial]:
+    """How many decks the page keeps, and of how many errors of a statement a check tells."""
+    decks = in_source("web/src/keep.js", r"^const MOST_DECKS = (\d+);")
+    for page in ("docs/page.md", "web/src/index.html"):
+        yield f"the last decks in the menu by {page}", [WORDS[decks]], re.findall(
+            r"last (\w+) decks are in the menu", plain(text_of(page)))
+    deck = " (A,ZZ,1)\n" + "+(A,ZZ,1)\n" * (len(WORDS) - 1)
+    told = answer_of([program, "check"], input=deck.encode()).stdout.decode()
+    errors = len(re.findall(r"^\d+:\d+: error: ", told, re.MULTILINE))
+    yield "the errors of a statement by docs/command-line.md", [WORDS[errors]], re.findall(
+        r"up to (\w+) errors of a statement", plain(text_of("docs/command-line.md")))
+
+
+def pools(program: str) -> Iterator[Trial]:
+    """Where places begin behind the rest of a unit, by the recipe of docs/trace.md for a pool of fewer pieces."""
+    recipe = r"for ([\d,]+) pieces, (get rest1 \d+) and (get rest2 \d+), and places begin at ([\d,]+)\."
+    pieces, *rest, place = re.findall(recipe, plain(text_of("docs/trace.md")))[0]
+    trace = "\n".join([*rest, f"get all {pieces}", "get more 1\n"])
+    told = answer_of([program, "trace", "--store", "1"], input=trace.encode()).stdout.decode().splitlines()
+    yield "the pool of docs/trace.md", (f"get all {pieces}: {place}", "get more 1: none"), (
+        told[2].partition(",")[0], told[3].partition(",")[0])
 
 
 def jobs_of_the_model() -> Iterator[Trial]:
@@ -453,6 +486,14 @@ def canaries(program: str) -> Iterator[Trial]:
     yield canary(SUMMARY, "`A` to `Z` 33 to 58", "`A` to `Z` 33 to 59", codes)
     yield canary(LANGUAGE, "| c + cd |", "| c - cd |", arithmetic_and_tests)
     yield canary(SUMMARY, "| c < cd |", "| c > cd |", arithmetic_and_tests)
+    yield canary("library/l6_store.h", "has 1 to 255 units", "has 1 to 256 units", lambda: figures(KNOWN))
+    yield canary("docs/trace.md", "begin at 1792", "begin at 1793", lambda: pools(program))
+    yield canary("CHANGELOG.md", "version 2.34 of the GNU", "version 2.35 of the GNU", needs)
+    yield canary("completions/_l6db", "units, 1 to 255 [8]", "units, 1 to 255 [9]", lambda: option_lists(program))
+    yield canary("docs/l6db.1", ".It Ev PAGER", ".It Ev MORE", lambda: option_lists(program))
+    yield canary("docs/history.md", "Peterson, 1974)", "Peterson, 1975)", citations)
+    yield canary("docs/editors.md", "`gr` lists", "`gt` lists", lambda: editor_files(program))
+    yield canary("editors/vscode/package.json", '"editor.rulers": [72]', '"editor.rulers": [73]', lambda: editor_files(program))
 
 
 def trials(program: str) -> Iterator[Trial]:
@@ -460,11 +501,17 @@ def trials(program: str) -> Iterator[Trial]:
     yield from limits()
     yield from figures(KNOWN)
     yield from jobs_of_the_model()
+    yield from in_words(program)
+    yield from pools(program)
     yield from statuses()
     yield from options(program)
+    yield from option_lists(program)
     yield from traps()
     yield from codes()
     yield from arithmetic_and_tests()
+    yield from needs()
+    yield from citations()
+    yield from editor_files(program)
 
 
 if __name__ == "__main__":

@@ -54,6 +54,7 @@ FILE = re.compile(rf"[\w.-]*(?:/[\w.-]+)*\.(?:{SUFFIXES})")
 OF_READERS = re.compile(r"my[.-].*|first\.image|.*\b(?:NAME|SUBJECTS?)\b.*|out/.*|.*/out/.*")
 IDENTIFIER = re.compile(r"[a-z][a-z0-9]*(?:_[a-z0-9]+){2,}")
 WORD = re.compile(r"\w+")
+VARIABLE = re.compile(r"\bL6[A-Z]*_[A-Z][A-Z_]*\b")
 CALL = re.compile(r"\b[A-Z]\w+(?:::\w+)+")
 LINK = re.compile(r"\]\((?!https?:)([^)#\s]*)(?:#([^)\s]*))?\)")
 # Words in quotation marks that name no trial, and a name that is made up.
@@ -163,6 +164,15 @@ def paths() -> Iterator[Trial]:
             if FILE.fullmatch(span) and not OF_READERS.fullmatch(span) and not span.startswith("."):
                 is_there = any(path.endswith(f"/{span}") for path in known) or is_a_command_line(span)
                 yield f"{page}: the file {span}", True, is_there
+
+
+def folders() -> Iterator[Trial]:
+    """The page of a folder of ours names each file in it."""
+    for folder in ("tools", "ports"):
+        there = sorted(it.name for it in (TOP / folder).iterdir() if it.is_file() and it.name != "README.md")
+        spans = set(spans_of(text_of(f"{folder}/README.md")))
+        named = {word for span in spans for word in span.split()}
+        yield f"files of {folder}/ that its page does not name", [], [it for it in there if it not in named]
 
 
 def is_a_command_line(span: str) -> bool:
@@ -315,6 +325,7 @@ def canaries(program: str) -> Iterator[Trial]:
     yield canary("docs/robustness.md", "`perform`, `unwritten`", "`perform`, `unsaid`", calls_of_types)
     yield canary("docs/architecture.md", "`Window::take`", "`Window::grab`", calls_of_types)
     yield canary("docs/proof.md", "(`tests/program/hostile.py`,", "(`tests/program/hostility.py`,", paths)
+    yield canary("ports/README.md", "| `command.js` |", "| `commands.js` |", folders)
     yield canary(CONTRACTS, "`word_of_37_bits`", "`word_of_38_bits`", contracts)
     yield canary(CONTRACTS, "| `Region::read` |", "| `Region::look` |", contracts)
     yield canary(CONTRACTS, "| `bytes` | `transfer_", "| `octets` | `transfer_", contracts)
@@ -332,14 +343,26 @@ def canaries(program: str) -> Iterator[Trial]:
     yield canary(PAGE, "step to state 13", "step to state 12", lambda: lessons(program))
 
 
+def variables() -> Iterator[Trial]:
+    """The variables and macros of ours that pages name are in the code."""
+    code = "\n".join(text for file, text in files().items() if file.suffix != ".md")
+    others = [*(TOP / "library").glob("*.h"), *(TOP / name for name in ("install", "l6", "l6db", "l6ed", "test"))]
+    code += "\n".join(file.read_text("utf-8") for file in others)
+    known = set(VARIABLE.findall(code))
+    for page in (*PAGES, "docs/l6.1", "docs/l6db.1", "docs/l6ed.1", "ports/README.md"):
+        yield f"variables that {page} names, and that are nowhere", [], sorted(set(VARIABLE.findall(text_of(page))) - known)
+
+
 def trials(program: str) -> Iterator[Trial]:
     """All trials."""
     yield from trial_names()
     yield from identifiers()
     yield from calls_of_types()
     yield from paths()
+    yield from folders()
     yield from contracts()
     yield from named_defects()
+    yield from variables()
     yield from links()
     yield from contents()
     yield from counting_commands()

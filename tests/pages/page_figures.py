@@ -5,7 +5,8 @@ A limit is a number after words as "at most" or "up to", or between two numbers 
 
     at most 65,535<!-- fact: most_repeats --> times
 
-Blocks, spans of code and tables are left out: examples are run, and tables are compared row by row.
+Blocks, spans of code and tables are left out: examples are run, and tables are compared row by row. Of a header of C the
+comments are read.
 """
 from __future__ import annotations
 
@@ -18,6 +19,7 @@ from trials import Trial
 
 PAGES = (
     "README.md", "CONTRIBUTING.md", "ports/README.md", "web/README.md", "docs/l6.1", "docs/l6db.1",
+    "library/l6_store.h", "library/l6_offset.h",
     *(f"docs/{name}.md" for name in (
         "allocator", "answers", "command-line", "debugger", "history", "image", "l6db", "language", "library", "listing", "page",
         "places", "proof", "robustness", "summary", "trace")),
@@ -49,6 +51,22 @@ FACTS = {
     "alignment": in_source("library/heap.c", r"aligned to (\d+) bytes"),
 }
 
+
+def largest_top_of_the_array() -> int:
+    """The largest top of a store that the array of library/array_heap.c has the bytes for."""
+    units = in_source("library/array_heap.c", r"UNITS = (\d+)")
+    a_unit, more = (in_source("library/array_heap.c", rf"room\[{it}\];") for it in (
+        r"(\d+) \* \(UNITS \+ 1\) \+ \d+", r"\d+ \* \(UNITS \+ 1\) \+ (\d+)"))
+    header = "library/l6_offset.h"
+    a_place = in_source(header, r"L6_OFFSET_BYTES\(top\) \(\(\(uint64_t\)(\d+) << \(top\)\) \+ \d+\)")
+    others = in_source(header, r"L6_OFFSET_BYTES\(top\) \(\(\(uint64_t\)\d+ << \(top\)\) \+ (\d+)\)")
+    room = a_unit * (units + 1) + more
+    return max(top for top in range(FACTS["largest_top"] + 1) if (a_place << top) + others <= room)
+
+
+# A search for the largest piece asks each level below the top, and of each of those the levels below it.
+STEPS_OF_A_PIECE = FACTS["largest_top"] * (FACTS["largest_top"] + 1) // 2
+
 # Sentences with a limit, for which # stands: the page, and the number.
 TIED: list[tuple[str, str, int]] = [
     ("docs/allocator.md", "for a block of level k: up to #,", operations.SIZE_LIMIT),
@@ -64,6 +82,7 @@ TIED: list[tuple[str, str, int]] = [
     ("docs/l6db.1", "the first # lines, or all", FACTS["most_drawn"]),
     ("docs/library.md", "1 to # units of 1,024 words", 255),
     ("docs/library.md", "a power of two up to #.", FACTS["alignment"]),
+    ("docs/places.md", "that array serves one store of a top of #, opened once", largest_top_of_the_array()),
     ("docs/page.md", "Of a very long run the first # states are read", FACTS["most_states"]),
     ("docs/proof.md", "at least # have a line that names the slip", FACTS["named_slips"]),
     ("docs/trace.md", "No block has more than # words.", operations.SIZE_LIMIT),
@@ -73,6 +92,16 @@ TIED: list[tuple[str, str, int]] = [
     ("docs/l6.1", "The largest block has 2^K smallest pieces, 0 to #;", 20),
     ("docs/l6.1", "or was interrupted more than # times", 1_000),
     ("docs/language.md", "for the ASCII codes 32 to #.", 32 + 63),
+    ("docs/places.md", "and piece at most # times", STEPS_OF_A_PIECE),
+    ("library/l6_store.h", "A store has 1 to # units", 255),
+    ("library/l6_store.h", "A block of level k, 0 to #,", FACTS["largest_level"]),
+    ("library/l6_store.h", "the word takes more than # bits", (characters.WORD_LIMIT - 1).bit_length()),
+    ("library/l6_store.h", "BAD_LEVEL, above # words", operations.SIZE_LIMIT),
+    ("library/l6_store.h", "It halves a piece at most # times", FACTS["largest_level"]),
+    ("library/l6_store.h", "joins its piece at most # times", FACTS["largest_level"]),
+    ("library/l6_offset.h", "A top is at most #,", FACTS["largest_top"]),
+    ("library/l6_offset.h", "a top above #,", FACTS["largest_top"]),
+    ("library/l6_offset.h", "a step for each two levels: #.", STEPS_OF_A_PIECE),
 ]
 # What looks like a limit and is none, with the reason: it is matched by a phrase of the page.
 NO_LIMITS: dict[str, list[str]] = {
@@ -86,7 +115,9 @@ NO_LIMITS: dict[str, list[str]] = {
     # (how it was before)
     "docs/history.md": ["at most 128 words, as", "up to 2,047 of them", "more than 128 words, which"],
     "docs/library.md": ["0 or more", "below 0"],
-    "docs/places.md": ["below 0", "at most 300 times"],
+    "docs/places.md": ["below 0"],
+    "library/l6_store.h": ["0 or more", "below 0"],
+    "library/l6_offset.h": ["0 or more", "below 0"],
     "docs/robustness.md": ["at most 64 KiB", "at most 18 machines", "up to 300 times"],
     "docs/answers.md": ["bits 30 to 35"],
     # (bits, which format_pages.py tries)
@@ -102,6 +133,8 @@ def sentences_of(page: str) -> str:
     if page.endswith(".1"):
         lines = [line for line in text.splitlines() if not line.startswith('.\\"')]
         text = " ".join(re.sub(r"^\.[A-Z]\w ?(?:\w+ )?", "", line) for line in lines)
+    if page.endswith(".h"):
+        text = " ".join(re.findall(r"/\*(.*?)\*/", text, re.DOTALL))
     text = "\n".join(line for line in text.splitlines() if not line.lstrip().startswith("|"))
     marked = MARK.sub("", text)
     return plain(re.sub(r"\]\([^)]*\)", "]", re.sub(r"<!--.*?-->", "", marked, flags=re.DOTALL)))

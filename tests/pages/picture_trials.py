@@ -11,6 +11,7 @@ Each difference is printed. The last line is 'N passed, M failed'.
 from __future__ import annotations
 
 import re
+import subprocess
 import sys
 import tempfile
 import xml.etree.ElementTree
@@ -26,6 +27,8 @@ from transcripts import drawings_and_maps
 from trials import Trial, report
 
 DOCS = [TOP / "README.md", *sorted((TOP / "docs").glob("*.md"))]
+RECORDED = ["python-calls.svg", "git-calls.svg", "sqlite3-calls.svg"]  # programs, in the order of the table of docs/trace.md
+OTHERS = {"editor.svg", *RECORDED}  # of no transcript: tests/program/editors.py compares the first with what the server says
 SVG = "{http://www.w3.org/2000/svg}"
 
 # A transcript, and the texts that were worked out by hand for it. Its program has printed what looks like
@@ -214,7 +217,10 @@ def committed() -> Iterator[Trial]:
             lines = re.findall(r"^\d+ (?!free)\S+, words (\d+)$", text, re.MULTILINE)
             shown = [size for kind, size in shown_stretches(picture) if kind == "block"]
             yield f"the blocks of {name}", list(map(int, lines)), shown
-    yield "the files of docs/pictures/", sorted(names), sorted(it.name for it in PICTURES.iterdir())
+    yield "the files of docs/pictures/", sorted(names | OTHERS), sorted(it.name for it in PICTURES.iterdir())
+    kinds = {re.sub(r"^[a-z]+", "NAME", re.sub(r"\d+", "N", it)) for it in names - {"README.md"}}
+    listed = re.findall(r"^\| `(\S+)` \|", (PICTURES / "README.md").read_text("utf-8"), re.MULTILINE)
+    yield "the kinds of files that docs/pictures/README.md lists", sorted(kinds), sorted(listed)
 
 
 def remade(name: str, picture: str) -> Trial:
@@ -252,6 +258,37 @@ def layout(file: Path, text: str) -> Iterator[Trial]:
     picture = file.read_text("ascii")
     yield f"the places of {file.name}", places, [it for it in drawn_words(picture) if it in places]
     yield f"the arrows of {file.name}", arrows, arrows_in(picture)
+
+
+def recorded() -> Iterator[Trial]:
+    """The trials that the pictures of recorded programs have the calls, and at most the places, that a table says.
+
+    But for numbers and lines they are what library/draw.py draws, with its names in its colours.
+    """
+    drawing = [sys.executable, "-B", str(TOP / "library/draw.py"), "--levels", "4", "--units", "1"]
+    drawn = subprocess.run(drawing, input="get a 2 = 16\n", capture_output=True, text=True, check=False).stdout
+    strokes = re.findall(r'<polyline .*?stroke="(#\w+)"', drawn)
+    names = re.findall(r'fill="(#\w+)">(places in [a-z ]+)<', drawn)
+    yield "the colours of names", sorted(zip(strokes, ("places in the largest free piece", "places in blocks"))), sorted(names)
+    page = (TOP / "docs/trace.md").read_text("utf-8")
+    rows = re.findall(r"^\| \w+, .* \| ([\d,]+) \| ([\d,]+) \| ([\d,]+) \| [\d,]+ \|$", page, re.MULTILINE)
+    yield "programs in the table of docs/trace.md", len(RECORDED), len(rows)
+    for name, row in zip(RECORDED, rows):
+        gets, frees, most = (int(number.replace(",", "")) for number in row)
+        root = xml.etree.ElementTree.fromstring((PICTURES / name).read_text("ascii"))
+        yield f"{name}: its frame", framed(drawn), framed((PICTURES / name).read_text("ascii"))
+        yield f"{name}: its calls", f"{gets + frees} calls", root.findtext(f"{SVG}title", "").partition(" in ")[0]
+        box = next(it for it in root.iter(f"{SVG}rect") if it.get("fill") == "none")
+        high, above = (float(box.get(of, "")) for of in ("height", "y"))
+        numbers = [int(it.text or "") for it in root.iter(f"{SVG}text") if (it.text or "").isdigit()]
+        line = list(root.iter(f"{SVG}polyline"))[1].get("points", "").split()
+        shown = (above + high - min(float(point.partition(",")[2]) for point in line)) * max(numbers) / high
+        yield f"{name}: the most places in blocks", True, abs(shown - most) < max(numbers) / high / 8
+
+
+def framed(picture: str) -> list[str]:
+    """The lines of a picture of a recorded program without their numbers and points."""
+    return re.sub(r'points="[^"]*"', "", re.sub(r">[\d ]*\d|in \d+", ">0", picture)).splitlines()
 
 
 # How a picture's description begins that says how many words or blocks it shows.
@@ -324,10 +361,12 @@ def canaries() -> Iterator[Trial]:
     yield from pictures_that_are_wrong()
     with mock.patch.object(sys.modules[__name__], "DOCS", DOCS[:1]):
         yield next(it for it in shown() if it[0] == "the pictures that documents show")
+    with mock.patch.object(sys.modules[__name__], "RECORDED", RECORDED[::-1]):
+        yield from (it for it in recorded() if it[1] != it[2])
     wrong = list(described("a picture", "Four words with the fields C and X", texts["hand.svg"]))
     yield from wrong
     yield "a wrong description", len(wrong) != 2, True  # (a canary must fail)
 
 
 if __name__ == "__main__":
-    sys.exit(report(chain(handmade(), refusals(), committed(), shown()), canaries()))
+    sys.exit(report(chain(handmade(), refusals(), committed(), recorded(), shown()), canaries()))

@@ -320,7 +320,7 @@ def one_by_one(program: str, folder: Path) -> Iterator[Trial]:
     ) as process:
         assert process.stdin and process.stdout
         lines = [process.stdout.readline() for _ in range(2)]
-        for line, first in ((b"p A", b"A = 0 "), (b"delete 1", b"No breakpoint at 1 "), (b"set A", b"A run is")):
+        for line, first in ((b"p A", b"A = 0 "), (b"delete 1", b"No breakpoint is left at 1 "), (b"set A", b"A run is")):
             process.stdin.write(line + b"\n")
             process.stdin.flush()
             yield f"the answer to {line.decode()}", first, process.stdout.readline()[:len(first)]
@@ -390,7 +390,7 @@ def habits(program: str, folder: Path) -> Iterator[Trial]:
 
 LIST_OF_COMMANDS = TOP / "crates/l6_session/specs/Command.antt"
 ROW = re.compile(r'^row_of (\w+) =\n    row "([^"]+)" "([^"]+)" "([^"]+)"\n    "([^"]+)"$', re.MULTILINE)
-COMMANDS, COMMAND_WORDS = 49, 95  # how many commands there are, and how many words they have
+COMMANDS, COMMAND_WORDS = 49, 96  # how many commands there are, and how many words they have
 
 
 @dataclass(frozen=True)
@@ -426,6 +426,33 @@ def manual_words(page: str) -> list[str]:
     for part in re.findall(r"Ic (.*?)(?= Ar | Op | Ic |$)", "\n".join(items), re.MULTILINE):
         words += [word.replace("\\&", "") for word in part.split(" , ")]
     return [word.strip(" ,") for word in words]
+
+
+# What pages say of commands in words: the page, its words, the lines that show it, and what is shown last then.
+SAYINGS = [
+    ("l6db.1", "without a place all of them, and watch nothing", "b 1\nb 2\nwatch A\ninfo\ndelete\ninfo", []),
+    ("l6db.md", "without PLACE there is no breakpoint left, and nothing is watched", "b 1\nb 2\nwatch A\ndelete\ninfo", []),
+    ("l6db.md", "N is the number that info shows, and what comes after it has another one then",
+     "watch A\nwatch B\nwatch C\nunwatch 1\nunwatch 2\ninfo", ["watch 1: B"]),
+]
+
+
+def sayings(program: str, folder: Path) -> Iterator[Trial]:
+    """What the pages say of some commands in words is so; and the status of a batch in which one was refused."""
+    deck = str(folder / "nested.deck")
+    for name, words, lines, expected in SAYINGS:
+        said = " ".join((TOP / "docs" / name).read_text("utf-8").replace("`", "").split())
+        shown = said_to(program, deck, lines).splitlines()
+        already = said_to(program, deck, lines.rpartition("\n")[0]).splitlines()
+        listed = [it.partition(" = ")[0] for it in shown[len(already):]]
+        yield f"{name}: {words}", (True, expected), (words in said, [it for it in listed if it.startswith(("watch", "break"))])
+    ended = subprocess.run([program, "--batch", deck], input=b"", capture_output=True).returncode
+    script = folder / "refused.commands"
+    script.write_text("nothing\n", "ascii")
+    refused = subprocess.run([program, "--batch", "-x", str(script), deck], input=b"", capture_output=True).returncode
+    changes = " ".join((TOP / "CHANGELOG.md").read_text("utf-8").split())
+    told = re.findall(r"a batch in which a command was refused has the exit status (\d)", changes)
+    yield "the status of a batch by CHANGELOG.md", (0, [str(refused)]), (ended, told)
 
 
 def one_list(program: str, folder: Path) -> Iterator[Trial]:
@@ -524,6 +551,7 @@ def trials(program: str) -> Iterator[Trial]:
         yield from words(program, folder)
         yield from habits(program, folder)
         yield from one_list(program, folder)
+        yield from sayings(program, folder)
         yield from page_sessions(program, folder)
         yield from readme(program, folder)
         yield from refused_memory(program, folder)

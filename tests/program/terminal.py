@@ -24,6 +24,7 @@ from collections.abc import Iterator
 from pathlib import Path
 
 sys.path.insert(0, str(Path(__file__).resolve().parents[1] / "harness"))
+from l6db import LIST
 from terminals import SECONDS, Pseudoterminal
 from trials import Trial, groups_asked_for, report
 
@@ -32,15 +33,7 @@ FRONT = [sys.executable, "-I", str(TOP / "terminal/l6db.py")]
 PROMPT = b"(l6db) "
 AFTER_A_KEY = 0.3  # seconds: a signal right after a key, before readline waits again, shows at the next key alone
 FEW, MANY = 6, 50  # commands that are stopped at random moments
-LIST = b"""* A LIST OF TWO BLOCKS, WHICH IS PRINTED
-       (0,DV,0,17)(0,DN,18,35)
-MAKE   (L,GT,1)(LV,E,7)
-       (M,GT,1)(MV,E,8)(LN,E,M)
-       (SHOW,DO) DONE
-SHOW   (K,E,L)
-NEXT   IF (K,E,0) THEN DONE
-       (KV,PD)(PL)(K,E,KN) NEXT
-"""
+MOST_SOURCES = 1_000  # files that are obeyed for one line
 SPIN = b"""* COUNTS FOR EVER
        (A,E,0)
 LOOP   (A,A,1)(B,E,A)
@@ -122,8 +115,9 @@ def editing(bench: Bench) -> Iterator[Trial]:
     terminal = bench.begin()
     yield terminal.has("the history of the session before", b"\x10\r", b"Breakpoint at 5 NEXT")
     terminal.end()
-    mode = (bench.folder / "state/l6/l6db_history").stat().st_mode & 0o777
-    yield "who may read the history", 0o600, mode
+    for name, mode in (("l6db_history", 0o600), (".", 0o700)):  # (some libraries have the file's mode from the mask alone)
+        kept = bench.folder / "state/l6" / name
+        yield f"who may read the history: {kept.name}", mode, kept.stat().st_mode & 0o777
 
 
 def files(bench: Bench) -> Iterator[Trial]:
@@ -160,9 +154,39 @@ def files(bench: Bench) -> Iterator[Trial]:
     shown = told.answer(b"info")
     yield "displays that were taken off do not come back", [0, 0], [shown.count(it) for it in (b": K", b": L")]
     told.end()
+    at = bench.deck.stat().st_mtime_ns
+    bench.deck.write_bytes(LIST.replace(b"(LV,E,7)", b"(LV,E,9)"))
+    os.utime(bench.deck, ns=(at, at - at % 1_000_000_000 + (at + 1_000_000) % 1_000_000_000))
+    yield terminal.has("a deck of as many bytes, changed within a second", b"s 0\r", b"has changed")
     yield terminal.has("source of no file", b"source nothing\r", b"nothing: No such file")
     yield terminal.has("save into no folder", b"save no/where\r", b"no/where: No such file")
     terminal.end()
+
+
+def sources(bench: Bench) -> Iterator[Trial]:
+    """Files that name further ones, or themselves, and one that ends the session."""
+    own, outer, inner, last = (bench.folder / f"{name}.lines" for name in ("own", "outer", "inner", "last"))
+    own.write_text(f"si\nsource {own}\nsi\n", "utf-8")
+    outer.write_text(f"# a comment\n\nsource {inner}\nb SHOW\n", "utf-8")
+    inner.write_text("b MAKE\n", "utf-8")
+    last.write_text("b MAKE\nquit\nb SHOW\n", "utf-8")
+    terminal = bench.begin()
+    shown = terminal.answer(f"source {outer}".encode())
+    yield "a file that names another one", True, shown.find(b"Breakpoint at 1 MAKE") < shown.find(b"Breakpoint at 4 SHOW")
+    yield "a comment in a file", False, b"a comment" in shown
+    shown = terminal.answer(f"source {own}".encode())
+    said = b"own.lines: 1000 files were obeyed before it"
+    yield "a file that names itself", (MOST_SOURCES, True), (shown.count(b"\nsi\r"), said in shown)
+    yield terminal.has("the session after it", b"info\r", b"break 4 SHOW")
+    yield terminal.has("no line of it is left", b"stats\r", b"STATE ")
+    yield "a file in which the session ends", (True, False, 0), ended_by(terminal, f"source {last}\r".encode())
+
+
+def ended_by(terminal: Terminal, keys: bytes) -> tuple[bool, bool, int]:
+    """Of keys that end a session: whether one breakpoint is set, whether another one is, and the status."""
+    terminal.give(keys)
+    shown = terminal.until(b"quit\r\n") + terminal.until(PROMPT)
+    return b"Breakpoint at 1 MAKE" in shown, b"Breakpoint at 4 SHOW" in shown, terminal.status()
 
 
 def stops(bench: Bench) -> Iterator[Trial]:
@@ -198,6 +222,42 @@ def stops(bench: Bench) -> Iterator[Trial]:
     while processes_of(bench.engine) & engines and time.monotonic() < end:
         time.sleep(0.05)
     yield "an engine whose front end was killed", set(), processes_of(bench.engine) & engines
+
+
+def stopped_reloads(bench: Bench) -> Iterator[Trial]:
+    """Ctrl-C while a deck is read again leaves the session with the one before, and no further engine; so in a file."""
+    begun, lines = bench.folder / "begun.commands", bench.folder / "long.lines"
+    begun.write_bytes(b"")
+    lines.write_bytes(b"watch C\nrc\nb 1\n")
+    terminal = bench.begin("--steps", "1000000000", "-x", begun, bench.spin)
+    terminal.answer(b"tb 0")
+    terminal.answer(b"goto 999999999")
+    before, engines = settled(terminal), processes_of(bench.engine)
+    bench.spin.write_bytes(SPIN.replace(b"COUNTS", b"WILL COUNT"))
+    for name, further in (("on the way to its state", b""), ("as it begins", b"end\nstart\n" * 5)):
+        begun.write_bytes(further)
+        for line in (b"reload", b"run"):
+            stopped = stopped_at_once(terminal, line, b"still with the deck before")
+            yield f"Ctrl-C in {line.decode()}, {name}", True, stopped
+            yield f"the session after {line.decode()}, {name}", before, settled(terminal)
+            yield f"the engines after {line.decode()}, {name}", engines, processes_of(bench.engine)
+    yield "Ctrl-C in a command of a file", True, stopped_at_once(terminal, f"source {lines}".encode(), b"as before")
+    yield "the line after it", False, b"break 1" in terminal.answer(b"info")
+    terminal.end()
+    starting = Terminal([*FRONT, bench.engine, "-x", str(begun), "--steps", "1000000000", str(bench.spin)])
+    shown = starting.until(b"Ctrl-C stops")
+    starting.give(b"\x03")
+    shown += starting.until(PROMPT)
+    yield "Ctrl-C before the first prompt", (False, 130), (b"Traceback" in shown, starting.status())
+
+
+def stopped_at_once(terminal: Terminal, line: bytes, text: bytes) -> bool:
+    """Whether Ctrl-C in the midst of what a line asks for has a text shown, and the prompt."""
+    terminal.give(line + b"\r")
+    terminal.until(b"Ctrl-C stops the command")
+    terminal.give(b"\x03")
+    shown = terminal.until(text)
+    return (shown + terminal.until(PROMPT)).endswith(PROMPT) and shown.endswith(text)
 
 
 def settled(terminal: Terminal) -> tuple[bytes, list[bytes]]:
@@ -242,6 +302,14 @@ def terminals(bench: Bench) -> Iterator[Trial]:
     yield "the columns that are marked in view", True, marked in terminal.until(marked)
     terminal.until(PROMPT)
     terminal.end()
+    long, last = bench.folder / "long.deck", b">  12  (A,A,1)"
+    long.write_bytes(b" (A,A,1)\n" * 12)
+    terminal = bench.begin(long)
+    terminal.answer(b"view")
+    terminal.give(b"until 11\r")
+    yield "the last card in view", True, last in terminal.until(last)
+    terminal.until(PROMPT)
+    terminal.end()
     for name, no_color, is_painted in (("a terminal with colours", "", True), ("NO_COLOR", "1", False)):
         terminal = bench.begin(NO_COLOR=no_color)
         yield name, is_painted, b"\x1b[1mAT 0.1" in terminal.answer(b"si")
@@ -264,7 +332,8 @@ def faults(bench: Bench) -> Iterator[Trial]:
 def launcher(bench: Bench) -> Iterator[Trial]:
     """./l6db chooses the front end, rlwrap or the engine; scripts see the engine alone."""
     state = {"XDG_STATE_HOME": str(bench.folder / "state")}
-    words = [str(TOP / "l6db"), str(bench.deck)]
+    words = [str(TOP / "l6db"), str(bench.folder / "a deck of * mine.deck")]
+    Path(words[1]).write_bytes(LIST)
     terminal = Terminal(words, **state)
     terminal.until(PROMPT)
     yield terminal.has("./l6db with Python", b"b NEX\t\r", b"Breakpoint at 5 NEXT")
@@ -289,7 +358,7 @@ def launcher(bench: Bench) -> Iterator[Trial]:
     if shutil.which("rlwrap"):
         for name in ("rlwrap", "perl"):
             (tools / name).symlink_to(shutil.which(name) or name)
-        terminal = Terminal(words, PATH=str(tools), **state)
+        terminal = Terminal(words, PATH=str(tools), XDG_STATE_HOME=str(bench.folder / "of rlwrap"))
         terminal.until(PROMPT)
         yield terminal.has("./l6db with rlwrap", b"si\r", b"AFTER 1 STEPS")
         yield terminal.has("rlwrap completes a command", b"finis\t\r", b"No call waits")
@@ -297,6 +366,8 @@ def launcher(bench: Bench) -> Iterator[Trial]:
         terminal.give(b"\x03")
         yield terminal.has("Ctrl-C with rlwrap", b"stats\r", b"STATE 1 ")
         terminal.end()
+        kept = bench.folder / "of rlwrap/l6/l6db_history"
+        yield "the history of rlwrap", True, kept.is_file() and "stats\n" in kept.read_text("utf-8")
     else:
         print("skipped: rlwrap: it is missing")
     terminal = Terminal([words[0], "--echo", words[1]], **state)
@@ -304,8 +375,27 @@ def launcher(bench: Bench) -> Iterator[Trial]:
     terminal.give(b"view\r\x04")
     yield "./l6db --echo at a terminal is the engine alone", True, b"Not a command" in terminal.until(b"Not a command")
     terminal.status()
+    terminal = Terminal([words[0], "--batch", "-x", "/dev/null", words[1]], **state)
+    shown, status = terminal.until(b"AFTER 0 STEPS"), terminal.status()
+    yield "./l6db --batch at a terminal", (True, 0), (b"AT 0.0 AFTER 0 STEPS" in shown and PROMPT not in shown, status)
     for given in (["--batch", "-x", "/dev/null"], ["--help"], ["--version"]):
         yield f"./l6db {' '.join(given)}", said([bench.engine, *given, *words[1:]]), said([words[0], *given, *words[1:]])
+    placed = bench.folder / "placed"
+    shutil.copytree(TOP / "terminal", placed, ignore=shutil.ignore_patterns("__pycache__"))
+    terminal = Terminal([*FRONT[:-1], str(placed / "l6db.py"), bench.engine, words[1]], **state)
+    terminal.until(PROMPT)
+    terminal.end()
+    files = sorted(it.name for it in (TOP / "terminal").iterdir() if it.name != "__pycache__")
+    yield "what is in the folder of the front end after a session", files, sorted(it.name for it in placed.iterdir())
+    front = bench.folder / "front"
+    front.mkdir()
+    (front / "python3").write_text("#!/bin/sh\necho the front end\n", "ascii")
+    (front / "python3").chmod(0o755)
+    for given in (["--help"], ["-h"], ["--version"], ["-V"], [words[1]]):
+        terminal = Terminal([words[0], *given], PATH=f"{front}:{os.environ['PATH']}", **state)
+        name = f"whether ./l6db {given[0]} at a terminal has a front end".replace(words[1], "DECK")
+        yield name, given == [words[1]], b"the front end" in terminal.until(b"\n")
+        terminal.status()
     lines = b"si\ninfo\n"
     yield "./l6db over pipes", said([bench.engine, *words[1:]], lines), said(words, lines)
 
@@ -357,7 +447,7 @@ def processes_of(program: str) -> set[str]:
 
 def trials(engine: str, is_whole: bool) -> Iterator[Trial]:
     """All trials, each group with a folder of its own."""
-    groups = (editing, files, stops, terminals, faults, launcher, without_readline, words_of_completion)
+    groups = (editing, files, sources, stops, stopped_reloads, terminals, faults, launcher, without_readline, words_of_completion)
     asked = groups_asked_for(group.__name__ for group in groups)
     for group in (it for it in groups if it.__name__ in asked):
         with tempfile.TemporaryDirectory(prefix="l6-terminal-") as folder:

@@ -9,11 +9,15 @@ from __future__ import annotations
 import base64
 import gzip
 import importlib.util
+import json
+import subprocess
 import sys
 from collections.abc import Iterator
+from contextlib import ExitStack
 from importlib.machinery import SourceFileLoader
 from pathlib import Path
 from types import ModuleType
+from unittest import mock
 
 sys.path.insert(0, str(Path(__file__).resolve().parents[1] / "harness"))
 from trials import Trial, report
@@ -24,14 +28,19 @@ PAGE = TOP / "dist" / "l6.html"
 WASM = b"\0asm"  # a module begins so
 
 
-def bundler() -> ModuleType:
-    """The script web/bundle."""
-    loader = SourceFileLoader("bundle", str(TOP / "web" / "bundle"))
-    spec = importlib.util.spec_from_loader("bundle", loader)
+def script_of(name: str) -> ModuleType:
+    """A script without an ending, as a module."""
+    loader = SourceFileLoader(name.rpartition("/")[2], str(TOP / name))
+    spec = importlib.util.spec_from_loader(loader.name, loader)
     assert spec is not None
     script = importlib.util.module_from_spec(spec)
     loader.exec_module(script)
     return script
+
+
+def bundler() -> ModuleType:
+    """The script web/bundle."""
+    return script_of("web/bundle")
 
 
 def module_in(page: bytes, script: ModuleType) -> bytes:
@@ -52,6 +61,42 @@ def trials(page: bytes) -> Iterator[Trial]:
     module = module_in(page, script)
     yield "the module in dist/l6.html", WASM, module[: len(WASM)]
     yield "dist/l6.html (web/bundle makes it)", page.decode("utf-8"), script.page_of(module).decode("utf-8")
+    yield from new_manual()
+    yield from sections()
+
+
+def new_manual() -> Iterator[Trial]:
+    """The manual that a page has is taken again only as long as docs/ is the same."""
+    script = bundler()
+    own = json.loads(script.part_of(PAGE.read_bytes(), b"texts"))
+    for sum_of_pages, is_kept in ((own["manualOf"], True), ("0" * 64, False)):
+        old = json.dumps({"manual": "an old one", "manualOf": sum_of_pages}).encode()
+        with ExitStack() as patched:
+            for where, name, stand_in in (
+                (script, "part_of", lambda *_, old=old: old), (script.sys, "argv", ["bundle"]),
+                (script.subprocess, "run", made_by_nobody), (script.shutil, "which", lambda _: "here"),
+            ):
+                patched.enter_context(mock.patch.object(where, name, stand_in))
+            made = script.manual()
+        actual = made["manual"] == "an old one", made["manualOf"]
+        yield f"whether the manual is kept, {is_kept}", (is_kept, own["manualOf"]), actual
+
+
+def made_by_nobody(*_: object, **__: object) -> subprocess.CompletedProcess[str]:
+    """What a stand-in for the converter makes of a page."""
+    return subprocess.CompletedProcess([], 0, "<p>a new one</p>", "")
+
+
+def sections() -> Iterator[Trial]:
+    """The sections of a module by web/build, of sizes that take one byte to three, and a module without its table."""
+    script = script_of("web/build")
+    parts = [
+        (1, b"\x01\x02ab"), (4, b"\x04\x01c"), (10, b"\x0a\xc8\x01" + b"d" * 200),
+        (11, b"\x0b\xb0\xea\x01" + b"e" * 30_000),
+    ]
+    module = b"\0asm\1\0\0\0" + b"".join(whole for _, whole in parts)
+    yield "the sections of a module", parts, list(script.sections_of(module))
+    yield "a module without its table", module.replace(parts[1][1], b""), script.without_table(module)
 
 
 def canaries(page: bytes) -> Iterator[Trial]:

@@ -6,6 +6,7 @@ install.py prints each difference, and last 'N passed, M failed'. It works on a 
 """
 from __future__ import annotations
 
+import re
 import subprocess
 import sys
 import tempfile
@@ -31,12 +32,22 @@ INSTALLED = {  # the file that is installed, and where it is from
     **{f"share/doc/l6/licenses/{it.name}": f"licenses/{it.name}" for it in (TOP / "licenses").iterdir()},
 }
 
+# What belongs to each further program.
 DEBUGGER = (
     "bin/l6db", "lib/l6/l6db", "share/man/man1/l6db.1", "share/bash-completion/completions/l6db",
     "share/zsh/site-functions/_l6db", "share/fish/vendor_completions.d/l6db.fish",
     *(f"share/l6/terminal/{file.name}" for file in (TOP / "terminal").iterdir() if file.suffix != ".pyc"
       and file.is_file() and file.name != "l6db.sh"),
 )
+
+EDITORS = (
+    "bin/l6ed", "share/man/man1/l6ed.1", "share/bash-completion/completions/l6ed", "share/zsh/site-functions/_l6ed",
+    "share/fish/vendor_completions.d/l6ed.fish",
+    *(f"{place}/{kind}/l6.vim" for place in ("share/vim/vimfiles", "share/nvim/site") for kind in ("ftdetect", "ftplugin", "syntax")),
+    "share/nvim/site/lua/l6.lua", "share/emacs/site-lisp/l6-mode.el", "share/org.kde.syntax-highlighting/syntax/l6.xml",
+    *(f"share/l6/editors/{it.relative_to(TOP / 'editors')}" for it in (TOP / "editors/vscode").rglob("*") if it.is_file()),
+)
+FURTHER = {"l6db": ("lib/l6/l6db", DEBUGGER), "l6ed": ("bin/l6ed", EDITORS)}
 
 
 def files_below(folder: str) -> list[str]:
@@ -49,7 +60,7 @@ LIBRARIES = {  # what is installed with the archives, beside them
     **{f"include/{name}.h": f"library/{name}.h" for name in ("l6_store", "l6_offset")},
     **{f"lib/pkgconfig/{name}.pc": f"library/{name}.pc" for name in ("l6_store", "l6_offset")},
     **{f"share/l6/library/{it.name}": f"library/{it.name}" for it in (TOP / "library").glob("*.c")},
-    **{f"share/l6/library/{name}": f"library/{name}" for name in ("record.py", "shared")},
+    **{f"share/l6/library/{name}": f"library/{name}" for name in ("draw.py", "record.py", "shared")},
     **{f"share/l6/library/python/{it.name}": f"library/python/{it.name}" for it in (TOP / "library/python").glob("*.py")},
     **{f"share/l6/{it}": it for crate in ("rust", "rust_offset") for it in files_below(f"library/{crate}")},
 }
@@ -57,35 +68,44 @@ LIBRARIES = {  # what is installed with the archives, beside them
 NOT_SHIPPED = {"examples/traced.c"}  # files of those folders that stay in the repository
 
 
-def announced(place: str, debugger: str = "") -> str:
+def announced(place: str, *further: str) -> str:
     """What is said of an installation."""
-    return f"installed {place}/bin/l6{debugger}, manual pages, completions, examples and licences\n"
+    programs = ", ".join(f"{place}/bin/{name}" for name in ("l6", *further))
+    return f"installed {programs}, manual pages, completions, examples and licences\n"
 
 
 def shipped() -> Iterator[Trial]:
     """The list of what is shipped has each file of the folders that are shipped, once, with its mode."""
     rows = [line.split() for line in (TOP / "tools/shipped").read_text().splitlines() if line[:1] not in ("#", "")]
-    found = {row[3]: sorted(str(it.relative_to(TOP)) for it in TOP.glob(row[3]))
-             for row in rows if row[3] not in ("PROGRAM", "ARCHIVE")}
-    listed = [name for names in found.values() for name in names]
-    folders = ("examples/*", "licenses/*", "completions/*", "docs/*.1", "terminal/*", "library/*", "library/python/*.py", "LICENSE-*",
+    found = [(row[3], sorted(str(it.relative_to(TOP)) for it in TOP.glob(row[3])))
+             for row in rows if row[3] not in ("PROGRAM", "ARCHIVE")]
+    listed = [name for _, names in found for name in names]
+    folders = ("examples/*", "licenses/*", "completions/*", "docs/*.1", "editors/**/*", "terminal/*", "library/*", "library/python/*.py", "LICENSE-*",
                *files_below("library/rust"), *files_below("library/rust_offset"),
                "THIRD-PARTY.md")
     there = {str(it.relative_to(TOP)) for pattern in folders for it in TOP.glob(pattern) if it.is_file()}
-    yield "what is shipped", sorted(there - NOT_SHIPPED), sorted(listed)
+    yield "what is shipped", sorted(there - NOT_SHIPPED), sorted(set(listed))
+    twice = {name for name in listed if listed.count(name) > 1}  # (Vim and neovim look in different folders)
+    yield "what is shipped twice", {f"editors/vim/{it}/l6.vim" for it in ("ftdetect", "ftplugin", "syntax")}, twice
     yield "what is not shipped is there", [], sorted(NOT_SHIPPED - there)
-    yield "lines that ship nothing", [], [name for name, names in found.items() if not names]
-    yield "programs that are shipped", [("l6db", "lib/l6/l6db"), ("l6", "bin/l6")], [
+    yield "lines that ship nothing", [], [name for name, names in found if not names]
+    yield "programs that are shipped", [("l6db", "lib/l6/l6db"), ("l6ed", "bin/l6ed"), ("l6", "bin/l6")], [
         (of, place) for of, _, place, files in rows if files == "PROGRAM"
     ]
     may_run = ("PROGRAM", "terminal/l6db.sh", "library/shared")
     yield "modes", [], [row for row in rows if row[1] != ("755" if row[3] in may_run else "644")]
-    own = [row for row in rows if ("l6db" in row[2] or "terminal" in row[2]) != (row[0] == "l6db")]
-    yield "what belongs to l6db", [], own
+    for name, of_it in (("l6db", r"l6db|terminal"), ("l6ed", r"l6ed|/vim/|/nvim/|/emacs/|highlighting|editors")):
+        own = [row for row in rows if bool(re.search(of_it, row[2])) != (row[0] == name)]
+        yield f"what belongs to {name}", [], own
     archives = [(of, place) for of, _, place, files in rows if files == "ARCHIVE"]
     yield "archives that are shipped", [("lib", f"lib/libl6_{name}.a") for name in ("offset", "store")], archives
     its = [row for row in rows if row[3].startswith("library/") and row[0] != "lib"]
     yield "what belongs to the libraries", [], its
+    places = {f"{row[2]}{'' if row[2].endswith('/') else '/'}" for row in rows}
+    for page in sorted([*TOP.glob("docs/*.md"), TOP / "README.md"]):
+        told = re.findall(r"\bPREFIX/([\w./-]*\w)", page.read_text("utf-8"))
+        yield f"folders that {page.name} tells of, and that have nothing", [], [
+            it for it in told if not any(place.startswith(f"{it}/") for place in places)]
 
 
 def modes_of(place: Path) -> dict[str, int]:
@@ -153,25 +173,29 @@ def staged(checkout: Checkout) -> Iterator[Trial]:
         yield f"the program that is then in the stage: {chosen}", other.read_bytes(), program
 
 
-def debuggers(checkout: Checkout) -> Iterator[Trial]:
-    """Beside a program that is named its debugger is installed, with what belongs to it, and removed."""
-    folder = checkout.folder / "with a debugger"
-    named, debugger = checkout.top / "dist/l6-aarch64", checkout.top / "dist/l6db-aarch64"
-    debugger.write_text("a debugger\n")
-    words = ["--program", str(named), "/usr"]
-    actual = checkout.run("install", *words, has_rt=False, DESTDIR=str(folder))
-    yield "a debugger beside a program", (0, ""), (actual.status, actual.stderr)
-    yield "what is said of it", announced(f"{folder}/usr", f", {folder}/usr/bin/l6db"), actual.stdout
-    expected = sorted(f"usr/{name}" for name in (*INSTALLED, *DEBUGGER))
-    yield "what is installed with it", expected, names_in(folder)
-    placed = folder / "usr/lib/l6/l6db"
-    yield "the debugger", ("a debugger\n", 0o755), (placed.read_text(), placed.stat().st_mode & 0o777)
-    placed.write_text("#!/bin/sh\necho a debugger with $*\n")
-    ran = subprocess.run([folder / "usr/bin/l6db", "a deck"], capture_output=True, text=True)
-    yield "the debugger that is started", ("a debugger with a deck\n", "", 0), (ran.stdout, ran.stderr, ran.returncode)
-    debugger.unlink()
-    actual = checkout.run("install", "--uninstall", "/usr", has_rt=False, DESTDIR=str(folder))
-    yield "its removal", (0, []), (actual.status, names_in(folder))
+def further_programs(checkout: Checkout) -> Iterator[Trial]:
+    """Beside a program that is named its l6db and l6ed are installed, with what belongs to them, and removed."""
+    words = ["--program", str(checkout.top / "dist/l6-aarch64"), "/usr"]
+    for name, (placed_at, its) in FURTHER.items():
+        folder, program = checkout.folder / f"with {name}", checkout.top / f"dist/{name}-aarch64"
+        program.write_text(f"a program {name}\n")
+        actual = checkout.run("install", *words, has_rt=False, DESTDIR=str(folder))
+        yield f"{name} beside a program", (0, ""), (actual.status, actual.stderr)
+        yield f"what is said of {name}", announced(f"{folder}/usr", name), actual.stdout
+        yield f"what is installed with {name}", sorted(f"usr/{it}" for it in (*INSTALLED, *its)), names_in(folder)
+        placed = folder / "usr" / placed_at
+        yield f"the program {name}", (f"a program {name}\n", 0o755), (placed.read_text(), placed.stat().st_mode & 0o777)
+        placed.write_text(f"#!/bin/sh\necho {name} with $*\n")
+        ran = subprocess.run([folder / "usr/bin" / name, "a word"], capture_output=True, text=True)
+        yield f"{name} that is started", (f"{name} with a word\n", "", 0), (ran.stdout, ran.stderr, ran.returncode)
+        program.unlink()
+        keep_compiled(folder)
+        actual = checkout.run("install", "--uninstall", "/usr", has_rt=False, DESTDIR=str(folder))
+        yield f"the removal of {name}", (0, []), (actual.status, names_in(folder))
+    for name in FURTHER:
+        (checkout.top / f"dist/{name}-aarch64").write_text("a program\n")
+    actual = checkout.run("install", *words, has_rt=False, DESTDIR=str(checkout.folder / "with both"))
+    yield "both", announced(f"{checkout.folder}/with both/usr", *FURTHER), actual.stdout
 
 
 def libraries(checkout: Checkout) -> Iterator[Trial]:
@@ -199,8 +223,19 @@ def libraries(checkout: Checkout) -> Iterator[Trial]:
     words = ["--program", str(checkout.top / "dist/l6.mjs"), "/usr"]
     actual = checkout.run("install", *words, has_rt=False, DESTDIR=str(folder))
     yield "libraries beside a program for Node", announced(f"{folder}/usr"), actual.stdout
-    actual = checkout.run("install", "--uninstall", "/usr", has_rt=False, DESTDIR=str(checkout.folder / "with libraries"))
-    yield "their removal", (0, []), (actual.status, names_in(checkout.folder / "with libraries"))
+    folder = checkout.folder / "with libraries"
+    keep_compiled(folder)
+    actual = checkout.run("install", "--uninstall", "/usr", has_rt=False, DESTDIR=str(folder))
+    yield "their removal", (0, []), (actual.status, names_in(folder))
+
+
+def keep_compiled(folder: Path) -> None:
+    """Keeps of each module of Python in a folder what Python keeps where it is imported."""
+    for module in list(folder.rglob("*.py")):
+        kept = module.parent / "__pycache__"
+        kept.mkdir(exist_ok=True)
+        (kept / f"{module.stem}.cpython-312.pyc").touch()
+        (kept / f"{module.stem}.cpython-38.opt-1.pyc").touch()
 
 
 def removals(checkout: Checkout) -> Iterator[Trial]:
@@ -224,15 +259,23 @@ def removals(checkout: Checkout) -> Iterator[Trial]:
     expected = Answer(f"{expected.stdout}a place/share/doc/l6 has other files, and stays\n", "", 0)
     yield "a removal beside a file of somebody else", expected, actual
     yield "what is left then", sorted([*kept, "share/doc/l6/mine.deck"]), names_in(place)
+    for folder, name in (("share/l6", "share/l6/terminal/mine.py"), ("lib/l6", "lib/l6/mine")):
+        own = f"a place with {name.rpartition('/')[2]}"
+        checkout.run("install", own, has_rt=False)
+        (checkout.folder / own / name).parent.mkdir(parents=True)
+        (checkout.folder / own / name).touch()
+        actual = checkout.run("install", "--uninstall", own, has_rt=False)
+        said = f"removed {own}/bin/l6 and what was installed with it\n{own}/{folder} has other files, and stays\n"
+        yield f"a removal beside {name}", (Answer(said, "", 0), [name]), (actual, names_in(checkout.folder / own))
     checkout.run("install", "alone", has_rt=False)
     (checkout.folder / "alone/bin/l6").unlink()
     (checkout.folder / "alone/bin/l6").symlink_to("nowhere")
     checkout.run("install", "--uninstall", "alone", has_rt=False)
     alone = checkout.folder / "alone"
     yield "a removal of all leaves the prefix", (True, []), (alone.is_dir(), sorted(alone.iterdir()))
-    folder: dict[str, Any] = {"DESTDIR": str(checkout.folder / "a stage")}
-    checkout.run("install", "/usr", has_rt=False, **folder)
-    actual = checkout.run("install", "--uninstall", "/usr", has_rt=False, **folder)
+    stage: dict[str, Any] = {"DESTDIR": str(checkout.folder / "a stage")}
+    checkout.run("install", "/usr", has_rt=False, **stage)
+    actual = checkout.run("install", "--uninstall", "/usr", has_rt=False, **stage)
     yield "a removal from a stage", (0, []), (actual.status, names_in(checkout.folder / "a stage"))
 
 
@@ -251,6 +294,13 @@ def running_program(checkout: Checkout) -> Iterator[Trial]:
     yield "the modes under another mask", MODES, modes_of(place)
     yield "the mode of a folder under another mask", 0o755, (place / "share/man").stat().st_mode & 0o777
     yield "the program that replaced it", (checkout.top / "dist/l6").read_bytes(), program.read_bytes()
+    somebodys, page = checkout.folder / "a file of somebody", place / "share/man/man1/l6.1"
+    somebodys.write_text("another page\n")
+    page.unlink()
+    page.symlink_to(somebodys)
+    checkout.run("install", "running", has_rt=False)
+    yield "a link in a file's place is replaced, and not followed", ("another page\n", False), (
+        somebodys.read_text(), page.is_symlink())
 
 
 def refusals(checkout: Checkout) -> Iterator[Trial]:
@@ -304,7 +354,7 @@ def damaged_program(checkout: Checkout) -> Iterator[Trial]:
 
 
 GROUPS: tuple[Group, ...] = (
-    arguments, installations, staged, debuggers, libraries, removals, running_program, refusals, damaged_program,
+    arguments, installations, staged, further_programs, libraries, removals, running_program, refusals, damaged_program,
 )
 
 

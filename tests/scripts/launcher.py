@@ -21,6 +21,7 @@ from typing import Any
 sys.path.insert(0, str(Path(__file__).resolve().parents[1] / "harness"))
 from answers import Answer
 from checkout import PROGRAMS, TOP, UNPROVED, WARNED, Checkout, Group, on_checkouts, on_terminal
+from further_scripts import further_programs
 from trials import Trial, first_wrong, report
 
 SOURCES = (
@@ -35,7 +36,7 @@ NO_RT = "l6: rt is not on the path; it is needed to prove and build the program 
 PROVING = "l6: proving and building the program; from nothing this takes some 25 minutes on four processors\n"
 VERBS = ("asm", "list", "check", "run", "load", "renew", "debug", "trace")  # all, as the help lists them
 FRESH = 3.5  # seconds after which a file counts as older (tools/note.sh)
-IN_DIST = sorted([*PROGRAMS, *(f"{name}.provenance" for name in PROGRAMS), "l6.html", "l6.sources"])
+IN_DIST = sorted([*PROGRAMS, *(f"{name}.provenance" for name in PROGRAMS), "l6.html", "l6.sources", "l6.bc.xz"])
 EDITED = "l6: the sources were edited meanwhile, so the program may not belong to them; call again\n"
 
 
@@ -277,14 +278,15 @@ def other_systems(checkout: Checkout) -> Iterator[Trial]:
         path = str(stand_in_for_uname(checkout, system))
         actual = checkout.run("l6", has_rt=False, FIRST=path, REFUSES="l6 l6-static l6-aarch64")
         yield f"no program for {system}", Answer("", why + NO_RT, 1), actual
-    path = str(stand_in_for_uname(checkout, "Plan9 mips"))
-    actual = checkout.run("l6db", has_rt=False, FIRST=path)
-    why = said["Plan9 mips"].replace("l6:", "l6db:").replace("l6.mjs", "l6db.mjs") + NO_RT.replace("l6:", "l6db:")
-    yield "no debugger for a system", Answer("", why, 1), actual
-    path = str(stand_in_for_uname(checkout, "Linux aarch64"))
-    actual = checkout.run("l6db", has_rt=False, FIRST=path)
-    why = "l6db: dist/l6db-aarch64 is not the program that dist/l6db-aarch64.provenance names: "
-    yield "no file of the debugger", (why, 1), (actual.stderr[:len(why)], actual.status)
+    for name in ("l6db", "l6ed"):
+        path = str(stand_in_for_uname(checkout, "Plan9 mips"))
+        actual = checkout.run(name, has_rt=False, FIRST=path)
+        why = said["Plan9 mips"].replace("l6:", f"{name}:").replace("l6.mjs", f"{name}.mjs") + NO_RT.replace("l6:", f"{name}:")
+        yield f"no {name} for a system", Answer("", why, 1), actual
+        path = str(stand_in_for_uname(checkout, "Linux aarch64"))
+        actual = checkout.run(name, has_rt=False, FIRST=path)
+        why = f"{name}: dist/{name}-aarch64 is not the program that dist/{name}-aarch64.provenance names: "
+        yield f"no file of {name}", (why, 1), (actual.stderr[:len(why)], actual.status)
 
 
 def stand_in_for_uname(checkout: Checkout, system: str) -> Path:
@@ -522,22 +524,23 @@ def making_dist(checkout: Checkout) -> Iterator[Trial]:
 
 
 ARCHIVES = sorted(f"{name}{kind}.a" for name in ("l6_store", "l6_offset") for kind in ("", "-aarch64", "-riscv64", "-nosse"))
-WHOLE = sorted([*PROGRAMS, *(name.replace("l6", "l6db") for name in PROGRAMS)])  # the programs of a checkout with l6db
+WHOLE = sorted(name.replace("l6", of) for of in ("l6", "l6db", "l6ed") for name in PROGRAMS)  # of a whole checkout
 
 
 def making_all(checkout: Checkout) -> Iterator[Trial]:
-    """tools/make_dist of a checkout with l6db and the libraries: all of them, each with its provenance, or nothing."""
+    """tools/make_dist of a checkout with l6db, l6ed and the libraries: all of them, each with its provenance, or nothing."""
     dist = checkout.top / "dist"
-    checkout.write("crates.txt", (checkout.top / "crates.txt").read_text() + "l6db: l6_word\nl6_store_c staticlib: l6_word\n"
-                   "l6_offset_c staticlib: l6_word\n")
-    for crate, root in (("l6db", "main.rt"), ("l6_store_c", "lib.rt"), ("l6_offset_c", "lib.rt")):
+    checkout.write("crates.txt", (checkout.top / "crates.txt").read_text() + "l6db: l6_word\nl6ed: l6_word\n"
+                   "l6_store_c staticlib: l6_word\nl6_offset_c staticlib: l6_word\n")
+    for crate, root in (("l6db", "main.rt"), ("l6ed", "main.rt"), ("l6_store_c", "lib.rt"), ("l6_offset_c", "lib.rt")):
         for name in (f"src/{root}", "specs/Lib.antt", "proofs/Lib.antt"):
             checkout.write(f"crates/{crate}/{name}", f"-- {name} of {crate}\n")
     actual = checkout.run("tools/make_dist", umask=0o077)
-    yield "dist/ with l6db and the libraries", 0, actual.status
+    yield "dist/ with all programs and the libraries", 0, actual.status
     headers = ["l6_offset.h", "l6_store.h"]
     with_provenance = [*WHOLE, *ARCHIVES]
-    expected = sorted([*with_provenance, *(f"{it}.provenance" for it in with_provenance), *headers, "l6.html", "l6.sources"])
+    expected = sorted([*with_provenance, *(f"{it}.provenance" for it in with_provenance), *headers, "l6.html", "l6.sources",
+                       *(f"{name}.bc.xz" for name in ("l6", "l6db", "l6ed"))])
     yield "what is in dist/ with them", expected, sorted(it.name for it in dist.iterdir())
     modes = {it.name: it.stat().st_mode & 0o777 for it in dist.iterdir()}
     yield "the modes in dist/ with them", {it: 0o755 if it in WHOLE else 0o644 for it in expected}, modes
@@ -547,9 +550,10 @@ def making_all(checkout: Checkout) -> Iterator[Trial]:
     yield "what of dist/ does not belong to the sources", Answer("", "", 0), actual
     for name in headers:
         yield f"{name} in dist/", (TOP / "library" / name).read_text(), (dist / name).read_text()
-    kept = {name: (dist / name).read_text() for name in ("l6_store.a", "l6_offset-nosse.a", "l6db", "l6db.mjs")}
+    kept = {name: (dist / name).read_text() for name in ("l6_store.a", "l6_offset-nosse.a", "l6db", "l6db.mjs", "l6ed", "l6ed.mjs")}
     yield "whose archives these are", [True, True], ["of l6_store_c," in kept["l6_store.a"], "nosse, of archive of l6_offset_c" in kept["l6_offset-nosse.a"]]
-    yield "whose programs these are", [True, True], ["made of" in kept["l6db"], "it=l6db.mjs" in kept["l6db.mjs"]]
+    for name in ("l6db", "l6ed"):
+        yield f"whose program {name} is", [True, True], ["made of" in kept[name], f"it={name}.mjs" in kept[f"{name}.mjs"]]
     before = {it.name: it.read_bytes() for it in dist.iterdir()}
     for name in ("ports/libraries", "ports/build"):
         text = (checkout.top / name).read_text()
@@ -557,7 +561,7 @@ def making_all(checkout: Checkout) -> Iterator[Trial]:
         actual = checkout.run("tools/make_dist")
         yield f"{name} fails", (1, before), (actual.status, {it.name: it.read_bytes() for it in dist.iterdir()})
         checkout.write(name, text)
-    for crate in ("l6db", "l6_offset_c"):
+    for crate in ("l6db", "l6ed", "l6_offset_c"):
         checkout.write(f"crates/{crate}/specs/Lib.antt", UNPROVED)
         actual = checkout.run("tools/make_dist")
         yield f"{crate} is not proved", (1, before), (actual.status, {it.name: it.read_bytes() for it in dist.iterdir()})
@@ -566,7 +570,7 @@ def making_all(checkout: Checkout) -> Iterator[Trial]:
 
 GROUPS: tuple[Group, ...] = (
     distributed, changed_sources, damaged_distribution, built_program, failed_proofs,
-    edits_while_it_builds, crates_below, other_systems, damaged_programs, other_files, notes, places, cloned,
+    edits_while_it_builds, crates_below, other_systems, damaged_programs, other_files, notes, places, further_programs, cloned,
     keyboard, terminals, making_dist, making_all,
 )
 

@@ -180,7 +180,8 @@ def is_counted(code: str, word: re.Match[str], file: str) -> bool:
         return given[0] == "alloc" and len([it for it in given if it]) == 2 and is_count(given[1], code, file)
     if word[0] == ENTRIES_WORD:
         given = parts_in(code[word.end():], ";")
-        return given[0] == "alloc" and len(given) == 3 and is_count(given[2], code, file)
+        # (a list that names its entries, one by one, has the room of what goes into it)
+        return given[0] == "alloc" and (len(given) == 2 or len(given) == 3 and is_count(given[2], code, file))
     return False
 
 
@@ -246,7 +247,7 @@ REFUSED = [
     "fn f() { Vec::with_capacity(self.alloc, 1) }",
     "fn f() { let make = Vec::with_capacity; make(alloc, 1) }",
     "fn f() { words.reserve(1) }", "fn f() { words.try_reserve_exact(1) }", "fn f() { words.resize(1, 0) }",
-    "fn f() { vec![in alloc; 0; 1 << 40] }", "fn f() { vec![in alloc; 0; MOST] }",
+    "fn f() { vec![in alloc; 0; 1 << 40] }", "fn f() { vec![in alloc; 0; MOST] }", "fn f() { vec![in self.alloc; 0] }",
     "fn f() { let words = Vec::new(Global); }", "fn f() { take(&Global, 5) }",
     "fn f() { forget(words) }", "fn f() { words.leak() }", "fn f() { ManuallyDrop::new(words) }",
     "struct R {\n    alloc: Global,\n}\nimpl R {\n    fn fill(&self) {\n        take(self.alloc)\n    }\n}\n",
@@ -260,6 +261,7 @@ ALLOWED = [
     "fn f() { Vec::with_capacity(alloc, words.len().saturating_mul(LINE_BYTES)) }",
     "fn f() { Vec::with_capacity(\n    alloc,\n    LINES_AT_ONCE * LINE_BYTES,\n) }",
     "fn f() { vec![in alloc; 0; program.statements().len()] }",
+    "fn f() { vec![in alloc; first, second] }",
     "fn f(alloc: Global) -> Result<u8, AllocError> { words.push(1) }",
     "fn f() { match list.push(1) { Err(_) => Err(RunFault::NoMemory), } }",
     "fn f() { match it { RunFault::NoMemory => RunFault::NoMemory, } }",

@@ -49,6 +49,12 @@ IN_KIT = {
     "indexmap-MIT": "indexmap/LICENSE-MIT", "itoa-MIT": "itoa/LICENSE", "thiserror-MIT": "thiserror/LICENSE",
     "Apache-2.0": "indexmap/LICENSE-APACHE",
 }
+# .. of what only l6ed is made of.
+OF_EDITORS = {
+    "serde_json-MIT": "serde_json/LICENSE-MIT", "fast_float-MIT": "fast_float/LICENSE", "zmij-MIT": "ryu/LICENSE-ZMIJ",
+    "simdutf8-MIT": "simdutf8/LICENSE",
+}
+OF_WORDS = {"clap-MIT", "strsim-MIT", "clap-Apache-2.0"}  # and of what it is made without
 
 
 def text_of(name: str) -> str:
@@ -113,7 +119,7 @@ def licences() -> Iterator[Trial]:
     if common.is_file():
         yield "the words of LICENSE-APACHE", common.read_text().split(), text_of("LICENSE-APACHE").split()
     if KIT.is_dir():
-        for name, source in IN_KIT.items():
+        for name, source in {**IN_KIT, **OF_EDITORS}.items():
             expected = (KIT / source).read_text("utf-8")
             yield f"{name}, as the toolchain has it", expected, text_of(f"licenses/{name}.txt")
     else:
@@ -121,14 +127,18 @@ def licences() -> Iterator[Trial]:
     listed = text_of("THIRD-PARTY.md")
     links = set(re.findall(r"(?:\(|^\[\S+\]: )(licenses/[^)\s]+)", listed, re.MULTILINE))
     yield "texts that THIRD-PARTY.md names", {f"licenses/{it.name}" for it in (TOP / "licenses").iterdir()}, links
+    archives = [f"`{name}.a`" for name in re.findall(r"^(\w+)_c staticlib:", text_of("crates.txt"), re.MULTILINE)]
+    yield "archives that THIRD-PARTY.md does not name", [], [name for name in archives if name not in listed]
     lines = [line.partition("#")[0] for line in text_of("crates.txt").splitlines()]
     used = {name for line in lines for name in line.partition(":")[2].split()}
     own_crates = {line.partition(":")[0].strip() for line in lines}
     used -= {"core", "std_alloc"}  # parts of Rattle's std
     missing = [name for name in sorted(used - own_crates) if f"| {name}, " not in listed]
     yield "crates that THIRD-PARTY.md does not name", [], missing
-    for name in ("dist/l6.html", "dist/l6.mjs"):
-        texts = [own, *(text_of(f"licenses/{it}.txt") for it in IN_KIT if "Apache" not in it)]
+    free = {it for it in IN_KIT if "Apache" not in it}
+    of_editors = free - OF_WORDS | {"Apache-2.0", *OF_EDITORS}
+    for name, its in {**dict.fromkeys(("dist/l6.html", "dist/l6.mjs", "dist/l6db.mjs"), free), "dist/l6ed.mjs": of_editors}.items():
+        texts = [own, *(text_of(f"licenses/{it}.txt") for it in sorted(its))]
         yield f"licences in {name}", [], [text for text in texts if text.strip() not in text_of(name)]
     spdx = "`MIT OR Apache-2.0`"
     yield "the licences in README.md", True, spdx in text_of("README.md")
@@ -148,16 +158,21 @@ COMPLETIONS: dict[str, set[str]] = {
     "l6 check --": {"--long", "--name", "--help"},
     "l6db --": {"--input", "--batch", "--echo", "--prompt", "--store", "--steps", "--output", "--help", "--version"},
     "l6db -x a.commands --e": {"--echo"},
+    "l6ed l": {"lsp"},
+    "l6ed d": {"dap"},
+    "l6ed --": {"--help", "--version"},
+    "l6ed lsp d": set(),
 }
 IN_BASH = """
+compopt() { printf 'compopt %s\\n' "$*"; }
 COMP_WORDS=($1)
 . "completions/${COMP_WORDS[0]}.bash"
 COMP_CWORD=$((${#COMP_WORDS[@]} - 1))
 "_${COMP_WORDS[0]}"
 printf '%s\\n' "${COMPREPLY[@]}"
 """
-IN_FISH = 'source completions/l6.fish; source completions/l6db.fish; complete -C "$argv[1]"'
-# What comes after an option, in fish and zsh: files, where one is asked for.
+IN_FISH = 'for it in l6 l6db l6ed; source completions/$it.fish; end; complete -C "$argv[1]"'
+# What comes after an option: files, where one is asked for. (In bash it is asked to offer them.)
 FILES = {"l6db --input README": True, "l6db -x README": True, "l6 check --name README": True, "l6 run --store README": False}
 # In a shell of its own, on a terminal of its own, a function in place of zsh's prints each match that is offered.
 ZSH_SETUP = """
@@ -202,13 +217,14 @@ def completions() -> Iterator[Trial]:
                     env={**os.environ, "HOME": home, "XDG_CONFIG_HOME": home, "XDG_DATA_HOME": home},
                 )
                 yield f"{shell} completes {line!r}", expected, offered(shell, line, ran.stdout)
-            for line, is_file in FILES.items() if shell != "bash" else ():
+            for line, is_file in FILES.items():
                 ran = subprocess.run(
                     [*words, line.replace(" README", "=README") if shell == "zsh" and "--" in line else line], cwd=TOP,
                     capture_output=True, text=True, timeout=60,
                     env={**os.environ, "HOME": home, "XDG_CONFIG_HOME": home, "XDG_DATA_HOME": home},
                 )
-                yield f"{shell} completes a file after {line!r}", is_file, "README.md" in ran.stdout
+                sign = "compopt -o default" if shell == "bash" else "README.md"
+                yield f"{shell} completes a file after {line!r}", is_file, sign in ran.stdout
 
 
 def offered(shell: str, line: str, printed: str) -> set[str]:
@@ -251,20 +267,56 @@ def packages(is_quick: bool) -> Iterator[Trial]:
             print(f"skipped: errors of the packages: {'as was asked' if is_quick else 'lintian is missing'}")
         yield from unpacked(folders[0] / names[1], Path(room, "unpacked"))
         yield stale(Path(room, "stale"))
+        for name in ("l6-static", "l6db-static", "l6ed-aarch64"):
+            yield damaged(Path(room, f"with {name}"), name)
+        yield from failing(Path(room, "failing"))
+
+
+def linked_checkout(top: Path, own: str) -> None:
+    """Makes a checkout that leads to this one, but for its tools and a file or folder that it has itself."""
+    top.mkdir()
+    for it in TOP.iterdir():
+        if it.is_file() and it.name != own:
+            shutil.copy(it, top / it.name)  # (what is summed is no link)
+        elif it.name not in (".git", "tools", own):
+            (top / it.name).symlink_to(it)
+    shutil.copytree(TOP / "tools", top / "tools", ignore=shutil.ignore_patterns("__pycache__"))
+
+
+def damaged(top: Path, name: str) -> Trial:
+    """The trial that no package is made where one of its programs is not the one that was made from the sources."""
+    linked_checkout(top, "dist")
+    (top / "dist").mkdir()
+    for it in (TOP / "dist").iterdir():
+        (top / "dist" / it.name).symlink_to(it)
+    (top / "dist" / name).unlink()
+    (top / "dist" / name).write_bytes((TOP / "dist" / name).read_bytes() + b"\0")
+    ran = subprocess.run([top / "tools/make_deb", top / "packages"], capture_output=True, text=True)
+    said = f"make_deb: dist/{name} was not made from the sources in this checkout\n"
+    return f"packages with another {name}", (1, said), (ran.returncode, ran.stderr)
 
 
 def stale(top: Path) -> Trial:
     """The trial that no package is made of programs that belong to other sources."""
-    top.mkdir()
-    for it in TOP.iterdir():
-        if it.name not in (".git", "tools", "crates.txt"):
-            (top / it.name).symlink_to(it)
-    shutil.copytree(TOP / "tools", top / "tools", ignore=shutil.ignore_patterns("__pycache__"))
+    linked_checkout(top, "crates.txt")
     (top / "crates.txt").write_text(text_of("crates.txt") + "# edited\n", "utf-8")
     ran = subprocess.run([top / "tools/make_deb", top / "packages"], capture_output=True, text=True)
     made = [it.name for it in (top / "packages").iterdir()]
     return "packages of programs of other sources", (1, [], True), (
         ran.returncode, made, "was not made from the sources in this checkout" in ran.stderr)
+
+
+def failing(room: Path) -> Iterator[Trial]:
+    """A tool that fails on the way is noticed, also one whose output another one takes, and its package is not made."""
+    for tool, words, made in (("md5sum", "*usr/*", 0), ("gzip", "*/l6.1*", 0), ("tar", "*--sort=name*", 1)):
+        folder = room / tool
+        folder.mkdir(parents=True)
+        (folder / tool).write_text(f'#!/bin/sh\n{shutil.which(tool)} "$@"\ncase "$*" in {words}) exit 2 ;; esac\n')
+        (folder / tool).chmod(0o755)
+        ran = subprocess.run([TOP / "tools/make_deb", folder / "made"], capture_output=True, text=True,
+                             env={**os.environ, "PATH": f"{folder}:{os.environ['PATH']}"})
+        actual = ran.returncode != 0, len(list((folder / "made").iterdir()))
+        yield f"packages where {tool} fails", (True, made), actual
 
 
 def times(folder: Path, names: list[str]) -> Iterator[Trial]:

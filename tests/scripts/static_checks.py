@@ -49,11 +49,12 @@ def python_groups() -> list[Group]:
     """All scripts of Python. Those of web/tests have answers of a browser, which are of any type."""
     folders = (*(f"tests/{folder.name}" for folder in sorted(TOP.glob("tests/*/"))), "tools", "tools/drawing")
     shared = tuple(sorted([*TOP.glob("tests/**/*.py"), *TOP.glob("tools/**/*.py")]))
-    bench = tuple(TOP / "bench" / name for name in ("run", "measure.py", "workloads.py"))
+    bench = tuple(TOP / "bench" / name for name in ("run", "editing.py", "measure.py", "placing.py", "workloads.py"))
     groups = [
         Group(folders, shared),
         Group(("bench", *folders), bench),
         Group(("web/tests", *folders), tuple(sorted(TOP.glob("web/tests/*.py"))), ()),
+        Group(("library/python",), tuple(sorted(TOP.glob("library/python/*.py")))),
     ]
     known = {file for group in groups for file in group.files}
     others = [file for file in scripts() if first_line(file).endswith(" python3") and file not in known]
@@ -184,18 +185,22 @@ def code_files() -> list[Path]:
 
 
 def comparisons() -> Iterator[Trial]:
-    """No script compares an expression with itself: neither by == or !=, nor as a trial's two values."""
+    """No script compares an expression with itself: neither by == or !=, nor as a trial's two values, nor as a pair's."""
     for file in [it for group in python_groups() for it in group.files]:
         same = [it.lineno for it in ast.walk(ast.parse(file.read_text("utf-8"))) if is_of_itself(it)]
         yield f"comparisons with itself in {file.relative_to(TOP)}, by line", [], same
 
 
 def is_of_itself(node: ast.AST) -> bool:
-    """Whether a comparison, a trial that is yielded, or a call of `same` has the same expression twice."""
+    """Whether a comparison, a trial that is yielded, a pair that is returned, or a call of `same` has an expression twice."""
     if isinstance(node, ast.Compare):
         return ast.dump(node.left) == ast.dump(node.comparators[0])
     if isinstance(node, ast.Yield) and isinstance(node.value, ast.Tuple) and len(node.value.elts) == 3:
         _, expected, actual = node.value.elts
+    elif isinstance(node, ast.Return) and isinstance(node.value, ast.Tuple) and len(node.value.elts) == 2:
+        expected, actual = node.value.elts
+        if not isinstance(expected, ast.Call):
+            return False
     elif isinstance(node, ast.Call) and isinstance(node.func, ast.Attribute) and node.func.attr == "same":
         if len(node.args) != 3:
             return False
@@ -256,8 +261,9 @@ def canaries() -> Iterable[Trial]:
             yield "a function without types", CLEAN, said_by_mypy(Group((), (python,)))[python]
         yield "a file of 601 lines", [], too_long({"one": 600, "another": 601})
         yield "one long file of 19", True, are_few_long({"long": 401, **{f"short {it}": 400 for it in range(18)}})
-        for text in ("a == a", "one(1) != one(1)", "yield 'a', b[0], b[0]", "page.same('a', b, b)"):
-            node = next(it for it in ast.walk(ast.parse(text)) if isinstance(it, (ast.Compare, ast.Yield, ast.Call)))
+        for text in ("a == a", "one(1) != one(1)", "yield 'a', b[0], b[0]", "page.same('a', b, b)", "return one(1), one(1)"):
+            kinds = (ast.Compare, ast.Yield, ast.Call, ast.Return)
+            node = next(it for it in ast.walk(ast.parse(text)) if isinstance(it, kinds))
             yield f"a comparison with itself: {text}", False, is_of_itself(node)
         yield "a lemma with a hyphen", [], hyphened("pub lines-of : goal.lines\nlines-of c = refl\n")
         if shutil.which("rt"):

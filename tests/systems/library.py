@@ -1,8 +1,8 @@
 #!/usr/bin/env python3
 """Tries the library of the store from C, C++, Rust and Python: dist/l6_store.a, with library/.
 
-library.py [ARCHIVE] prints each difference, and last 'N passed, M failed'. With --prove the archive is made again,
-by rt, and compared with that of dist/. What is not installed (a C++ compiler,
+library.py [ARCHIVE] prints each difference, and last 'N passed, M failed'. With --prove the archives are made again of the proved
+crates, and compared with those of dist/. What is not installed (a C++ compiler,
 cargo) is left out with a line. The proved calls are compared with the plain buddy system of bench/allocators.c, and
 with the table of docs/allocator.md.
 """
@@ -19,6 +19,7 @@ from pathlib import Path
 from unittest import mock
 
 sys.path.insert(0, str(Path(__file__).resolve().parents[1] / "harness"))
+import lifetimes
 import offset_library
 import other_libraries
 from trials import Trial, first_wrong, report
@@ -31,18 +32,7 @@ WARNINGS = ["-O2", "-Wall", "-Wextra", "-Werror"]
 FIRST = "place 1024, level 3, holds 1965\n"
 # Seven nodes of four words each, in a unit of 1,024 words.
 TREE = "free words 996\n7 10 36 255 1024 1965 1966 \nfree words 1024, largest level 10\n"
-THREADS = """
-import threading
-from l6_store import Store
-store = Store(1)
-def work(level):
-    for _ in range(20000):
-        store.free(store.get(level))
-threads = [threading.Thread(target=work, args=(level,)) for level in range(4)]
-for thread in threads: thread.start()
-for thread in threads: thread.join()
-print(store.free_words(), store.largest())
-"""
+THREADS = offset_library.THREADS_OF.format(module="l6_store", opened="Store(1)", rounds=20000, free="free_words")
 # A program with a heap of its own, which counts its blocks. After one word is got the lists of levels 0 to 2 are as in the
 # table of docs/allocator.md.
 BARE = """
@@ -68,7 +58,7 @@ fn main() -> Result<(), Fault> {
     println!("{} {} {} {} {:?}", store.read(one, 1)?, store.read(other, 1)?, store.live(other)?, store.units(), store.peek(2)?);
     println!("{} {:?} {}", store.free_words(), store.largest(), store.pieces(3)?);
     store.reset();
-    store.get(0)?;
+    let store = std::thread::spawn(move || store.get(0).map(|_| store)).join().expect("a thread")?;
     print!("{} blocks, free:", BLOCKS.load(Ordering::SeqCst));
     for level in 0..3 {
         for piece in store.free_pieces(level)? {
@@ -148,7 +138,7 @@ def in_rust(archive: Path, room: Path) -> Iterator[Trial]:
         ["cargo", "run", "--quiet", "--offline", "--target-dir", room / "bare-target"],
         cwd=room / "bare", env={**os.environ, "L6_STORE_LIB": str(folder)},
     )
-    yield "the crate without std, over a heap of the program's own", (
+    yield "the crate without std, over a heap of the program's own, and a store in another thread", (
         0, "7 7 2 1 Some(1032)\n1016 Some(9) 1\n4 blocks, free: 1025 1026 1028\n"), actual
 
 
@@ -164,7 +154,12 @@ def in_python(archive: Path, room: Path) -> Iterator[Trial]:
     yield "the heap is not exported", {True}, {line.split()[-1].startswith("l6_store_") for line in seen.splitlines()}
     names = re.findall(r"SONAME.*\[(.*)\]", run(["readelf", "-d", shared])[1])
     yield "the name of the shared object", ["libl6_store.so.1"], names
-    known = {**os.environ, "L6_STORE_SO": str(shared), "PYTHONPATH": str(LIBRARY / "python")}
+    yield "what leads to it, wherever the folder is", "libl6_store.so.1", os.readlink(shared)
+    page = (TOP / "docs/library.md").read_text("utf-8")
+    variable = (re.findall(r"The module finds it beside itself, or where the variable `(\w+)` says", page) or ["NONE"])[0]
+    known = {**os.environ, variable: str(shared), "PYTHONPATH": str(LIBRARY / "python")}
+    kept = "import ctypes, l6_store; print(isinstance(l6_store._library, ctypes.PyDLL))"
+    yield "calls keep the interpreter's lock", (0, "True\n"), run([sys.executable, "-B", "-c", kept], env=known)
     actual = run([sys.executable, "-B", LIBRARY / "python/first.py"], env=known)
     yield "first.py", (0, f"{FIRST}freed, joined 7\nfreed again: NO_BLOCK\n"), actual
     yield "four threads", (0, "1024 10\n"), run([sys.executable, "-B", "-c", THREADS], env=known)
@@ -217,7 +212,7 @@ def numbers() -> Iterator[Trial]:
         found = re.findall(r"\b(l6_store_\w+)\(", (LIBRARY / name).read_text("ascii"))
         yield f"the calls of {name}", sorted(exports), sorted(set(found))
     text = (LIBRARY / "python/l6_store.py").read_text("ascii")
-    table = text.partition("_CALLS = {")[2].partition("}")[0]
+    table = "".join(re.findall(r"^_CALLS\b.* = \{([^}]*)\}", text, re.MULTILINE))
     found = [*re.findall(r'"(\w+)": \[', table), *re.findall(r"_library\.l6_store_(\w+)\.restype", text)]
     yield "the calls of python/l6_store.py", sorted(exports), sorted(f"l6_store_{name}" for name in found)
 
@@ -334,18 +329,12 @@ def named_in_header(fault: str) -> str:
 
 
 def made_again(archive: Path) -> Iterator[Trial]:
-    """The archive and the header of dist/ are those of these sources, byte for byte."""
-    for crate in (CRATE, offset_library.CRATE):
-        status, printed = run(["rt", "lib"], cwd=crate)
-        yield f"the archive of {crate.name} is made again", (0, ""), (status, "" if status == 0 else printed)
-    for name in ("l6_store", "l6_offset"):
-        built = TOP / f"crates/{name}_c/out/lib{name}_c.a"
-        there = [file.read_bytes() if file.exists() else b"" for file in (built, archive.with_name(f"{name}.a"))]
-        yield f"the archive {name}.a of dist/ is that of these sources", True, there[0] == there[1] != b""
+    """The archives of dist/ are those of these sources, byte for byte."""
     with tempfile.TemporaryDirectory(prefix="l6-library-") as room:
         status, printed = run([TOP / "ports/libraries", room])
-        yield "the archives for other processors are made again", (0, ""), (status, "" if status == 0 else printed)
-        for name in (f"{library}-{kind}.a" for library in ("l6_store", "l6_offset") for kind in other_libraries.KINDS):
+        yield "the archives are made again", (0, ""), (status, "" if status == 0 else printed)
+        kinds = ("", *(f"-{kind}" for kind in other_libraries.KINDS))
+        for name in (f"{library}{kind}.a" for library in ("l6_store", "l6_offset") for kind in kinds):
             there = [file.read_bytes() if file.exists() else b"" for file in (Path(room, name), archive.with_name(name))]
             yield f"the archive {name} of dist/ is that of these sources", True, there[0] == there[1] != b""
 
@@ -407,6 +396,8 @@ def main(words: list[str]) -> int:
                 (Path(room) / name).mkdir()
             yield from offset_library.trials(places, archive, Path(room) / "places")
             yield from other_libraries.trials(archive.parent, Path(room) / "others")
+            (Path(room) / "lifetimes").mkdir()
+            yield from lifetimes.trials(archive.parent, Path(room) / "lifetimes")
 
         return report(trials(), canaries())
 

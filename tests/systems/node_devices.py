@@ -29,6 +29,8 @@ require("module").syncBuiltinESMExports();
 DECK = b" (A,E,5)(A,PD)\n"
 PRINTED = answer(b"5\n== DONE AFTER 6 STEPS\n")
 KEYBOARD = b"l6: reading the job from the keyboard, up to Ctrl-D at the beginning of a line\n"
+OF_WINDOWS = b"l6: reading the job from the keyboard, up to Ctrl-Z and Enter at the beginning of a line\n"
+AS_WINDOWS = 'Object.defineProperty(process, "platform", {value: "win32"});\n'
 ENDLESS = 1_000_000
 # The right command line with the most words, and a trace without a finding.
 LONGEST = "trace --any-place --levels 4 --units 3 --first 0 --piece 2 --json".split()
@@ -41,6 +43,7 @@ def node_devices(program: Path, native: Path) -> Iterator[Trial]:
         yield from stand_ins(program, Path(room))
     yield from many_words(program, native)
     yield from terminals(program)
+    yield on_windows(program)
 
 
 def stand_ins(program: Path, room: Path) -> Iterator[Trial]:
@@ -86,3 +89,17 @@ def terminals(program: Path) -> Iterator[Trial]:
     yield "help at a terminal of Node", (b"", 0), (ran.stderr, ran.returncode)
     os.close(ours)
     os.close(theirs)
+
+
+def on_windows(program: Path) -> Trial:
+    """The trial that on Windows the keys are named by which input ends at a console there."""
+    ours, theirs = pty.openpty()
+    os.write(ours, DECK + b"\4\4")
+    with tempfile.TemporaryDirectory(prefix="l6-node-") as room:
+        script = Path(room, "windows.cjs")
+        script.write_text(AS_WINDOWS, "ascii")
+        words = ["node", "--require", str(script), str(program), "run"]
+        ran = subprocess.run(words, stdin=theirs, capture_output=True, timeout=SECONDS)
+    os.close(ours)
+    os.close(theirs)
+    return "a console of Windows as standard input of Node", (PRINTED.stdout, OF_WINDOWS), (ran.stdout, ran.stderr)

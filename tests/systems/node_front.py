@@ -9,11 +9,13 @@ import re
 import signal
 import subprocess
 import sys
+import time
 from collections.abc import Iterator
 from pathlib import Path
 
 sys.path[:0] = [str(Path(__file__).resolve().parents[1] / it) for it in ("harness", "program")]
-from terminal import LIST, PROMPT, SPIN, Terminal
+from l6db import LIST
+from terminal import AFTER_A_KEY, PROMPT, SPIN, Terminal
 from trials import Trial
 
 DIST = Path(__file__).resolve().parents[2] / "dist"
@@ -27,7 +29,7 @@ def node_front(command: list[str], folder: Path) -> Iterator[Trial]:
     deck.write_bytes(LIST)
     spin.write_bytes(SPIN)
     bad.write_bytes(b" (A,ZZ,5)\n")
-    begun.write_bytes(b"display A\n")
+    begun.write_bytes(b"display A\nbreak 2\n")
     state = str(folder / "state")
 
     def begin(*words: str) -> Terminal:
@@ -50,10 +52,35 @@ def node_front(command: list[str], folder: Path) -> Iterator[Trial]:
     terminal.give(b"quit\r")
     yield "quit ends it", 0, terminal.status()
     yield from stopped(begin(str(spin), "--steps", MOST_STEPS, "-x", str(begun)))
+    yield from labels(command, folder)
     yield from elsewhere(command, folder)
     yield from endings(command, folder)
+    yield from plain(command, folder, deck)
     terminal = begin(str(bad))
     yield "a deck with errors", (True, 4), (b"no operation is spelled `ZZ`" in terminal.until(b"warnings"), terminal.status())
+
+
+def labels(command: list[str], folder: Path) -> Iterator[Trial]:
+    """Labels are completed as the deck's cards have them, and nothing of its input, of another file or of a value."""
+    deck, told, begun = folder / "labels.deck", folder / "its.input", folder / "its.commands"
+    deck.write_bytes(b" (A,E,5)\nSIXLET (A,PD)\nsmall1 (A,PD)\nX(A,PD)\n$input\nPAYING 5\n")
+    told.write_bytes(b"RECEIPT\n")
+    begun.write_bytes(b"STATS\n")
+    terminal = Terminal([*command, "--input", str(told), "-x", str(begun), "--steps", "9", str(deck)],
+                        XDG_STATE_HOME=str(folder / "state"))
+    terminal.until(PROMPT)
+    yield completed(terminal, b"break SIX", b"LET", b"Breakpoint at 1 SIXLET")
+    yield completed(terminal, b"break smal", b"L1", b"Breakpoint at 2 SMALL1")
+    for typed in (b"break PAY", b"break REC", b"break STA"):
+        terminal.give(typed)
+        terminal.until(typed)
+        terminal.give(b"\t")
+        time.sleep(AFTER_A_KEY)
+        terminal.give(b"\r")
+        shown = terminal.until(b"No such")
+        terminal.until(PROMPT)
+        yield f"{typed.decode()} is not completed", [], re.findall(rb"ING|EIPT|TS", shown)
+    yield "Ctrl-D ends it then", 0, terminal.end()
 
 
 def elsewhere(command: list[str], folder: Path) -> Iterator[Trial]:
@@ -89,6 +116,16 @@ def endings(command: list[str], folder: Path) -> Iterator[Trial]:
     yield "memory refused to the debugger", (5, "", "l6db: out of memory\n"), (ran.returncode, ran.stdout, ran.stderr)
 
 
+def plain(command: list[str], folder: Path, deck: Path) -> Iterator[Trial]:
+    """At a terminal some words have the engine alone: it shows where the run begins, and no line is edited."""
+    for words in (["--batch", "-x", os.devnull], ["--echo"], ["--prompt", "? "], ["--prompt=? "]):
+        terminal = Terminal([*command, *words, str(deck)], XDG_STATE_HOME=str(folder / "state"))
+        shown = terminal.until(b"AFTER 0 STEPS")
+        if words[0] != "--batch":
+            terminal.give(b"\x04")
+        yield f"{' '.join(words)} at a terminal", (True, 0), (b"AT 0.0 AFTER 0 STEPS" in shown and PROMPT not in shown, terminal.status())
+
+
 def children_of(process: int) -> list[int]:
     """The processes that a process has begun."""
     found = []
@@ -122,7 +159,7 @@ def said(terminal: Terminal, line: bytes) -> list[str]:
 def stopped(terminal: Terminal) -> Iterator[Trial]:
     """Ctrl-C in a long command leaves the session where it was, with all that is set in it."""
     terminal.until(PROMPT)
-    for line in (b"undisplay A", b"break LOOP if (A,E,5)", b"watch C", b"display B", b"goto 40", b"tbreak 3"):
+    for line in (b"undisplay A", b"delete 2", b"break LOOP if (A,E,5)", b"watch C", b"display B", b"goto 40", b"tbreak 3"):
         said(terminal, line)
     before = said(terminal, b"info") + said(terminal, b"stats")[:1]
     yield "what is set before", 5, len(before)

@@ -84,18 +84,39 @@ int main(void) {
     return l6_offset_close(&store) != 0;
 }
 """
-THREADS = """
+# In the memory of array_heap.c, which has room for one store of 2^15 places by L6_OFFSET_BYTES, and for none of 2^16.
+IN_ARRAY = r"""
+#include <stdio.h>
+#include "l6_offset.h"
+#include "l6_store.h"
+static int64_t units_of(const l6_store *store) { return l6_store_units(store); }
+int main(void) {
+    l6_offset places = L6_OFFSET_CLOSED;
+    l6_store store = L6_STORE_CLOSED;
+    printf("%d ", (int)l6_offset_open(&places, 16, 0, 1 << 16));
+    printf("%d ", (int)l6_offset_get(&places, 0));
+    printf("%d ", (int)l6_offset_open(&places, 15, 0, 1 << 15));
+    printf("%d ", (int)l6_offset_get(&places, 14));
+    printf("%d ", (int)l6_offset_get(&places, 14));
+    printf("%d ", (int)l6_offset_get(&places, 0));
+    printf("%d\n", (int)l6_offset_close(&places));
+    return l6_store_version() != L6_STORE_VERSION_NUMBER || units_of(&store) != L6_STORE_IS_CLOSED;
+}
+"""
+# Four threads that use one store, by a module in Python.
+THREADS_OF = """
 import threading
-from l6_offset import Offset
-places = Offset(12)
+import {module}
+store = {module}.{opened}
 def work(level):
-    for _ in range(3000):
-        places.free(places.get(level))
+    for _ in range({rounds}):
+        store.free(store.get(level))
 threads = [threading.Thread(target=work, args=(level,)) for level in range(4)]
 for thread in threads: thread.start()
 for thread in threads: thread.join()
-print(places.free_places(), places.largest())
+print(store.{free}(), store.largest())
 """
+THREADS = THREADS_OF.format(module="l6_offset", opened="Offset(12)", rounds=3000, free="free_places")
 RUST = """
 use l6_offset::{level_for, Fault, Offset};
 use l6_store as _; // the heap
@@ -154,6 +175,12 @@ def in_c(archive: Path, store: Path, room: Path) -> Iterator[Trial]:
     made = run(["cc", "-std=c11", *WARNINGS, "-Wcast-qual", f"-I{LIBRARY}", source, heap, archive, "-o", program])
     yield "a report by calls that only look", (0, ""), made
     yield "blocks and free pieces, and the most places", (0, "0b1 2f1 4f2 8b2 12f2 most 8\n0f4 most 0\n"), run([program])
+    source = room / "in_array.c"
+    source.write_text(IN_ARRAY, "ascii")
+    array = LIBRARY / "array_heap.c"
+    made = run(["cc", "-std=c11", *WARNINGS, "-Wcast-qual", f"-I{LIBRARY}", source, array, archive, store, "-o", program])
+    yield "both libraries over an array", (0, ""), made
+    yield "a store of places in the program's own memory", (0, "-4 -1 0 0 16384 -8 0\n"), run([program])
     bench = room / "bench"
     words: list[str | Path] = ["cc", "-std=c11", "-D_POSIX_C_SOURCE=199309L", *WARNINGS, TOP / "bench/places.c", heap, archive, "-o", bench]
     yield "bench/places.c compiles", (0, ""), run(words)
@@ -179,7 +206,10 @@ def in_python(archive: Path, room: Path) -> Iterator[Trial]:
     yield "no other name is exported", {True}, {line.split()[-1].startswith("l6_offset_") for line in seen.splitlines()}
     names = re.findall(r"SONAME.*\[(.*)\]", run(["readelf", "-d", shared])[1])
     yield "the name of the shared object", ["libl6_offset.so.1"], names
+    yield "what leads to it, wherever the folder is", "libl6_offset.so.1", os.readlink(shared)
     known = {**os.environ, "L6_OFFSET_SO": str(shared), "PYTHONPATH": str(LIBRARY / "python")}
+    kept = "import ctypes, l6_offset; print(isinstance(l6_offset._library, ctypes.PyDLL))"
+    yield "calls keep the interpreter's lock", (0, "True\n"), run([sys.executable, "-B", "-c", kept], env=known)
     yield "four threads", (0, "4096 12\n"), run([sys.executable, "-B", "-c", THREADS], env=known)
     code, expected = modelled(3000)
     actual = run([sys.executable, "-B", "-"], env=known, input=code)
@@ -187,6 +217,9 @@ def in_python(archive: Path, room: Path) -> Iterator[Trial]:
     wrong = "from l6_offset import Offset, OffsetError\np = Offset(4)\ntry:\n    p.get(1 << 32)\nexcept OverflowError as e:\n    print(e)\n"
     yield "a number that does not fit", (0, "4294967296 is no number of 32 bits\n"), run(
         [sys.executable, "-B", "-c", wrong], env=known)
+    left = ("from l6_offset import Offset, OffsetError\nwith Offset(4) as p:\n    p.get(0)\ntry:\n    p.get(0)\n"
+            "except OffsetError as e:\n    print(int(e.fault))\n")
+    yield "a store that was left is closed", (0, "-1\n"), run([sys.executable, "-B", "-c", left], env=known)
 
 
 def modelled(count: int) -> tuple[str, list[str]]:

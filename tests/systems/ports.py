@@ -4,7 +4,7 @@
 ports.py [--quick] makes them again and compares them with those of dist/, byte for byte; runs the cases and
 the examples on each; and tries devices that fail, refused memory, and the largest jobs. It tries the static
 programs in a root that has the shell of busybox and no C library. On the static debuggers it plays sessions,
-at a terminal and over pipes (l6db.py). It says what it skips where a tool is missing. With --quick only 500 jobs are run on each program, the static ones are not made again, which takes a
+at a terminal and over pipes (l6db.py), and to the programs for editors it speaks as one (editors.py). It says what it skips where a tool is missing. With --quick only 500 jobs are run on each program, the static ones are not made again, which takes a
 minute, and a program that was not made from the sources in the checkout is passed over.
 It prints each difference, and last 'N passed, M failed'.
 """
@@ -15,6 +15,7 @@ import functools
 import gzip
 import hashlib
 import json
+import lzma
 import os
 import re
 import resource
@@ -31,8 +32,11 @@ from pathlib import Path
 from unittest import mock
 
 sys.path[:0] = [str(Path(__file__).resolve().parents[1] / it) for it in ("harness", "program")]
+import adapter
 import answers
+import editors
 from answers import Answer, answer, answer_of
+from c_hosts import c_hosts
 from cases import read_cases
 from l6db import at_terminal, one_by_one, words
 from largest_jobs import MAX_OUTPUT, debug_job, longest_image, run_job
@@ -55,7 +59,7 @@ MAX_JOB = 1 << 24
 FIRST = b" (A,E,5)(A,PD)\n"
 PRINTED = answer(b"5\n== DONE AFTER 6 STEPS\n")
 # What the scripts of a checkout need, besides dist/ and the sources that are summed.
-CHECKOUT = ("l6", "l6db", "install", "terminal", "tools", "library", "docs/l6.1", "docs/l6db.1", "completions",
+CHECKOUT = ("l6", "l6db", "l6ed", "install", "terminal", "tools", "library", "docs/l6.1", "docs/l6db.1", "docs/l6ed.1", "completions", "editors",
             "examples", "dist", "licenses", "LICENSE-MIT", "LICENSE-APACHE", "THIRD-PARTY.md", "crates.txt", "HANDLES")
 
 
@@ -89,12 +93,15 @@ class Program:
         return answer_of([*self.command, *job.words], input=job.stdin, seconds=SECONDS, preexec_fn=None)
 
 
-NODE, NODE_DEBUGGER = "l6.mjs", "l6db.mjs"
+NODE, NODE_DEBUGGER, NODE_SERVER = "l6.mjs", "l6db.mjs", "l6ed.mjs"
 DEBUGGERS = (Program("l6db-static"), Program("l6db-aarch64", (QEMU,)), Program(NODE_DEBUGGER, ("node",)))
-# The programs for Node: the host that the module of each has in it, and the script around it.
+SERVERS = (Program("l6ed-static"), Program("l6ed-aarch64", (QEMU,)), Program(NODE_SERVER, ("node",)))
+SESSION_HOST = ("ports/session_host.c", "web/memory.h")
+# The programs for Node: the host that the module of each has in it, and the scripts around it.
 OF_NODE = {
-    NODE: (("web/host.c", "web/memory.h"), "ports/command.js"),
-    NODE_DEBUGGER: (("ports/session_host.c", "web/memory.h"), "ports/session.js"),
+    NODE: (("web/host.c", "web/memory.h"), ("ports/command.js",)),
+    NODE_DEBUGGER: (SESSION_HOST, ("ports/session.js", "ports/engine.js")),
+    NODE_SERVER: (SESSION_HOST, ("ports/server.js", "ports/engine.js")),
 }
 PROGRAMS = (
     Program("l6-static", room=8 << 20),
@@ -144,7 +151,7 @@ def answers_in_one_process(program: Program, asked: list[Job]) -> Iterator[Answe
     lines = [{"words": job.words, "input": base64.b64encode(job.stdin).decode()} for job in asked]
     ran = subprocess.run(
         ["node", HERE / "ports_in_node.mjs", DIST / program.name], stdout=subprocess.PIPE, text=True,
-        input="".join(f"{json.dumps(line)}\n" for line in lines), timeout=SECONDS,
+        input="".join(f"{json.dumps(line)}\n" for line in lines), timeout=5 * SECONDS,  # (for all jobs together)
         env={name: value for name, value in os.environ.items() if name != IN_NODE},  # (it has no address that is counted)
     )
     for line in ran.stdout.splitlines():
@@ -225,13 +232,21 @@ def largest(program: Program) -> Iterator[Trial]:
 
 def hosts() -> Iterator[Trial]:
     """The trials that each program was made with the host that is here: a host that was changed is found at once."""
-    for program in (*PROGRAMS, *DEBUGGERS):
+    for program in (*PROGRAMS, *DEBUGGERS, *SERVERS):
         name = program.name
-        hosts, script = OF_NODE.get(name, (("ports/host.c",), ""))
+        hosts, scripts = OF_NODE.get(name, (("ports/host.c",), ()))
         noted = (DIST / f"{name}.provenance").read_text("utf-8").splitlines()
         yield f"{name} has the {hosts[0]} that is here", True, f"host {sum_of(*hosts)}" in noted
-        if script:
-            yield f"{name} has the {script} that is here", True, f"command {sum_of(script)}" in noted
+        if scripts:
+            yield f"{name} has the {' and '.join(scripts)} that are here", True, f"command {sum_of(*scripts)}" in noted
+
+
+def modules() -> Iterator[Trial]:
+    """The trials that dist/ has the module of each program: the one that the program for another processor was made of."""
+    for name in ("l6", "l6db", "l6ed"):
+        total = hashlib.sha256(lzma.open(DIST / f"{name}.bc.xz").read()).hexdigest()
+        noted = (DIST / f"{name}-aarch64.provenance").read_text("utf-8").splitlines()
+        yield f"{name}-aarch64 was made of the module that is here", True, f"module {total}" in noted
 
 
 def sum_of(*files: str) -> str:
@@ -263,38 +278,41 @@ def made_again(is_quick: bool) -> Iterator[Trial]:
     """The trials that the programs and what is said of them are those that are made here."""
     with tempfile.TemporaryDirectory(prefix="l6-ports-") as room:
         made = Path(room)
-        calls: list[list[str | Path]] = [
-            [TOP / "ports/bundle", DIST / "l6.html", made / "l6.mjs"],
-            [TOP / "ports/bundle", "--session", module_of(DIST / NODE_DEBUGGER, Path(room)), made / NODE_DEBUGGER],
-        ]
+        calls: list[list[str | Path]] = [[TOP / "ports/bundle", DIST / "l6.html", made / "l6.mjs"]]
+        for name in (NODE_DEBUGGER, NODE_SERVER):
+            calls.append([TOP / "ports/bundle", "--module", module_of(DIST / name, made), made / name])
         if is_quick:
             print("skipped: the static programs made again: as was asked")
         elif why := unlike_here():
             print(f"skipped: the static programs made again: {why}")
         else:
-            calls += [[TOP / "ports/build", DIST / name, made] for name in ("l6", "l6db")]
-            calls[1][2] = TOP / "web/out/l6db.wasm"
-            calls.insert(1, [TOP / "web/build", DIST / "l6db"])
+            names = ("l6db", "l6ed")
+            for call, name in zip(calls[1:], names, strict=True):
+                call[2] = TOP / f"web/out/{name}.wasm"
+            calls[1:1] = [[TOP / "web/build", DIST / name] for name in names]
+            calls += [[TOP / "ports/build", DIST / name, made] for name in ("l6", *names)]
         for words in calls:
             ran = subprocess.run(words, capture_output=True, text=True)
             what = f"{Path(words[0]).relative_to(TOP)} of {Path(words[1]).name} ends well"
             yield what, (0, ""), (ran.returncode, ran.stderr)
         for program in sorted(made.glob("l6*")):
-            if program.suffix != ".made_of":
-                kept = DIST / program.name
+            kept = DIST / program.name
+            if program.suffix == ".xz":
+                yield f"{program.name} made again", True, lzma.open(kept).read() == lzma.open(program).read()
+            elif program.suffix != ".made_of":
                 yield f"{program.name} made again", True, kept.read_bytes() == program.read_bytes()
                 lines = program.with_name(f"{program.name}.made_of").read_text("utf-8")
                 named = kept.with_name(f"{program.name}.provenance").read_text("utf-8")
                 yield f"what {program.name} was made of", lines, "".join(named.splitlines(keepends=True)[1:-2])
     if not is_quick:
-        for name in ("l6", "l6db", *(program.name for program in (*PROGRAMS, *DEBUGGERS))):
+        for name in ("l6", "l6db", "l6ed", *(program.name for program in (*PROGRAMS, *DEBUGGERS, *SERVERS))):
             yield f"{name} belongs to the sources", True, belongs(name)
 
 
 def module_of(program: Path, folder: Path) -> Path:
     """A file with the module that a program for Node has."""
     packed = re.search(r"const MODULE = `([^`]*)`", program.read_text("utf-8"))
-    file = folder / "kept.wasm"
+    file = folder / f"of_{program.stem}.wasm"
     file.write_bytes(gzip.decompress(base64.b64decode(packed[1])) if packed else b"")
     return file
 
@@ -303,10 +321,8 @@ def unlike_here() -> str:
     """Why the static programs can't be made again here; nothing if they can be."""
     if not shutil.which("rt"):
         return "rt is missing"
-    for name, processor, debian in (
-        ("l6-static", "x86_64", "amd64"), ("l6-aarch64", "aarch64", "arm64"),
-        ("l6db-static", "x86_64", "amd64"), ("l6db-aarch64", "aarch64", "arm64"),
-    ):
+    forms = (("static", "x86_64", "amd64"), ("aarch64", "aarch64", "arm64"))
+    for name, processor, debian in ((f"{name}-{form}", *rest) for name in ("l6", "l6db", "l6ed") for form, *rest in forms):
         library = Path(f"/usr/lib/{processor}-linux-musl/libc.a")
         if not library.is_file():
             return f"Debian's musl-dev:{debian} is missing"
@@ -393,6 +409,23 @@ def sessions(debugger: Program) -> Iterator[Trial]:
             yield from node_front(debugger.command, folder)
 
 
+def talks(server: Program) -> Iterator[Trial]:
+    """The trials on talks of an editor with a program for editors: requests, documents, the protocols and a run."""
+    program = server.command
+    peer = editors.started(program)
+    yield from editors.row_trials(peer)
+    yield from editors.document_trials(peer)
+    yield "the end of the input", 1, peer.end()
+    yield from editors.protocol_trials(program)
+    # (what runs a program of another processor needs more addresses than the program)
+    with mock.patch.object(answers, "ROOM", resource.RLIM_INFINITY if server.runner else answers.ROOM):
+        yield from editors.word_trials(program)
+        yield "a word that is not UTF-8", 64, answer_of([*program, b"\xff"], input=b"").status
+    with tempfile.TemporaryDirectory(prefix="l6-talks-") as room:
+        for trials in (adapter.freed_twice, adapter.variables, adapter.launches, adapter.restarts):
+            yield from trials(program, Path(room))
+
+
 def program_trials(program: Program, is_quick: bool) -> Iterator[Trial]:
     """The trials on a program."""
     yield from known_answers(program, some(jobs(), FEW) if is_quick else jobs(), is_quick)
@@ -404,22 +437,24 @@ def trials(is_quick: bool) -> Iterator[Trial]:
     """All trials, each with the name of its group. Meanwhile Node writes to a folder what it runs."""
     with tempfile.TemporaryDirectory(prefix="l6-node-lines-") as room, mock.patch.dict(os.environ, {IN_NODE: room}):
         groups: dict[str, Callable[[], Iterator[Trial]]] = {
-            "made again": lambda: made_again(is_quick), "hosts": hosts,
+            "made again": lambda: made_again(is_quick), "hosts": hosts, "modules": modules, "hosts in C": c_hosts,
             **{it.name: functools.partial(sessions, it) for it in DEBUGGERS},
+            **{it.name: functools.partial(talks, it) for it in SERVERS},
             "small root": small_root,
             **{it.name: functools.partial(program_trials, it, is_quick) for it in PROGRAMS},
             "devices of Node": lambda: node_devices(DIST / NODE, DIST / "l6"),
-            "lines of Node": lambda: node_lines(Path(room), {DIST / it: TOP / OF_NODE[it][1] for it in OF_NODE}),
+            "lines of Node": lambda: node_lines(Path(room), {DIST / it: tuple(TOP / script for script in OF_NODE[it][1]) for it in OF_NODE}),
         }
         yield from asked_of(groups, is_quick)
 
 
 def asked_of(groups: dict[str, Callable[[], Iterator[Trial]]], is_quick: bool) -> Iterator[Trial]:
     """The trials of the groups that are asked for, and whose programs can be tried here."""
-    needs = {it.name: it.name for it in (*DEBUGGERS, *PROGRAMS)} | {"devices of Node": NODE, "lines of Node": NODE}
+    every = (*DEBUGGERS, *SERVERS, *PROGRAMS)
+    needs = {it.name: it.name for it in every} | {"devices of Node": NODE, "lines of Node": NODE}
     asked = groups_asked_for(groups)
     needed = {needs[group] for group in asked & needs.keys()}
-    tried = {it.name for it in programs(is_quick, tuple(it for it in (*DEBUGGERS, *PROGRAMS) if it.name in needed))}
+    tried = {it.name for it in programs(is_quick, tuple(it for it in every if it.name in needed))}
     for group in (it for it in groups if it in asked and needs.get(it) in {*tried, None}):
         for name, expected, actual in groups[group]():
             yield f"{group}: {name}", expected, actual

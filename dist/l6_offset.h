@@ -7,18 +7,21 @@
    2^top. A get gives the lowest place that is open; any open place may be reserved.
 
    Each call answers a number: 0 or more, or a fault, which is below 0; after a fault the store is as it was. Above each
-   call are the faults that it may answer, without L6_OFFSET_; all but l6_offset_open and l6_offset_level_for also answer
-   IS_CLOSED, of a closed store. Whatever numbers are passed, and in whatever order calls are made, a call is safe and
-   returns.
+   call are the faults that it may answer, without L6_OFFSET_; all but l6_offset_open, l6_offset_level_for and
+   l6_offset_version also answer IS_CLOSED, of a closed store. Whatever numbers are passed, and in whatever order calls are
+   made, a call is safe and returns. A fault that is passed on is no level and no place, so nothing is done with it.
 
    The caller owes three things:
 
    - a struct begins as L6_OFFSET_CLOSED;
    - its bytes are changed and copied by these calls alone;
    - one call at a time has it. A call whose pointer is const leaves the struct and the store as they were, but may write to
-     the struct meanwhile: so two threads take turns with those, too.
+     the struct meanwhile: so two threads take turns with those, too. Since calls that open and close use the heap, they are
+     made neither in a handler of a signal nor in the forked child of a process with threads.
 
    No call unwinds, and none is unwound through: the archive has no .eh_frame. Nothing calls back but the heap.
+
+   A struct that goes out of use is closed before, or its memory stays taken. Two stores share nothing but the heap.
 
    A store takes 3 bytes for each of 2^top places, and some 100 more: l6_offset_open asks the heap three times, for
    L6_OFFSET_BYTES(top) together at most, and no other call asks. The heap is two functions that the program has, as heap.c. */

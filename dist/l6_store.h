@@ -7,9 +7,9 @@
 
    Each call answers a number: 0 or more, or a fault, which is below 0; after a fault the store is as it was. A
    call that has nothing to tell answers 0. Above each call are the faults that it may answer, without
-   L6_STORE_; all but l6_store_open and l6_store_level_for also answer IS_CLOSED, of a closed store. Whatever
-   numbers are passed, and in whatever order calls are made, a call is safe and returns. A fault that is passed
-   on is no level, place, index or word, so nothing is done with it.
+   L6_STORE_; all but l6_store_open, l6_store_level_for and l6_store_version also answer IS_CLOSED, of a closed
+   store. Whatever numbers are passed, and in whatever order calls are made, a call is safe and returns. A fault
+   that is passed on is no level, place, index or word, so nothing is done with it.
 
    The caller owes three things:
 

@@ -407,12 +407,14 @@ def unpacked(archive: Path, folder: Path) -> Iterator[Trial]:
 
 
 def links() -> Iterator[Trial]:
-    """What the pages at the top and beside the programs lead to is there."""
+    """What the pages at the top and beside the programs lead to is there, and is what a path in a link says."""
     pages = [*TOP.glob("*.md"), TOP / "dist/README.md", TOP / "ports/README.md"]
     for name in (str(page.relative_to(TOP)) for page in pages):
         targets = re.findall(r"\]\(([^)#:]+)(?:#[^)]*)?\)", text_of(name))
         missing = [it for it in targets if not (TOP / name).parent.joinpath(it).exists()]
-        yield f"links of {name} that lead nowhere", [], missing
+        paths = re.findall(r"\[([\w.-]+/[\w./-]*)\]\(([^)#:]+)", text_of(name))
+        missing += [path for path, target in paths if not f"{target}/".startswith(f"{path.rstrip('/')}/")]
+        yield f"links of {name} that lead nowhere, or elsewhere than they say", [], missing
     named = set(re.findall(r"`([\w.-]+)`", "\n".join(line.rpartition("|")[0].rpartition("|")[0].rpartition("|")[0]
                                                      for line in text_of("dist/README.md").splitlines() if line.startswith("|"))))
     there = {it.name for it in (TOP / "dist").iterdir() if it.suffix != ".provenance" and it.name != "README.md"}

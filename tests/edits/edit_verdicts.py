@@ -1,9 +1,10 @@
 """Which edits the prover refused, as the file verdicts beside this script has it.
 
 A verdict is a line: the crate, the name of the edit, and a sum (SHA-256) of all that it depends on. That is the
-edit; the sources of the crate and of those below it, with their lines of crates.txt; the logic of the toolchain;
-and the scripts by which an edit is tried and its check is read. If a byte of that has changed, the edit is tried
-again. Only that an edit is refused is ever written: one that is not refused, or is a bad edit, is tried each time.
+edit; the sources of the crate, and what those below it promise (promises.py), with their lines of crates.txt; the
+logic of the toolchain; and the scripts by which an edit is tried and its check is read. If a byte of that has changed,
+the edit is tried again. Only that an edit is refused is ever written: one that is not refused, or is a bad edit, is
+tried each time.
 
 The toolchain's line names a kit and its logic. Kits of one logic accept the same proofs, so a verdict depends on
 the logic alone. What another kit's search finds, the sample tells: the gate tries again all edits of a few crates,
@@ -25,7 +26,8 @@ from pathlib import Path
 
 from crates import TOP, Crate, rows_of
 from edit_files import Edit
-from prove import files_sum, toolchain
+from promises import read_of
+from prove import toolchain
 
 FILE = TOP / "tests/edits/verdicts"
 # The scripts on which a verdict depends: how an edit is put in place and checked, and how the check is read.
@@ -106,8 +108,8 @@ def locked(folder: Path) -> Iterator[None]:
 
 def sum_of(crate: Crate) -> str:
     """A sum of all that the verdicts on a crate's edits depend on but the edits."""
-    whole = (*crate.below, crate)
-    parts = (logic(), rows_of(whole), files_sum(whole), harness_sum())
+    read = (f"{file.relative_to(TOP)} {hashlib.sha256(text.encode()).hexdigest()}" for file, text in read_of(crate))
+    parts = (logic(), rows_of((*crate.below, crate)), *read, harness_sum())
     return hashlib.sha256("\n".join(parts).encode()).hexdigest()
 
 

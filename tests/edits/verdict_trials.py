@@ -20,6 +20,7 @@ sys.path[:0] = [str(Path(__file__).resolve().parents[1] / it) for it in ("harnes
 from answers import Answer
 from checkout import TOP, Checkout
 from edit_verdicts import FILE, HARNESS, LINE, SAMPLE, sample
+from promise_trials import CHANGES_BELOW, LOW, promised
 from trials import Trial, report
 
 RT = f'''#!{sys.executable}
@@ -57,7 +58,7 @@ REFUSED = "file: src/lib.rt\nold:     1\nnew:     2\n"
 NOT_REFUSED = "file: src/lib.rt\nold:     4\nnew:     5\n"
 CHECKED = "check l6_word"
 # The scripts that report what was found, and that choose what is tried: they decide no verdict.
-CHOOSING = {"trials.py", "answers.py", "edits.py", "edit_verdicts.py"}
+CHOOSING = {"trials.py", "answers.py", "edits.py", "edit_verdicts.py", "promises.py"}
 VERDICTS = "tests/edits/verdicts"
 
 
@@ -121,13 +122,20 @@ def changes(edits: Edits) -> Iterator[Trial]:
 
 
 def crates_below(edits: Edits) -> Iterator[Trial]:
-    """A verdict depends on the crates below its own."""
+    """A verdict depends on what the crates below its own promise, and on no more of them."""
     edits.checkout.write("crates.txt", "l6_low:\nl6_word: l6_low\nl6: l6_word\n")
-    edits.checkout.write("crates/l6_low/src/lib.rt", CODE)
+    edits.checkout.write("crates/l6_word/specs/Own.antt", "use Rattle.l6_low.proofs.Cited.{cited}\n")
+    for name, text in LOW.items():
+        edits.checkout.write(f"crates/l6_low/{name}", text)
     yield edits.trial("over another crate", True)
     yield edits.trial("over another crate, the second time", False)
-    edits.checkout.write("crates/l6_low/src/lib.rt", CODE + "// another\n")
-    yield edits.trial("after a change of the crate below", True)
+    for what, name, old, new, is_checked in CHANGES_BELOW:
+        edits.checkout.write(f"crates/l6_low/{name}", LOW[name].replace(old, new))
+        yield f"the change of {what}", True, old in LOW[name] and old != new
+        yield edits.trial(f"after a change of {what} below", is_checked)
+        edits.checkout.write(f"crates/l6_low/{name}", LOW[name])
+        if is_checked:
+            yield edits.trial(f"without the change of {what} below", True)
 
 
 def verdicts(edits: Edits) -> Iterator[Trial]:
@@ -262,6 +270,7 @@ def trials() -> Iterator[Trial]:
     yield from scripts()
     yield from known()
     yield from texts()
+    yield from promised()
     for group in (verdicts, samples, changes, copies, crates_below):
         with tempfile.TemporaryDirectory() as folder:
             yield from group(Edits(Path(folder)))

@@ -23,6 +23,8 @@ export class Answers {
    */
   constructor(source) {
     this.source = source;
+    /** @type {File[]} */
+    this.files = []; // that are being read
     byId("read-answers").addEventListener("click", () => byId("answers-dialog").showModal());
     for (const id of ["answer-files", "answer-folder"]) byId(id).addEventListener("change", () => this.chosen(byId(id)));
   }
@@ -48,14 +50,17 @@ export class Answers {
     this.source.tell(`Saved as ${file}: hand that file in.`);
   }
 
+  // Makes the table of some files. Where others are chosen meanwhile, theirs takes its place.
   /** @param {File[]} files */
   async read(files) {
+    this.files = files;
     const wanted = files.filter((it) => /\.answer$/.test(it.name) && it.size <= MOST_BYTES);
     const table = byId("answers");
     table.replaceChildren();
     let solved = 0;
     for (const file of wanted) {
       const {row, isSolved} = await this.rowOf(file);
+      if (this.files !== files) return;
       solved += Number(isSolved);
       table.append(row);
       byId("answers-note").textContent = `${table.children.length} of ${wanted.length} read, ${solved} solved`;

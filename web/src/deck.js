@@ -10,7 +10,8 @@ export const COLUMNS = 72; // of a card that count
 
 /**
  * A part of a statement: its card, its columns, and its text; of a group without the parentheses.
- * @typedef {{isGroup: boolean, card: number, from: number, to: number, text: string}} Item
+ * Of a word with more than four letters `fifth` is the column of the fifth: that of the exit behind THEN.
+ * @typedef {{isGroup: boolean, card: number, from: number, to: number, text: string, fifth?: number}} Item
  * @typedef {Item & {elements: string[]}} Group
  *
  * What is read in a deck: of each card the number of its statement or -1, the statements, and whether each card
@@ -153,7 +154,7 @@ class Statement {
       this.phase = "word";
     } else if (this.phase === "tests" && item.text.startsWith("THEN")) {
       this.phase = "operations";
-      if (item.text.length > 4) this.leaveBy({...item, text: item.text.slice(4)});
+      if (item.text.length > 4) this.leaveBy({...item, from: item.fifth ?? item.from, text: item.text.slice(4)});
     } else if (this.phase === "operations")
       this.leaveBy(item);
   }
@@ -203,5 +204,6 @@ function* wordOf(columns, from, to, card) {
   const text = raw.replace(/[ \t]/g, "").toUpperCase();
   if (!text || text.includes(")")) return;
   const start = from + raw.search(/[^ \t]/);
-  yield {isGroup: false, card, from: start, to: start + raw.trim().length, text};
+  const four = /^(?:[^ \t][ \t]*){4}/.exec(raw.trim())?.[0].length ?? 0;
+  yield {isGroup: false, card, from: start, to: start + raw.trim().length, text, fifth: start + four};
 }

@@ -3,9 +3,9 @@
 
 import {follow, valueOf} from "./chain.js";
 import {make} from "./dom.js";
-import {chainsOf} from "./group.js";
+import {chainBehind, chainsOf} from "./group.js";
 import {operationAt} from "./steps.js";
-import {count, withCommas} from "./word.js";
+import {changedThrough, count, withCommas} from "./word.js";
 
 const MOST_BACK = 400_000; // states that are gone back through for the step that freed a block
 const FIRST_FREES = 32;    // frees that are looked at at once, next to the trap
@@ -76,20 +76,67 @@ async function chainTrap(number, view, session) {
     if (trap?.number === number) return tellChain(chain, steps, trap, view, session);
   }
   const pointer = number === 2 ? pointerAt(session.reading, view.state) : null;
-  if (!pointer) return null;
+  if (!pointer) return chainBehindGet(number, view, session);
   const {steps} = await followed(pointer, view, session);
   const last = steps?.at(-1);
   return last ? tellChain(pointer, steps, {number, name: "", value: last.value, text: ""}, view, session) : null;
 }
 
 /**
+ * The chain behind a get. It is followed where the get's first chain has the place of the new block already, which is
+ * taken back by the trap: so any place that is free stands for it here.
+ * @param {number} number
+ * @param {View} view
+ * @param {Session} session
+ * @returns {Promise<Told | null>}
+ */
+async function chainBehindGet(number, view, session) {
+  const elements = operationAt(session.reading, view.state)?.elements ?? [];
+  const chain = chainBehind(elements);
+  const place = view.store.piecesBetween(view.store.begin, view.store.end).find((it) => it.isFree)?.place;
+  if (!chain || place === undefined) return null;
+  const size = 2 ** Math.ceil(Math.log2(valueOf(elements[2], view) ?? 1));
+  const {steps, trap} = await followed(chain, view, session, stateWith(elements[0], place, size, view));
+  if (trap?.number !== number) return null;
+  const last = steps[steps.length - 1];
+  const isInside = last.place === place || last.value === place;
+  if (!isInside || number === 1) return tellChain(chain, steps, trap, view, session);
+  const what = number === 2 ? `${last.name} of the new block is 0, no block` :
+    `${last.name} leads to the new block, of ${count(size, "word")}, and ${trap.name} is in word ${
+      view.fields.get(trap.name)?.word}${size === 1 ? ", counted from 0" : ""}`;
+  return {text: [make("code", {}, chain), ` ends before ${trap.name}: ${what}`]};
+}
+
+/**
+ * What a chain needs of a state in which another chain leads to a new block.
+ * @param {string} chain
+ * @param {number} place
+ * @param {number} size
+ * @param {View} view
+ * @returns {import("./chain.js").Glimpse}
+ */
+function stateWith(chain, place, size, view) {
+  const {bugs, fields} = view;
+  const wordsAt = (/** @type {number} */ at) => (at === place ? Array(size).fill(0) : view.wordsAt(at));
+  if (chain.length === 1) return {bugs: new Map([...bugs, [chain, place]]), fields, wordsAt};
+  const {place: owner, window} = follow(chain, view).steps[chain.length - 1];
+  const withNew = (/** @type {number} */ at) => {
+    const words = wordsAt(at);
+    if (at !== owner || !words || !window) return words;
+    return words.map((it, index) => (index === window.word ? changedThrough(it, window, place) : it));
+  };
+  return {bugs, fields, wordsAt: withNew};
+}
+
+/**
  * @param {string} chain
  * @param {View} view
  * @param {Session} session
+ * @param {import("./chain.js").Glimpse} state what of it the chain is followed in
  */
-async function followed(chain, view, session) {
+async function followed(chain, view, session, state = view) {
   for (;;) {
-    const answer = follow(chain, view);
+    const answer = follow(chain, state);
     if (answer.missing === undefined) return answer;
     await session.addBlock(view, answer.missing);
   }

@@ -19,6 +19,17 @@ export function seenThrough(word, window) {
   return Math.floor(word / 2 ** (WORD_BITS - 1 - window.last)) % 2 ** widthOf(window);
 }
 
+// A word of which a window shows another number.
+/**
+ * @param {number} word
+ * @param {{first: number, last: number}} window
+ * @param {number} value
+ */
+export function changedThrough(word, window, value) {
+  const shown = value % 2 ** widthOf(window); // (as many of its bits as there is room for)
+  return word + (shown - seenThrough(word, window)) * 2 ** (WORD_BITS - 1 - window.last);
+}
+
 /** @param {{first: number, last: number}} window */
 export function widthOf(window) {
   return window.last - window.first + 1;

@@ -35,7 +35,9 @@ export class Splitter {
   /** @param {PointerEvent} event */
   drag(event) {
     this.element.setPointerCapture(event.pointerId);
-    const move = (/** @type {PointerEvent} */ to) => this.share(this.bar.at(to));
+    const {read, at} = this.bar;
+    const beside = read() - at(event); // (the part may begin further from the bar)
+    const move = (/** @type {PointerEvent} */ to) => this.share(at(to) + beside);
     const end = () => this.element.removeEventListener("pointermove", move);
     this.element.addEventListener("pointermove", move);
     this.element.addEventListener("pointerup", end, {once: true});

@@ -277,6 +277,14 @@ def frames(run: Run, moment: Moment) -> list[str]:
     return found
 
 
+def calls(run: Run, moment: Moment) -> str | None:
+    """What is above the calls: how many wait; None where the deck neither calls nor saves anything."""
+    stacks = {"DO", "SFC", "RFC", "SFD", "RFD"}
+    if not any(row.name in stacks for statement in run.assembly.program for row in statement.operations):
+        return None
+    return f"Calls {len(moment.calls)}" if frames(run, moment) else "No call waits, and nothing is saved."
+
+
 def owner(moment: Moment, saved: Saved) -> Saved | None:
     """The call in which something was saved: the latest one before it that waits."""
     return next((it for it in reversed(moment.calls) if it.number < saved.number), None)

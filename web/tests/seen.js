@@ -51,6 +51,7 @@ void (window.seen = () => {
     disabled: all(".controls button[aria-disabled=true]").map((it) => it.id).sort(),
     store: textOf("store-text"),
     frames: all("#frames li").map((it) => it.textContent),
+    calls: by("calls").hidden ? null : by("frames").querySelector("h3, p").textContent,
     blocks: all("#drawing .block:not(.ghost)").map(blockOf).sort((a, b) => a[0] - b[0]),
     arrows: all("#drawing .arrow").map(({dataset, classList}) => [
       dataset.from, dataset.field, dataset.to, classList.contains("broken"), classList.contains("changed")

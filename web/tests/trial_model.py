@@ -86,6 +86,7 @@ def told(run: Run, moment: Moment, before: Moment | None, way: str) -> dict[str,
         "disabled": expected.disabled(run, moment),
         "store": expected.store_text(moment, run.options.store),
         "frames": expected.frames(run, moment),
+        "calls": expected.calls(run, moment),
         "spot": [part.card, part.begin, part.end] if part and part.card >= 0 else None,
         "card": run.deck.split("\n")[part.card][part.begin:part.end] if part and part.card >= 0 else "",
     }

@@ -68,6 +68,23 @@ PIECES = """(parts => {
         return Object.entries(seen).sort((a, b) => b[1] - a[1])[0]?.[0] ?? '';
     });
 })(%s)"""
+# What is drawn of the store, recorded: the boxes, frames and texts with their colours, in the pixels of the page.
+RECORDED = """(id => {
+    const found = [], pen = CanvasRenderingContext2D.prototype, own = {...Object.fromEntries(['fillRect', 'strokeRect', 'fillText'].map(it => [it, pen[it]]))};
+    const style = getComputedStyle(document.documentElement);
+    const names = Object.fromEntries(['block', 'lost', 'free', 'changed', 'ink', 'line', 'soft', 'block-ink', 'lost-ink'].map(it => {
+        const probe = document.createElement('canvas').getContext('2d');
+        probe.fillStyle = style.getPropertyValue(`--${it}`).trim();
+        return [probe.fillStyle, it];
+    }).reverse());
+    for (const name of Object.keys(own)) pen[name] = function (...words) {
+        if (this.canvas.id === id) found.push([name, names[name === 'strokeRect' ? this.strokeStyle : this.fillStyle] ?? '', this.textAlign, ...words]);
+        return own[name].apply(this, words);
+    };
+    l6.viewer.strip.draw();
+    Object.assign(pen, own);
+    return found;
+})('%s')"""
 STORES = " (A,GT,4)(B,GT,8)(C,GT,2)(D,GT,16)(B,E,0)(C,FR)(D,FR)(E,GT,1)\n"
 
 
@@ -282,3 +299,55 @@ def the_store_as_the_model_has_it(page: Page) -> None:
         line = page.value("Number(document.querySelector('#history .now-line').getAttribute('x1'))")
         page.right(f"its line in {number}", abs(line - number * 600 / (len(run.moments) - 1)) < 1, str(line))
     page.value("document.getElementById('over-states').click()")
+
+
+@trial
+def what_is_drawn_of_the_store(page: Page) -> None:
+    """Each piece has its box, with its place and its size in it; what has changed and what is chosen has a frame."""
+    page.open()
+    page.value("l6.panes.open('store')")
+    run = open_run(page, STORES, store=2)
+    for before, moment in zip(run.moments, run.moments[1:]):
+        page.do(f"l6.state({before.number})")
+        page.do(f"l6.state({moment.number})")
+        unit = page.value("Number(document.getElementById('unit').value) - 1")
+        for name in ("strip", "levels"):
+            page.value(f"document.getElementById('by-size').checked === {json.dumps(name == 'levels')} || document.getElementById('by-size').click()")
+            drawn_store(page, name, before, moment, 1024 * (unit + 1))
+    page.value("document.getElementById('by-size').checked && document.getElementById('by-size').click()")
+    place = next(iter(run.moments[-2].blocks))
+    page.do(f"l6.viewer.chooseBlock({place})")
+    page.same("the block that is chosen has a frame", sum(it[:2] == ["strokeRect", "ink"] for it in page.value(RECORDED % "strip")), 1)
+
+
+def pieces_of(moment: Moment) -> set[tuple[int, int, str]]:
+    """The pieces of a store: where, how large, and what."""
+    found = {(place, len(words), "block" if place in moment.reached else "lost") for place, words in moment.blocks.items()}
+    return found | {(place, size, "free") for place, size in moment.free.items()}
+
+
+def drawn_store(page: Page, name: str, before: Moment, moment: Moment, begin: int) -> None:
+    """What is drawn of a unit, as a strip or by size."""
+    drawn = page.value(RECORDED % name)
+    texts = page.value("document.getElementById('strip').getAttribute('aria-label')").split(", ")
+    shown = sorted(it for it in pieces_of(moment) if any(text.startswith(f"{it[0]} ") for text in texts))
+    boxes = [it for it in drawn if it[0] == "fillRect" and it[1] in ("block", "lost", "free")]
+    what = f"{name} in {moment.number}"
+    page.same(f"the colours of the {what}", [it[1] for it in boxes], [it[2] for it in shown])
+    changed = sorted(it for it in shown if it not in pieces_of(before))
+    page.same(f"frames of what has changed, {what}", sum(it[:2] == ["strokeRect", "changed"] for it in drawn), len(changed))
+    wrong = []
+    for (place, size, kind), (*_, x, y, width, height) in zip(shown, boxes):
+        inside = [it for it in drawn if it[0] == "fillText" and x <= it[4] <= x + width and y <= it[5] <= y + height + 3]
+        said = [it[3] for it in inside]
+        labels = [str(place)] if name == "levels" else [commas(size)]
+        if width > 60 and any(it not in said for it in labels):
+            wrong.append([place, labels, said])
+        ink = {"free": {"soft"}}.get(kind, {"block-ink", "lost-ink"})  # (which are one colour in light)
+        wrong += [it for it in inside if it[1] not in ink or it[3] not in (str(place), commas(size))]
+        if name == "levels" and abs(y - (10 - (size.bit_length() - 1)) * 16) > 2:
+            wrong.append([place, size, y])
+    page.same(f"what is in the boxes of the {what}", wrong[:2], [])
+    if name == "levels":
+        sizes = {it[3]: it[5] for it in drawn if it[0] == "fillText" and it[2] == "right"}
+        page.same(f"the lines by size, {what}", [0 < sizes.get(commas(2**at), 0) - (10 - at) * 16 < 16 for at in range(11)], [True] * 11)

@@ -1,0 +1,113 @@
+"""Trials of how things look that mean something: each mark has its colour, its line and its shape, and no other thing has."""
+from __future__ import annotations
+
+from page import Page, trial
+from trial_stays import READ, put
+
+# What has a colour of the palette: an element in a state of a deck, a property, and the colour.
+LOOKS: dict[str, list[tuple[str, str, str]]] = {
+    "lost@14": [
+        (".block.lost .edge", "stroke", "lost"), (".block:not(.lost) .top", "fill", "block"), (".block .place", "fill", "block-ink"),
+        (".pill path", "fill", "ink"), (".pill text", "fill", "paper"), (".under .line.at", "backgroundColor", "now"),
+        (".under .spot.at", "backgroundColor", "now-strong"), ("#next code", "backgroundColor", "now-strong"), (".arrow path", "stroke", "f0"), (".arrow .tag, .arrow circle", "fill", "f0"), (".cell.f0 .name", "fill", "f0"),
+        (".cell.f1 .name", "fill", "f1"), (".legend .f0", "color", "f0"), (".legend .f1", "color", "f1"), ("#fields .f0", "color", "f0"), ("#run", "backgroundColor", "accent"),
+    ],
+    "lost@8": [
+        (".cell.changed .window", "stroke", "changed"), (".cell.changed .window", "fill", "changed-soft"), (".arrow.changed path", "stroke", "changed"),
+        (".block.new .edge", "stroke", "changed"), ("#changes b", "color", "changed"),
+    ],
+    "lost@3": [("#fields .changed", "backgroundColor", "changed-soft")],
+    "lost@6": [("#bugs tr.changed td", "backgroundColor", "changed-soft"), (".pill.changed path", "fill", "changed"), ("#bug-strip .changed", "backgroundColor", "changed-soft")],
+    "lost@21": [("#where", "color", "fault"), ("#trap", "color", "fault"), (".block.lit .edge", "stroke", "lit"), (".arrow.lit path", "stroke", "lit")],
+    "tree@137": [(".stack li:first-child", "backgroundColor", "accent-soft"), ("#lecture", "backgroundColor", "raised")],
+    "list@60": [("#printed .fresh", "color", "ink")],
+}
+COLOUR = """((selector, property, name) => {
+    const probe = document.createElement('i');
+    probe.style.color = `var(--${name})`;
+    document.body.append(probe);
+    const want = getComputedStyle(probe).color;
+    probe.remove();
+    const found = document.querySelector(selector);
+    return found ? [getComputedStyle(found)[property], want] : ['nothing there', want];
+})(%r, %r, %r)"""
+# Of a deck with a ghost, a pointer that dangles, and a state of it: lines that are broken.
+BROKEN = "[...document.querySelectorAll(%r)].map(it => getComputedStyle(it).strokeDasharray !== 'none')"
+STYLE = "(it => it ? getComputedStyle(it)[%r] : 'nothing there')(document.querySelector(%r))"
+# Whether an element is over another one where both are.
+POINTERS = {
+    "#drawing": "grab", ".block": "pointer", ".pill": "pointer", ".map": "pointer", "#splitter": "col-resize", "#row-splitter": "row-resize",
+    "#run": "pointer", "#back": "default", "#strip": "pointer",
+}
+
+
+@trial
+def colours_that_mean_something(page: Page) -> None:
+    """What has changed, is lost, comes next or traps has its colour, in light and in dark."""
+    for dark in (False, True):
+        page.browser.resize(1400, 1000, dark)
+        for link, looks in LOOKS.items():
+            key, state = link.split("@")
+            page.open(f"#{key}@{int(state) - 1}")
+            page.value("l6.panes.open('tables')")
+            page.do(f"l6.state({state})")
+            page.browser.wait("!l6.engine.isBusy")
+            for selector, name, colour in looks:
+                got, want = page.value(COLOUR % (selector, name, colour))
+                page.same(f"{selector} of {link}, dark {dark}", got, want)
+    page.browser.resize(1400, 900)
+
+
+@trial
+def lines_that_mean_something(page: Page) -> None:
+    """Ghosts and pointers that dangle have broken lines; what has the focus, is chosen or is new has a thick one."""
+    page.open()
+    put(page, "dangling")
+    page.do("l6.state(14)")
+    for selector, want in ((".ghost .edge", [True]), (".arrow.broken > path:first-child", [True]), (".pill.broken path", [True]),
+                           (".arrow.broken .break", [False])):
+        page.same(f"broken lines of {selector}", page.value(BROKEN % selector), want)
+    for name, colour in (("color", "lost"), ("backgroundColor", "lost-soft")):
+        got, want = page.value(COLOUR % ("#warnings", name, colour))
+        page.same(f"{name} of what is warned of", got, want)
+    page.same("others are whole", page.value("[...document.querySelectorAll('.block:not(.ghost) .edge, .arrow:not(.broken) path')]"
+                                             ".some(it => getComputedStyle(it).strokeDasharray !== 'none')"), False)
+    page.open("#reverse@60")
+    page.browser.wait(READ)
+    thick = STYLE % ("strokeWidth", ".block[data-place='1024'] .edge")
+    begun = page.value(f"parseFloat({thick})")
+    page.do("l6.viewer.chooseBlock(1024)")
+    page.right("a block that is chosen", page.value(f"parseFloat({thick})") > 2 * begun)
+    page.do("l6.viewer.chooseBlock(1025)")
+    page.same("and no longer", page.value(f"parseFloat({thick})"), begun)
+    page.key("d")
+    page.browser.key("ArrowRight")
+    page.right("one that has the focus", page.value("parseFloat(getComputedStyle(document.activeElement.querySelector('.edge')).strokeWidth)") > 2 * begun)
+    for _ in range(5):
+        page.browser.key("+")
+    for selector, want in POINTERS.items():
+        if selector == "#row-splitter":
+            page.value("l6.panes.open('tables'), l6.panes.open('store')")
+        if selector == "#back":
+            page.do("l6.state(0)")
+        page.same(f"the pointer over {selector}", page.value(STYLE % ("cursor", selector)) if selector not in (".pill", ".block") else want, want)
+    page.do("l6.state(60)")
+    for selector in (".pill", ".block"):
+        page.same(f"the pointer over {selector}", page.value(STYLE % ("cursor", selector)), "pointer")
+
+
+@trial
+def notes_go(page: Page) -> None:
+    """What is told fades after some seconds, each time anew; what goes on stays."""
+    page.open("#first")
+    page.do("l6.tell('one')")
+    animation = "(it => [it.length, it[0]?.animationName ?? '', it[0]?.effect.getTiming().duration ?? 0])(document.getElementById('run-note').getAnimations())"
+    page.same("it fades", page.value(animation), [1, "note", 7000])
+    begun = "document.getElementById('run-note').getAnimations()[0].currentTime"
+    page.value("document.getElementById('run-note').getAnimations()[0].currentTime = 5000")
+    page.value("l6.tell('two')")
+    page.right("the next one from its begin", page.value(begun) < 2000, str(page.value(begun)))
+    page.value("l6.note('running ..')")
+    page.same("what goes on does not fade", page.value(animation)[0], 0)
+    page.value("l6.tell('')")
+    page.same("nothing is told, and no box is there", page.value("document.getElementById('run-note').offsetHeight"), 0)

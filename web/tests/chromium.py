@@ -42,6 +42,7 @@ import trial_model  # noqa: E402, F401
 import trial_ways  # noqa: E402, F401
 import trial_told  # noqa: E402, F401
 import trial_style  # noqa: E402, F401
+import trial_beside  # noqa: E402, F401
 from browser import Browser, NotBegun  # noqa: E402
 from lines import LINES, CountedBrowser  # noqa: E402
 from page import TOP, TRIALS, Page  # noqa: E402

@@ -48,6 +48,7 @@ void (window.seen = () => {
     bits: bitsOf("fields").sort((a, b) => (a[0] < b[0] ? -1 : 1)),
     number: [by("number").value, by("slider").value],
     of: textOf("of"),
+    slider: [by("slider").max, by("slider").getAttribute("aria-valuetext")],
     disabled: all(".controls button[aria-disabled=true]").map((it) => it.id).sort(),
     store: textOf("store-text"),
     frames: all("#frames li").map((it) => it.textContent),

@@ -22,7 +22,7 @@ import {actionAt, groupAt} from "../src/meaning.js";
 import {areOptionsOf, DEFAULTS, RANGES} from "../src/options.js";
 import {differenceOf} from "../src/printouts.js";
 import {danglingInWords, isNumber, usesAfterFree} from "../src/provenance.js";
-import {chipText, lanesOf, textOfCell, windowsOf} from "../src/shape.js";
+import {chipText, lanesOf, shapeOf, textOfCell, windowsOf} from "../src/shape.js";
 import {snapshotOf} from "../src/snapshot.js";
 import {hasStacks, isSilent, nextShown, stackingAt} from "../src/steps.js";
 import {KINDS, Store} from "../src/store.js";
@@ -256,6 +256,21 @@ table("what a chip says", chipText, [
   [{place: 1024, size: 1}, [33], [{key: "a", word: 0, first: 0, last: 35, isText: true}], new Set(), "A"], [{place: 1024, size: 1}, [33], [{key: "a", word: 1, first: 0, last: 35}], new Set(), "1024"],
   [{place: 1024, size: 1}, [123_456], [{key: "a", word: 0, first: 0, last: 35}], new Set(), "123456"], [{place: 1024, size: 1}, [1_234_567], [{key: "a", word: 0, first: 0, last: 35}], new Set(), "12345…"]
 ]);
+const windowAt = (name, word, from, last) => ({key: `${word}.${from}.${last}`, word, first: from, last, name, names: [name]});
+const [n, v, w] = [windowAt("N", 0, 18, 35), windowAt("V", 0, 0, 17), windowAt("W", 1, 0, 35)];
+const [linkN, linkV] = [{key: n.key, name: "N", target: 1030}, {key: v.key, name: "V", target: 1040}];
+table("what a small block says", (size, words, windows, links) => (({text, height, width, rows}) => [text, width, height, rows.length])(shapeOf({place: 1024, size}, words, windows, links, "boxes")), [
+  [1, [5 * 2 ** 18], [v, n], [], ["V 5", 72, 48, 1]], [1, [5 * 2 ** 18 + 1030], [v, n], [linkN], ["V 5", 72, 48, 1]], [1, [1030], [v, n], [linkN], ["1030", 72, 48, 1]],
+  [1, [0], [v, n], [], ["", 72, 24, 0]], [2, [5 * 2 ** 18, 60], [v, n, w], [], ["V 5 W 60", 72, 48, 1]], [2, [5 * 2 ** 18, 600], [v, n, w], [], ["5", 72, 48, 1]],
+  [2, [0, 33], [v, n, w], [], ["W 33 A", 72, 48, 1]], [2, [0, 123_456_789], [v, n, w], [], ["123456", 72, 48, 1]],
+  [1, [1040 * 2 ** 18 + 1030], [v, n], [linkV, linkN], ["", 72, 48, 1]], [1, [7], [windowAt("A", 0, 0, 35), n], [], ["N 7", 72, 48, 1]]
+]);
+table("how high a card is", (size, windows, words = Array(size).fill(0)) => (({height, rows}) => [height, rows.length, rows.at(-1)?.note ?? ""])(shapeOf({place: 1024, size}, words, windows, [], "cards")), [
+  [1, [v, n], [48, 1, ""]], [2, [v, n, w], [72, 2, ""]], [1, [n, windowAt("A", 0, 0, 35)], [72, 2, ""]], [8, [], [168, 8, ""]], [6, [], [168, 6, ""]], [7, [], [156, 7, ""]],
+  [16, [], [48, 1, "16 words"]], [16, [v], [72, 2, "15 more words"]], [2, [v, n], [72, 2, ""]], [16, [w], [72, 2, "15 more words"]], [9, [...Array(8).keys()].map((at) => windowAt("F", at, 0, 35)), [192, 9, "1 more word"]]
+]);
+const [cell] = shapeOf({place: 1024, size: 1}, [5 * 2 ** 18 + 1030], [v, n], [linkN], "cards").rows[0].cells;
+same("a cell of a card", [cell.name, cell.x, cell.width, cell.text, cell.value], ["V", 0, 72, "5", 5]);
 table("colours", colourNumber, [[0, 0], [7, 7], [8, 0]]);
 
 // ---- Calls

@@ -194,9 +194,15 @@ def a_hand_on_the_run(page: Page) -> None:
         "a breakpoint": "document.querySelector('#gutter button').click()",
         "Over": "document.getElementById('over').click()",
         "Next change": "l6.change(true)",
+        **{name: f"document.getElementById('{name}').click()" for name in (
+            "run", "start", "statement", "mark-next", "mark-back", "to-cursor", "end")},
+        "Out": "l6.out()",
+        "the number of a state": "(number.value = 4, number.dispatchEvent(new Event('change')))",
+        "a bug that is hidden": "l6.hideBug('L')",
+        "another deck": "l6.library.chooseExample('list')",
     }
-    page.do("l6.state(3)")
     for what, script in ways.items():
+        page.do("l6.state(3)")
         page.right(f"it plays before {what}", page.value(begin))
         page.do(script)
         page.right(f"{what} pauses", not page.value("l6.player.isPlaying"))

@@ -90,6 +90,9 @@ def told(run: Run, moment: Moment, before: Moment | None, way: str) -> dict[str,
         "spot": [part.card, part.begin, part.end] if part and part.card >= 0 else None,
         "card": run.deck.split("\n")[part.card][part.begin:part.end] if part and part.card >= 0 else "",
     }
+    if run.is_whole:
+        last = run.moments[-1].number
+        found["slider"] = [str(last), f"state {expected.commas(moment.number)} of {expected.commas(last)}"]
     printed = moment.output
     fresh = printed[len(before.output):] if before and len(before.output) < len(printed) else ""
     head = printed[:len(printed) - len(fresh)]

@@ -66,7 +66,7 @@ def label_of(moment: Moment, place: int, bugs: list[str], kinds: dict[str, str],
     led = f", {' and '.join(own)} {'leads' if len(own) == 1 else 'lead'} here" if own else ""
     lost = "" if place in moment.reached else ", lost"
     links = dict(links_of(moment, place, kinds))
-    parts = []
+    parts: list[str] = []
     for index, word in enumerate(words):
         for name, window in (it for lane in lanes_of([it for it in windows_of(moment) if it[1][0] == index]) for it in lane):
             if shown is None and name not in links:

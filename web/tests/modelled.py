@@ -149,8 +149,8 @@ class Run:
         if state.ending == Ending.TRAP:
             return
         amounts = {"calls": len(state.calls), "contents": len(state.contents), "definitions": len(state.definitions)}
-        values = {"calls": None, "contents": (state.contents or [None])[-1],
-                  "definitions": window_of((state.definitions or [None])[-1])}
+        values = {"calls": None, "contents": state.contents[-1] if state.contents else None,
+                  "definitions": window_of(state.definitions[-1]) if state.definitions else None}
         for name, amount in amounts.items():
             saved = self.saved[name]
             if amount > len(saved):
@@ -179,9 +179,9 @@ def parts_of(deck: str, assembly: Assembly) -> list[dict[int, Part]]:
         bodies[-1].append((number, card))
         own = card[0] + GROUP.sub(lambda it: it[0], card[1:])
         groups[-1] += [Part(number, it.start(), it.end(), it[0]) for it in GROUP.finditer(own)]
-    found = []
-    for one, own, body in zip(assembly.program, groups, bodies):
-        tests, operations = own[:len(one.tests)], own[len(one.tests):]
+    found: list[dict[int, Part]] = []
+    for one, parts_of_one, body in zip(assembly.program, groups, bodies):
+        tests, operations = parts_of_one[:len(one.tests)], parts_of_one[len(one.tests):]
         parts = {index: part for index, part in enumerate(operations, 1)}
         if tests:
             parts[0] = condition_part(body, tests)

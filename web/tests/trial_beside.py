@@ -54,6 +54,11 @@ ASIDE = """(() => {
     }
     for (const arrow of document.querySelectorAll('#drawing .arrow:not(.broken)')) {
         const {from, field} = arrow.dataset, path = arrow.querySelector('path'), matrix = path.getScreenCTM();
+        for (let along = 0; along < path.getTotalLength(); along += 4) {
+            const {x, y} = new DOMPoint(path.getPointAtLength(along).x, path.getPointAtLength(along).y).matrixTransform(matrix);
+            const over = pills.find(it => (({left, right, top, bottom}) => x > left + 3 && x < right - 3 && y > top + 3 && y < bottom - 5)(boxOf(it)));
+            if (over && !l6.viewer.drawing.graph.blocks.some(it => it.shape.isChip)) found.push(`${field} of ${from} goes over ${over.dataset.bug}`);
+        }
         const {x, y} = new DOMPoint(path.getPointAtLength(0).x, path.getPointAtLength(0).y).matrixTransform(matrix);
         const block = at.get(from), isIn = ({left, right, top, bottom}, more) => x >= left - more && x <= right + more && y >= top - more && y <= bottom + more;
         const cell = [...block.querySelectorAll('.cell')].find(it => it.querySelector('title').textContent.startsWith(`${field} `));

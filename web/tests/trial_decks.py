@@ -53,6 +53,7 @@ def several_faults(page: Page) -> None:
     page.put("(A,E,5)\n (A,PD)\n (A,PRINT)\n IF (A,E,0)\n")
     page.do("l6.checker.check()")
     page.same("each has a line", page.value("document.querySelectorAll('#fault .error').length"), 3)
+    page.same("three are not counted", page.count("#fault p"), 3)
     page.same("and a mark", page.value("document.querySelectorAll('.spot.bad').length"), 3)
     cards = page.value("[...document.querySelectorAll('#fault pre')].map((it) => it.textContent)")
     page.same("and its card", cards, ["(A,E,5)\n^", " (A,PRINT)\n    ^^^^^", " IF (A,E,0)\n ^^^^^^^^^^"])

@@ -113,7 +113,9 @@ def differ(page: Page, name: str, run: Run, moment: Moment, before: Moment | Non
     got["arrows"].sort()
     got["kinds of"] = [it[0] for it in got["kinds"]]
     want = told(run, moment, before, way) | drawn(NUMBERS.get(name, set()), moment, before, got)
-    begin, end = expected.spoken(moment, expected.next_part(run, moment), want.get("all changes", []), way == "back")
+    changes = want.get("all changes", [])
+    assert isinstance(changes, list)
+    begin, end = expected.spoken(moment, expected.next_part(run, moment), changes, way == "back")
     page.has(f"{name}, {way}: what is spoken in state {moment.number}", got["spoken"], begin)
     page.right(f"{name}, {way}: how that ends in state {moment.number}", not got["spoken"] or end in got["spoken"], got["spoken"])
     wrong = {key: (got.get(key), it) for key, it in want.items() if it != got.get(key) and not (key == "of" and it is None)}
@@ -141,7 +143,7 @@ def walk(page: Page, name: str, run: Run, way: str, moment: Moment) -> Moment:
     """Steps on to the last state that the model was asked for, or back to the first one."""
     wrong = 0
     while wrong < 3:
-        states = []
+        states: list[tuple[Moment, Moment]] = []
         for _ in range(AT_ONCE):
             at = states[-1][1] if states else moment
             number = run.number_after(at) if way == "step" else number_before(run, at)

@@ -64,9 +64,9 @@ def lines_that_mean_something(page: Page) -> None:
     page.open()
     put(page, "dangling")
     page.do("l6.state(14)")
-    for selector, want in ((".ghost .edge", [True]), (".arrow.broken > path:first-child", [True]), (".pill.broken path", [True]),
+    for selector, broken in ((".ghost .edge", [True]), (".arrow.broken > path:first-child", [True]), (".pill.broken path", [True]),
                            (".arrow.broken .break", [False])):
-        page.same(f"broken lines of {selector}", page.value(BROKEN % selector), want)
+        page.same(f"broken lines of {selector}", page.value(BROKEN % selector), broken)
     for name, colour in (("color", "lost"), ("backgroundColor", "lost-soft")):
         got, want = page.value(COLOUR % ("#warnings", name, colour))
         page.same(f"{name} of what is warned of", got, want)

@@ -86,8 +86,8 @@ def each_option_has_a_range(page: Page) -> None:
 def what_was_shown_goes(page: Page) -> None:
     """Where the deck, its input or an option has changed nothing of the run is shown any more, and that is said."""
     page.open()
-    for name, value, event in (("deck", " (PL)\n", "input"), ("input", "X", "input"), ("steps", 77, "change")):
-        page.fill(name, value, event)
+    for name, typed, event in (("deck", " (PL)\n", "input"), ("input", "X", "input"), ("steps", "77", "change")):
+        page.fill(name, typed, event)
         page.has(f"where nothing was run nothing goes with {name}", page.text("empty"), "Bell Labs")
     page.put(" (A,E\n")
     page.click("run")
@@ -95,12 +95,12 @@ def what_was_shown_goes(page: Page) -> None:
     page.fill("deck", " (A,E,5)\n")
     page.has("is not any more, when it is changed", page.text("empty"), "The deck has changed.")
     page.value("l6.library.isChanged = false")
-    for name, value, event, why in (("deck", " (A,GT,1)(A,PD)\n", "input", "The deck has changed."), ("input", "X", "input", "The input has changed."),
-                                    ("steps", 77, "change", "An option has changed.")):
+    for name, typed, event, why in (("deck", " (A,GT,1)(A,PD)\n", "input", "The deck has changed."), ("input", "X", "input", "The input has changed."),
+                                    ("steps", "77", "change", "An option has changed.")):
         page.example("tree", 137)
         page.value("document.getElementById('chain').value = 'TL', l6.viewer.chainTyped()")
         page.value("l6.play()")
-        page.fill(name, value, event)
+        page.fill(name, typed, event)
         page.same(f"{name} pauses", page.value("l6.player.isPlaying"), False)
         page.browser.wait("!l6.isBusy && !l6.engine.isBusy")
         page.same(f"why, after {name}", page.text("empty"), f"{why}Run goes to the end. Step goes on by one step.")

@@ -225,6 +225,13 @@ def titles(page: Page) -> None:
     page.browser.wait("document.querySelectorAll('#led button').length > 1")
     page.browser.click("#led button")
     page.same("one in the way of a chain, too", [page.box("place"), page.box("chain")], [str(page.value("l6.view.bugs.get('L')")), ""])
+    page.example("tree", 137)
+    page.browser.wait("document.querySelectorAll('#frames li').length > 1")
+    page.same("a call that waits", page.value("document.querySelector('#frames button.to').title"), "(WALK,DO) from statement 13; to state 135, before this call")
+    page.same("what is saved", page.value("document.querySelector('#frames .saved').title"), "Saved in state 133")
+    page.click("show-calls")
+    page.same("a call of the tree", page.value("document.querySelector('#call-tree button.to').title"), "To the state before this call")
+    page.click("show-calls")
     put(page, "dangling")
     page.do("l6.state(13)")
     size = "(({width, height}) => [width, height].map(Math.round))(document.querySelector('[data-place=\"1025\"] .edge').getBoundingClientRect())"

@@ -191,3 +191,49 @@ def a_slow_paper(page: Page) -> None:
     for first, second in (("printout", "asked"), ("listing", "printout"), ("session", "image")):
         page.same(f"{first} after {second}", page.value(f"{slow}('{first}', '{second}')"), [1, True, True, True])
     page.value("document.getElementById('papers-dialog').close()")
+
+
+SPOT = "(({x, y, scale}) => [x, y, scale].map(it => Math.round(it * 100) / 100))(l6.viewer.drawing.camera.aim)"
+MIDDLE = "(it => [it.x + it.width / 2, it.y + it.height / 2])(document.getElementById('drawing').getBoundingClientRect())"
+
+
+@trial
+def what_was_moved_by_hand_stays(page: Page) -> None:
+    """Where the drawing was moved or come nearer to, in whatever way, it stays so in steps and in another window, until Fit."""
+    page.browser.resize(1400, 900)
+    page.open()
+    put(page, "tree31")
+    page.do("l6.end()")
+    page.value("document.getElementById('follow').click()")
+    fitted = page.value(SPOT)
+    x, y = page.value(MIDDLE)
+    ways = {
+        "a drag": lambda: page.browser.drag_from(x, y, 60, 30),
+        "the wheel": lambda: page.browser.wheel(x, y, -100),
+        "a pinch": lambda: page.browser.pinch(x, y, 60, 90),
+        "the button for nearer": lambda: page.browser.click("#camera button:nth-child(2)"),
+        "the key for further away": lambda: (page.value("l6.viewer.drawing.focusBlock()"), page.browser.key("-")),
+        "Shift and an arrow": lambda: (page.value("l6.viewer.drawing.focusBlock()"), page.browser.key("ArrowDown", modifiers=8)),
+    }
+    for what, move in ways.items():
+        page.do("l6.state(400)")
+        page.do("l6.step()")
+        move()
+        spot = page.value(SPOT)
+        page.right(f"{what} moves it", spot != fitted, str(spot))
+        for way in ("step()", "back()", "back()", "state(400)", "step()"):
+            page.do(f"l6.{way}")
+        page.same(f"after {what} it stays in steps", page.value(SPOT), spot)
+        page.browser.resize(1400, 860)
+        page.value("new Promise(it => setTimeout(it, 400))")
+        page.same(f"after {what} it stays in another window", page.value(SPOT), spot)
+        page.browser.resize(1400, 900)
+        page.value("new Promise(it => setTimeout(it, 400))")
+        page.browser.click("#camera button")
+        page.same(f"after {what} Fit shows all", page.value(SPOT), fitted)
+    page.browser.resize(1400, 860)
+    page.value("new Promise(it => setTimeout(it, 400))")
+    page.right("what is fitted is fitted to another window", page.value(SPOT) != fitted)
+    page.right("all of it", page.value("l6.viewer.drawing.camera.isWhole"))
+    page.browser.resize(1400, 900)
+    page.value("document.getElementById('follow').click()")

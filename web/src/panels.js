@@ -34,7 +34,7 @@ export function showBugs(table, amounts, view, before, choose) {
   });
   const hasOctal = !rows.some(({value, hint}) => value > MOST_BESIDE && hint);
   table.replaceChildren(...rows.map((row) => rowOfBug(row, hasOctal, choose.watch)));
-  if (!rows.length) table.append(make("tr", {}, make("td", {class: "octal"}, "All bugs are 0.")));
+  if (!rows.length) table.append(make("tr", {}, make("td", {class: "amounts"}, "All bugs are 0.")));
   amounts.textContent = amountsInWords(view.amounts);
 }
 

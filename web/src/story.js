@@ -7,6 +7,8 @@ import {usesAfterFree} from "./provenance.js";
 import {nextShown, operationAt} from "./steps.js";
 import {count, withCommas} from "./word.js";
 
+const BESIDE = 12; // pixels, of what is marked on a card
+
 /** @typedef {import("./view.js").View} View */
 /** @typedef {import("./session.js").Session} Session */
 /** @typedef {import("./meaning.js").Action} Action */
@@ -99,10 +101,11 @@ export class Story {
     if (!isThere) return;
     const text = this.editor.lineOf(action.card);
     const number = make("i", {}, `${action.card + 1} `);
-    byId("card").replaceChildren(
-      number, text.slice(0, action.from), make("b", {}, text.slice(action.from, action.to)),
-      text.slice(action.to)
-    );
+    const mark = make("b", {}, text.slice(action.from, action.to));
+    byId("card").replaceChildren(number, text.slice(0, action.from), mark, text.slice(action.to));
+    byId("card").scrollLeft = 0;
+    const past = mark.getBoundingClientRect().right - byId("card").getBoundingClientRect().right;
+    if (past > 0) byId("card").scrollLeft = past + BESIDE; // (what is marked comes into sight)
   }
 
   // What is said of the state, in a line.

@@ -132,6 +132,7 @@ def numbers_beside_the_deck(page: Page) -> None:
     page.same("where the run is", page.value(GUTTER), want(2, 1))
     page.same("the ruler", page.value(RULER), [[str(it), it] for it in (1, 10, 20, 30, 40, 50, 60, 72)])
     page.value("l6.panes.lecture(true)")
+    page.browser.wait("document.querySelectorAll('.cards button').length === 4")
     page.value("document.querySelectorAll('.cards button')[3].click()")
     page.same("a click on a card of the lecture sets one, too", page.value("[...l6.editor.breakpoints].sort()"), [2, 3])
     page.same("its name", page.value("document.querySelectorAll('.cards button')[3].getAttribute('aria-label')"), "Breakpoint at statement 3")
@@ -283,3 +284,26 @@ def files_are_chosen_again(page: Page) -> None:
     names = page.value("[...document.querySelectorAll('#manual-page option')].map(it => it.value)")
     page.same("the box of pages says which", page.box("manual-page"), "summary")
     page.same("there are seven", names, json.loads(json.dumps(["tutorial", "summary", "language", "debugger", "allocator", "answers", "page"])))
+
+
+@trial
+def what_is_marked_on_a_phone(page: Page) -> None:
+    """The part of a card that comes next is in sight, also where the card is wider than the phone; tables say what is 0."""
+    page.browser.resize(375, 667, phone=True)
+    page.open("#tree@0")
+    seen = """(async () => {
+        const wrong = [];
+        for (let number = 90; number < 137; number++) {
+            await l6.state(number);
+            const [card, mark] = ['#card', '#card b'].map(it => document.querySelector(it).getBoundingClientRect());
+            if (mark.right > card.right + 1 || mark.left < card.left - 1 && mark.width < card.width) wrong.push(number);
+        }
+        return wrong;
+    })()"""
+    page.same("states in which it is cut", page.value(seen), [])
+    for width in (375, 1280):
+        page.browser.resize(width, 720)
+        page.open("#tree@0")
+        page.value("l6.panes.open('tables')")
+        page.same(f"no bug at {width}", page.value("document.getElementById('bugs').innerText.trim()"), "All bugs are 0.")
+    page.browser.resize(1400, 900)

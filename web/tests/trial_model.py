@@ -38,9 +38,14 @@ DECKS: dict[str, tuple[str, str, dict[str, int]]] = {
     "nothing": (" DONE\n", "", {}),
     "a limit": ("L (A,A,7) L\n", "", {"steps": 9}),
 }
-EXAMPLES = {"squares": 60, "list": 60, "lost": 60, "reverse": 130, "tree": 276, "counts": 90, "queue": 60, "strings": 90,
-            "buddy": 90, "symbols": 60}  # and how many of their states are looked at
+EXAMPLES = {"squares": 40, "list": 60, "lost": 60, "reverse": 70, "tree": 150, "counts": 90, "queue": 50, "strings": 40,
+            "buddy": 40, "symbols": 40}  # and how many of their states are looked at
 NUMBERS = {"powers": {"K"}, "dangling": {"K"}}  # bugs that hold the number of a place by chance
+# What the fields of some decks hold, as their comments say: links, numbers or letters.
+HOLDS = {
+    "lost": {"N": "link", "V": "number"}, "list": {"C": "text", "N": "link"}, "reverse": {"C": "text", "N": "link"}, "powers": {"N": "link", "V": "number"},
+    "tree": {"L": "link", "R": "link", "C": "text"}, "counts": {"L": "link", "R": "link", "K": "number", "C": "text"},
+}
 AT_ONCE = 12  # states
 SEEN = (Path(__file__).resolve().parent / "seen.js").read_text("utf-8")
 # Goes on by a step, or back, so many times, and answers what the page shows each time.
@@ -181,4 +186,6 @@ def all_that_is_said_of_each_state(page: Page) -> None:
         differ(page, name, run, run.moments[0], None, page.value("seen()"))
         end = walk(page, name, run, "step", run.moments[0])
         page.right(f"{name}: it was gone through", end.number > len(run.moments) - 8 or end.ending != "", str(end.number))
+        if name in HOLDS:
+            page.same(f"{name}: what fields hold", dict(page.value("seen().kinds")), HOLDS[name])
         walk(page, name, run, "back", end)

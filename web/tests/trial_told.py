@@ -332,6 +332,7 @@ def decks_come_and_go(page: Page) -> None:
     page.same("the cursor is at the begin", page.value("document.getElementById('deck').selectionStart"), 0)
     page.same("the address is that of the example", page.value("location.hash"), "#list")
     page.value("l6.library.chooseExample('last:0')")
+    change(page, "* MINE, TOO\n")
     page.click("save")
     page.same("a deck of one's own has no name", page.value("kept.at(-1)"), "my.deck")
     page.value("l6.library.chooseExample('tree')")

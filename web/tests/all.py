@@ -110,7 +110,7 @@ def parts(program: Path, is_quick: bool) -> Iterator[Part]:
     random = [sys.executable, str(HERE / "random_jobs.py"), str(program)]
     yield Part({"node"}, "random jobs in node", random, 3000)
     yield Part({"node"}, "the parts of the page in node", ["node", str(HERE / "parts.mjs")], 920)
-    yield Part({"node"}, "the small functions in node", ["node", str(HERE / "small.mjs")], 390)
+    yield Part({"node"}, "the small functions in node", ["node", str(HERE / "small.mjs")], 400)
     yield Part({"node"}, "the ways of arrows in node", ["node", str(HERE / "routes.mjs")], 190)
     yield Part({"node"}, "the provenance in node", ["node", str(HERE / "provenance.mjs")], 69)
     yield Part({"node"}, "the layout in node", ["node", str(HERE / "layout.mjs")], 65)

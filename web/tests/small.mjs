@@ -13,6 +13,7 @@ import {colourNumber} from "../src/figures.js";
 import {byCalls} from "../src/frames.js";
 import {linksOf} from "../src/graph.js";
 import {chainBehind, chainsOf, isSuffix} from "../src/group.js";
+import {job, partsOf} from "../src/job.js";
 import {titleOf} from "../src/keep.js";
 import {Kinds} from "../src/kinds.js";
 import {byRank, union} from "../src/lasting.js";
@@ -107,6 +108,12 @@ table("what holds texts", (text) => [...textNames(readDeck(text))].sort(), [
   [" (A,I,B)(B,PR,1)\n", ["bug A", "bug B"]], [" (A,A,B)(B,IN,1)\n", ["bug B"]], [" IF (A,EH,X) THEN\n", ["bug A"]], [" IF (A,L,BC) THEN\n (A,IN,1)\n", ["C", "bug A"]],
   [" (HELLO,PH)\n", []], [" (A,E,5)(A,PD)\n", []], [" IF (A,N,B) THEN (B,IN,1)\n", ["bug A", "bug B"]], [" IF (A,GH,Z) THEN\n", ["bug A"]]
 ]);
+
+table("the parts of a job", (text) => Object.values(partsOf(text)), [
+  ["$COMMANDS\nstep\n", ["", "step\n", ""]], ["$INPUT\nAB\n", ["", "", "AB\n"]], ["A\n$INPUT\n$COMMANDS\n", ["A\n", "", "$COMMANDS\n"]], ["A\n$COMMANDS\nB\n$INPUT\nC", ["A\n", "B\n", "C"]],
+  ["A\n$COMMANDS", ["A\n", "", ""]], ["", ["", "", ""]], ["A\n $INPUT\nB", ["A\n $INPUT\nB", "", ""]]
+]);
+table("a job of its parts", job, [["", null, "", ""], ["A", null, "", "A\n"], ["A\n", null, "B", "A\n$INPUT\nB"], ["A", "", "", "A\n$COMMANDS\n"], ["A", "B", "C\n", "A\n$COMMANDS\nB\n$INPUT\nC\n"]]);
 
 // ---- What is printed, and what is asked for
 

@@ -105,6 +105,8 @@ def what_was_shown_goes(page: Page) -> None:
         page.browser.wait("!l6.isBusy && !l6.engine.isBusy")
         page.same(f"why, after {name}", page.text("empty"), f"{why}Run goes to the end. Step goes on by one step.")
         page.same(f"what is left after {name}", page.value(LEFT), [])
+        page.same(f"the store after {name}", page.value("['strip', 'units', 'levels', 'levels-text'].map(it => document.getElementById(it).hidden)"),
+                  [False, True, True, True])
         page.same(f"the place after {name}", [page.text("where"), page.box("number"), page.box("slider")], ["Not run yet", "0", "0"])
         page.same(f"what can be pressed after {name}", page.count(".state [aria-disabled=true], .steps [aria-disabled=true], .leaps [aria-disabled=true]"), 0)
         page.value("l6.library.isChanged = false")

@@ -64,7 +64,7 @@ function deadLife(chronicle, key, number) {
 export function isNumber(name, number, chronicle) {
   if (!chronicle?.knows(number)) return false;
   const held = chronicle.heldAt(name, number);
-  return held !== undefined && held.life === null && held.value !== 0;
+  return held !== undefined && held.life === null;
 }
 
 /**

@@ -259,7 +259,6 @@ function boxOf(block, words, windows, links) {
     values
       .map(({window, value}) => `${window.name} ${textOfCell({...window, first: 0, last: 35}, value, null)}`)
       .join(" ");
-  const short = text.length > 13 ? `${text.slice(0, 12)}…` : text;
   const width = GRID * 6;
   const cells = links.map((link, index) => {
     const step = width / links.length;
@@ -277,8 +276,8 @@ function boxOf(block, words, windows, links) {
   const rows = [{word: 0, cells, y: HEAD, height: ROW}];
   return {
     width,
-    height: HEAD + (cells.length || short ? ROW : 0),
-    rows: cells.length || short ? rows : [],
+    height: HEAD + (cells.length || text ? ROW : 0),
+    rows: cells.length || text ? rows : [],
     isBox: true,
     text: values.length ? shortOf(values, text) : targetOf(links)
   };

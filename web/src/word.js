@@ -35,13 +35,6 @@ export function widthOf(window) {
   return window.last - window.first + 1;
 }
 
-// A character's code, or -1 where it has none. A small letter is read as its capital, a tab as a blank.
-/** @param {string} character */
-export function codeOf(character) {
-  const code = character === "\t" ? 32 : character.toUpperCase().charCodeAt(0);
-  return character.charCodeAt(0) < 127 && code >= 32 && code < 96 ? code - 32 : -1;
-}
-
 // The character of a code.
 /** @param {number} code */
 export function characterOf(code) {

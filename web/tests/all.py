@@ -29,7 +29,7 @@ TOP = WEB.parent
 PAGE = TOP / "dist" / "l6.html"
 AT_ONCE = 4  # parts
 SHARDS = 3  # into which the trials in Chromium are parted
-LEAST_IN_CHROMIUM = {"quick": [540, 615, 505], "all": [635, 720, 660]}  # trials of each shard
+LEAST_IN_CHROMIUM = {"quick": [4340, 785, 780], "all": [4340, 800, 800]}  # trials of each shard
 NEW_MANUAL = ["--new-manual"] if shutil.which("markdown_py") else []
 COUNT = re.compile(r"^(\d+) passed, (\d+) failed$")
 MOST_NOT_RUN = {"quick": 2.0, "all": 2.0}  # per cent of the lines of web/src that no trial need run
@@ -110,7 +110,7 @@ def parts(program: Path, is_quick: bool) -> Iterator[Part]:
     random = [sys.executable, str(HERE / "random_jobs.py"), str(program)]
     yield Part({"node"}, "random jobs in node", random, 3000)
     yield Part({"node"}, "the parts of the page in node", ["node", str(HERE / "parts.mjs")], 920)
-    yield Part({"node"}, "the small functions in node", ["node", str(HERE / "small.mjs")], 400)
+    yield Part({"node"}, "the small functions in node", ["node", str(HERE / "small.mjs")], 410)
     yield Part({"node"}, "the ways of arrows in node", ["node", str(HERE / "routes.mjs")], 190)
     yield Part({"node"}, "the provenance in node", ["node", str(HERE / "provenance.mjs")], 69)
     yield Part({"node"}, "the layout in node", ["node", str(HERE / "layout.mjs")], 65)

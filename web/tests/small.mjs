@@ -17,13 +17,13 @@ import {job, partsOf} from "../src/job.js";
 import {titleOf} from "../src/keep.js";
 import {Kinds} from "../src/kinds.js";
 import {byRank, union} from "../src/lasting.js";
-import {boxAround, isIn, revealed, whole} from "../src/lens.js";
+import {boxAround, isIn, onTheWay, revealed, whole} from "../src/lens.js";
 import {exercisePart, numbersOf, taskWith} from "../src/links.js";
 import {actionAt, groupAt} from "../src/meaning.js";
 import {areOptionsOf, DEFAULTS, RANGES} from "../src/options.js";
 import {differenceOf} from "../src/printouts.js";
 import {danglingInWords, isNumber, usesAfterFree} from "../src/provenance.js";
-import {chipText, lanesOf, shapeOf, textOfCell, windowsOf} from "../src/shape.js";
+import {chipFor, chipText, lanesOf, shapeOf, textOfCell, windowsOf} from "../src/shape.js";
 import {snapshotOf} from "../src/snapshot.js";
 import {hasStacks, isSilent, nextShown, stackingAt} from "../src/steps.js";
 import {KINDS, Store} from "../src/store.js";
@@ -33,7 +33,7 @@ import {textNames} from "../src/texts.js";
 import {stateOf} from "../src/transcript.js";
 import {conditionsOf, testsOf} from "../src/verify.js";
 import {View} from "../src/view.js";
-import {changedThrough, characterOf, codeOf, count, isLetter, likelyText, octal, seenThrough, withCommas} from "../src/word.js";
+import {changedThrough, characterOf, count, isLetter, likelyText, octal, seenThrough, withCommas} from "../src/word.js";
 
 import {canary, Tally} from "./common.mjs";
 
@@ -51,11 +51,10 @@ table("commas", withCommas, [[0, "0"], [999, "999"], [1000, "1,000"], [261_120, 
 table("a count", count, [[0, "step", "0 steps"], [1, "step", "1 step"], [2, "step", "2 steps"], [1000, "step", "1,000 steps"],
   [1, "call waits", "calls wait", "1 call waits"], [2, "call waits", "calls wait", "2 calls wait"]]);
 table("octal digits", octal, [[0, "000000000000"], [8, "000000000010"], [2 ** 36 - 1, "777777777777"]]);
-table("codes", codeOf, [[" ", 0], ["A", 33], ["a", 33], ["Z", 58], ["0", 16], ["\t", 0], ["_", 63], ["`", -1], ["é", -1], ["\u007f", -1]]);
 table("characters", characterOf, [[0, " "], [33, "A"], [63, "_"]]);
 table("letters", isLetter, [[32, false], [33, true], [58, true], [59, false]]);
 table("texts", likelyText, [[0, ""], [33, ""], [33 * 64 + 34, "AB"], [33 * 64, ""], [33 * 64 + 14, "A."], [16 * 64 + 33, ""],
-  [(33 * 64 + 7) * 64 + 34, "A'B"], [(33 * 64 + 16) * 64 + 34, ""]]);
+  [(33 * 64 + 7) * 64 + 34, "A'B"], [(33 * 64 + 16) * 64 + 34, ""], [(33 * 64 + 34) * 64, "AB"]]);
 table("what a window shows", seenThrough, [[2 ** 35, {first: 0, last: 0}, 1], [1, {first: 35, last: 35}, 1], [6, {first: 33, last: 34}, 3]]);
 table("what a window is made to show", changedThrough, [
   [0, {first: 0, last: 0}, 1, 2 ** 35], [7, {first: 34, last: 34}, 0, 5], [0, {first: 18, last: 35}, 1024, 1024], [0, {first: 34, last: 35}, 5, 1]
@@ -128,6 +127,7 @@ table("a printout beside the wanted one", differenceOf, [
   ["A\nX", "A\nBC", LIMIT, 2000, "the run does not end, and was stopped after 2,000 steps; line 2 is “X”, and not “BC”"],
   ["A\nB\nC", "A\nB", LIMIT, 9, "the run does not end, and was stopped after 9 steps; more is printed than is wanted"],
   ["A\nB", "A\nB", LIMIT, 9, "the run does not end, and was stopped after 9 steps; up to there it is right"],
+  ["X\nB\nC", "A\nB", LIMIT, 9, "the run does not end, and was stopped after 9 steps; line 1 is “X”, and not “A”"],
   ["B", "AB\nC", LIMIT, 9, "the run does not end, and was stopped after 9 steps; line 1 is “B”, and not “AB”"],
   ["A".repeat(60), "B".repeat(61), DONE, 9, `line 1 is “${"A".repeat(60)}”, and not “${"B".repeat(58)}..”`]
 ]);
@@ -203,25 +203,27 @@ same("a hidden bug leads nowhere", choose(drawn(5), lostStore(0), ["A"]).shown, 
 // ---- The chronicle: two lives at one place, bugs and a field
 
 const [first, second] = [{id: 1, place: 1024, size: 1, born: 2, dead: 6, words: [0]}, {id: 2, place: 1024, size: 1, born: 8, dead: Infinity, words: [0]}];
+const third = {id: 3, place: 1030, size: 1, born: 3, dead: 7, words: [0]};
 const chronicle = new Chronicle({
-  last: 12, isWhole: true, calls: [], lives: new Map([[1024, [first, second]]]), links: [], windows: new Map(),
+  last: 12, isWhole: true, calls: [], lives: new Map([[1024, [first, second]], [1030, [third]]]), links: [], windows: new Map(),
   held: new Map([["A", [{number: 2, value: 1024, life: first}, {number: 9, value: 0, life: null}]], ["B", [{number: 4, value: 1024, life: first}, {number: 7, value: 3, life: null}]],
-    ["C", [{number: 8, value: 1024, life: second}]], ["1 0.18.35", [{number: 3, value: 1024, life: first}]]]),
+    ["C", [{number: 8, value: 1024, life: second}]], ["2 0.18.35", [{number: 9, value: 1030, life: third}]], ["Z", [{number: 3, value: 1030, life: third}]], ["E", [{number: 9, value: 1024, life: second}]], ["F", [{number: 10, value: 1024, life: second}]], ["1 0.18.35", [{number: 3, value: 1024, life: first}]]]),
   evidence: new Map([["0.18.35", [{number: 3, isPointer: true}, {number: 9, isPointer: false}]]])
 });
 table("which life is at a place", (number) => chronicle.lifeAt(1024, number)?.id ?? 0, [[1, 0], [2, 1], [5, 1], [6, 0], [7, 0], [8, 2], [99, 2]]);
 table("what A holds", (number) => chronicle.heldAt("A", number)?.value ?? null, [[1, null], [2, 1024], [8, 1024], [9, 0], [99, 0]]);
 table("of which kind a window is", (number) => chronicle.kindOf("0.18.35", number), [[2, null], [3, "link"], [8, "link"], [9, "number"]]);
 same("a state that was read, and one that was not", [chronicle.knows(12), chronicle.knows(13)], [true, false]);
-same("for how long bugs held it", [...chronicle.heldFor], [[1024, 5]]);
-same("how many at the same time", [...chronicle.mostBugs], [[1024, 2]]);
+same("for how long bugs held them", [...chronicle.heldFor], [[1024, 5], [1030, 4]]);
+same("how many at the same time", [...chronicle.mostBugs], [[1024, 3], [1030, 1]]);
 table("whether B holds a number", (number) => isNumber("B", number, chronicle), [[3, false], [4, false], [7, true], [13, false]]);
-const at = (number, bugs) => ({state: {number}, bugs: new Map(Object.entries(bugs)), fields: new Map([["N", {word: 0, first: 18, last: 35}]]), wordsAt: (place) => (place === 1024 ? [0] : null)});
+const at = (number, bugs) => ({state: {number}, bugs: new Map(Object.entries(bugs)), fields: new Map([["N", {word: 0, first: 18, last: 35}]]), wordsAt: (place) => (place === 1024 ? [1030] : null)});
 table("uses after free", (groups, number, bugs) => usesAfterFree(groups, at(number, bugs), chronicle), [
   [[["AN", "E", "5"]], 5, {A: 1024}, []], [[["AN", "E", "5"]], 7, {A: 1024}, ["A leads to 1024, freed at state 6"]],
   [[["B", "E", "A"]], 7, {A: 1024}, []], [[["A", "FR"]], 7, {A: 1024}, ["A leads to 1024, freed at state 6"]],
   [[["B", "E", "AN"]], 8, {A: 1024}, ["A leads to 1024, freed at state 6, and follows it to the block of get 2"]],
-  [[["AN", "E", "5"]], 13, {A: 1024}, []], [[["CN", "E", "5"]], 9, {C: 1024}, []]
+  [[["AN", "E", "5"]], 6, {A: 1024}, ["A leads to 1024, freed at state 6"]], [[["CNN", "E", "5"]], 10, {C: 1024}, ["CN leads to 1030, freed at state 7"]],
+  [[["ZN", "E", "5"]], 12, {Z: 1030}, ["Z leads to 1030, freed at state 7"]], [[["ZN", "E", "5"]], 13, {Z: 1030}, []], [[["CN", "E", "5"]], 9, {C: 1024}, []]
 ]);
 same("what is said of pointers", danglingInWords([
   {bug: "A", target: 1024, life: first, now: null}, {from: 1030, window: {name: "N"}, target: 1024, life: first, now: second}
@@ -245,6 +247,9 @@ for (const want of ["number", "text", "link"]) {
 }
 kinds.code = "0.18.35t_1.0.5l_x_2.0.5z";
 same("by a code", [kinds.of(window, 3), kinds.of(other, 3), kinds.code], ["text", "link", "0.18.35t_1.0.5l"]);
+kinds.code = "";
+same("by a code of none", [kinds.of(window, 3), kinds.code], ["link", ""]);
+kinds.turn(window, 3);
 kinds.forget();
 same("forgotten", [kinds.code, kinds.chronicle], ["", null]);
 
@@ -256,7 +261,7 @@ same("lanes", lanesOf([[0, 17], [0, 35], [18, 35], [17, 20]].map(([from, last]) 
 const field = (from, last, more = {}) => ({first: from, last, name: "N", ...more});
 table("what a cell says", textOfCell, [
   [field(0, 35), 33, null, "33 A"], [field(0, 35), 5, null, "5"], [field(0, 35), 33, {}, "33"], [field(0, 35, {isText: true}), 33, null, "A"], [field(0, 35, {isText: true}), 0, null, "0"],
-  [field(0, 5), 33, null, "33"], [field(0, 0), 1, null, ""], [field(0, 5, {isText: true}), 63, null, "_"], [field(0, 17), 123_456, null, "123456"], [field(0, 8), 511, null, "511"]
+  [field(0, 11), 999, null, "999"], [field(0, 11), 4095, null, ""], [field(0, 5, {isText: true}), 1, null, "!"], [field(0, 5), 33, null, "33"], [field(0, 0), 1, null, ""], [field(0, 5, {isText: true}), 63, null, "_"], [field(0, 17), 123_456, null, "123456"], [field(0, 8), 511, null, "511"]
 ]);
 table("what a chip says", chipText, [
   [{place: 1024, size: 1}, [33], [{key: "a", word: 0, first: 0, last: 35}], new Set(), "33"], [{place: 1024, size: 1}, [33], [{key: "a", word: 0, first: 0, last: 35}], new Set(["a"]), "1024"],
@@ -272,6 +277,11 @@ table("what a small block says", (size, words, windows, links) => (({text, heigh
   [2, [0, 33], [v, n, w], [], ["W 33 A", 72, 48, 1]], [2, [0, 123_456_789], [v, n, w], [], ["123456", 72, 48, 1]],
   [1, [1040 * 2 ** 18 + 1030], [v, n], [linkV, linkN], ["", 72, 48, 1]], [1, [7], [windowAt("A", 0, 0, 35), n], [], ["N 7", 72, 48, 1]]
 ]);
+same("what a small block says whose words are not known", shapeOf({place: 1024, size: 1}, null, [v, n], [], "boxes").text, "");
+same("how wide chips are", [chipFor(["1024", "5"], new Set()).width, chipFor(["5"], new Set()).width], [40, 20]);
+const rowsOf = (size, windows) => shapeOf({place: 1024, size}, Array(size).fill(8), windows, [], "cards").rows.map(({y, height, cells}) => [y, height, cells[0].text]);
+same("rows of a card", rowsOf(2, [v, n, w]), [[24, 24, "0"], [48, 24, "8"]]);
+same("rows of one with many", rowsOf(7, []).slice(-2), [[114, 18, "000000000010"], [132, 18, "000000000010"]]);
 table("how high a card is", (size, windows, words = Array(size).fill(0)) => (({height, rows}) => [height, rows.length, rows.at(-1)?.note ?? ""])(shapeOf({place: 1024, size}, words, windows, [], "cards")), [
   [1, [v, n], [48, 1, ""]], [2, [v, n, w], [72, 2, ""]], [1, [n, windowAt("A", 0, 0, 35)], [72, 2, ""]], [8, [], [168, 8, ""]], [6, [], [168, 6, ""]], [7, [], [156, 7, ""]],
   [16, [], [48, 1, "16 words"]], [16, [v], [72, 2, "15 more words"]], [2, [v, n], [72, 2, ""]], [16, [w], [72, 2, "15 more words"]], [9, [...Array(8).keys()].map((at) => windowAt("F", at, 0, 35)), [192, 9, "1 more word"]]
@@ -321,6 +331,12 @@ table("what comes into sight", (box) => (({x, y}) => [x, y])(revealed({x: 0, y: 
 table("whether a box is in another", (x, y, width, height) => isIn({x, y, width, height}, {x: 0, y: 0, width: 10, height: 10}), [
   [0, 0, 10, 10, true], [-1, 0, 5, 5, true], [-2, 0, 5, 5, false], [0, -2, 5, 5, false], [6, 0, 5, 5, true], [7, 0, 5, 5, false], [0, 6, 5, 5, true], [0, 7, 5, 5, false]
 ]);
+table("whether a box is in another that is elsewhere", (x, y, width, height) => isIn({x, y, width, height}, {x: 5, y: 40, width: 10, height: 30}), [
+  [5, 40, 10, 30, true], [5, 40, 13, 30, false], [5, 40, 10, 33, false], [3, 40, 5, 5, false], [5, 38, 5, 5, false]
+]);
+same("what comes into sight of a small drawing", revealed({x: 10, y: 20, scale: 0.5}, {x: 300, y: 0, width: 40, height: 40}, frame), {x: -100, y: 20, scale: 0.5});
+same("what is seen there stays", revealed({x: 10, y: 20, scale: 0.5}, {x: 0, y: 0, width: 40, height: 40}, frame), {x: 10, y: 20, scale: 0.5});
+same("half of the way from a small one to a large one", onTheWay({x: 0, y: 0, scale: 0.5}, {x: 0, y: 0, scale: 2}, 0.5).scale, 1);
 same("the box around one", boxAround([{x: 0, y: 0, width: 10, height: 10}]), {x: -14, y: -28, width: 38, height: 52});
 same("the order of links", [{rank: 0, weight: 1, since: 1}, {rank: 1, weight: 1, since: 9}, {rank: 0, weight: 5, since: 9}, {rank: 0, weight: 1, since: 0}].sort(byRank).map((it) => Object.values(it).join()), ["1,1,9", "0,5,9", "0,1,0", "0,1,1"]);
 same("a link that comes twice", union([{key: "N", from: 1, to: 2, since: 5, until: 7}, {key: "N", from: 1, to: 2, since: 2, until: 3}]), [{key: "N", from: 1, to: 2, since: 2, weight: 3, rank: 0}]);

@@ -197,6 +197,12 @@ SPOT = "(({x, y, scale}) => [x, y, scale].map(it => Math.round(it * 100) / 100))
 MIDDLE = "(it => [it.x + it.width / 2, it.y + it.height / 2])(document.getElementById('drawing').getBoundingClientRect())"
 
 
+def press_in_drawing(page: Page, key: str, modifiers: int = 0) -> None:
+    """Presses a key on a block of the drawing."""
+    page.value("l6.viewer.drawing.focusBlock()")
+    page.browser.key(key, modifiers=modifiers)
+
+
 @trial
 def what_was_moved_by_hand_stays(page: Page) -> None:
     """Where the drawing was moved or come nearer to, in whatever way, it stays so in steps and in another window, until Fit."""
@@ -212,8 +218,8 @@ def what_was_moved_by_hand_stays(page: Page) -> None:
         "the wheel": lambda: page.browser.wheel(x, y, -100),
         "a pinch": lambda: page.browser.pinch(x, y, 60, 90),
         "the button for nearer": lambda: page.browser.click("#camera button:nth-child(2)"),
-        "the key for further away": lambda: (page.value("l6.viewer.drawing.focusBlock()"), page.browser.key("-")),
-        "Shift and an arrow": lambda: (page.value("l6.viewer.drawing.focusBlock()"), page.browser.key("ArrowDown", modifiers=8)),
+        "the key for further away": lambda: press_in_drawing(page, "-"),
+        "Shift and an arrow": lambda: press_in_drawing(page, "ArrowDown", 8),
     }
     for what, move in ways.items():
         page.do("l6.state(400)")

@@ -51,6 +51,7 @@ TRAPS = {  # decks that trap, and what is said of it
     " (A,GT,2000)\n": "The size that is asked for: 2000.",
     " (A,GT,512)\nL (A,GT,1024) L\n":
         "1,024 words asked for; 512 words free, and the largest free piece has 512.",
+    " (A,E,7)(B,DP,A)\n": "A is 7, which is no place of the store.",
     " (A,GT,1,AN)\n": "AN: N has no definition here.",
     " (5,DV,18,35)(A,GT,4,AV)\n": "AV ends before V: A leads to the new block, of 4 words, and V is in word 5.",
     " (1,DV,18,35)(A,GT,1,AV)\n": "AV ends before V: A leads to the new block, of 1 word, and V is in word 1, counted from 0.",

@@ -231,6 +231,10 @@ def chains_that_are_typed(page: Page) -> None:
         if shown[0] != answer or any(it not in shown[1] for it in way if len(chain) > 1) or (f"trap {trap}: " in shown[1]) != bool(trap):
             wrong.append([chain, shown, answer, way])
     page.same("chains with another answer", wrong[:3], [])
+    for chain in ("1A", "A-", "A B"):
+        page.fill("chain", chain)
+        page.same(f"{chain} is no chain", page.value("[document.getElementById('answer').textContent, document.getElementById('answer').classList.contains('wrong')]"),
+                  ["a chain is 1 to 6 names, the first a letter", True])
     page.fill("chain", "")
 
 

@@ -5,7 +5,7 @@ from modelled import Moment, Part, Run, Saved
 
 WORD_BITS = 36
 FULL_STOP = 14
-MOST_TOLD = 7  # changes that are told
+MOST_TOLD = 7  # changes that are listed
 LINE = 80  # characters that a line of the input gives
 
 

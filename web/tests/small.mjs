@@ -59,7 +59,7 @@ table("what a window shows", seenThrough, [[2 ** 35, {first: 0, last: 0}, 1], [1
 table("what a window is made to show", changedThrough, [
   [0, {first: 0, last: 0}, 1, 2 ** 35], [7, {first: 34, last: 34}, 0, 5], [0, {first: 18, last: 35}, 1024, 1024], [0, {first: 34, last: 35}, 5, 1]
 ]);
-table("changes that are told", (number) => shortened(Array.from({length: number}, (_, at) => String(at))).slice(-2), [
+table("changes that are listed", (number) => shortened(Array.from({length: number}, (_, at) => String(at))).slice(-2), [
   [7, ["5", "6"]], [8, ["5", "and 2 more changes"]], [30, ["5", "and 24 more changes"]]
 ]);
 

@@ -98,7 +98,7 @@ def lines_that_mean_something(page: Page) -> None:
 
 @trial
 def notes_go(page: Page) -> None:
-    """What is told fades after some seconds, each time anew; what goes on stays."""
+    """A note fades after some seconds, each time from its begin; a note of what goes on stays."""
     page.open("#first")
     page.do("l6.tell('one')")
     animation = "(it => [it.length, it[0]?.animationName ?? '', it[0]?.effect.getTiming().duration ?? 0])(document.getElementById('run-note').getAnimations())"
@@ -110,4 +110,4 @@ def notes_go(page: Page) -> None:
     page.value("l6.note('running ..')")
     page.same("what goes on does not fade", page.value(animation)[0], 0)
     page.value("l6.tell('')")
-    page.same("nothing is told, and no box is there", page.value("document.getElementById('run-note').offsetHeight"), 0)
+    page.same("without a note there is no box", page.value("document.getElementById('run-note').offsetHeight"), 0)

@@ -1,4 +1,4 @@
-"""Trials of what is told where, of controls that do nothing now, of keys that are none, and of what opens and closes."""
+"""Trials of notes, of controls that do nothing now, of keys that are none, and of what opens and closes."""
 from __future__ import annotations
 
 import json
@@ -10,7 +10,7 @@ from trial_controls import KEEP, SESSION
 STATE = "l6.view?.state.number ?? -1"
 DISABLED = "document.getElementById('stop').getAttribute('aria-disabled')"
 PLAY = "[document.querySelector('#play span').textContent, document.querySelector('#play use').getAttribute('href')]"
-# Each: what is done, and what is told then. They follow one another, from state 14 of the deck `lost` on.
+# Each: what is done, and the note then. They follow one another, from state 14 of the deck `lost` on.
 TOLD = [
     ("l6.toggle(3)", "statement 3 has a breakpoint"),
     ("l6.toggle(3)", "statement 3 has no breakpoint any more"),
@@ -49,8 +49,8 @@ SEEN_BARS = "['left', 'details'].map(it => document.getElementById(it).getBoundi
 
 
 @trial
-def what_is_told(page: Page) -> None:
-    """Each thing that can't be done, or was done unseen, is told in words."""
+def notes_on_what_is_done(page: Page) -> None:
+    """Each thing that can't be done, or was done unseen, has a note in words."""
     page.open("#lost@14")
     page.click("run")
     told = page.note()
@@ -66,7 +66,7 @@ def what_is_told(page: Page) -> None:
 
 @trial
 def each_option_has_a_range(page: Page) -> None:
-    """A number out of its range is told, marked, and nothing is run with it; the least and the greatest are right."""
+    """A number out of its range is reported, marked, and nothing is run with it; the least and the greatest are right."""
     page.open()
     for name, (below, least, most, above, text) in RANGES.items():
         for value, is_right in ((below, False), (least, True), (most, True), (above, False), ("", False), ("1.5", False), ("x", False)):
@@ -139,7 +139,7 @@ def stop_and_play(page: Page) -> None:
 
 @trial
 def controls_that_do_nothing_now(page: Page) -> None:
-    """What can't be done is marked so, and a click on it does nothing and tells nothing."""
+    """What can't be done is marked so, and a click on it does nothing and has no note."""
     page.open("#lost@0")
     page.value("l6.panes.open('tables')")
     for state, names in ((0, ["back", "start"]), (21, ["step", "end", "statement", "over", "out"])):

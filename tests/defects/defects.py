@@ -14,8 +14,8 @@ has lines
 and perhaps more pairs. A step fails by a trial that fails, or by having other trials than tests/counts says. (Of some
 trials nothing says how many there are.) Of the page `trial` is one trial in Chromium.
 
-defects.py tries those on which verdicts (beside this script) has no verdict of the files as they are, 12 of them at
-most, and a twentieth of the others; the commit chooses. With --all all are tried, with --only WORD those with a word
+defects.py tries those on which verdicts (beside this script) has no verdict of the files as they are, as many as it has
+time for by the COSTS of their steps, and a twentieth of the others; the commit chooses. With --all all are tried, with --only WORD those with a word
 in their names. What a step found is written to verdicts. The last line is 'N passed, M failed'.
 """
 from __future__ import annotations
@@ -35,7 +35,7 @@ import tempfile
 from collections.abc import Iterable, Iterator
 from concurrent.futures import ThreadPoolExecutor
 from dataclasses import dataclass, field
-from itertools import chain
+from itertools import accumulate, chain
 from pathlib import Path
 
 HERE = Path(__file__).resolve().parent
@@ -46,7 +46,10 @@ from trials import ONLY, Trial, report
 VERDICTS = HERE / "verdicts"
 LINE = re.compile(r"(?P<name>[\w/]+) (?P<sum>[0-9a-f]{64})")
 SAMPLE = 20  # of so many defects that were found before one is tried again
-MOST = 12  # of those without a verdict so many are tried, so that the step takes five minutes
+# How many processor seconds a step takes, about; others take OTHERWISE. Of those without a verdict so many are tried that
+# they take TIME together, but at least LEAST_TRIED, so that the step takes five minutes.
+COSTS = {"facts": 3, "tables": 2, "formats": 2, "pictures": 2, "pages": 4, "bundle": 2, "reports": 2, "memory-words": 4, "verdicts": 4}
+OTHERWISE, TIME, LEAST_TRIED = 15, 360, 12
 AT_ONCE = 4
 SECONDS = 900  # for a step
 ESCAPES = {"n": "\n", "t": "\t"}
@@ -260,13 +263,14 @@ def write(verdicts: dict[str, str]) -> None:
 
 
 def chosen(defects: list[Defect], is_all: bool, commit: str) -> list[Defect]:
-    """The defects that are tried: of those without a verdict of the files as they are the first 12 in an order that the
+    """The defects that are tried: of those without a verdict of the files as they are the first ones in an order that the
     commit makes, and some of the others; or all of them."""
     before = known()
     def place_of(name: str) -> int:
         return int(hashlib.sha256(f"{commit} {name}".encode()).hexdigest(), 16)
-    unknown = sorted((it.name for it in defects if before.get(it.name) != it.key), key=place_of)
-    first = set(unknown[:MOST])
+    unknown = sorted((it for it in defects if before.get(it.name) != it.key), key=lambda it: place_of(it.name))
+    ends = accumulate(COSTS.get(it.step, OTHERWISE) for it in unknown)
+    first = {it.name for at, (it, end) in enumerate(zip(unknown, ends)) if end <= TIME or at < LEAST_TRIED}
     sampled = {it.name for it in defects if before.get(it.name) == it.key and place_of(it.name) % SAMPLE == 0}
     return [it for it in defects if is_all or it.name in first | sampled]
 

@@ -105,10 +105,16 @@ def keys(top: Path) -> Iterator[Trial]:
 
 
 def choosing(top: Path) -> Iterator[Trial]:
-    """Of those without a verdict 12 are tried, and a twentieth of the others; all are, if that is asked for."""
+    """Of those without a verdict as many are tried as there is time for, and a twentieth of the others; all, if that is asked."""
     known = [Defect(top / f"small/{number}.defect") for number in range(400)]
     with mock.patch.object(Defect, "key", "a sum"):
-        for sum_of, least, most in (("a sum", 5, 40), ("another sum", 12, 12)):
+        with mock.patch.object(defects, "known", dict):
+            for step, count in (("facts", 120), ("named", 24)):
+                of_step = [Defect(it.path, step) for it in known]
+                yield f"how many of 400 of the step {step} are tried", count, len(defects.chosen(of_step, False, "a commit"))
+            with mock.patch.object(defects, "TIME", 0):
+                yield "how many are tried where there is no time", 12, len(defects.chosen(known, False, "a commit"))
+        for sum_of, least, most in (("a sum", 5, 40), ("another sum", 24, 24)):
             with mock.patch.object(defects, "known", lambda: {it.name: sum_of for it in known}):
                 count = len(defects.chosen(known, False, "a commit"))
                 yield f"how many of 400 are tried with {sum_of}", True, least <= count <= most
@@ -118,7 +124,7 @@ def choosing(top: Path) -> Iterator[Trial]:
                 yield f"how many of 400 are tried with {sum_of} if all are asked for", 400, len(defects.chosen(known, True, ""))
 
 
-def whole(top: Path) -> Iterator[Trial]:
+def whole(_top: Path) -> Iterator[Trial]:
     """A defect that is found has a verdict, and another has none."""
     made = {name: (expected, actual) for name, expected, actual in defects.trials("small/", False)}
     seen = {name: expected == actual for name, (expected, actual) in made.items()}

@@ -19,6 +19,7 @@ from pathlib import Path
 from unittest import mock
 
 sys.path.insert(0, str(Path(__file__).resolve().parents[1] / "harness"))
+import library_calls
 import lifetimes
 import offset_library
 import other_libraries
@@ -398,6 +399,8 @@ def main(words: list[str]) -> int:
             yield from other_libraries.trials(archive.parent, Path(room) / "others")
             (Path(room) / "lifetimes").mkdir()
             yield from lifetimes.trials(archive.parent, Path(room) / "lifetimes")
+            (Path(room) / "calls").mkdir()
+            yield from library_calls.trials(archive.parent, Path(room) / "calls")
 
         return report(trials(), canaries())
 

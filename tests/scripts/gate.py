@@ -60,13 +60,14 @@ STEPS = [
     "tests/systems/ports.py",
     "tests/scripts/release.py",
 ]
-GATE_STEPS = ["rt ci", *STEPS, "tests/defects/defects.py", "tests/edits/edits.py"]
+GATE_STEPS = ["rt ci", *STEPS, "tests/defects/sight.py", "tests/defects/defects.py", "tests/edits/edits.py"]
 PACKAGES = {  # without which tests are left out
     "binaryen", "nodejs", "chromium", "mypy", "shellcheck", "qemu-user-static", "busybox-static", "zsh", "fish",
     "lintian", "firefox-esr", "node-typescript", "python3-markdown", "rlwrap", "pkgconf", "neovim",
     "emacs-nox", "vim-nox",
 }
-NOT_A_STEP = {"adapter.py", "compiled_edits.py", "hostile.py", "python_lines.py", "same_answers.py"}  # scripts of tests/ that ./test does not call
+# Scripts of tests/ that ./test does not call.
+NOT_A_STEP = {"adapter.py", "compiled_edits.py", "hostile.py", "python_lines.py", "same_answers.py", "stated.py", "wrong_answers.py"}
 
 STAND_IN = """#!/bin/sh
 # A stand-in for python3 and rt: notes its words, and prints a count, which $HOW makes a bad one in what $FAILS
@@ -168,7 +169,7 @@ def steps_that_fail(gate: Gate) -> Iterator[Trial]:
         yield from steps_fail(gate, (), STEPS[which::2], HOWS[which])
     for how in HOWS:
         yield from steps_fail(gate, (), STEPS[:1], how)
-    for step in (GATE_STEPS[0], *GATE_STEPS[-4:]):
+    for step in (GATE_STEPS[0], *GATE_STEPS[-5:]):
         yield from steps_fail(gate, ("--prove",), [step], HOWS[1])
 
 

@@ -167,7 +167,7 @@ def processor() -> Iterator[Trial]:
     """What the host for x86-64 says of the processor, by which the program sees that it can run."""
     with tempfile.TemporaryDirectory(prefix="l6-hosts-") as room:
         Path(room, "asked.c").write_text(OF_PROCESSOR, "ascii")
-        words = ["cc", "-O2", "-w", '-DPROGRAM="l6"', "-Wl,--wrap=main", HOST, "asked.c", "-o", "asked"]
+        words: list[str | Path] = ["cc", "-O2", "-w", '-DPROGRAM="l6"', "-Wl,--wrap=main", HOST, "asked.c", "-o", "asked"]
         made = subprocess.run(words, cwd=room, capture_output=True, text=True)
         yield "the host compiles beside questions on the processor", (0, ""), (made.returncode, made.stderr)
         if made.returncode == 0:

@@ -184,7 +184,7 @@ def failed_proofs(checkout: Checkout) -> Iterator[Trial]:
         for which in ("the first call", "the second call"):
             actual = checkout.run("l6")
             yield f"{crate} is not proved, {which}", ("", 1), (actual.stdout, actual.status)
-            says = [f"fn {crate}::main: not proved" in actual.stderr, actual.stderr.endswith("was not built\n")]
+            says = [f"fn {crate}::main: not proved" in actual.stderr, actual.stderr.endswith("l6: the program was not built\n")]
             yield f"{crate} is not proved, what {which} says", [True, True], says
             yield f"{crate} is not proved, what {which} builds", called, checkout.calls()
         checkout.write(f"crates/{crate}/proofs/Lib.antt", "proved again\n")

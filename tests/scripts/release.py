@@ -307,15 +307,27 @@ def stale(top: Path) -> Trial:
 
 def failing(room: Path) -> Iterator[Trial]:
     """A tool that fails on the way is noticed, also one whose output another one takes, and its package is not made."""
-    for tool, words, made in (("md5sum", "*usr/*", 0), ("gzip", "*/l6.1*", 0), ("tar", "*--sort=name*", 1)):
+    for tool, words, made, said in (
+        ("md5sum", "*usr/*", 0, ""), ("gzip", "*/l6.1*", 0, ""), ("tar", "*--sort=name*", 1, "make_deb: the archive can't be made\n"),
+        ("dpkg-deb", "*-b*", 0, "make_deb: the package can't be made\n"), ("chmod", "*", 0, "make_deb: l6 can't be installed\n"),
+        ("date", "*", 0, "make_deb: CITATION.cff has no date\n"),
+    ):
         folder = room / tool
         folder.mkdir(parents=True)
         (folder / tool).write_text(f'#!/bin/sh\n{shutil.which(tool)} "$@"\ncase "$*" in {words}) exit 2 ;; esac\n')
         (folder / tool).chmod(0o755)
         ran = subprocess.run([TOP / "tools/make_deb", folder / "made"], capture_output=True, text=True,
                              env={**os.environ, "PATH": f"{folder}:{os.environ['PATH']}"})
-        actual = ran.returncode != 0, len(list((folder / "made").iterdir()))
+        actual = ran.returncode != 0, len([it for it in (folder / "made").iterdir() if tool != "dpkg-deb"])
         yield f"packages where {tool} fails", (True, made), actual
+        yield f"what is said where {tool} fails", said, ran.stderr[len(ran.stderr) - len(said):]
+    tools = room / "without dpkg-deb"
+    tools.mkdir()
+    for name in ("dirname", "readlink", "sha256sum", "sh"):
+        (tools / name).symlink_to(shutil.which(name) or name)
+    ran = subprocess.run(["sh", TOP / "tools/make_deb", room / "none"], capture_output=True, text=True, env={"PATH": str(tools)})
+    yield "packages without dpkg-deb", (1, "make_deb: dpkg-deb is not on the path\n", False), (
+        ran.returncode, ran.stderr, (room / "none").exists())
 
 
 def times(folder: Path, names: list[str]) -> Iterator[Trial]:

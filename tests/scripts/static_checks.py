@@ -22,6 +22,7 @@ from pathlib import Path
 
 sys.path.insert(0, str(Path(__file__).resolve().parents[1] / "harness"))
 import idle_code
+import said_messages
 from kept import kept_folder
 from trials import Trial, report
 
@@ -236,6 +237,7 @@ def trials() -> Iterator[Trial]:
     yield from comparisons()
     yield from idle_code.trials(TOP, list(dict.fromkeys(it for group in python_groups() for it in group.files)))
     yield from hyphens()
+    yield from said_messages.trials()
 
 
 def trial(name: str, said: str) -> Trial:

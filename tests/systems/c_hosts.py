@@ -161,6 +161,22 @@ def c_hosts() -> Iterator[Trial]:
     yield from names_given()
     if os.uname().machine == "x86_64":
         yield from processor()
+    yield from not_made()
+
+
+def not_made() -> Iterator[Trial]:
+    """What ports/bundle says of a page without a module, and ports/build of a program that is not there, which is not made."""
+    with tempfile.TemporaryDirectory(prefix="l6-hosts-") as room:
+        page = Path(room, "page.html")
+        page.write_text("<p>no module</p>\n", "ascii")
+        for script, given, said in (
+            ("bundle", [page, Path(room, "l6.mjs")], "ports/bundle: the page has no module\n"),
+            ("build", [Path(room, "none"), room],
+             "ports/build: the program is not there: prove and build it first (./l6 --help), or name it\n"),
+        ):
+            ran = subprocess.run([HOST.with_name(script), *given], capture_output=True, text=True)
+            yield f"what ports/{script} does not make", (1, "", said), (ran.returncode, ran.stdout, ran.stderr)
+        yield "what is made then", ["page.html"], sorted(it.name for it in Path(room).iterdir())
 
 
 def processor() -> Iterator[Trial]:

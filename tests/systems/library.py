@@ -151,6 +151,8 @@ def in_python(archive: Path, room: Path) -> Iterator[Trial]:
     shutil.copy(archive, archives / "l6_store.a")
     shutil.copy(Path(str(archive).replace("l6_store", "l6_offset")), archives / "l6_offset.a")
     yield "a shared object", (0, ""), run([LIBRARY / "shared", room, archives])
+    yield "no shared object without archives", (1, "shared: there is no archive of l6_store\n"), run(
+        [LIBRARY / "shared", room / "nothing", room / "nothing"])
     seen = run(["nm", "-D", "--defined-only", shared])[1]
     yield "the heap is not exported", {True}, {line.split()[-1].startswith("l6_store_") for line in seen.splitlines()}
     names = re.findall(r"SONAME.*\[(.*)\]", run(["readelf", "-d", shared])[1])

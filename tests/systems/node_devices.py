@@ -5,6 +5,7 @@ answers so many times as that device does, and then as the system's.
 """
 from __future__ import annotations
 
+import json
 import os
 import pty
 import subprocess
@@ -51,6 +52,7 @@ files.writeSync = (file, bytes, from = 0, ...more) => {{
   busy();
   return write(file, bytes, from, {few} ? Math.min({few}, bytes.length - from) : bytes.length - from);
 }};
+process.on("exit", () => files.writeFileSync({note}, String(left)));
 require("module").syncBuiltinESMExports();
 """
 STREAMS = {  # what a device does: its number, how often it fails and how, and how many bytes it takes or gives at a time
@@ -63,6 +65,7 @@ FAILING = {  # and that of a device that fails: what the native program does whe
 REQUESTS = ('{"jsonrpc":"2.0","id":1,"method":"initialize","params":{"capabilities":{}}}', '{"jsonrpc":"2.0","id":2,"method":"shutdown"}',
             '{"jsonrpc":"2.0","method":"exit"}')
 TALK = "".join(f"Content-Length: {len(it)}\r\n\r\n{it}" for it in REQUESTS).encode()
+NO_TEXT = {"l6": b"l6: a word is not UTF-8\n", "l6db": b"l6db: a word is not UTF-8\n", "l6ed": b"l6ed: a word is not UTF-8\n"}
 SESSION = b"step 2\nprint A\nnext\nsave\n"
 
 
@@ -71,7 +74,7 @@ def stream_devices(program: Path, native: Path) -> Iterator[Trial]:
     with tempfile.TemporaryDirectory(prefix="l6-node-") as room:
         deck = Path(room, "first.deck")
         deck.write_bytes(DECK)
-        asked = {"l6": (["run"], DECK), "l6db": (["--batch", str(deck)], SESSION), "l6ed": (["lsp"], TALK)}
+        asked = {"l6": (["run"], DECK), "l6db": ([str(deck)], SESSION), "l6ed": (["lsp"], TALK)}
         words, given = asked[native.name]
         expected = answer_of([native, *words], input=given)
         yield f"the native {native.name} answers", (True, 0), (len(expected.stdout) > 20, expected.status)
@@ -84,6 +87,8 @@ def stream_devices(program: Path, native: Path) -> Iterator[Trial]:
                 os.close(folder)
             actual = over(program, words, given, device, Path(room))
             yield f"{what} of {program.name}", (failed.stderr, failed.status), (actual.stderr, actual.status)
+        said = answer_of(["node", program, b"\xff"], input=b"", seconds=SECONDS, preexec_fn=None)
+        yield f"a word for {program.name} that is no text", answer(stderr=NO_TEXT[native.name], status=64), said
         for count in (14, 15, 16, 40):
             more = [*words, *["--input"] * count]
             yield f"{count} words too many for {program.name}", answer_of([native, *more], input=given), answer_of(
@@ -93,9 +98,11 @@ def stream_devices(program: Path, native: Path) -> Iterator[Trial]:
 def over(program: Path, words: list[str], given: bytes, device: tuple[int, int, str, int], room: Path) -> Answer[bytes]:
     """What a program for Node answers over a device."""
     stream, times, code, few = device
-    script = room / "device.cjs"
-    script.write_text(OF_STREAM.format(stream=stream, times=times, code=code, few=few), "ascii")
-    return answer_of(["node", "--require", script, program, *words], input=given, seconds=SECONDS, preexec_fn=None)
+    script, note = room / "device.cjs", room / "left"
+    script.write_text(OF_STREAM.format(stream=stream, times=times, code=code, few=few, note=json.dumps(str(note))), "ascii")
+    made = answer_of(["node", "--require", script, program, *words], input=given, seconds=SECONDS, preexec_fn=None)
+    was_asked = note.is_file() and int(note.read_text("ascii")) < times
+    return made if was_asked else answer(status="the device was not asked")
 
 
 def node_devices(program: Path, native: Path) -> Iterator[Trial]:

@@ -236,7 +236,8 @@ def words_of_the_command(gate: Gate) -> Iterator[Trial]:
     actual, _ = gate.test("--only", "no such trial", fails=" ", how="no-trial")
     yield "--only a trial that is not there", ("0 passed, 1 failed", 1), last_line(actual)
     yield "what is said of it", True, "\nno trial has no such trial in its name\n" in actual.stdout
-    actual = gate.checkout.run("test", has_rt=False)
+    path = {"PATH": str(gate.checkout.folder / "plain")}
+    actual = gate.checkout.run_words([shutil.which("bash") or "bash", str(gate.top / "test")], gate.top, path)
     said = "test: python3 is not on the path; README.md says what is needed\n"
     yield "a tool that is missing", Answer("", said, 1), actual
     _, calls = gate.test("--prove", "--anew")

@@ -327,13 +327,13 @@ def modules(_checkout: Checkout) -> Iterator[Trial]:
     yield "a program that is not there", missing, stopped(lambda: str(program_of(["is/not/there"])))
     yield "two programs", missing, stopped(lambda: str(program_of([str(TOP / "dist/l6")] * 2)))
     yield "a program that is named", str(TOP / "dist/l6"), stopped(lambda: str(program_of([str(TOP / "dist/l6")])))
-    yield "a command that fails", "sh -c failed:\nwhy\n", stopped(lambda: str(call("sh", "-c", "echo why >&2; exit 3")))
+    yield "a command that fails", "sh -c failed:\nwhy\n", stopped(functools.partial(call, "sh", "-c", "echo why >&2; exit 3"))
 
 
-def stopped(act: Callable[[], str]) -> str:
+def stopped(act: Callable[[], object]) -> str:
     """What a call gives, or why it stops."""
     try:
-        return act()
+        return str(act())
     except Stop as why:
         return str(why)
 

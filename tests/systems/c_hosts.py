@@ -169,11 +169,12 @@ def not_made() -> Iterator[Trial]:
     with tempfile.TemporaryDirectory(prefix="l6-hosts-") as room:
         page = Path(room, "page.html")
         page.write_text("<p>no module</p>\n", "ascii")
-        for script, given, said in (
+        rows: tuple[tuple[str, list[Path], str], ...] = (
             ("bundle", [page, Path(room, "l6.mjs")], "ports/bundle: the page has no module\n"),
-            ("build", [Path(room, "none"), room],
+            ("build", [Path(room, "none"), Path(room)],
              "ports/build: the program is not there: prove and build it first (./l6 --help), or name it\n"),
-        ):
+        )
+        for script, given, said in rows:
             ran = subprocess.run([HOST.with_name(script), *given], capture_output=True, text=True)
             yield f"what ports/{script} does not make", (1, "", said), (ran.returncode, ran.stdout, ran.stderr)
         yield "what is made then", ["page.html"], sorted(it.name for it in Path(room).iterdir())

@@ -330,6 +330,12 @@ def notes(checkout: Checkout) -> Iterator[Trial]:
     (quick / "xargs").write_text("#!/bin/sh\nexit 1\n")
     (quick / "xargs").chmod(0o755)
     yield "a call that sums nothing", expected, checkout.run("l6", FIRST=str(quick), **home)
+    after = Answer(f"this is l6-static\n{checkout.made_of}", "", 0)
+    yield "a program that is noted, and starts no longer", after, checkout.run("l6", REFUSES="l6", **home)
+    for place, is_noted in (("kept", False), (str(checkout.folder / "kept"), True)):
+        actual = checkout.run("l6", has_rt=False, XDG_CACHE_HOME=place)
+        kept = checkout.folder / "kept/l6/l6"
+        yield f"notes in a folder that is {'absolute' if is_noted else 'relative'}", (expected, is_noted), (actual, kept.is_file())
     source, program = checkout.top / "crates/l6_word/src/lib.rt", checkout.top / "dist/l6"
     for file in (source, program):
         before, times = file.read_bytes(), os.stat(file).st_mtime_ns

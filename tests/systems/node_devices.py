@@ -66,6 +66,7 @@ REQUESTS = ('{"jsonrpc":"2.0","id":1,"method":"initialize","params":{"capabiliti
             '{"jsonrpc":"2.0","method":"exit"}')
 TALK = "".join(f"Content-Length: {len(it)}\r\n\r\n{it}" for it in REQUESTS).encode()
 NO_TEXT = {"l6": b"l6: a word is not UTF-8\n", "l6db": b"l6db: a word is not UTF-8\n", "l6ed": b"l6ed: a word is not UTF-8\n"}
+LONGEST_SESSION = ["--store", "8", "--steps", "100", "--output", "100", "--echo", "--prompt", "> "]
 SESSION = b"step 2\nprint A\nnext\nsave\n"
 
 
@@ -87,6 +88,10 @@ def stream_devices(program: Path, native: Path) -> Iterator[Trial]:
                 os.close(folder)
             actual = over(program, words, given, device, Path(room))
             yield f"{what} of {program.name}", (failed.stderr, failed.status), (actual.stderr, actual.status)
+        if native.name == "l6db":
+            more = [*LONGEST_SESSION, "-x", str(deck), "--input", str(deck), str(deck)]
+            yield f"the longest right command line of {program.name}", answer_of([native, *more], input=given), answer_of(
+                ["node", program, *more], input=given, seconds=SECONDS, preexec_fn=None)
         said = answer_of(["node", program, b"\xff"], input=b"", seconds=SECONDS, preexec_fn=None)
         yield f"a word for {program.name} that is no text", answer(stderr=NO_TEXT[native.name], status=64), said
         for count in (14, 15, 16, 40):

@@ -16,7 +16,11 @@ Function = ast.FunctionDef | ast.AsyncFunctionDef
 COUNTS = {"len", "sum"}  # what is never below 0
 SWALLOWED = {"AssertionError", "BaseException", "Exception"}
 # What stands in scripts all the same: a wait that a comparison of the same value follows.
-KNOWN = {"web/tests/page.py": ["a failed assertion that is swallowed"]}
+# .. and keys of which those that are needed are picked out.
+KNOWN = {
+    "web/tests/page.py": ["a failed assertion that is swallowed"],
+    "tests/scripts/release.py": ["an actual value that is made of the expected one"],
+}
 EMPTY = (ast.List, ast.Tuple, ast.Set)
 
 
@@ -41,6 +45,8 @@ def idle(tree: ast.Module) -> Iterator[tuple[int, str]]:
             yield node.lineno, "a failed assertion that is swallowed"
         elif isinstance(node, ast.Yield) and is_settled(node.value):
             yield node.lineno, "a trial of two constants"
+        elif isinstance(node, ast.Yield) and is_made_of_it(node.value):
+            yield node.lineno, "an actual value that is made of the expected one"
 
 
 def idle_names(function: Function) -> Iterator[tuple[int, str]]:
@@ -121,6 +127,24 @@ def is_settled(value: ast.expr | None) -> bool:
     return isinstance(expected, ast.Constant) and isinstance(actual, ast.Constant) and expected.value == actual.value
 
 
+def is_made_of_it(value: ast.expr | None) -> bool:
+    """Whether what is yielded is a trial whose actual value has the expected one as a part that is joined, chosen or added.
+
+    (What is only compared with it, called with it, or cut to its length is another value.)
+    """
+    if not isinstance(value, ast.Tuple) or len(value.elts) != 3:
+        return False
+    expected, actual = ast.dump(value.elts[1]), value.elts[2]
+    if isinstance(value.elts[1], (ast.Constant, ast.List, ast.Tuple, ast.Dict)):
+        return False
+    for parent in ast.walk(actual):
+        if isinstance(parent, (ast.BoolOp, ast.BinOp, ast.IfExp, *EMPTY, ast.Dict)):
+            parts = [it.value if isinstance(it, ast.Starred) else it for it in ast.iter_child_nodes(parent)]
+            if any(ast.dump(it) == expected for it in parts):
+                return True
+    return False
+
+
 def never_called(texts: Iterable[str]) -> list[str]:
     """The functions of scripts whose names stand nowhere else in them. (Those that a decorator keeps are called by what keeps them.)"""
     known = list(texts)
@@ -137,12 +161,14 @@ IDLE = (
     "for n, it in enumerate(rows[2:2]):\n    print(it)\n", "if False:\n    print(1)\n", "print(a or True)\n", "print(True or a)\n",
     "print(len(a) >= 0)\n", "print(len(a) > -1)\n", "print('' in a)\n", "print(1 == 1)\n",
     "try:\n    print(1)\nexcept AssertionError:\n    pass\n", "try:\n    print(1)\nexcept:\n    pass\n",
-    "def one():\n    yield 'a', True, True\n",
+    "def one():\n    yield 'a', True, True\n", "def one(a, b):\n    yield 'a', a, b and a\n", "def one(a, b):\n    yield 'a', a, {**b, **a}\n",
+    "def one(a, b):\n    yield 'a', a, sorted({*b, *a})\n", "def one(a, b):\n    yield 'a', a, a if b else b\n",
 )
 BUSY = (
     "def one(it: str) -> bool:\n    return it == ''\n", "def one(_it):\n    return 1\n", "for it in rows[:1]:\n    print(it)\n",
     "print(a or '')\n", "print(len(a) >= 1)\n", "while True:\n    print(1)\n", "def one(it):\n    raise ValueError\n",
     "class A(B):\n    def one(self, it):\n        return 1\n", "def one():\n    yield 'a', True, False\n",
+    "def one(a, b):\n    yield 'a', a, b[:len(a)]\n", "def one(a, b):\n    yield 'a', a, [it for it in b if it in a]\n",
     "try:\n    print(1)\nexcept OSError:\n    pass\n", "def one(it: str) -> bool:\n    if it:\n        return True\n    return False\n",
 )
 

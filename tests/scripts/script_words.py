@@ -326,7 +326,8 @@ def modules(_checkout: Checkout) -> Iterator[Trial]:
     missing = "the program is not there: prove and build it first (./l6 --help), or name it"
     yield "a program that is not there", missing, stopped(lambda: str(program_of(["is/not/there"])))
     yield "two programs", missing, stopped(lambda: str(program_of([str(TOP / "dist/l6")] * 2)))
-    yield "a program that is named", str(TOP / "dist/l6"), stopped(lambda: str(program_of([str(TOP / "dist/l6")])))
+    named = [str(TOP / "dist/l6")]
+    yield "a program that is named", named[0], stopped(lambda: program_of(named))
     yield "a command that fails", "sh -c failed:\nwhy\n", stopped(functools.partial(call, "sh", "-c", "echo why >&2; exit 3"))
 
 

@@ -151,8 +151,15 @@ def in_python(archive: Path, room: Path) -> Iterator[Trial]:
     shutil.copy(archive, archives / "l6_store.a")
     shutil.copy(Path(str(archive).replace("l6_store", "l6_offset")), archives / "l6_offset.a")
     yield "a shared object", (0, ""), run([LIBRARY / "shared", room, archives])
-    yield "no shared object without archives", (1, "shared: there is no archive of l6_store\n"), run(
-        [LIBRARY / "shared", room / "nothing", room / "nothing"])
+    stand_in = room / "on aarch64"
+    stand_in.mkdir()
+    (stand_in / "uname").write_text("#!/bin/sh\necho aarch64\n", "ascii")
+    (stand_in / "uname").chmod(0o755)
+    on_arm = {**os.environ, "PATH": f"{stand_in}:{os.environ['PATH']}", "CC": "echo"}  # (echo says what is linked)
+    linked = re.findall(r"/dist/(\S+)\.a\b", run([LIBRARY / "shared", stand_in], env=on_arm)[1])
+    yield "what is linked on aarch64", ["l6_store-aarch64", "l6_offset-aarch64"], linked
+    shutil.copy(LIBRARY / "shared", stand_in / "shared")
+    yield "no shared object without archives", (1, "shared: there is no archive of l6_store\n"), run([stand_in / "shared", stand_in])
     seen = run(["nm", "-D", "--defined-only", shared])[1]
     yield "the heap is not exported", {True}, {line.split()[-1].startswith("l6_store_") for line in seen.splitlines()}
     names = re.findall(r"SONAME.*\[(.*)\]", run(["readelf", "-d", shared])[1])

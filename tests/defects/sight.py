@@ -35,7 +35,6 @@ SCRIPTS: dict[str, tuple[list[str], tuple[str, ...]]] = {
     "pages": (["tests/pages/documents.py", L6], ("output", "errors", "status", "pages")),
     "facts": (["tests/pages/facts.py", L6], ("digits", "pages")),
     "formats": (["tests/pages/format_pages.py", L6], ("pages",)),
-    "launcher": (["tests/scripts/launcher.py"], ("output", "errors", "status")),
     "install": (["tests/scripts/install.py"], ("output", "errors", "status")),
     "scripts": (["tests/scripts/script_words.py"], ("output", "errors", "status")),
     "library": (["tests/systems/library.py"], ("output", "status")),

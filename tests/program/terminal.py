@@ -318,6 +318,12 @@ def terminals(bench: Bench) -> Iterator[Trial]:
     yield "the last card in view", True, last in terminal.until(last)
     terminal.until(PROMPT)
     terminal.end()
+    for pager, is_paged in (("sed s/^/paged:/", True), ("", False), ("is-not-there", False)):
+        terminal = bench.begin(PAGER=pager)
+        terminal.resize(12, 90)
+        found = [b"paged:" in terminal.answer(line) for line in (b"s 0", b"help", b"s 0")]
+        yield f"short and long answers with the pager {pager!r}", [False, is_paged, False], found
+        terminal.end()
     for name, no_color, is_painted in (("a terminal with colours", "", True), ("NO_COLOR", "1", False)):
         terminal = bench.begin(NO_COLOR=no_color)
         yield name, is_painted, b"\x1b[1mAT 0.1" in terminal.answer(b"si")

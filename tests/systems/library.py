@@ -158,6 +158,12 @@ def in_python(archive: Path, room: Path) -> Iterator[Trial]:
     on_arm = {**os.environ, "PATH": f"{stand_in}:{os.environ['PATH']}", "CC": "echo"}  # (echo says what is linked)
     linked = re.findall(r"/dist/(\S+)\.a\b", run([LIBRARY / "shared", stand_in], env=on_arm)[1])
     yield "what is linked on aarch64", ["l6_store-aarch64", "l6_offset-aarch64"], linked
+    (room / "alone/library").mkdir(parents=True)
+    (room / "alone/dist").symlink_to(TOP / "dist")
+    shutil.copy(LIBRARY / "shared", room / "alone/library")
+    run([room / "alone/library/shared"], env={**on_arm, "PATH": os.environ["PATH"]})
+    made = sorted(it.name for it in (room / "alone/library").glob("python/*"))
+    yield "where shared objects go that no folder is named for", ["libl6_offset.so", "libl6_store.so"], made
     shutil.copy(LIBRARY / "shared", stand_in / "shared")
     yield "no shared object without archives", (1, "shared: there is no archive of l6_store\n"), run([stand_in / "shared", stand_in])
     seen = run(["nm", "-D", "--defined-only", shared])[1]

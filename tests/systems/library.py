@@ -162,8 +162,8 @@ def in_python(archive: Path, room: Path) -> Iterator[Trial]:
     (room / "alone/dist").symlink_to(TOP / "dist")
     shutil.copy(LIBRARY / "shared", room / "alone/library")
     run([room / "alone/library/shared"], env={**on_arm, "PATH": os.environ["PATH"]})
-    made = sorted(it.name for it in (room / "alone/library").glob("python/*"))
-    yield "where shared objects go that no folder is named for", ["libl6_offset.so", "libl6_store.so"], made
+    placed = sorted(it.name for it in (room / "alone/library").glob("python/*"))
+    yield "where shared objects go that no folder is named for", ["libl6_offset.so", "libl6_store.so"], placed
     shutil.copy(LIBRARY / "shared", stand_in / "shared")
     yield "no shared object without archives", (1, "shared: there is no archive of l6_store\n"), run([stand_in / "shared", stand_in])
     seen = run(["nm", "-D", "--defined-only", shared])[1]

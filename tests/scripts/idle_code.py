@@ -47,6 +47,8 @@ def idle(tree: ast.Module) -> Iterator[tuple[int, str]]:
             yield node.lineno, "a trial of two constants"
         elif isinstance(node, ast.Yield) and is_made_of_it(node.value):
             yield node.lineno, "an actual value that is made of the expected one"
+        elif isinstance(node, ast.Yield) and has_a_part_twice(node.value):
+            yield node.lineno, "a part that is compared with itself"
 
 
 def idle_names(function: Function) -> Iterator[tuple[int, str]]:
@@ -99,8 +101,10 @@ def is_empty(node: ast.expr) -> bool:
         return isinstance(upper, ast.Constant) and upper.value == (lower.value if isinstance(lower, ast.Constant) else 0)
     if isinstance(node, ast.Call) and node.args and isinstance(node.func, ast.Name) and node.func.id in ("enumerate", "list", "sorted", "zip"):
         return any(map(is_empty, node.args))
-    return isinstance(node, ast.Call) and isinstance(node.func, ast.Name) and node.func.id == "range" and any(
-        isinstance(it, ast.Constant) and it.value == 0 for it in node.args[-1:])
+    if not (isinstance(node, ast.Call) and isinstance(node.func, ast.Name) and node.func.id == "range"):
+        return False
+    bounds = [it.value for it in node.args if isinstance(it, ast.Constant)]
+    return len(bounds) == len(node.args) and len(range(*bounds)) == 0
 
 
 def always_holds(node: ast.Compare) -> bool:
@@ -145,6 +149,16 @@ def is_made_of_it(value: ast.expr | None) -> bool:
     return False
 
 
+def has_a_part_twice(value: ast.expr | None) -> bool:
+    """Whether what is yielded is a trial of two tuples that have the same expression, and no constant, at one place."""
+    if not isinstance(value, ast.Tuple) or len(value.elts) != 3:
+        return False
+    expected, actual = value.elts[1:]
+    if not (isinstance(expected, ast.Tuple) and isinstance(actual, ast.Tuple)):
+        return False
+    return any(ast.dump(one) == ast.dump(other) and not isinstance(one, ast.Constant) for one, other in zip(expected.elts, actual.elts))
+
+
 def never_called(texts: Iterable[str]) -> list[str]:
     """The functions of scripts whose names stand nowhere else in them. (Those that a decorator keeps are called by what keeps them.)"""
     known = list(texts)
@@ -162,12 +176,14 @@ IDLE = (
     "print(len(a) >= 0)\n", "print(len(a) > -1)\n", "print('' in a)\n", "print(1 == 1)\n",
     "try:\n    print(1)\nexcept AssertionError:\n    pass\n", "try:\n    print(1)\nexcept:\n    pass\n",
     "def one():\n    yield 'a', True, True\n", "def one(a, b):\n    yield 'a', a, b and a\n", "def one(a, b):\n    yield 'a', a, {**b, **a}\n",
+    "def one(a, b):\n    yield 'a', (0, a), (b, a)\n", "for it in range(3, 3):\n    print(it)\n",
     "def one(a, b):\n    yield 'a', a, sorted({*b, *a})\n", "def one(a, b):\n    yield 'a', a, a if b else b\n",
 )
 BUSY = (
     "def one(it: str) -> bool:\n    return it == ''\n", "def one(_it):\n    return 1\n", "for it in rows[:1]:\n    print(it)\n",
     "print(a or '')\n", "print(len(a) >= 1)\n", "while True:\n    print(1)\n", "def one(it):\n    raise ValueError\n",
     "class A(B):\n    def one(self, it):\n        return 1\n", "def one():\n    yield 'a', True, False\n",
+    "def one(a, b):\n    yield 'a', (0, a), (a, b)\n", "for it in range(3, 4):\n    print(it)\n",
     "def one(a, b):\n    yield 'a', a, b[:len(a)]\n", "def one(a, b):\n    yield 'a', a, [it for it in b if it in a]\n",
     "try:\n    print(1)\nexcept OSError:\n    pass\n", "def one(it: str) -> bool:\n    if it:\n        return True\n    return False\n",
 )

@@ -23,6 +23,7 @@ from trials import Trial
 ENTERED = "tests/pages/stated"
 HEADERS = ("library/l6_store.h", "library/l6_offset.h")
 OTHERS = ("README.md", "CHANGELOG.md", "CONTRIBUTING.md", "bench/README.md", "ports/README.md", "web/README.md")
+KINDS, NOTHING = ("numbers", "turning words", "names"), ["", "", ""]
 LEAST = 400  # sections of all pages
 RUN = re.compile(r"^( *)```(?:text|sh|rust|c|python|antt)\n.*?^\1```$", re.DOTALL | re.MULTILINE)
 NOT_RUN = re.compile(r"<!-- not run: .+ -->\s*\Z")
@@ -38,11 +39,11 @@ TURNING = re.compile(
     r"|above|below|left|right|up|down|begins?|ends?|input|output|error|more|most|less|least|fewer|largest|smallest|greater"
     r"|same|another|once|twice|one|two|three|four|five|six|seven|eight|nine|ten|eleven|twelve|must|can|can't|doesn't|isn't"
     r"|aren't|refused|ignored|empty|full|old|new|and|or)\b", re.IGNORECASE)
-# Pages for those who work on the system: their words are looked at by readers alone, and tools/tables.py and named.py have
-# the names of two of them.
-OF_BUILDERS = {f"docs/{it}.md" for it in ("DECISIONS", "architecture", "contracts", "definitions", "history", "measurements",
-                                          "proof", "robustness")} | {"CHANGELOG.md", "CONTRIBUTING.md", "bench/README.md", "web/README.md"}
-OF_TABLES = {"docs/contracts.md", "docs/definitions.md"}
+# Pages whose words readers alone look at: why something is as it is, and tables of functions and edits. tools/tables.py and
+# named.py have the names of one of them.
+OF_BUILDERS = {f"docs/{it}.md" for it in ("DECISIONS", "contracts", "definitions")} | {"CHANGELOG.md"}
+OF_TABLES = {"docs/contracts.md"}
+ROW = re.compile(r"^ *\|.*\|$", re.MULTILINE)
 
 
 def pages() -> list[str]:
@@ -87,7 +88,9 @@ def stated(page: str) -> dict[str, list[str]]:
     for name, text in sections(page):
         words = [] if page in OF_BUILDERS else [it.lower() for it in TURNING.findall(text)]
         names = [] if page in OF_TABLES else names_of(page, text)
-        found[name] = [" ".join(NUMBER.findall(text)), " ".join(words), " | ".join(names)]
+        rows = ROW.findall(text)
+        numbers = [*([f"({len(rows)} rows)"] if rows else []), *NUMBER.findall(text)]
+        found[name] = [" ".join(numbers), " ".join(words), " | ".join(names)]
     return found
 
 
@@ -100,14 +103,17 @@ def entered() -> dict[str, list[str]]:
 
 def statements() -> Iterator[Trial]:
     """Each section states what was entered."""
-    known = entered()
-    found = {name: it for page in pages() for name, it in stated(page).items()}
-    for name, now in found.items():
-        for kind, here, there in zip(("numbers", "turning words", "names"), known.get(name, ["", "", ""]), now):
-            if here or there:
-                yield f"{kind} of {name}", here, there
-    yield "sections that are entered, and that no page has", [], sorted(known.keys() - found.keys())
-    yield "sections of all pages", True, len(found) >= LEAST
+    known, count = entered(), 0
+    for page in pages():
+        found = stated(page)
+        count += len(found)
+        before = {name: it for name, it in known.items() if name.startswith(f"{page} # ")}
+        yield f"what {page} states, and is not entered in {ENTERED}", [], [
+            f"{kind} of {name}: {there}, entered: {here}"
+            for name in {**before, **found} for kind, here, there in zip(KINDS, before.get(name, NOTHING), found.get(name, NOTHING))
+            if here != there
+        ]
+    yield "sections of all pages", True, LEAST <= count == len(known)
 
 
 def write() -> None:

@@ -348,6 +348,10 @@ def launcher(bench: Bench) -> Iterator[Trial]:
     state = {"XDG_STATE_HOME": str(bench.folder / "state")}
     words = [str(TOP / "l6db"), str(bench.folder / "a deck of * mine.deck")]
     Path(words[1]).write_bytes(LIST)
+    elsewhere = Terminal(["sh", "-c", 'cd / && exec "$0" "$1"', *words], **state)
+    elsewhere.until(PROMPT)
+    yield elsewhere.has("./l6db from another folder", b"b NEX\t\r", b"Breakpoint at 5 NEXT")
+    elsewhere.end()
     terminal = Terminal(words, **state)
     terminal.until(PROMPT)
     yield terminal.has("./l6db with Python", b"b NEX\t\r", b"Breakpoint at 5 NEXT")

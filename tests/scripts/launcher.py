@@ -313,6 +313,12 @@ def damaged_programs(checkout: Checkout) -> Iterator[Trial]:
         provenance.write_bytes(named[:place] + bytes([named[place] ^ 1]) + named[place + 1:])
         actual = checkout.run("l6", has_rt=False, FIRST=arm)
         yield f"byte {place} of a longer provenance", ("", 1), (actual.stdout, actual.status)
+    program = checkout.top / "dist/l6"
+    program.write_bytes(program.read_bytes()[:-1])
+    checkout.write("crates/l6/src/main.rt", "another main\n")
+    said = STALE + "l6:   crates/l6/src/main.rt has changed\n" + NO_RT
+    actual = checkout.run("l6", has_rt=False, REFUSES="l6")
+    yield "a damaged program does not run as it is, whatever the sources say", Answer("", said, 1), actual
 
 
 def notes(checkout: Checkout) -> Iterator[Trial]:

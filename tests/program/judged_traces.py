@@ -344,7 +344,7 @@ def recorded_by_hand(room: Path, library: Path) -> Iterator[Trial]:
         made = subprocess.run(words, capture_output=True, text=True, check=False)
         actual = made.stdout, made.stderr, made.returncode
         yield f"a trace of calls by hand{name}", (TRACE_BY_HAND, said.format(calls), 0), actual
-    calls.write_text(CALLS_OF_MUCH, "ascii")
+    calls.write_text(CALLS_OF_MUCH + ".\n", "ascii")
     made = subprocess.run(words[:4], capture_output=True, text=True, check=False)
     yield "a trace with no words", (TRACE_OF_MUCH, "", 0), (made.stdout, made.stderr, made.returncode)
     calls.write_text(OFTEN, "ascii")

@@ -309,7 +309,7 @@ def failing(room: Path) -> Iterator[Trial]:
     """A tool that fails on the way is noticed, also one whose output another one takes, and its package is not made."""
     for tool, words, made, said in (
         ("md5sum", "*usr/*", 0, ""), ("gzip", "*/l6.1*", 0, ""), ("tar", "*--sort=name*", 1, "make_deb: the archive can't be made\n"),
-        ("dpkg-deb", "*-b*", 0, "make_deb: the package can't be made\n"), ("chmod", "*", 0, "make_deb: l6 can't be installed\n"),
+        ("dpkg-deb", "*-b*", 0, "make_deb: the package can't be made\n"), ("chmod", "*.new", 0, "make_deb: l6 can't be installed\n"),
         ("date", "*", 0, "make_deb: CITATION.cff has no date\n"),
     ):
         folder = room / tool
@@ -323,7 +323,7 @@ def failing(room: Path) -> Iterator[Trial]:
         yield f"what is said where {tool} fails", said, ran.stderr[len(ran.stderr) - len(said):]
     tools = room / "without dpkg-deb"
     tools.mkdir()
-    for name in ("dirname", "readlink", "sha256sum", "sh"):
+    for name in ("dirname", "readlink", "rm", "sha256sum", "sh"):
         (tools / name).symlink_to(shutil.which(name) or name)
     ran = subprocess.run(["sh", TOP / "tools/make_deb", room / "none"], capture_output=True, text=True, env={"PATH": str(tools)})
     yield "packages without dpkg-deb", (1, "make_deb: dpkg-deb is not on the path\n", False), (

@@ -78,6 +78,17 @@ def differing(known: dict[str, File], found: dict[str, File]) -> list[str]:
     return sorted(name for name in known.keys() | found.keys() if known.get(name) != found.get(name))
 
 
+def differences_seen() -> Iterator[Trial]:
+    """Of two lists of files each difference is seen."""
+    one: dict[str, File] = {"a": (b"text", 0o644)}
+    others: dict[str, tuple[dict[str, File], list[str]]] = {
+        "the same": ({"a": (b"text", 0o644)}, []), "no file": ({}, ["a"]), "another text": ({"a": (b"texts", 0o644)}, ["a"]),
+        "another mode": ({"a": (b"text", 0o755)}, ["a"]), "one file more": ({**one, "b": (b"", 0o644)}, ["b"]),
+    }
+    for what, (found, expected_names) in others.items():
+        yield f"what differs where there is {what}", expected_names, differing(one, found)
+
+
 def in_package(package: Path, form: str) -> Iterator[Trial]:
     """The files of one of Debian's packages, and the fields of its control file."""
     parts = [subprocess.run(["dpkg-deb", kind, package], capture_output=True, check=True).stdout
@@ -108,6 +119,7 @@ def in_tar(archive: Path, form: str) -> Iterator[Trial]:
 def packed(folder: Path, names: list[str]) -> Iterator[Trial]:
     """The files of all packages and archives in a folder."""
     yield from names_of_shipped()
+    yield from differences_seen()
     for name in names:
         form = "-aarch64" if "aarch64" in name or "arm64" in name else "-static"
         yield from (in_package if name.endswith(".deb") else in_tar)(folder / name, form)

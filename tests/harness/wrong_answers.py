@@ -30,7 +30,7 @@ TOP = HARNESS.parents[1]
 sys.path.insert(0, str(HARNESS))
 import trials
 
-TOOLS = {"git", "cc", "c++", "rt", "mypy", "shellcheck", "cargo", "node", "emacs", "nvim", "vim", "make_dist"}
+TOOLS = {"git", "cc", "c++", "rt", "mypy", "shellcheck", "emacs", "nvim", "vim", "make_dist"}
 OF_PAGES = {".md", ".1"}
 LAST = re.compile(r"[A-Za-z0-9](?=[^A-Za-z0-9]*\Z)")
 DIGIT = re.compile(r"\d")

@@ -105,10 +105,23 @@ def keys(top: Path) -> Iterator[Trial]:
 
 
 def choosing(top: Path) -> Iterator[Trial]:
-    """Of those without a verdict 12 are tried, and a twentieth of the others; all are, if that is asked for."""
-    known = [Defect(top / f"small/{number}.defect") for number in range(400)]
+    """Of those without a verdict as many are tried as there is time for, and a twentieth of the others; all, if that is asked."""
+    known = [Defect(top / f"small/{number}.defect", "sees") for number in range(400)]
+    subprocess.run(["git", "-c", "user.name=one", "-c", "user.email=one@localhost", "commit", "-q", "--allow-empty", "-m", "one"],
+                   cwd=top, check=True)
+    yield "what has just changed in a checkout of one commit", set(), defects.just_changed()
     with mock.patch.object(Defect, "key", "a sum"):
-        for sum_of, least, most in (("a sum", 5, 40), ("another sum", 12, 12)):
+        with mock.patch.object(defects, "known", dict):
+            for step, trial, count in (("sees", "", 24), ("sees", "a group:", 60)):
+                of_step = [Defect(it.path, step, trial) for it in known]
+                yield f"how many of 400 are tried by {trial or 'a step'}", count, len(defects.chosen(of_step, False, "a commit"))
+            changed = [Defect(it.path, "sees", "", [("other", "", "")] if number % 20 == 0 else []) for number, it in enumerate(known)]
+            with mock.patch.object(defects, "just_changed", lambda: {top / "other"}):
+                chosen = {it.name for it in defects.chosen(changed, False, "a commit")}
+            yield "those whose files have just changed", set(), {it.name for it in changed if it.pairs} - chosen
+            with mock.patch.object(defects, "TIME", 0):
+                yield "how many are tried where there is no time", 12, len(defects.chosen(known, False, "a commit"))
+        for sum_of, least, most in (("a sum", 5, 40), ("another sum", 24, 24)):
             with mock.patch.object(defects, "known", lambda: {it.name: sum_of for it in known}):
                 count = len(defects.chosen(known, False, "a commit"))
                 yield f"how many of 400 are tried with {sum_of}", True, least <= count <= most
@@ -118,7 +131,7 @@ def choosing(top: Path) -> Iterator[Trial]:
                 yield f"how many of 400 are tried with {sum_of} if all are asked for", 400, len(defects.chosen(known, True, ""))
 
 
-def whole(top: Path) -> Iterator[Trial]:
+def whole(_top: Path) -> Iterator[Trial]:
     """A defect that is found has a verdict, and another has none."""
     made = {name: (expected, actual) for name, expected, actual in defects.trials("small/", False)}
     seen = {name: expected == actual for name, (expected, actual) in made.items()}

@@ -286,6 +286,33 @@ def recorded() -> Iterator[Trial]:
         yield f"{name}: the most places in blocks", True, abs(shown - most) < max(numbers) / high / 8
 
 
+# Traces, the words of library/draw.py, how many places there are, and by hand how high the lines of what is free and of what is
+# in blocks are, of 240 that are as many as the largest number: after a get of one place a half of all is the largest piece.
+TRACED: tuple[tuple[list[str], str, int, float, float], ...] = (
+    (["get a 1 = 17"], "--levels 4 --units 1", 16, 240, 30),
+    (["get a 1 = 16"], "--levels 4 --units 2", 32, 240, 15),
+    (["get a 2 = 32"], "--levels 4 --units 1 --piece 2", 16, 240, 30),
+    (["get a 2 = 33"], "--levels 4 --units 1 --piece 2", 16, 240, 0),  # (no piece begins there, so nothing is in a block)
+    (["get a 1 = 0"], "--levels 4 --units 1 --first 0", 16, 240, 30),
+    (["get a 1 = 1024"], "", 8192, 240, 0.2),
+    (["get a 1 = 16", "get a 1 = 17", "free b", "get b 1 = none"], "--levels 4 --units 1", 16, 240, 30),
+    # 800 calls in 400 columns: each shows the most that is in blocks, and the least largest piece, of 16
+    (["get a 1 = 16", "free a"] * 400, "--levels 4 --units 1", 16, 120, 15),
+)
+
+
+def drawn_traces() -> Iterator[Trial]:
+    """The lines that library/draw.py draws."""
+    for lines, words, places, free, used in TRACED:
+        ran = subprocess.run([sys.executable, "-B", str(TOP / "library/draw.py"), *words.split()], input="\n".join([*lines, ""]),
+                             capture_output=True, text=True, check=False)
+        title = f"{len(lines)} calls in {places} places"
+        heights = [{round(270 - float(point.partition(",")[2]), 1) for point in points.split()}
+                   for points in re.findall(r'points="([^"]*)"', ran.stdout)]
+        yield f"what is drawn of {lines[0]} with {words or 'no words'}, {len(lines)} calls", (0, True, [{free}, {used}]), (
+            ran.returncode, f"<title>{title}</title>" in ran.stdout, heights)
+
+
 def framed(picture: str) -> list[str]:
     """The lines of a picture of a recorded program without their numbers and points."""
     return re.sub(r'points="[^"]*"', "", re.sub(r">[\d ]*\d|in \d+", ">0", picture)).splitlines()
@@ -369,4 +396,4 @@ def canaries() -> Iterator[Trial]:
 
 
 if __name__ == "__main__":
-    sys.exit(report(chain(handmade(), refusals(), committed(), recorded(), shown()), canaries()))
+    sys.exit(report(chain(handmade(), refusals(), committed(), recorded(), drawn_traces(), shown()), canaries()))

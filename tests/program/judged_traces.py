@@ -214,6 +214,10 @@ DRAWN = [
     + "get d 5: 24, level 3, halved 0\nget e 4: none\nfree c: joined 0\nfree d: joined 1\nlevel 3: 24\n",
 ]
 USED_BY_HAND, LARGEST_BY_HAND = [2, 3, 7, 7, 7, 7, 15, 15, 11, 3], [8, 8, 8, 8, 8, 8, 1, 1, 4, 8]
+# The same without words: pieces of 16 bytes, blocks up to 2^20 of these, and four units. Five blocks of 16 MiB are one too many.
+CALLS_OF_MUCH = "+ aa 20000\n- aa\n" + "".join(f"+ {name} 16777216\n" for name in ("b", "c", "d", "e", "f"))
+TRACE_OF_MUCH = "get aa 1250 = 1048576\nfree aa = 9\n" + "".join(
+    f"get {name} 1048576 = {place}\n" for name, place in zip("bcdef", (*(unit << 20 for unit in range(1, 5)), "none"))) + "end 7\n"
 # One block that is got and freed so often that a trace of all would be too long. By hand: of a name of 64 bytes the two lines
 # have 76 and 74 bytes, and 111,848 times as many, with the last line, are the most that fit.
 OFTEN, OFTEN_ENDS = f"+ {64 * 'a'} 16\n- {64 * 'a'}\n" * 120_000, "end 223696\n"
@@ -340,6 +344,9 @@ def recorded_by_hand(room: Path, library: Path) -> Iterator[Trial]:
         made = subprocess.run(words, capture_output=True, text=True, check=False)
         actual = made.stdout, made.stderr, made.returncode
         yield f"a trace of calls by hand{name}", (TRACE_BY_HAND, said.format(calls), 0), actual
+    calls.write_text(CALLS_OF_MUCH + ".\n", "ascii")
+    made = subprocess.run(words[:4], capture_output=True, text=True, check=False)
+    yield "a trace with no words", (TRACE_OF_MUCH, "", 0), (made.stdout, made.stderr, made.returncode)
     calls.write_text(OFTEN, "ascii")
     made = subprocess.run(words, capture_output=True, text=True, check=False)
     yield "a trace of as many calls as may be", (OFTEN_ENDS, 0, True), (

@@ -239,7 +239,7 @@ LIKE = sys.argv[2:3]  # the program l6, if it is given
 LISTED = ((EXAMPLES / "queue.deck", 40), (EXAMPLES / "tree.deck", 40), (TOP / "bench/blocks.deck", 120))
 
 
-def free_lists(program: str, folder: Path) -> Iterator[Trial]:
+def free_lists(program: str, _folder: Path) -> Iterator[Trial]:
     """The free lists at random states of runs that get and free blocks."""
     chosen = random.Random(1965)
     for file, number in LISTED:

@@ -139,7 +139,7 @@ def known_requests(folder: str) -> Iterator[Trial]:
             yield "the bytes of a known program", (True, True), (0 <= held < SLACK, 0 <= total < SLACK)
 
 
-class WrongShim:
+class WrongShim(Shim):
     """A shim that finds fault with each run of a program that answers as it must."""
 
     def __init__(self, right: Answer[bytes], requests: Requests) -> None:

@@ -33,6 +33,7 @@ FRONT = [sys.executable, "-I", str(TOP / "terminal/l6db.py")]
 PROMPT = b"(l6db) "
 AFTER_A_KEY = 0.3  # seconds: a signal right after a key, before readline waits again, shows at the next key alone
 FEW, MANY = 6, 50  # commands that are stopped at random moments
+GOES_ON = b" s; Ctrl-C stops the command, not the session"
 MOST_SOURCES = 1_000  # files that are obeyed for one line
 SPIN = b"""* COUNTS FOR EVER
        (A,E,0)
@@ -130,18 +131,25 @@ def files(bench: Bench) -> Iterator[Trial]:
     ):
         yield line.decode().replace(str(saved), "FILE"), True, said in terminal.answer(line)
     bench.deck.write_bytes(LIST.replace(b"MAKE ", b"       (Z,E,1)\nMAKE "))
-    yield terminal.has("a deck that has changed", b"s 0\r", b"has changed")
+    yield terminal.has("a deck that has changed", b"s 0\r", f"{bench.deck} has changed: reload reads it again".encode())
     yield "it is said once that it has changed", False, b"has changed" in terminal.answer(b"s 0")
-    yield terminal.has("reload", b"reload\r", b"again")
+    yield terminal.has("reload", b"reload\r", f"Read {bench.deck} again".encode())
     shown = terminal.answer(b"info")
     for stop in (b"break 7 NEXT+1", b"tbreak 4 MAKE+2", b": LN", b": K"):
         yield f"reload keeps {stop.decode()}", True, stop in shown
     yield terminal.has("reload keeps the state", b"stats\r", b"STATE 6 ")
     bench.deck.write_bytes(LIST.replace(b"(L,GT,1)", b"(L,GQ,1)"))
-    yield terminal.has("a deck with errors", b"reload\r", b"error")
+    shown = terminal.answer(b"reload")
+    said_of_it = b"The deck has errors; the session is still with the one before.", b"error"
+    yield "a deck with errors", [True, True], [it in shown for it in said_of_it]
     yield terminal.has("a deck with errors leaves the session", b"stats\r", b"STATE 6 ")
     bench.deck.write_bytes(LIST)
     yield terminal.has("run reads the deck again", b"run\r", b"again")
+    terminal.answer(b"b SHOW")
+    bench.deck.write_bytes(LIST.replace(b"SHOW", b"SHED"))
+    yield terminal.has("a breakpoint whose label is gone", b"reload\r", b"No place there for: break SHOW\r\n")
+    bench.deck.write_bytes(LIST)
+    terminal.answer(b"reload")
     terminal.answer(b"delete")
     yield terminal.has("source", b"source " + str(saved).encode() + b"\r", b"Breakpoint at 6 NEXT+1")
     (bench.folder / "two.lines").write_bytes(b"display K\ndisplay L\n")
@@ -175,7 +183,7 @@ def sources(bench: Bench) -> Iterator[Trial]:
     yield "a file that names another one", True, shown.find(b"Breakpoint at 1 MAKE") < shown.find(b"Breakpoint at 4 SHOW")
     yield "a comment in a file", False, b"a comment" in shown
     shown = terminal.answer(f"source {own}".encode())
-    said = b"own.lines: 1000 files were obeyed before it"
+    said = b"own.lines: 1000 files were obeyed before it; no more are, for one line"
     yield "a file that names itself", (MOST_SOURCES, True), (shown.count(b"\nsi\r"), said in shown)
     yield terminal.has("the session after it", b"info\r", b"break 4 SHOW")
     yield terminal.has("no line of it is left", b"stats\r", b"STATE ")
@@ -198,10 +206,10 @@ def stops(bench: Bench) -> Iterator[Trial]:
     terminal.answer(b"goto 200000000")
     before = settled(terminal)
     terminal.give(b"rc\r")
-    yield "it is shown that a command goes on", True, b"Ctrl-C stops" in terminal.until(b"Ctrl-C stops")
+    yield "it is shown that a command goes on", True, GOES_ON in terminal.until(GOES_ON)
     terminal.give(b"\x03")
     shown = terminal.until(b"as before") + terminal.until(PROMPT)
-    yield "Ctrl-C stops the command", True, b"the session is at state 200000000, as before" in shown
+    yield "Ctrl-C stops the command", True, b"Stopped: the session is at state 200000000, as before" in shown
     yield "the session after Ctrl-C", before, settled(terminal)
     chance = random.Random(1)
     for number in range(bench.interruptions):
@@ -237,7 +245,7 @@ def stopped_reloads(bench: Bench) -> Iterator[Trial]:
     for name, further in (("on the way to its state", b""), ("as it begins", b"end\nstart\n" * 5)):
         begun.write_bytes(further)
         for line in (b"reload", b"run"):
-            stopped = stopped_at_once(terminal, line, b"still with the deck before")
+            stopped = stopped_at_once(terminal, line, b"Stopped: the session is still with the deck before")
             yield f"Ctrl-C in {line.decode()}, {name}", True, stopped
             yield f"the session after {line.decode()}, {name}", before, settled(terminal)
             yield f"the engines after {line.decode()}, {name}", engines, processes_of(bench.engine)
@@ -310,6 +318,12 @@ def terminals(bench: Bench) -> Iterator[Trial]:
     yield "the last card in view", True, last in terminal.until(last)
     terminal.until(PROMPT)
     terminal.end()
+    for pager, is_paged in (("sed s/^/paged:/", True), ("", False), ("is-not-there", False)):
+        terminal = bench.begin(PAGER=pager)
+        terminal.resize(12, 90)
+        found = [b"paged:" in terminal.answer(line) for line in (b"s 0", b"help", b"s 0")]
+        yield f"short and long answers with the pager {pager!r}", [False, is_paged, False], found
+        terminal.end()
     for name, no_color, is_painted in (("a terminal with colours", "", True), ("NO_COLOR", "1", False)):
         terminal = bench.begin(NO_COLOR=no_color)
         yield name, is_painted, b"\x1b[1mAT 0.1" in terminal.answer(b"si")
@@ -334,6 +348,10 @@ def launcher(bench: Bench) -> Iterator[Trial]:
     state = {"XDG_STATE_HOME": str(bench.folder / "state")}
     words = [str(TOP / "l6db"), str(bench.folder / "a deck of * mine.deck")]
     Path(words[1]).write_bytes(LIST)
+    elsewhere = Terminal(["sh", "-c", 'cd / && exec "$0" "$1"', *words], **state)
+    elsewhere.until(PROMPT)
+    yield elsewhere.has("./l6db from another folder", b"b NEX\t\r", b"Breakpoint at 5 NEXT")
+    elsewhere.end()
     terminal = Terminal(words, **state)
     terminal.until(PROMPT)
     yield terminal.has("./l6db with Python", b"b NEX\t\r", b"Breakpoint at 5 NEXT")

@@ -60,13 +60,14 @@ STEPS = [
     "tests/systems/ports.py",
     "tests/scripts/release.py",
 ]
-GATE_STEPS = ["rt ci", *STEPS, "tests/defects/defects.py", "tests/edits/edits.py"]
+GATE_STEPS = ["rt ci", *STEPS, "tests/defects/sight.py", "tests/defects/defects.py", "tests/edits/edits.py"]
 PACKAGES = {  # without which tests are left out
     "binaryen", "nodejs", "chromium", "mypy", "shellcheck", "qemu-user-static", "busybox-static", "zsh", "fish",
     "lintian", "firefox-esr", "node-typescript", "python3-markdown", "rlwrap", "pkgconf", "neovim",
     "emacs-nox", "vim-nox",
 }
-NOT_A_STEP = {"adapter.py", "compiled_edits.py", "hostile.py", "python_lines.py", "same_answers.py"}  # scripts of tests/ that ./test does not call
+# Scripts of tests/ that ./test does not call.
+NOT_A_STEP = {"adapter.py", "compiled_edits.py", "hostile.py", "python_lines.py", "same_answers.py", "stated.py", "wrong_answers.py"}
 
 STAND_IN = """#!/bin/sh
 # A stand-in for python3 and rt: notes its words, and prints a count, which $HOW makes a bad one in what $FAILS
@@ -168,7 +169,7 @@ def steps_that_fail(gate: Gate) -> Iterator[Trial]:
         yield from steps_fail(gate, (), STEPS[which::2], HOWS[which])
     for how in HOWS:
         yield from steps_fail(gate, (), STEPS[:1], how)
-    for step in (GATE_STEPS[0], *GATE_STEPS[-4:]):
+    for step in (GATE_STEPS[0], *GATE_STEPS[-5:]):
         yield from steps_fail(gate, ("--prove",), [step], HOWS[1])
 
 
@@ -194,14 +195,14 @@ def other_programs(gate: Gate) -> Iterator[Trial]:
     whole = built.read_bytes()
     built.write_bytes(whole + b"# another\n")
     actual, _ = gate.test("--prove")
-    said = "dist/l6 has other bytes than the program of these sources" in actual.stdout
+    said = "\ndist/l6 has other bytes than the program of these sources; tools/make_dist makes it again\n" in actual.stdout
     yield "another program", (1, True, ["dist"]), (actual.status, said, failures_in(actual))
     built.write_bytes(whole)
     actual, _ = gate.test("--prove", fails=MODULE, how="a-status")
     yield "another module", (1, ["dist"]), (actual.status, failures_in(actual))
     gate.checkout.write("crates/l6/src/main.rt", "another main\n")
     actual, _ = gate.test("--prove")
-    said = "dist/l6 is not the program of these sources" in actual.stdout
+    said = "\ndist/l6 is not the program of these sources; tools/make_dist makes it again\n" in actual.stdout
     yield "a program of other sources", (1, True, ["dist"]), (actual.status, said, failures_in(actual))
 
 
@@ -218,6 +219,7 @@ def words_of_the_command(gate: Gate) -> Iterator[Trial]:
     for words in (("-x",), ("--only",), ("--only", ""), ("--anew",), ("--prove", "x"), ("--only", "a", "b")):
         actual, calls = gate.test(*words)
         yield f"the words {words}", (64, "", []), (actual.status, actual.stdout, calls)
+        yield f"what is said of the words {words}", USAGE, actual.stderr
     actual, calls = gate.test("--list")
     names = actual.stdout.splitlines()
     yield "--list", (0, len(STEPS), len(STEPS), []), (actual.status, len(names), len(set(names)), calls)
@@ -233,6 +235,11 @@ def words_of_the_command(gate: Gate) -> Iterator[Trial]:
     yield "--only a trial of one step", 0, actual.status
     actual, _ = gate.test("--only", "no such trial", fails=" ", how="no-trial")
     yield "--only a trial that is not there", ("0 passed, 1 failed", 1), last_line(actual)
+    yield "what is said of it", True, "\nno trial has no such trial in its name\n" in actual.stdout
+    path = {"PATH": str(gate.checkout.folder / "plain")}
+    actual = gate.checkout.run_words([shutil.which("bash") or "bash", str(gate.top / "test")], gate.top, path)
+    said = "test: python3 is not on the path; README.md says what is needed\n"
+    yield "a tool that is missing", Answer("", said, 1), actual
     _, calls = gate.test("--prove", "--anew")
     tried = [call for call in calls if "edits.py" in call]
     yield "--anew", ["python3 tests/edits/edits.py --sample --anew"], tried
@@ -251,6 +258,12 @@ def counts(gate: Gate) -> Iterator[Trial]:
     ):
         actual, _ = gate.test(*words, fails="tests/program/program.py", how=how)
         yield f"./test {' '.join(words)}: {how}", status, actual.status
+    for how, said in (
+        ("fewer-trials", "program: 99998 trials, and tests/counts says 99999; if they are right, ./test --record\n"),
+        ("no-count", f"python3 tests/program/program.py {gate.top}/dist/l6: no count at the end, status 0\n"),
+    ):
+        actual, _ = gate.test(fails="tests/program/program.py", how=how)
+        yield f"what is said of {how}", True, f"\n{said}" in actual.stdout
     gate.test("--record", fails="tests/program/program.py", how="fewer-trials")
     recorded = COUNTS.replace(f"program {COUNTED}", f"program {COUNTED - 1}", 1)
     yield "what is recorded", recorded, gate.counts.read_text()
@@ -273,13 +286,15 @@ def another_kit(gate: Gate) -> Iterator[Trial]:
     yield "the minutes that the gate has taken", True, took is not None
     gate.checkout.set_version("another kit")
     actual, calls = gate.test("--prove")
-    said = "dist/l6 was made by a toolchain, and this is another kit\n" in actual.stdout
+    said = "\ndist/l6 was made by a toolchain, and this is another kit\n" in actual.stdout
     yield "with another kit and the same bytes", (True, 0, []), (said, actual.status, [it for it in calls if compares in it])
     built = gate.top / "crates/l6/out/l6"
     whole = built.read_bytes()
     built.write_bytes(whole + b"# other bytes\n")
     actual, calls = gate.test("--prove")
     yield "with another kit and other bytes", 0, actual.status
+    said = "\ndist/l6: the bytes differ, so what both answer is compared, and no program is made again\n" in actual.stdout
+    yield "what is said with another kit and other bytes", True, said
     yield "what is compared then", 1, len([call for call in calls if compares in call])
     yield "what is made again then", [], [it for it in calls if "web/tests/all.py" in it and "--quick" not in it]
     actual, _ = gate.test("--prove", fails=compares, how="a-status")
@@ -290,6 +305,12 @@ def another_kit(gate: Gate) -> Iterator[Trial]:
     built.write_bytes(whole)
 
 
+USAGE = """\
+usage: ./test [--only NAME]
+       ./test --list
+       ./test --prove [--anew]
+       ./test [--prove] --record
+"""
 HARNESS = f"""
 import os, sys
 sys.path.insert(0, {str(TOP / "tests/harness")!r})

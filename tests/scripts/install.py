@@ -6,6 +6,7 @@ install.py prints each difference, and last 'N passed, M failed'. It works on a 
 """
 from __future__ import annotations
 
+import os
 import re
 import subprocess
 import sys
@@ -198,6 +199,24 @@ def further_programs(checkout: Checkout) -> Iterator[Trial]:
     yield "both", announced(f"{checkout.folder}/with both/usr", *FURTHER), actual.stdout
 
 
+def companions(checkout: Checkout) -> Iterator[Trial]:
+    """Of dist/ a further program is installed if it belongs to the sources and starts here."""
+    program = checkout.top / "dist/l6db"
+    text = (checkout.top / "dist/l6").read_text().replace("#!/bin/sh\n", "#!/bin/sh\nit=l6db\n", 1).replace("|| exit 64", "|| exit 0")
+    program.write_text(text)
+    program.chmod(0o755)
+    noted = 'top=$PWD; . tools/program.sh; provenance_of dist/l6db "toolchain a toolchain" > dist/l6db.provenance'
+    checkout.run_words(["sh", "-c", noted], checkout.top, {"PATH": str(checkout.folder / "plain")})
+    for what, refuses, more, further in (
+        ("that starts", "", "", ("l6db",)), ("that does not start", "l6db", "", ()), ("of other sources", "", "# altered\n", ()),
+    ):
+        program.write_text(text + more)
+        actual = checkout.run("install", what, has_rt=False, REFUSES=refuses)
+        said = f"{announced(what, *further)}{what}/bin is not on the path\n"
+        yield f"with a further program {what}", Answer(said, "", 0), actual
+        yield f"what is installed with one {what}", bool(further), (checkout.folder / what / "lib/l6/l6db").is_file()
+
+
 def libraries(checkout: Checkout) -> Iterator[Trial]:
     """Where there are archives for the program's processor, they are installed with what belongs to them, and removed."""
     for kind, named in (("", "l6-static"), ("-aarch64", "l6-aarch64")):
@@ -329,6 +348,17 @@ def refusals(checkout: Checkout) -> Iterator[Trial]:
     yield "a manual page that is missing", ("", said, 1), (actual.stdout, ending, actual.status)
     yield "what is installed then", [], names_in(checkout.folder / "no page")
     (checkout.folder / "page").rename(page)
+    later = checkout.top / "completions/_l6"
+    later.rename(checkout.folder / "page")
+    actual = checkout.run("install", "no later file", has_rt=False)
+    yield "what is staged before a file that is missing", (1, []), (actual.status, names_in(checkout.folder / "no later file"))
+    (checkout.folder / "page").rename(later)
+    if os.geteuid() == 0:
+        closed = checkout.folder / "of somebody else"
+        closed.mkdir(mode=0o755)
+        actual = checkout.run_as_somebody([str(checkout.top / "install"), str(closed)], checkout.top)
+        expected = Answer("", f"install: no permission to write to {closed}/share/man/man1\n", 1)
+        yield "a folder of somebody else", expected, actual
 
 
 def damaged_program(checkout: Checkout) -> Iterator[Trial]:
@@ -354,7 +384,7 @@ def damaged_program(checkout: Checkout) -> Iterator[Trial]:
 
 
 GROUPS: tuple[Group, ...] = (
-    arguments, installations, staged, further_programs, libraries, removals, running_program, refusals, damaged_program,
+    arguments, installations, staged, further_programs, companions, libraries, removals, running_program, refusals, damaged_program,
 )
 
 

@@ -3,7 +3,7 @@
 
 launcher.py prints each difference, and last 'N passed, M failed'. It works on small checkouts of its own,
 with a stand-in for rt (checkout.py), so nothing is proved and nothing else is changed.
-It also tries tools/prove.py and tools/make_dist.
+It also tries tools/prove.py and tools/make_dist (making_dist.py).
 """
 from __future__ import annotations
 
@@ -22,6 +22,7 @@ sys.path.insert(0, str(Path(__file__).resolve().parents[1] / "harness"))
 from answers import Answer
 from checkout import PROGRAMS, TOP, UNPROVED, WARNED, Checkout, Group, on_checkouts, on_terminal
 from further_scripts import further_programs
+from making_dist import making_all, making_dist
 from trials import Trial, first_wrong, report
 
 SOURCES = (
@@ -36,7 +37,6 @@ NO_RT = "l6: rt is not on the path; it is needed to prove and build the program 
 PROVING = "l6: proving and building the program; from nothing this takes some 25 minutes on four processors\n"
 VERBS = ("asm", "list", "check", "run", "load", "renew", "debug", "trace")  # all, as the help lists them
 FRESH = 3.5  # seconds after which a file counts as older (tools/note.sh)
-IN_DIST = sorted([*PROGRAMS, *(f"{name}.provenance" for name in PROGRAMS), "l6.html", "l6.sources", "l6.bc.xz"])
 EDITED = "l6: the sources were edited meanwhile, so the program may not belong to them; call again\n"
 
 
@@ -184,7 +184,7 @@ def failed_proofs(checkout: Checkout) -> Iterator[Trial]:
         for which in ("the first call", "the second call"):
             actual = checkout.run("l6")
             yield f"{crate} is not proved, {which}", ("", 1), (actual.stdout, actual.status)
-            says = [f"fn {crate}::main: not proved" in actual.stderr, actual.stderr.endswith("was not built\n")]
+            says = [f"fn {crate}::main: not proved" in actual.stderr, actual.stderr.endswith("l6: the program was not built\n")]
             yield f"{crate} is not proved, what {which} says", [True, True], says
             yield f"{crate} is not proved, what {which} builds", called, checkout.calls()
         checkout.write(f"crates/{crate}/proofs/Lib.antt", "proved again\n")
@@ -313,6 +313,12 @@ def damaged_programs(checkout: Checkout) -> Iterator[Trial]:
         provenance.write_bytes(named[:place] + bytes([named[place] ^ 1]) + named[place + 1:])
         actual = checkout.run("l6", has_rt=False, FIRST=arm)
         yield f"byte {place} of a longer provenance", ("", 1), (actual.stdout, actual.status)
+    program = checkout.top / "dist/l6"
+    program.write_bytes(program.read_bytes()[:-1])
+    checkout.write("crates/l6/src/main.rt", "another main\n")
+    said = STALE + "l6:   crates/l6/src/main.rt has changed\n" + NO_RT
+    actual = checkout.run("l6", has_rt=False, REFUSES="l6")
+    yield "a damaged program does not run as it is, whatever the sources say", Answer("", said, 1), actual
 
 
 def notes(checkout: Checkout) -> Iterator[Trial]:
@@ -330,6 +336,12 @@ def notes(checkout: Checkout) -> Iterator[Trial]:
     (quick / "xargs").write_text("#!/bin/sh\nexit 1\n")
     (quick / "xargs").chmod(0o755)
     yield "a call that sums nothing", expected, checkout.run("l6", FIRST=str(quick), **home)
+    after = Answer(f"this is l6-static\n{checkout.made_of}", "", 0)
+    yield "a program that is noted, and starts no longer", after, checkout.run("l6", REFUSES="l6", **home)
+    for place, is_noted in (("kept", False), (str(checkout.folder / "kept"), True)):
+        actual = checkout.run("l6", has_rt=False, XDG_CACHE_HOME=place)
+        kept = checkout.folder / "kept/l6/l6"
+        yield f"notes in a folder that is {'absolute' if is_noted else 'relative'}", (expected, is_noted), (actual, kept.is_file())
     source, program = checkout.top / "crates/l6_word/src/lib.rt", checkout.top / "dist/l6"
     for file in (source, program):
         before, times = file.read_bytes(), os.stat(file).st_mtime_ns
@@ -467,105 +479,6 @@ def refused_at_terminal(checkout: Checkout, verb: str, status: int) -> tuple[str
     """What is said on standard error, which is a terminal, where the program ends so; and the exit status."""
     made, said = on_terminal(checkout, [verb], "stderr", STATUS=str(status))
     return said, made.returncode
-
-
-def making_dist(checkout: Checkout) -> Iterator[Trial]:
-    """tools/make_dist writes the program and its provenance, or nothing."""
-    dist = checkout.top / "dist"
-    before = {file.name: file.read_bytes() for file in dist.iterdir()}
-    yield "what is in dist/", IN_DIST, sorted(before)
-    actual = checkout.run("tools/make_dist")
-    again = {file.name: file.read_bytes() for file in dist.iterdir()}
-    yield "dist/ made again", (0, before), (actual.status, again)
-    for crate in ("l6", "l6_word", "l6_tests"):
-        text = (checkout.top / f"crates/{crate}/specs/Lib.antt").read_text()
-        checkout.write(f"crates/{crate}/specs/Lib.antt", UNPROVED)
-        actual = checkout.run("tools/make_dist")
-        again = {file.name: file.read_bytes() for file in dist.iterdir()}
-        yield f"{crate} is not proved", (1, before), (actual.status, again)
-        checkout.write(f"crates/{crate}/specs/Lib.antt", text)
-    checkout.write("crates/l6/src/main.rt", "another main\n")
-    (dist / "l6").chmod(0o600)
-    actual = checkout.run("tools/make_dist", umask=0o077)
-    yield "dist/ made of other sources", 0, actual.status
-    modes = {name: (dist / name).stat().st_mode & 0o777 for name in IN_DIST}
-    yield "the modes in dist/", {name: 0o755 if name in PROGRAMS else 0o644 for name in IN_DIST}, modes
-    yield "what is in dist/ then", IN_DIST, sorted(file.name for file in dist.iterdir())
-    checkout.forget_what_was_built()
-    expected = Answer(checkout.made_of, "", 0)
-    yield "the new program of dist/", expected, checkout.run("l6", has_rt=False)
-    before = {file.name: file.read_bytes() for file in dist.iterdir()}
-    cutting = checkout.folder / "cutting"  # a cp that writes the beginning of a file, and says that all is well
-    cutting.mkdir()
-    (cutting / "cp").write_text('#!/bin/sh\nhead -c 40 "$1" > "$2"\n')
-    (cutting / "cp").chmod(0o755)
-    actual = checkout.run("tools/make_dist", FIRST=str(cutting))
-    again = {file.name: file.read_bytes() for file in dist.iterdir()}
-    yield "copies that are cut", (1, before), (actual.status, again)
-    # (another one, which cuts only the first copy, of what was built)
-    (cutting / "cp").write_text(f'#!/bin/sh\ncase $1 in */out/l6) head -c 40 "$1" > "$2" ;; *) exec {shutil.which("cp")} "$@" ;; esac\n')
-    actual = checkout.run("tools/make_dist", FIRST=str(cutting))
-    again = {file.name: file.read_bytes() for file in dist.iterdir()}
-    yield "a first copy that is cut", (1, before), (actual.status, again)
-    for name in ("web/build", "web/bundle", "ports/build", "ports/bundle"):
-        text = (checkout.top / name).read_text()
-        checkout.write(name, "#!/bin/sh\nexit 1\n")
-        actual = checkout.run("tools/make_dist")
-        again = {file.name: file.read_bytes() for file in dist.iterdir()}
-        yield f"{name} fails", (1, before), (actual.status, again)
-        checkout.write(name, text)
-    checkout.write("ports/bundle", text.replace("it=${2##*/}", "it=another"))
-    checkout.forget_what_was_built()
-    actual = checkout.run("tools/make_dist", "--node")
-    yield "what rt is asked for by --node", [], checkout.calls()
-    again = {file.name: file.read_bytes() for file in dist.iterdir()}
-    changed = sorted(name for name in again if again[name] != before[name])
-    yield "the program for Node made again", (0, ["l6.mjs", "l6.mjs.provenance"]), (actual.status, changed)
-
-
-ARCHIVES = sorted(f"{name}{kind}.a" for name in ("l6_store", "l6_offset") for kind in ("", "-aarch64", "-riscv64", "-nosse"))
-WHOLE = sorted(name.replace("l6", of) for of in ("l6", "l6db", "l6ed") for name in PROGRAMS)  # of a whole checkout
-
-
-def making_all(checkout: Checkout) -> Iterator[Trial]:
-    """tools/make_dist of a checkout with l6db, l6ed and the libraries: all of them, each with its provenance, or nothing."""
-    dist = checkout.top / "dist"
-    checkout.write("crates.txt", (checkout.top / "crates.txt").read_text() + "l6db: l6_word\nl6ed: l6_word\n"
-                   "l6_store_c staticlib: l6_word\nl6_offset_c staticlib: l6_word\n")
-    for crate, root in (("l6db", "main.rt"), ("l6ed", "main.rt"), ("l6_store_c", "lib.rt"), ("l6_offset_c", "lib.rt")):
-        for name in (f"src/{root}", "specs/Lib.antt", "proofs/Lib.antt"):
-            checkout.write(f"crates/{crate}/{name}", f"-- {name} of {crate}\n")
-    actual = checkout.run("tools/make_dist", umask=0o077)
-    yield "dist/ with all programs and the libraries", 0, actual.status
-    headers = ["l6_offset.h", "l6_store.h"]
-    with_provenance = [*WHOLE, *ARCHIVES]
-    expected = sorted([*with_provenance, *(f"{it}.provenance" for it in with_provenance), *headers, "l6.html", "l6.sources",
-                       *(f"{name}.bc.xz" for name in ("l6", "l6db", "l6ed"))])
-    yield "what is in dist/ with them", expected, sorted(it.name for it in dist.iterdir())
-    modes = {it.name: it.stat().st_mode & 0o777 for it in dist.iterdir()}
-    yield "the modes in dist/ with them", {it: 0o755 if it in WHOLE else 0o644 for it in expected}, modes
-    script = 'top=$1; . "$top/tools/program.sh"; for it; do [ "$it" = "$top" ] || belongs "$top/dist/$it" || echo "$it"; done'
-    words = ["sh", "-c", script, "sh", str(checkout.top), *with_provenance]
-    actual = checkout.run_words(words, checkout.folder, {"PATH": os.environ["PATH"]})
-    yield "what of dist/ does not belong to the sources", Answer("", "", 0), actual
-    for name in headers:
-        yield f"{name} in dist/", (TOP / "library" / name).read_text(), (dist / name).read_text()
-    kept = {name: (dist / name).read_text() for name in ("l6_store.a", "l6_offset-nosse.a", "l6db", "l6db.mjs", "l6ed", "l6ed.mjs")}
-    yield "whose archives these are", [True, True], ["of l6_store_c," in kept["l6_store.a"], "nosse, of archive of l6_offset_c" in kept["l6_offset-nosse.a"]]
-    for name in ("l6db", "l6ed"):
-        yield f"whose program {name} is", [True, True], ["made of" in kept[name], f"it={name}.mjs" in kept[f"{name}.mjs"]]
-    before = {it.name: it.read_bytes() for it in dist.iterdir()}
-    for name in ("ports/libraries", "ports/build"):
-        text = (checkout.top / name).read_text()
-        checkout.write(name, "#!/bin/sh\nexit 1\n")
-        actual = checkout.run("tools/make_dist")
-        yield f"{name} fails", (1, before), (actual.status, {it.name: it.read_bytes() for it in dist.iterdir()})
-        checkout.write(name, text)
-    for crate in ("l6db", "l6ed", "l6_offset_c"):
-        checkout.write(f"crates/{crate}/specs/Lib.antt", UNPROVED)
-        actual = checkout.run("tools/make_dist")
-        yield f"{crate} is not proved", (1, before), (actual.status, {it.name: it.read_bytes() for it in dist.iterdir()})
-        checkout.write(f"crates/{crate}/specs/Lib.antt", "proved again\n")
 
 
 GROUPS: tuple[Group, ...] = (

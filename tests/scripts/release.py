@@ -8,6 +8,7 @@ tool is missing. Packages are made in a folder of their own, and installed into 
 from __future__ import annotations
 
 import datetime
+import functools
 import gzip
 import hashlib
 import io
@@ -24,6 +25,8 @@ from unittest import mock
 
 sys.path.insert(0, str(Path(__file__).resolve().parents[1] / "harness"))
 from answers import answer, answer_of
+from completed_options import options_by_help
+from shipped_files import packed
 from trials import Trial, first_wrong, groups_asked_for, report
 
 TOP = Path(__file__).resolve().parents[2]
@@ -211,20 +214,15 @@ def completions() -> Iterator[Trial]:
             continue
         with tempfile.TemporaryDirectory() as home:
             Path(home, "setup.zsh").write_text(ZSH_SETUP)
+            known = {**os.environ, "HOME": home, "XDG_CONFIG_HOME": home, "XDG_DATA_HOME": home}
+            run = functools.partial(subprocess.run, cwd=TOP, capture_output=True, text=True, timeout=60, env=known)
             for line, expected in COMPLETIONS.items():
-                ran = subprocess.run(
-                    [*words, line], cwd=TOP, capture_output=True, text=True, timeout=60,
-                    env={**os.environ, "HOME": home, "XDG_CONFIG_HOME": home, "XDG_DATA_HOME": home},
-                )
-                yield f"{shell} completes {line!r}", expected, offered(shell, line, ran.stdout)
+                yield f"{shell} completes {line!r}", expected, offered(shell, line, run([*words, line]).stdout)
             for line, is_file in FILES.items():
-                ran = subprocess.run(
-                    [*words, line.replace(" README", "=README") if shell == "zsh" and "--" in line else line], cwd=TOP,
-                    capture_output=True, text=True, timeout=60,
-                    env={**os.environ, "HOME": home, "XDG_CONFIG_HOME": home, "XDG_DATA_HOME": home},
-                )
+                typed = line.replace(" README", "=README") if shell == "zsh" and "--" in line else line
                 sign = "compopt -o default" if shell == "bash" else "README.md"
-                yield f"{shell} completes a file after {line!r}", is_file, sign in ran.stdout
+                yield f"{shell} completes a file after {line!r}", is_file, sign in run([*words, typed]).stdout
+            yield from options_by_help(lambda line: offered(shell, line, run([*words, line]).stdout), shell)
 
 
 def offered(shell: str, line: str, printed: str) -> set[str]:
@@ -254,6 +252,7 @@ def packages(is_quick: bool) -> Iterator[Trial]:
                  f"l6_{version}_amd64.deb", f"l6_{version}_arm64.deb"]
         yield "what is made", names, sorted(made)
         yield from times(folders[0], names)
+        yield from packed(folders[0], names)
         has_lintian = shutil.which("lintian") is not None and not is_quick
         for name in names[2:]:
             if has_lintian:
@@ -308,15 +307,27 @@ def stale(top: Path) -> Trial:
 
 def failing(room: Path) -> Iterator[Trial]:
     """A tool that fails on the way is noticed, also one whose output another one takes, and its package is not made."""
-    for tool, words, made in (("md5sum", "*usr/*", 0), ("gzip", "*/l6.1*", 0), ("tar", "*--sort=name*", 1)):
+    for tool, words, made, said in (
+        ("md5sum", "*usr/*", 0, ""), ("gzip", "*/l6.1*", 0, ""), ("tar", "*--sort=name*", 1, "make_deb: the archive can't be made\n"),
+        ("dpkg-deb", "*-b*", 0, "make_deb: the package can't be made\n"), ("chmod", "*.new", 0, "make_deb: l6 can't be installed\n"),
+        ("date", "*", 0, "make_deb: CITATION.cff has no date\n"),
+    ):
         folder = room / tool
         folder.mkdir(parents=True)
         (folder / tool).write_text(f'#!/bin/sh\n{shutil.which(tool)} "$@"\ncase "$*" in {words}) exit 2 ;; esac\n')
         (folder / tool).chmod(0o755)
         ran = subprocess.run([TOP / "tools/make_deb", folder / "made"], capture_output=True, text=True,
                              env={**os.environ, "PATH": f"{folder}:{os.environ['PATH']}"})
-        actual = ran.returncode != 0, len(list((folder / "made").iterdir()))
+        actual = ran.returncode != 0, len([it for it in (folder / "made").iterdir() if tool != "dpkg-deb"])
         yield f"packages where {tool} fails", (True, made), actual
+        yield f"what is said where {tool} fails", said, ran.stderr[len(ran.stderr) - len(said):]
+    tools = room / "without dpkg-deb"
+    tools.mkdir()
+    for name in ("dirname", "readlink", "rm", "sha256sum", "sh"):
+        (tools / name).symlink_to(shutil.which(name) or name)
+    ran = subprocess.run(["sh", TOP / "tools/make_deb", room / "none"], capture_output=True, text=True, env={"PATH": str(tools)})
+    yield "packages without dpkg-deb", (1, "make_deb: dpkg-deb is not on the path\n", False), (
+        ran.returncode, ran.stderr, (room / "none").exists())
 
 
 def times(folder: Path, names: list[str]) -> Iterator[Trial]:

@@ -6,6 +6,7 @@ scripts.py prints each difference, and last 'N passed, M failed'. It works on sm
 """
 from __future__ import annotations
 
+import functools
 import hashlib
 import os
 import shutil
@@ -14,12 +15,13 @@ import subprocess
 import sys
 import tempfile
 import time
-from collections.abc import Iterator
+from collections.abc import Callable, Iterator
 from pathlib import Path
 
-sys.path.insert(0, str(Path(__file__).resolve().parents[1] / "harness"))
+sys.path[:0] = [str(Path(__file__).resolve().parents[1] / it) for it in ("harness", "../tools")]
 from answers import Answer
 from checkout import PLAIN, TOP, UNPROVED, Checkout, Group, on_checkouts
+from module import Edit, Stop, call, edited, program_of
 from trials import CANARY, Trial, report
 
 # A stand-in for sort: another order than that of bytes, unless that is asked for.
@@ -91,7 +93,7 @@ def proofs_that_fail(checkout: Checkout) -> Iterator[Trial]:
     for crate in ("l6", "l6_word"):
         checkout.write(f"crates/{crate}/specs/Lib.antt", UNPROVED)
         actual = checkout.run("l6", "--prove")
-        said = ("is proved" in actual.stderr, "was not built" in actual.stderr, actual.stdout)
+        said = ("is proved" in actual.stderr, "the program was not built" in actual.stderr, actual.stdout)
         yield f"--prove with {crate} not proved", (1, (False, True, "")), (actual.status, said)
         checkout.write(f"crates/{crate}/specs/Lib.antt", "proved again\n")
 
@@ -202,6 +204,8 @@ def installing(checkout: Checkout) -> Iterator[Trial]:
     actual = checkout.run("install", "failing", has_rt=False)
     left = [file.name for file in (checkout.folder / "failing").rglob("*") if file.is_file()]
     yield "a program that does not run", (1, []), (actual.status, left)
+    said = "install: the program does not run in failing/bin; nothing is installed\n"
+    yield "what is said of a program that does not run", said, actual.stderr
 
 
 def lanes_and_memory(checkout: Checkout) -> Iterator[Trial]:
@@ -258,7 +262,7 @@ def interrupted(checkout: Checkout) -> Iterator[Trial]:
             time.sleep(0.05)
         asked.terminate()
         _, said = asked.communicate(timeout=30)
-    yield "one who is asked to stop", (-signal.SIGINT, True), (asked.returncode, "what was proved is kept" in said)
+    yield "one who is asked to stop", (-signal.SIGINT, True), (asked.returncode, "stopped; what was proved is kept" in said)
     check = Path("/proc", note.read_text().strip())
     while check.exists() and time.monotonic() < end:
         time.sleep(0.05)
@@ -305,6 +309,36 @@ def rooms(checkout: Checkout) -> Iterator[Trial]:
     yield "rooms that are left", ["another-folder", "l6-room-in-use"], sorted(it.name for it in git.iterdir())
 
 
+def modules(_checkout: Checkout) -> Iterator[Trial]:
+    """What tools/module.py makes of the text of a module, and why it stops."""
+    text = 'target triple = "one"\ntarget triple = "two"\n'
+    rows: tuple[tuple[str, list[Edit], bool, str], ...] = (
+        ("two places for two edits", [("^target.*$", "x", 2)], False, "x\nx\n"),
+        ("an edit of any number", [('"(?:one|two)"', "", None)], False, "target triple = \ntarget triple = \n"),
+        ("no place for an edit", [("^nothing$", "", 1)], False, "the module has 0 places for the edit ^nothing$"),
+        ("no place for an edit of any number", [("^nothing$", "", None)], False, "the module has 0 places for the edit ^nothing$"),
+        ("two places for one edit", [("^target", "", 1)], False, "the module has 2 places for the edit ^target"),
+        ("another processor", [("one", "x86_64", 1)], False, "the module speaks of another processor still"),
+        ("the same processor", [("one", "x86_64", 1)], True, text.replace("one", "x86_64")),
+    )
+    for what, edits, native, expected in rows:
+        yield f"a module with {what}", expected, stopped(functools.partial(edited, text, edits, native))
+    missing = "the program is not there: prove and build it first (./l6 --help), or name it"
+    yield "a program that is not there", missing, stopped(lambda: str(program_of(["is/not/there"])))
+    yield "two programs", missing, stopped(lambda: str(program_of([str(TOP / "dist/l6")] * 2)))
+    named = [str(TOP / "dist/l6")]
+    yield "a program that is named", named[0], stopped(lambda: program_of(named))
+    yield "a command that fails", "sh -c failed:\nwhy\n", stopped(functools.partial(call, "sh", "-c", "echo why >&2; exit 3"))
+
+
+def stopped(act: Callable[[], object]) -> str:
+    """What a call gives, or why it stops."""
+    try:
+        return str(act())
+    except Stop as why:
+        return str(why)
+
+
 def tools(_checkout: Checkout) -> Iterator[Trial]:
     """What other tools say of wrong words, and that the tables of pages are made."""
     for command in (
@@ -337,6 +371,7 @@ GROUPS: tuple[tuple[Group, ...], ...] = (
         order_of_lanes,
         interrupted,
         rooms,
+        modules,
         tools,
     ),
 )

@@ -21,6 +21,8 @@ from dataclasses import dataclass
 from pathlib import Path
 
 sys.path.insert(0, str(Path(__file__).resolve().parents[1] / "harness"))
+import idle_code
+import said_messages
 from kept import kept_folder
 from trials import Trial, report
 
@@ -233,7 +235,9 @@ def trials() -> Iterator[Trial]:
     yield "scripts that nothing checks", [], [name_of(it) for it in scripts() if it not in known]
     yield from lengths()
     yield from comparisons()
+    yield from idle_code.trials(TOP, list(dict.fromkeys(it for group in python_groups() for it in group.files)))
     yield from hyphens()
+    yield from said_messages.trials()
 
 
 def trial(name: str, said: str) -> Trial:

@@ -59,6 +59,25 @@ static int play(void) {
     return 7;
 }
 """
+# What the host says of the processor, beside what the compiler's own header says (but for the number of the processor itself).
+OF_PROCESSOR = r"""
+#include <cpuid.h>
+#include <stdint.h>
+#include <stdio.h>
+typedef struct { uint32_t said[4], usable[4]; } Leaf;
+const Leaf *__x86_get_cpuid_feature_leaf(unsigned index);
+static int is_said(unsigned index, unsigned which) {
+    uint32_t known[4] = {0};
+    const Leaf *leaf = __x86_get_cpuid_feature_leaf(index);
+    if (which)
+        __get_cpuid_count(which, 0, &known[0], &known[1], &known[2], &known[3]);
+    for (int at = 0; at < 4; at++)
+        if ((which != 1 || at != 1) && (leaf->said[at] != known[at] || leaf->usable[at] != known[at]))
+            return 0;
+    return 1;
+}
+int main(void) { return printf("%d%d%d%d\n", is_said(0, 1), is_said(1, 7), is_said(2, 0x80000001), is_said(3, 0)) != 5; }
+"""
 # The stand-in begins as the program does: by a `main` that the linker hands on to, or by the name that `build` gives.
 BEGINNINGS = {"x86-64": "int main(void) { return play(); }\n", "other processors": "int l6_program(void) { return play(); }\n"}
 # The host of modules for Node, compiled for this processor. Its memory is an array, and each device answers a number.
@@ -140,6 +159,37 @@ def c_hosts() -> Iterator[Trial]:
                 yield f"a closed pipe by the host for {which}", 3, written_to_nobody(folder / "program")
     yield from module_host()
     yield from names_given()
+    if os.uname().machine == "x86_64":
+        yield from processor()
+    yield from not_made()
+
+
+def not_made() -> Iterator[Trial]:
+    """What ports/bundle says of a page without a module, and ports/build of a program that is not there, which is not made."""
+    with tempfile.TemporaryDirectory(prefix="l6-hosts-") as room:
+        page = Path(room, "page.html")
+        page.write_text("<p>no module</p>\n", "ascii")
+        rows: tuple[tuple[str, list[Path], str], ...] = (
+            ("bundle", [page, Path(room, "l6.mjs")], "ports/bundle: the page has no module\n"),
+            ("build", [Path(room, "none"), Path(room)],
+             "ports/build: the program is not there: prove and build it first (./l6 --help), or name it\n"),
+        )
+        for script, given, said in rows:
+            ran = subprocess.run([HOST.with_name(script), *given], capture_output=True, text=True)
+            yield f"what ports/{script} does not make", (1, "", said), (ran.returncode, ran.stdout, ran.stderr)
+        yield "what is made then", ["page.html"], sorted(it.name for it in Path(room).iterdir())
+
+
+def processor() -> Iterator[Trial]:
+    """What the host for x86-64 says of the processor, by which the program sees that it can run."""
+    with tempfile.TemporaryDirectory(prefix="l6-hosts-") as room:
+        Path(room, "asked.c").write_text(OF_PROCESSOR, "ascii")
+        words: list[str | Path] = ["cc", "-O2", "-w", '-DPROGRAM="l6"', "-Wl,--wrap=main", HOST, "asked.c", "-o", "asked"]
+        made = subprocess.run(words, cwd=room, capture_output=True, text=True)
+        yield "the host compiles beside questions on the processor", (0, ""), (made.returncode, made.stderr)
+        if made.returncode == 0:
+            ran = subprocess.run([Path(room, "asked")], capture_output=True, text=True)
+            yield "what the host says of the processor", ("1111\n", 0), (ran.stdout, ran.returncode)
 
 
 def module_host() -> Iterator[Trial]:

@@ -19,6 +19,7 @@ from pathlib import Path
 from unittest import mock
 
 sys.path.insert(0, str(Path(__file__).resolve().parents[1] / "harness"))
+import library_calls
 import lifetimes
 import offset_library
 import other_libraries
@@ -150,6 +151,21 @@ def in_python(archive: Path, room: Path) -> Iterator[Trial]:
     shutil.copy(archive, archives / "l6_store.a")
     shutil.copy(Path(str(archive).replace("l6_store", "l6_offset")), archives / "l6_offset.a")
     yield "a shared object", (0, ""), run([LIBRARY / "shared", room, archives])
+    stand_in = room / "on aarch64"
+    stand_in.mkdir()
+    (stand_in / "uname").write_text("#!/bin/sh\necho aarch64\n", "ascii")
+    (stand_in / "uname").chmod(0o755)
+    on_arm = {**os.environ, "PATH": f"{stand_in}:{os.environ['PATH']}", "CC": "echo"}  # (echo says what is linked)
+    linked = re.findall(r"/dist/(\S+)\.a\b", run([LIBRARY / "shared", stand_in], env=on_arm)[1])
+    yield "what is linked on aarch64", ["l6_store-aarch64", "l6_offset-aarch64"], linked
+    (room / "alone/library").mkdir(parents=True)
+    (room / "alone/dist").symlink_to(TOP / "dist")
+    shutil.copy(LIBRARY / "shared", room / "alone/library")
+    run([room / "alone/library/shared"], env={**on_arm, "PATH": os.environ["PATH"]})
+    placed = sorted(it.name for it in (room / "alone/library").glob("python/*"))
+    yield "where shared objects go that no folder is named for", ["libl6_offset.so", "libl6_store.so"], placed
+    shutil.copy(LIBRARY / "shared", stand_in / "shared")
+    yield "no shared object without archives", (1, "shared: there is no archive of l6_store\n"), run([stand_in / "shared", stand_in])
     seen = run(["nm", "-D", "--defined-only", shared])[1]
     yield "the heap is not exported", {True}, {line.split()[-1].startswith("l6_store_") for line in seen.splitlines()}
     names = re.findall(r"SONAME.*\[(.*)\]", run(["readelf", "-d", shared])[1])
@@ -398,6 +414,8 @@ def main(words: list[str]) -> int:
             yield from other_libraries.trials(archive.parent, Path(room) / "others")
             (Path(room) / "lifetimes").mkdir()
             yield from lifetimes.trials(archive.parent, Path(room) / "lifetimes")
+            (Path(room) / "calls").mkdir()
+            yield from library_calls.trials(archive.parent, Path(room) / "calls")
 
         return report(trials(), canaries())
 

@@ -5,6 +5,7 @@ answers so many times as that device does, and then as the system's.
 """
 from __future__ import annotations
 
+import json
 import os
 import pty
 import subprocess
@@ -35,6 +36,78 @@ ENDLESS = 1_000_000
 # The right command line with the most words, and a trace without a finding.
 LONGEST = "trace --any-place --levels 4 --units 3 --first 0 --piece 2 --json".split()
 TRACE = b"get a 5 = 16\nend 1\n"
+# The same for one stream, by its number, in each program: it is busy so many times, or takes and gives few bytes at a time.
+OF_STREAM = """
+const files = require("fs");
+const [read, write] = [files.readSync, files.writeSync];
+let left = {times};
+const busy = () => {{ if (left-- > 0) throw Object.assign(new Error("{code}"), {{code: "{code}"}}); }};
+files.readSync = (file, bytes, ...more) => {{
+  if (file !== {stream}) return read(file, bytes, ...more);
+  busy();
+  return read(file, {few} ? bytes.subarray(0, {few}) : bytes, ...more);
+}};
+files.writeSync = (file, bytes, from = 0, ...more) => {{
+  if (file !== {stream}) return write(file, bytes, from, ...more);
+  busy();
+  return write(file, bytes, from, {few} ? Math.min({few}, bytes.length - from) : bytes.length - from);
+}};
+process.on("exit", () => files.writeFileSync({note}, String(left)));
+require("module").syncBuiltinESMExports();
+"""
+STREAMS = {  # what a device does: its number, how often it fails and how, and how many bytes it takes or gives at a time
+    "a busy input": (0, 3, "EAGAIN", 0), "a busy output": (1, 3, "EAGAIN", 0), "an input of a byte at a time": (0, 0, "", 1),
+    "an output of three bytes at a time": (1, 0, "", 3), "an input of many bytes at a time": (0, 0, "", 0),
+}
+FAILING = {  # and that of a device that fails: what the native program does where standard input is a folder, or output is full
+    "an input that fails": (0, ENDLESS, "EIO", 0), "an output that fails": (1, ENDLESS, "ENOSPC", 0),
+}
+REQUESTS = ('{"jsonrpc":"2.0","id":1,"method":"initialize","params":{"capabilities":{}}}', '{"jsonrpc":"2.0","id":2,"method":"shutdown"}',
+            '{"jsonrpc":"2.0","method":"exit"}')
+TALK = "".join(f"Content-Length: {len(it)}\r\n\r\n{it}" for it in REQUESTS).encode()
+NO_TEXT = {"l6": b"l6: a word is not UTF-8\n", "l6db": b"l6db: a word is not UTF-8\n", "l6ed": b"l6ed: a word is not UTF-8\n"}
+LONGEST_SESSION = ["--store", "8", "--steps", "100", "--output", "100", "--echo", "--prompt", "> "]
+SESSION = b"step 2\nprint A\nnext\nsave\n"
+
+
+def stream_devices(program: Path, native: Path) -> Iterator[Trial]:
+    """A job, a session or a talk over devices as a system has them: each answer is that of the native program."""
+    with tempfile.TemporaryDirectory(prefix="l6-node-") as room:
+        deck = Path(room, "first.deck")
+        deck.write_bytes(DECK)
+        asked = {"l6": (["run"], DECK), "l6db": ([str(deck)], SESSION), "l6ed": (["lsp"], TALK)}
+        words, given = asked[native.name]
+        expected = answer_of([native, *words], input=given)
+        yield f"the native {native.name} answers", (True, 0), (len(expected.stdout) > 20, expected.status)
+        for what, device in STREAMS.items():
+            yield f"{what} of {program.name}", expected, over(program, words, given, device, Path(room))
+        for what, device in FAILING.items():
+            with open("/dev/full", "wb") as full:
+                folder = os.open(room, os.O_RDONLY)
+                failed = answer_of([native, *words], stdin=folder) if device[0] == 0 else answer_of([native, *words], input=given, stdout=full)
+                os.close(folder)
+            actual = over(program, words, given, device, Path(room))
+            yield f"{what} of {program.name}", (failed.stderr, failed.status), (actual.stderr, actual.status)
+        if native.name == "l6db":
+            more = [*LONGEST_SESSION, "-x", str(deck), "--input", str(deck), str(deck)]
+            yield f"the longest right command line of {program.name}", answer_of([native, *more], input=given), answer_of(
+                ["node", program, *more], input=given, seconds=SECONDS, preexec_fn=None)
+        said = answer_of(["node", program, b"\xff"], input=b"", seconds=SECONDS, preexec_fn=None)
+        yield f"a word for {program.name} that is no text", answer(stderr=NO_TEXT[native.name], status=64), said
+        for count in (14, 15, 16, 40):
+            more = [*words, *["--input"] * count]
+            yield f"{count} words too many for {program.name}", answer_of([native, *more], input=given), answer_of(
+                ["node", program, *more], input=given, seconds=SECONDS, preexec_fn=None)
+
+
+def over(program: Path, words: list[str], given: bytes, device: tuple[int, int, str, int], room: Path) -> Answer[bytes]:
+    """What a program for Node answers over a device."""
+    stream, times, code, few = device
+    script, note = room / "device.cjs", room / "left"
+    script.write_text(OF_STREAM.format(stream=stream, times=times, code=code, few=few, note=json.dumps(str(note))), "ascii")
+    made = answer_of(["node", "--require", script, program, *words], input=given, seconds=SECONDS, preexec_fn=None)
+    was_asked = note.is_file() and int(note.read_text("ascii")) < times
+    return made if was_asked else answer(status="the device was not asked")
 
 
 def node_devices(program: Path, native: Path) -> Iterator[Trial]:

@@ -40,7 +40,7 @@ from c_hosts import c_hosts
 from cases import read_cases
 from l6db import at_terminal, one_by_one, words
 from largest_jobs import MAX_OUTPUT, debug_job, longest_image, run_job
-from node_devices import node_devices
+from node_devices import node_devices, stream_devices
 from node_front import node_front
 from node_lines import node_lines
 from page_sessions import page_sessions
@@ -443,6 +443,7 @@ def trials(is_quick: bool) -> Iterator[Trial]:
             "small root": small_root,
             **{it.name: functools.partial(program_trials, it, is_quick) for it in PROGRAMS},
             "devices of Node": lambda: node_devices(DIST / NODE, DIST / "l6"),
+            **{f"streams of {it}": functools.partial(stream_devices, DIST / it, DIST / Path(it).stem) for it in OF_NODE},
             "lines of Node": lambda: node_lines(Path(room), {DIST / it: tuple(TOP / script for script in OF_NODE[it][1]) for it in OF_NODE}),
         }
         yield from asked_of(groups, is_quick)
@@ -452,6 +453,7 @@ def asked_of(groups: dict[str, Callable[[], Iterator[Trial]]], is_quick: bool) -
     """The trials of the groups that are asked for, and whose programs can be tried here."""
     every = (*DEBUGGERS, *SERVERS, *PROGRAMS)
     needs = {it.name: it.name for it in every} | {"devices of Node": NODE, "lines of Node": NODE}
+    needs |= {f"streams of {it}": it for it in OF_NODE}
     asked = groups_asked_for(groups)
     needed = {needs[group] for group in asked & needs.keys()}
     tried = {it.name for it in programs(is_quick, tuple(it for it in every if it.name in needed))}

@@ -323,7 +323,7 @@ def canaries(program: str) -> Iterator[Trial]:
         "docs/proof.md", "`a_host_answers_as_its_device`", "`a_host_answers_as_another`", identifiers
     )
     yield canary("docs/robustness.md", "`perform`, `unwritten`", "`perform`, `unsaid`", calls_of_types)
-    yield canary("docs/architecture.md", "`Window::take`", "`Window::grab`", calls_of_types)
+    yield canary("docs/architecture.md", "`Window::take`", "`Window::seize`", calls_of_types)
     yield canary("docs/proof.md", "(`tests/program/hostile.py`,", "(`tests/program/hostility.py`,", paths)
     yield canary("ports/README.md", "| `command.js` |", "| `commands.js` |", folders)
     yield canary(CONTRACTS, "`word_of_37_bits`", "`word_of_38_bits`", contracts)

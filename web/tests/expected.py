@@ -121,7 +121,7 @@ def last_number(run: Run) -> str:
     return commas(run.moments[-1].number)
 
 
-def disabled(run: Run, moment: Moment) -> list[str]:
+def disabled(moment: Moment) -> list[str]:
     """The controls that do nothing in a state."""
     found = ["end", "out", "over", "statement", "step"] if moment.ending else []
     return sorted([*found, *(["back", "start"] if moment.number == 0 else []), "stop"])
@@ -132,11 +132,11 @@ def disabled(run: Run, moment: Moment) -> list[str]:
 def changes(run: Run, before: Moment, moment: Moment, is_step: bool, isUndone: bool = False) -> list[str]:
     """What has changed from one state to another, in sentences."""
     step = before if is_step else None
-    return [*block_changes(run, before, moment, step), *bug_changes(before, moment), *field_changes(before, moment),
+    return [*block_changes(before, moment, step), *bug_changes(before, moment), *field_changes(before, moment),
             *word_changes(before, moment, before if isUndone else moment), *amount_changes(run, before, moment)]
 
 
-def block_changes(run: Run, before: Moment, moment: Moment, step: Moment | None) -> list[str]:
+def block_changes(before: Moment, moment: Moment, step: Moment | None) -> list[str]:
     found = []
     for place in sorted({*before.blocks, *moment.blocks}):
         was, now = before.blocks.get(place), moment.blocks.get(place)
@@ -338,25 +338,7 @@ def strip_text(moment: Moment, unit: int, by_size: bool = False) -> str:
     return ", ".join(own[:40]) + (f" and {count(more, 'more piece', 'more pieces')}" if more > 0 else "")
 
 
-def levels_text(moment: Moment) -> str:
-    """How many blocks and free pieces there are of each size."""
-    found = []
-    for level in range(11):
-        blocks = sum(len(words) == 2**level for words in moment.blocks.values())
-        free = sum(size == 2**level for size in moment.free.values())
-        parts = [count(blocks, "block") if blocks else "", f"{commas(free)} free" if free else ""]
-        if blocks or free:
-            found.append(f"of {commas(2**level)}: {', '.join(it for it in parts if it)}")
-    return f"A frame is a piece that was halved. In the whole store, {' · '.join(found)}"
-
-
 # ---- What is spoken, and warned of
-
-def lost_text(moment: Moment) -> str:
-    lost = [place for place in moment.blocks if place not in moment.reached]
-    more = " .." if len(lost) > 4 else ""
-    return f"Lost: nothing leads to {', '.join(map(str, lost[:4]))}{more}" if lost else ""
-
 
 def spoken(moment: Moment, part: Part | None, found: list[str], is_back: bool) -> list[str]:
     """The begin of what is spoken of a state, and its end."""

@@ -314,10 +314,9 @@ def what_is_drawn_of_the_store(page: Page) -> None:
     for before, moment in zip(run.moments, run.moments[1:]):
         page.do(f"l6.state({before.number})")
         page.do(f"l6.state({moment.number})")
-        unit = page.value("Number(document.getElementById('unit').value) - 1")
         for name in ("strip", "levels"):
             page.value(f"document.getElementById('by-size').checked === {json.dumps(name == 'levels')} || document.getElementById('by-size').click()")
-            drawn_store(page, name, before, moment, 1024 * (unit + 1))
+            drawn_store(page, name, before, moment)
     page.value("document.getElementById('by-size').checked && document.getElementById('by-size').click()")
     place = next(iter(run.moments[-2].blocks))
     page.do(f"l6.viewer.chooseBlock({place})")
@@ -330,7 +329,7 @@ def pieces_of(moment: Moment) -> set[tuple[int, int, str]]:
     return found | {(place, size, "free") for place, size in moment.free.items()}
 
 
-def drawn_store(page: Page, name: str, before: Moment, moment: Moment, begin: int) -> None:
+def drawn_store(page: Page, name: str, before: Moment, moment: Moment) -> None:
     """What is drawn of a unit, as a strip or by size."""
     drawn = page.value(RECORDED % name)
     texts = page.value("document.getElementById('strip').getAttribute('aria-label')").split(", ")

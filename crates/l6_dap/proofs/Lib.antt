@@ -4,6 +4,8 @@ pub mod Framing
 pub mod Groups
 pub mod Listed
 pub mod Reading
+pub mod Relaunching
+pub mod Restarting
 pub mod Sending
 pub mod Stops
 pub mod Unwatching

@@ -1,6 +1,6 @@
 -- The items of an array, as a list.
-use Rattle.std.proofs.Common.{◌≡◌, List, [], ◌∷◌, map, refl, ap, sym}
-use Rattle.serde_json.specs.Data.{Data, Items}
+use Rattle.std.proofs.Common.{◌≡◌, List, [], ◌∷◌, refl, ap}
+use Rattle.serde_json.specs.Data.{Data}
 use Rattle.serde_json.specs.View.{items_of}
 use Rattle.l6_dap.specs.Requests.{listed}
 

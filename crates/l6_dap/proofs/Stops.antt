@@ -1,5 +1,5 @@
 -- Breakpoints that are removed and set, one after another, are those that are asked for.
-use Rattle.std.proofs.Common.{◌≡◌, ◌≢◌, ◌<◌, ◌≤◌, ℕ, zero, suc, ◌==◌, Bool, true, false, ◌&&◌, ◌||◌, List, [], ◌∷◌, ◌++◌, length, Option, Some, None, get_or, set, refl, sym, ap, ◌∙◌, subst, inl, inr, arith, rules, ◌⊎◌}
+use Rattle.std.proofs.Common.{◌≡◌, ◌<◌, ◌≤◌, ℕ, zero, suc, ◌==◌, Bool, true, false, ◌&&◌, ◌||◌, List, [], ◌∷◌, ◌++◌, length, Option, Some, None, refl, sym, ap, ◌∙◌, subst, arith}
 use Rattle.std.specs.Prelude.{is_none, is_some, slice_index_or, slice_set, if◌then◌else◌}
 use Rattle.std.specs.List.{list_any}
 use Rattle.std.specs.Option.{option_or}
@@ -8,7 +8,7 @@ use Rattle.std.proofs.lemmas.List.{get_or-set_same, get_or-set_other, length-set
 use Rattle.l6_prog.specs.declared.condition.Test.{Test}
 use Rattle.l6_session.specs.SessionState.{SessionState, with_breakpoint}
 use Rattle.l6_dap.specs.Debugged.{Debugged}
-use Rattle.l6_dap.specs.Breakpoints.{StopsAsAsked, StopsJustAt, is_asked, is_plain, last_test, test_asked, with_stops_of}
+use Rattle.l6_dap.specs.Breakpoints.{StopsAsAsked, StopsJustAt, is_asked, is_plain, last_test, with_stops_of}
 use Rattle.l6_dap.specs.declared.debuggee.Breakpoint.{Breakpoint}
 use Rattle.l6_dap.specs.inner.Setting.{cleared, count_of, with_all_plain, with_all_tested, with_plain, with_tested}
 

@@ -1,9 +1,9 @@
 -- The chains that are watched, one after another, are the first of those that are asked for.
-use Rattle.std.proofs.Common.{◌≡◌, ◌<◌, ◌≤◌, ℕ, zero, suc, ◌+◌, ◌-◌, nat_lt, Bool, true, false, List, [], ◌∷◌, ◌++◌, length, take, drop, map, Option, Some, None, refl, sym, ap, ◌∙◌, subst, arith, rules, append_assoc, length-append}
+use Rattle.std.proofs.Common.{◌≡◌, ◌<◌, ◌≤◌, ℕ, ◌+◌, nat_lt, Bool, true, false, List, [], ◌∷◌, ◌++◌, length, take, map, Option, Some, None, refl, sym, ap, ◌∙◌, subst, arith, append_assoc, length-append}
 use Rattle.std.specs.Prelude.{filter_map, if◌then◌else◌}
 use Rattle.std.specs.List.{cons_option}
 use Rattle.std.proofs.lemmas.Grind.{common_steps}
-use Rattle.std.proofs.lemmas.List.{take-append-le}
+use Rattle.std.proofs.lemmas.List.{take-append-le, take_all}
 use Rattle.serde_json.specs.Data.{Data, array}
 use Rattle.serde_json.specs.View.{items_of}
 use Rattle.l6_history.specs.Numerals.{most_watched}
@@ -14,7 +14,7 @@ use Rattle.l6_session.specs.inner.SessionRun.{SessionRun}
 use Rattle.l6_dap.specs.Breakpoints.{body_of}
 use Rattle.l6_dap.specs.Debugged.{Debugged}
 use Rattle.l6_dap.specs.Watches.{SetsWatches, all_watched, chain_asked, is_watched, said_from, said_of, watching}
-use Rattle.l6_dap.specs.inner.Watching.{with_chain, with_chains}
+use Rattle.l6_dap.specs.inner.Watching.{with_all, with_chain, with_chains}
 
 added_if : {A : Type 0} (room : Bool) (most : ℕ) (all more : List A) (one : A) →
     (room ≡ false → most ≤ length all) →
@@ -60,6 +60,19 @@ pub chains_are_first : (entries : List Data) (watched : List Watched) → length
 chains_are_first [] watched within = grind (arith, common_steps)
 chains_are_first (entry ∷ entries) watched within =
     with_first (chain_asked entry) entries watched (λ w h. chains_are_first entries w h) within
+
+-- ---- all of some are watched
+all_are_first : (all watched : List Watched) → length watched ≤ most_watched →
+    with_all all watched ≡ take most_watched (watched ++ all)
+all_are_first [] watched within = grind (arith, common_steps)
+all_are_first (one ∷ others) watched within =
+    all_are_first others (one_more most_watched watched one) (one_within most_watched watched one within)
+    ∙ one_added most_watched watched others one
+
+-- where there is room for all of them, and nothing is watched, they are what is watched then
+pub all_watched_again : (all : List Watched) → length all ≤ most_watched → with_all all [] ≡ all
+all_watched_again all within =
+    all_are_first all [] (omega (arith)) ∙ take_all most_watched all within
 
 -- ---- one entry more
 count_if : {A : Type 0} (room : Bool) (all : List A) (one : A) →

@@ -1,12 +1,11 @@
 -- The breakpoints that an editor asks for, and those at which one stops then.
-use Rattle.std.specs.Prelude.{◌≡◌, ◌<◌, ℕ, ◌+◌, ◌-◌, ◌==◌, nat_lt, Bool, true, false, ◌&&◌, List, [], ◌∷◌, ◌++◌, length, take, drop, map, codes, decimal, Option, Some, None, is_none, unwrap_or, slice_get, slice_index_or, filter_map, Result, Ok, Err, if◌then◌else◌}
+use Rattle.std.specs.Prelude.{◌≡◌, ◌<◌, ℕ, ◌+◌, ◌==◌, nat_lt, Bool, true, false, ◌&&◌, List, [], ◌∷◌, ◌++◌, length, map, codes, decimal, Option, Some, None, is_none, unwrap_or, slice_get, slice_index_or, filter_map, Result, Ok, Err, if◌then◌else◌}
 use Rattle.std.specs.List.{list_any}
 use Rattle.std.specs.Option.{option_or}
 use Rattle.std.specs.Result.{result_ok}
 use Rattle.serde_json.specs.Data.{Data, array, boolean, number, unsigned, string, object, member, no_members}
 use Rattle.serde_json.specs.View.{items_of}
 use Rattle.l6_group.specs.Test.{test_of}
-use Rattle.l6_history.specs.Stop.{Stop}
 use Rattle.l6_place.specs.Cards.{first_cards}
 use Rattle.l6_prog.specs.declared.condition.Test.{Test}
 use Rattle.l6_session.specs.Names.{Names, statement_of}

@@ -1,5 +1,5 @@
 -- What expressions ask for, and what they read as.
-use Rattle.std.specs.Prelude.{ℕ, ◌==◌, List, drop, take, length, codes, Option, Some, None, if◌then◌else◌}
+use Rattle.std.specs.Prelude.{ℕ, List, drop, take, length, codes, Option, Some, None, if◌then◌else◌}
 use Rattle.std.specs.Option.{option_map, option_or}
 use Rattle.std.specs.Str.{bytes_eq}
 use Rattle.l6_debug.specs.Command.{number_of}

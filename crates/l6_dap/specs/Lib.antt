@@ -3,6 +3,7 @@ pub mod Breakpoints
 pub mod Debugged
 pub mod Expressions
 pub mod Frames
+pub mod Launching
 pub mod Members
 pub mod Messages
 pub mod Moves

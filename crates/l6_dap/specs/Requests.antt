@@ -1,9 +1,9 @@
 -- What the messages of an editor ask for.
-use Rattle.std.specs.Prelude.{ℕ, List, [], ◌∷◌, Bool, true, false, codes, Option, Some, None, unwrap_or, option_and_then, ◌||◌, if◌then◌else◌}
+use Rattle.std.specs.Prelude.{ℕ, List, [], ◌∷◌, Bool, false, codes, Option, Some, None, unwrap_or, option_and_then, ◌||◌, if◌then◌else◌}
 use Rattle.std.specs.Option.{option_or}
 use Rattle.std.specs.Str.{bytes_eq}
 use Rattle.serde_json.specs.Data.{Data, Items, no_items, item}
-use Rattle.serde_json.specs.Find.{get, as_array, as_number, as_str, as_u64}
+use Rattle.serde_json.specs.Find.{get, as_array}
 use Rattle.l6_session.specs.declared.command.Move.{Move}
 use Rattle.l6_dap.specs.Expressions.{move_of_text}
 use Rattle.l6_dap.specs.Members.{number_in, text_in}

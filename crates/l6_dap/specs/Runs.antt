@@ -9,8 +9,9 @@ use Rattle.l6_session.specs.declared.command.Move.{Move}
 use Rattle.l6_session.specs.inner.SessionRun.{SessionRun}
 use Rattle.l6_dap.specs.Breakpoints.{SetsUnless, are_elsewhere}
 use Rattle.l6_dap.specs.Debugged.{Debugged}
+use Rattle.l6_dap.specs.Launching.{Launches, Relaunches, begun}
 use Rattle.l6_dap.specs.Messages.{Outcome, answer}
-use Rattle.l6_dap.specs.Messages.Outcome.{answered as is_answered}
+use Rattle.l6_dap.specs.Messages.Outcome.{answered as is_answered, done as is_done, refused as is_refused}
 use Rattle.l6_dap.specs.Paths.{source_in}
 use Rattle.l6_dap.specs.Printed.{printed_by, sent, unsent}
 use Rattle.l6_dap.specs.Requests.{arguments_in, command_in, entries_of, is_passed_over, kind_of, move_asked, seq_in}
@@ -64,22 +65,49 @@ pub record Serves (command : List ℕ) (arguments : Option Data) (old new : Debu
   pub watches : command ≡ codes "setDataBreakpoints" → SetsChains (entries_of arguments) old new outcome
   pub shows : Shows old.names old.run before after command arguments outcome
 
+-- the requests by which a run begins
+abbrev pub begins_a_run : List ℕ → Bool
+begins_a_run command = bytes_eq command (codes "configurationDone") || bytes_eq command (codes "restart")
+
 -- the requests that launch a run, or launch it again
 abbrev pub is_launch : List ℕ → Bool
 is_launch command = bytes_eq command (codes "launch") || bytes_eq command (codes "restart")
 
+-- a run is launched, and none before it counts; or that is refused, and nothing changes
+abbrev pub Launching : Option Data → AdapterState → AdapterState → Outcome → Type 0
+Launching arguments old new is_done =
+    (it : Debugged) × (new ≡ record { debugged = Some it; nodes = [] }) × Launches arguments it
+Launching arguments old new (is_refused why) = new ≡ old
+Launching arguments old new (is_answered said) = ⊥
+
+-- a run begins, and what it printed is sent
+abbrev pub Begins : Debugged → AdapterState → List (List ℕ) → Type 0
+Begins it new events =
+    (new.debugged ≡ Some (sent (begun it))) × (printed_by events ≡ unsent (begun it))
+
+-- the run is launched again, and begins; where none is launched that is refused, and nothing changes
+abbrev pub Restarting : Option Debugged → AdapterState → AdapterState → Outcome → List (List ℕ) → Type 0
+Restarting None old new outcome events = (new ≡ old) × ((why : List ℕ) × (outcome ≡ is_refused why))
+Restarting (Some before) old new outcome events =
+    (outcome ≡ is_done) × (new.nodes ≡ []) × ((it : Debugged) × Relaunches before it × Begins it new events)
+
 -- what a request does that is no move
-pub record Others (command : List ℕ) (arguments : Option Data) (old new : AdapterState) (outcome : Outcome) : Type 0 where
+pub record Others (command : List ℕ) (arguments : Option Data) (old new : AdapterState) (outcome : Outcome) (events : List (List ℕ)) : Type 0 where
   pub serves : is_launch command ≡ false → (it : Debugged) → old.debugged ≡ Some it →
       (next : Debugged) × (new.debugged ≡ Some next)
       × Serves command arguments it next old.nodes new.nodes outcome
   pub keeps : may_change command ≡ false → new.debugged ≡ old.debugged
+  pub launches : command ≡ codes "launch" → Launching arguments old new outcome
+  pub restarts : command ≡ codes "restart" → Restarting old.debugged old new outcome events
+  pub begins : command ≡ codes "configurationDone" → (it : Debugged) → old.debugged ≡ Some it →
+      Begins it new events
+  pub prints : begins_a_run command ≡ false → printed_by events ≡ []
 
 -- what a request does to the run that is launched, how it is answered, and what each of the events that follow says that
 -- the run has printed
 pub record Does (command : List ℕ) (arguments : Option Data) (old new : AdapterState) (outcome : Outcome) (events : List (List ℕ)) : Type 0 where
   pub moves : (to : Move) → move_asked command arguments ≡ Some to → Makes to old new events
-  pub others : move_asked command arguments ≡ None → Others command arguments old new outcome
+  pub others : move_asked command arguments ≡ None → Others command arguments old new outcome events
 
 -- what a message does, and what is sent: one answer to a request, and then events; nothing where the message is passed
 -- over

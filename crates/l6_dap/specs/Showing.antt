@@ -6,10 +6,9 @@ use Rattle.l6_session.specs.Names.{Names}
 use Rattle.l6_session.specs.inner.SessionRun.{SessionRun}
 use Rattle.l6_steps.specs.Configuration.{state_at}
 use Rattle.l6_steps.specs.State.{Memory, State}
-use Rattle.l6_dap.specs.Debugged.{Debugged}
 use Rattle.l6_dap.specs.Expressions.{nodes_evaluated, word_of}
 use Rattle.l6_dap.specs.Frames.{IsStack}
-use Rattle.l6_dap.specs.Members.{number_in, text_in}
+use Rattle.l6_dap.specs.Members.{number_in}
 use Rattle.l6_dap.specs.Messages.{Outcome}
 use Rattle.l6_dap.specs.Messages.Outcome.{answered as is_answered, refused}
 use Rattle.l6_dap.specs.Requests.{argument_of}

@@ -1,10 +1,8 @@
 -- What a state holds, as an editor lists it: bugs, fields, blocks, what is saved, and the parts of blocks.
-use Rattle.std.specs.Prelude.{ℕ, zero, suc, ◌+◌, ◌-◌, nat_le, nat_lt, Bool, ◌&&◌, List, [], ◌∷◌, ◌++◌, length, map, take, codes, decimal, Option, Some, None, slice_get, if◌then◌else◌}
+use Rattle.std.specs.Prelude.{ℕ, ◌+◌, ◌-◌, nat_lt, List, [], ◌∷◌, ◌++◌, length, map, take, codes, decimal, Option, Some, None, slice_get, if◌then◌else◌}
 use Rattle.std.specs.List.{cons_option}
-use Rattle.std.specs.Option.{option_map}
 use Rattle.l6_draw.specs.Drawing.{character_of}
 use Rattle.l6_draw.specs.Reach.{reached_places}
-use Rattle.l6_group.specs.Element.{chain_of}
 use Rattle.l6_prog.specs.Numerals.{first_letter}
 use Rattle.l6_steps.specs.State.{Memory}
 use Rattle.l6_store.specs.Blocks.{block_at}

@@ -1,5 +1,5 @@
 -- The chains that an editor asks to watch, and those that are watched then.
-use Rattle.std.specs.Prelude.{◌≡◌, ℕ, ◌+◌, nat_lt, Bool, true, false, List, [], ◌∷◌, codes, map, take, filter_map, Option, Some, None, unwrap_or, if◌then◌else◌}
+use Rattle.std.specs.Prelude.{◌≡◌, ℕ, ◌+◌, nat_lt, Bool, false, List, [], ◌∷◌, codes, map, take, filter_map, Option, Some, None, unwrap_or, if◌then◌else◌}
 use Rattle.serde_json.specs.Data.{Data, array, boolean, object, member, no_members}
 use Rattle.serde_json.specs.View.{items_of}
 use Rattle.l6_group.specs.Element.{chain_of}

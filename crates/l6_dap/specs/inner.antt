@@ -1,4 +1,5 @@
 pub mod Asked
+pub mod Launched
 pub mod Setting
 pub mod Shown
 pub mod Watching

@@ -1,9 +1,13 @@
 //! The adapter: what each request leads to.
 
-ghost use Rattle.std.specs.Prelude.{◌≡◌, [], ℕ, IfOk, None, Some};
+ghost use Rattle.std.specs.Prelude.{◌≡◌, ◌++◌, [], ℕ, IfOk, None, Some};
 ghost use Rattle.std.specs.Option.{option_map};
 ghost use Rattle.serde_json.specs.View.{view};
+ghost use Rattle.l6_dap.specs.Debugged.{Debugged};
+ghost use Rattle.l6_dap.specs.Launching.{begun};
 ghost use Rattle.l6_dap.specs.Messages.{Outcome, answer};
+ghost use Rattle.l6_dap.specs.Messages.Outcome.{done};
+ghost use Rattle.l6_dap.specs.Printed.{printed_by, sent, unsent};
 ghost use Rattle.l6_dap.specs.Runs as spec;
 ghost use Rattle.l6_dap.specs.inner.Asked.{arguments_of, outcome_of};
 
@@ -189,8 +193,9 @@ impl Adapter {
         events: &mut Events,
         request: Request<'_>,
     ) -> Result<Answer, OutOfMemory>
-        ensures { IfOk result (λ it. spec.Others request.entry.command.now (arguments_of request.entry)
-            self.old self.new (outcome_of it)) }
+        ensures { IfOk result (λ it. events.old ≡ [] →
+            spec.Others request.entry.command.now (arguments_of request.entry) self.old self.new
+            (outcome_of it) events.new) }
     {
         match request.command {
             "initialize" => Ok(Answer::Body(abilities(alloc)?)),
@@ -214,7 +219,11 @@ impl Adapter {
         files: &mut F,
         events: &mut Events,
         request: Request<'_>,
-    ) -> Result<Answer, OutOfMemory> {
+    ) -> Result<Answer, OutOfMemory>
+        ensures launches { IfOk result (λ it. spec.Launching (arguments_of request.entry) self.old self.new
+            (outcome_of it)) }
+        ensures prints { IfOk result (λ it. printed_by events.new ≡ printed_by events.old) }
+    {
         match launched(alloc, files, request) {
             Ok(debuggee) => {
                 self.debuggee = Some(debuggee);
@@ -234,15 +243,32 @@ impl Adapter {
         alloc: Global,
         files: &mut F,
         events: &mut Events,
-    ) -> Result<Answer, OutOfMemory> {
+    ) -> Result<Answer, OutOfMemory>
+        ensures { IfOk result (λ it. events.old ≡ [] →
+            spec.Restarting self.old.debugged self.old self.new (outcome_of it) events.new) }
+    {
         let Some(before) = self.debuggee.take() else {
             return refused(alloc, NO_RUN);
         };
-        let mut debuggee = relaunched(alloc, files, before)?;
+        self.debuggee = Some(relaunched(alloc, files, before)?);
         self.nodes.clear();
-        begin(alloc, events, &mut debuggee)?;
-        self.debuggee = Some(debuggee);
-        Ok(Answer::Done)
+        self.begin(alloc, events)
+    }
+
+    /// Begins the run that is launched.
+    fn begin(&mut self, alloc: Global, events: &mut Events) -> Result<Answer, OutOfMemory>
+        ensures begins { IfOk result (λ answer. (it : Debugged) → self.old.debugged ≡ Some it →
+            (outcome_of answer ≡ done) × (self.new.debugged ≡ Some (sent (begun it)))
+            × (printed_by events.new ≡ printed_by events.old ++ unsent (begun it))) }
+        ensures nodes { self.new.nodes ≡ self.old.nodes }
+    {
+        match &mut self.debuggee {
+            None => refused(alloc, NO_RUN),
+            Some(debuggee) => {
+                begin(alloc, events, debuggee)?;
+                Ok(Answer::Done)
+            }
+        }
     }
 }
 

@@ -1,8 +1,9 @@
 //! What is asked of a run that is launched.
 
-ghost use Rattle.std.specs.Prelude.{◌≡◌, ◌++◌, false, IfOk};
+ghost use Rattle.std.specs.Prelude.{◌≡◌, ◌++◌, false, codes, IfOk};
 ghost use Rattle.std.specs.Option.{option_map};
 ghost use Rattle.serde_json.specs.View.{view};
+ghost use Rattle.l6_dap.specs.Launching.{begun};
 ghost use Rattle.l6_dap.specs.Printed.{printed_by, sent, unsent};
 ghost use Rattle.l6_dap.specs.Runs as spec;
 ghost use Rattle.l6_dap.specs.Showing.{Shows};
@@ -49,6 +50,11 @@ pub(crate) fn debug(
         debuggee.old debuggee.new nodes.old nodes.new (outcome_of it)) }
     ensures keeps { IfOk result (λ it. spec.may_change request.entry.command.now ≡ false →
         debuggee.new ≡ debuggee.old) }
+    ensures begins { IfOk result (λ it. request.entry.command.now ≡ codes "configurationDone" →
+        (debuggee.new ≡ sent (begun debuggee.old))
+        × (printed_by events.new ≡ printed_by events.old ++ unsent (begun debuggee.old))) }
+    ensures prints { IfOk result (λ it. spec.begins_a_run request.entry.command.now ≡ false →
+        printed_by events.new ≡ printed_by events.old) }
 {
     match request.command {
         "configurationDone" => {
@@ -202,23 +208,33 @@ pub(crate) fn moved_body(
     Ok(json!(in alloc; {"result": said, "variablesReference": 0})?)
 }
 
-/// Begins the run, once all is configured: it goes on to where one stops first, or stays at the start.
+/// Begins the run, once all is configured: it goes to its end, or on to where one stops first, or stays where it stands.
 pub(crate) fn begin(
     alloc: Global,
     events: &mut Events,
     debuggee: &mut Debuggee,
-) -> Result<(), OutOfMemory> {
+) -> Result<(), OutOfMemory>
+    ensures moves { IfOk result (λ it. debuggee.new ≡ sent (begun debuggee.old)) }
+    ensures prints { IfOk result (λ it. printed_by events.new
+        ≡ printed_by events.old ++ unsent (begun debuggee.old)) }
+{
+    move_first(alloc, debuggee);
+    print(alloc, events, debuggee)?;
     if debuggee.launch.is_run_only {
-        debuggee.session.obey(alloc, &Command::Move(Move::End));
-        print(alloc, events, debuggee)?;
         return ended(alloc, events, debuggee);
     }
-    if debuggee.launch.stops_on_entry {
-        return stopped(alloc, events, debuggee, Why::Entry);
+    let why = match debuggee.launch.stops_on_entry {
+        true => Why::Entry,
+        false => Why::Stop,
+    };
+    stopped(alloc, events, debuggee, why)
+}
+
+/// Makes the move by which the run begins, if it begins by one.
+fn move_first(alloc: Global, debuggee: &mut Debuggee)
+    ensures { debuggee.new ≡ begun debuggee.old }
+{
+    if let Some(to) = debuggee.first_move() {
+        debuggee.session.obey(alloc, &Command::Move(to));
     }
-    if !debuggee.stops_here() {
-        debuggee.session.obey(alloc, &Command::Move(Move::Run));
-    }
-    print(alloc, events, debuggee)?;
-    stopped(alloc, events, debuggee, Why::Stop)
 }

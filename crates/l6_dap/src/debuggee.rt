@@ -1,7 +1,13 @@
 //! A debuggee: a session with the run of a deck, and what its editor asked for and was told.
 
-ghost use Rattle.std.specs.Prelude.{◌≡◌, slice_get};
+ghost use Rattle.std.specs.Prelude.{◌≡◌, ◌≤◌, length, slice_get, IfOk};
+ghost use Rattle.l6_history.specs.Numerals.{most_watched};
 ghost use Rattle.l6_place.specs.Cards.{first_cards};
+ghost use Rattle.l6_dap.specs.Breakpoints.{StopsAsAsked};
+ghost use Rattle.l6_dap.specs.Launching as spec;
+ghost use Rattle.l6_dap.specs.Watches.{watching};
+ghost use Rattle.l6_dap.specs.inner.Launched.{IsSameLaunch, with_stops_wanted};
+ghost use Rattle.l6_dap.specs.inner.Watching.{with_all};
 
 use crate::breakpoints::{Kind, ask};
 use l6_history::Watched;
@@ -29,7 +35,7 @@ pub(crate) struct Launch {
 }
 
 /// A breakpoint that is asked for.
-#[derive(Drop)]
+#[derive(Clone, Drop)]
 pub(crate) struct Breakpoint {
     /// The number of its statement.
     pub(crate) statement: u64,
@@ -64,6 +70,9 @@ impl Model for Debuggee {
       run = it.session;
       names = it.names;
       path = string_bytes it.launch.path;
+      options = it.launch.options;
+      stops_on_entry = it.launch.stops_on_entry;
+      is_run_only = it.launch.is_run_only;
       on_cards = it.on_cards.items;
       on_labels = it.on_labels.items;
       printed = it.printed;
@@ -74,7 +83,9 @@ impl Model for Debuggee {
 
 impl Launch {
     /// A copy of it.
-    pub(crate) fn copied(&self) -> Result<Self, AllocError> {
+    pub(crate) fn copied(&self) -> Result<Self, AllocError>
+        ensures { IfOk result (IsSameLaunch self.now) }
+    {
         let input = match &self.input {
             None => None,
             Some(path) => Some(path.clone()?),
@@ -91,7 +102,9 @@ impl Launch {
 
 impl Debuggee {
     /// The same run at its start, of which all is printed again.
-    pub(crate) fn at_start(self, alloc: Global) -> Self {
+    pub(crate) fn at_start(self, alloc: Global) -> Self
+        ensures { result ≡ spec.at_start self }
+    {
         let mut again = self;
         again.session.obey(alloc, &Command::Move(Move::Goto(0)));
         again.printed = 0;
@@ -99,11 +112,11 @@ impl Debuggee {
     }
 
     /// Takes over the breakpoints and the watches of another run.
-    pub(crate) fn take_stops(
-        &mut self,
-        alloc: Global,
-        other: &Debuggee,
-    ) -> Result<(), OutOfMemory> {
+    pub(crate) fn take_stops(&mut self, alloc: Global, other: &Debuggee) -> Result<(), OutOfMemory>
+        ensures stops { IfOk result (λ it.
+            StopsAsAsked (with_stops_wanted self.old other.now) self.new) }
+        ensures few { length other.now.run.state.stop.watched ≤ most_watched }
+    {
         self.watch(alloc, other.session.stop().watched())?;
         ask(
             self,
@@ -120,18 +133,38 @@ impl Debuggee {
     }
 
     /// Watches these, too.
-    fn watch(&mut self, alloc: Global, watched: &[Watched]) -> Result<(), AllocError> {
+    fn watch(&mut self, alloc: Global, watched: &[Watched]) -> Result<(), AllocError>
+        ensures { IfOk result (λ it. self.new ≡ record self.old {
+          run = watching (with_all watched.now self.old.run.state.stop.watched) self.old.run;
+        }) }
+    {
         watch_all(alloc, &mut self.session, watched)
     }
 
     /// Whether a statement begins at the state of the session that has a breakpoint, whose test is met if it has one.
-    pub(crate) fn stops_here(&self) -> bool {
+    pub(crate) fn stops_here(&self) -> bool
+        ensures { result ≡ spec.stops_here self.now.run }
+    {
         let machine = self.session.machine();
         let at = machine.at();
         let stop = self.session.stop();
         let index = usize::from(at.statement);
         let has_breakpoint = stop.breakpoints().get(index).copied().unwrap_or(false);
         at.action == 0 && has_breakpoint && stop.meets(machine)
+    }
+
+    /// The move by which the run begins, once all is configured: to its end, past all stops, if that was asked for; none
+    /// if one stops at the start, or where it stands; and else on from the start to where one stops.
+    pub(crate) fn first_move(&self) -> Option<Move>
+        ensures { result ≡ spec.first_move self.now }
+    {
+        if self.launch.is_run_only {
+            return Some(Move::End);
+        }
+        if self.launch.stops_on_entry || self.stops_here() {
+            return None;
+        }
+        Some(Move::Run)
     }
 
     /// The first card of a statement. The one that is added to each deck has none.
@@ -148,7 +181,10 @@ fn watch_all(
     alloc: Global,
     session: &mut Session<Buddy>,
     watched: &[Watched],
-) -> Result<(), AllocError> {
+) -> Result<(), AllocError>
+    ensures { IfOk result (λ it. session.new
+        ≡ watching (with_all watched.now session.old.state.stop.watched) session.old) }
+{
     for one in watched {
         let setting = Setting::Watch(one.clone()?);
         session.obey(alloc, &Command::Setting(setting));
@@ -157,17 +193,12 @@ fn watch_all(
 }
 
 /// A copy of breakpoints.
-fn copied(alloc: Global, list: &[Breakpoint]) -> Result<Vec<Breakpoint>, AllocError> {
+fn copied(alloc: Global, list: &[Breakpoint]) -> Result<Vec<Breakpoint>, AllocError>
+    ensures { IfOk result (λ it. it.items ≡ list.now) }
+{
     let mut copy = Vec::new(alloc);
     for one in list {
-        let test = match &one.test {
-            None => None,
-            Some(test) => Some(test.clone()?),
-        };
-        copy.push(Breakpoint {
-            statement: one.statement,
-            test,
-        })?;
+        copy.push(one.clone()?)?;
     }
     Ok(copy)
 }

@@ -1,9 +1,11 @@
 //! How a run is launched.
 
-ghost use Rattle.std.specs.Prelude.{◌≤◌, length, IfOk};
+ghost use Rattle.std.specs.Prelude.{◌≡◌, ◌≤◌, length, IfOk, IfSome, Some};
 ghost use Rattle.l6_asm.specs.Spells.{SpellsJust};
 ghost use Rattle.l6_card.specs.Numerals.{most_deck_bytes};
-ghost use Rattle.l6_dap.specs.Beginning.{BeginsWith};
+ghost use Rattle.l6_dap.specs.Launching as spec;
+ghost use Rattle.l6_dap.specs.inner.Asked.{arguments_of};
+ghost use Rattle.l6_dap.specs.inner.Launched.{IsAsked, IsLaunched, IsLaunchedOf};
 ghost use Rattle.l6_steps.specs.Numerals.{most_input};
 
 use crate::debuggee::{Debuggee, Launch};
@@ -49,7 +51,9 @@ const NO_OPTIONS: &str =
 /// # Errors
 ///
 /// It names no deck, or an option is out of range, or memory ran out.
-fn launch_of(alloc: Global, request: Request<'_>) -> Result<Launch, NotLaunched> {
+fn launch_of(alloc: Global, request: Request<'_>) -> Result<Launch, NotLaunched>
+    ensures { IfOk result (IsAsked (arguments_of request.entry)) }
+{
     let Some(path) = request.text("program") else {
         return Err(because(alloc, "program is missing: the path of a deck")?);
     };
@@ -70,7 +74,9 @@ fn launch_of(alloc: Global, request: Request<'_>) -> Result<Launch, NotLaunched>
 }
 
 /// The options that a request chooses, or none where one is out of range.
-fn options_of(request: Request<'_>) -> Option<Options> {
+fn options_of(request: Request<'_>) -> Option<Options>
+    ensures { IfSome result (λ options. spec.options_asked (arguments_of request.entry) ≡ Some options) }
+{
     let standard = Options::default();
     let units = match request.value("store") {
         None => standard.units(),
@@ -96,7 +102,9 @@ pub(crate) fn launched<F: Files>(
     alloc: Global,
     files: &mut F,
     request: Request<'_>,
-) -> Result<Debuggee, NotLaunched> {
+) -> Result<Debuggee, NotLaunched>
+    ensures { IfOk result (spec.Launches (arguments_of request.entry)) }
+{
     let launch = launch_of(alloc, request)?;
     debuggee_of(alloc, files, launch)
 }
@@ -111,7 +119,9 @@ pub(crate) fn relaunched<F: Files>(
     alloc: Global,
     files: &mut F,
     before: Debuggee,
-) -> Result<Debuggee, OutOfMemory> {
+) -> Result<Debuggee, OutOfMemory>
+    ensures { IfOk result (spec.Relaunches before) }
+{
     let launch = before.launch.copied()?;
     match debuggee_of(alloc, files, launch) {
         Ok(next) => {
@@ -133,7 +143,9 @@ fn debuggee_of<F: Files>(
     alloc: Global,
     files: &mut F,
     launch: Launch,
-) -> Result<Debuggee, NotLaunched> {
+) -> Result<Debuggee, NotLaunched>
+    ensures { IfOk result (IsLaunched launch) }
+{
     let job = read(alloc, files, launch.path.as_str(), Part::Job)?;
     let parts = parts_of(job.as_slice());
     let deck = head_parts_of(parts.head).deck.to_vec(alloc)?;
@@ -159,8 +171,7 @@ fn begun(
 ) -> Result<Debuggee, NotLaunched>
     requires deck { length deck.items ≤ most_deck_bytes }
     requires input { length input.now ≤ most_input }
-    ensures { IfOk result (λ debuggee.
-        BeginsWith launch.options deck.items input.now debuggee.run debuggee.names) }
+    ensures { IfOk result (IsLaunchedOf launch deck.items input.now) }
 {
     let (program, labels) = assembly_of(alloc, deck.as_slice())?.into_parts();
     let cards = first_cards(alloc, deck.as_slice())?;

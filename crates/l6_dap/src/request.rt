@@ -4,6 +4,7 @@ ghost use Rattle.std.specs.Prelude.{◌≡◌, map, true, false, None, IsSome, I
 ghost use Rattle.std.specs.Option.{option_map};
 ghost use Rattle.serde_json.specs.Find.{get};
 ghost use Rattle.serde_json.specs.View.{view};
+ghost use Rattle.l6_dap.specs.Launching.{flag_in};
 ghost use Rattle.l6_dap.specs.Members.{number_in};
 ghost use Rattle.l6_dap.specs.Requests.{argument_of, arguments_in, command_in, is_passed_over, seq_in};
 ghost use Rattle.l6_dap.specs.inner.Asked.{arguments_of, list_by};
@@ -66,7 +67,9 @@ impl<'a> Request<'a> {
     }
 
     /// Whether a flag is given.
-    pub(crate) fn flag(&self, name: &str) -> bool {
+    pub(crate) fn flag(&self, name: &str) -> bool
+        ensures { result ≡ flag_in name.now (arguments_of self.now) }
+    {
         self.value(name).and_then(Value::as_bool).unwrap_or(false)
     }
 

@@ -15,3 +15,8 @@ with_chain (Some chain) watched = one_more most_watched watched (Chain chain)
 abbrev pub with_chains : List Data → List Watched → List Watched
 with_chains [] watched = watched
 with_chains (entry ∷ entries) watched = with_chains entries (with_chain (chain_asked entry) watched)
+
+-- what is watched after all of some are, too, in their order
+abbrev pub with_all : List Watched → List Watched → List Watched
+with_all [] watched = watched
+with_all (one ∷ others) watched = with_all others (one_more most_watched watched one)

@@ -1,4 +1,4 @@
-use Rattle.std.proofs.Common.{◌≡◌, ◌∷◌, [], map, ap, ◌∙◌, arith}
+use Rattle.std.proofs.Common.{◌∷◌, [], map, ap, ◌∙◌, arith}
 use Rattle.std.proofs.lemmas.List.{map-append}
 use Rattle.serde_json.specs.View.{view}
 use Rattle.l6_dap.proofs.Framing.{frame_next}

@@ -1,4 +1,4 @@
-use Rattle.std.proofs.Common.{◌≡◌, List, map, ap, ◌∙◌, subst}
+use Rattle.std.proofs.Common.{List, map, ap, ◌∙◌, subst}
 use Rattle.serde_json.specs.View.{view}
 use Rattle.l6_steps.specs.declared.position.Position.{Position}
 use Rattle.l6_dap.specs.Frames.{AreFrames, wanted}

@@ -1,4 +1,4 @@
-use Rattle.std.proofs.Common.{◌≡◌, ℕ, ◌+◌, List, [], ◌∷◌, ◌++◌, codes, decimal, Option, Some, None, sym, ap, ◌∙◌, rules}
+use Rattle.std.proofs.Common.{◌≡◌, [], ◌∷◌, ◌++◌, codes, decimal, Some, None, ◌∙◌, rules}
 use Rattle.std.specs.Prelude.{slice_get}
 use Rattle.l6_store.specs.Blocks.{block_at}
 use Rattle.l6_word.specs.Octal.{octal12}

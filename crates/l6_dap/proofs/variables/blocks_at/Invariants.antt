@@ -1,4 +1,4 @@
-use Rattle.std.proofs.Common.{◌≡◌, ◌++◌, drop, take}
+use Rattle.std.proofs.Common.{◌≡◌, take}
 use Rattle.l6_dap.specs.Variables.{blocks_at}
 use Rattle.l6_dap.proofs.variables.blocks_at.Given as goal
 

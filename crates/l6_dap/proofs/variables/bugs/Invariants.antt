@@ -1,4 +1,4 @@
-use Rattle.std.proofs.Common.{◌≡◌, ◌+◌, ◌++◌, drop, add-one}
+use Rattle.std.proofs.Common.{◌≡◌, ◌+◌, ◌++◌, drop}
 use Rattle.l6_prog.specs.Numerals.{first_letter}
 use Rattle.l6_dap.specs.Variables.{bugs_from}
 use Rattle.l6_dap.proofs.variables.bugs.Given as goal

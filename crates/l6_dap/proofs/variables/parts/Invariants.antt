@@ -1,4 +1,4 @@
-use Rattle.std.proofs.Common.{◌≡◌, ◌≤◌, ◌++◌, drop, length}
+use Rattle.std.proofs.Common.{◌≡◌, ◌++◌, drop}
 use Rattle.l6_store.specs.Blocks.{block_at}
 use Rattle.l6_dap.specs.Variables.{parts_from}
 use Rattle.l6_dap.proofs.variables.parts.Given as goal

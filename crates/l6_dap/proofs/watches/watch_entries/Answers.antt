@@ -1,4 +1,4 @@
-use Rattle.std.proofs.Common.{◌≡◌, List, ◌∷◌, [], ◌++◌, ◌+◌, drop, length, map, ap, sym, ◌∙◌, subst}
+use Rattle.std.proofs.Common.{List, ◌∷◌, [], ◌++◌, ◌+◌, drop, length, map, ap, sym, ◌∙◌}
 use Rattle.std.proofs.lemmas.List.{drop_more, map-append}
 use Rattle.serde_json.specs.Data.{Data}
 use Rattle.serde_json.specs.View.{view}

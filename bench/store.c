@@ -4,11 +4,13 @@
    processor that they took. WORK is one of
 
        blocks     the gets and frees of blocks.deck, 1 to 128 words each
+       single     a block of one word, got and freed beside blocks: nothing is halved, nothing is joined
        worst      a block of one word, got and freed in an empty store: ten halvings, ten joinings
        largest    a block of 1,024 words, got and freed
 
    and KIND is loop, cleared or proved: nothing, the buddy system in C that clears its blocks, and the store of
-   the library (library/l6_store.h), which clears them, too. */
+   the library (library/l6_store.h), which clears them, too. Compiled with -DNDEBUG neither has asserts: bench/run
+   counts the buddy system in C with them and without, and the store without. */
 #define main allocators_main
 #include "allocators.c"
 #undef main
@@ -55,17 +57,19 @@ int main(int count, char **words) {
             continue;
         by->start();
         uint64_t rounds = strtoull(words[3], NULL, 10);
-        int is_blocks = strcmp(words[1], "blocks") == 0;
+        int is_blocks = strcmp(words[1], "blocks") == 0, is_single = strcmp(words[1], "single") == 0;
         if (is_blocks)
             (void)by->get(TABLE); /* as the deck does */
+        for (int taken = 0; is_single && taken < 3; taken++)
+            (void)by->get(1); /* the fourth word is free, and its buddy is a block */
         uint64_t before = nanoseconds();
         if (is_blocks)
             run(by, rounds);
         else
-            again(by, strcmp(words[1], "worst") == 0 ? 1 : UNIT, rounds);
+            again(by, strcmp(words[1], "largest") == 0 ? UNIT : 1, rounds);
         printf("%" PRIu64 "\n", nanoseconds() - before);
         return 0;
     }
-    fprintf(stderr, "usage: store blocks|worst|largest loop|cleared|proved ROUNDS\n");
+    fprintf(stderr, "usage: store blocks|single|worst|largest loop|cleared|proved ROUNDS\n");
     return 64;
 }

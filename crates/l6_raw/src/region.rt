@@ -108,7 +108,20 @@ impl Region {
         requires { index + count ≤ length self.old }
         ensures { self.new ≡ overwritten self.old index (replicate count 0) }
     {
-        self.memory.clear(index, count);
+        // few words are written in place, as a call of memset takes longer
+        if count <= 2 {
+            match count {
+                1 => self.memory.clear(index, 1),
+                2 => self.memory.clear(index, 2),
+                _ => {}
+            }
+        } else {
+            match count {
+                4 => self.memory.clear(index, 4),
+                8 => self.memory.clear(index, 8),
+                _ => self.memory.clear(index, count),
+            }
+        }
     }
 
     /// Copies so many words from one index on to another on. The caller owes that the two ranges

@@ -243,3 +243,11 @@ pub words_linked_by : (words one two : List ℕ) (place head : ℕ)
 unfolding words_linked
 words_linked_by words one two place head first second =
     second ∙ ap (λ (ws : List ℕ). with_before ws head place) first
+
+-- a place that is linked in front of no other gets a link of 0
+pub words_linked_alone : (words : List ℕ) (place head : ℕ) → head ≡ 0
+    → set words place 0 ≡ words_linked words place head
+unfolding words_linked
+words_linked_alone words place head none =
+    sym (with_before_none (set words place (link_word 0 head)) head place none
+    ∙ ap (λ (h : ℕ). set words place (link_word 0 h)) none)

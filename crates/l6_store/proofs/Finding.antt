@@ -1,5 +1,5 @@
 -- Where a place is open there is a free piece that is large enough.
-use Rattle.std.proofs.Common.{◌≡◌, ℕ, zero, suc, ◌+◌, ◌%◌, ◌^◌, ◌<◌, ◌≤◌, true, ◌&&◌, nat_le, List, [], ◌∷◌, length, Option, Some, None, refl, ap, sym, ◌∙◌, subst, arith, inl, inr}
+use Rattle.std.proofs.Common.{◌≡◌, ℕ, Bool, zero, suc, ◌+◌, ◌%◌, ◌^◌, ◌<◌, ◌≤◌, true, ◌&&◌, nat_le, List, [], ◌∷◌, length, Option, Some, None, refl, ap, sym, ◌∙◌, subst, arith, inl, inr, false}
 use Rattle.std.proofs.lemmas.Bool.{cases_lt, and_parts, and_from, leb-true, le-leb}
 use Rattle.std.proofs.lemmas.Nat.{pow_pos}
 use Rattle.std.specs.Option.{is_some, option_map}
@@ -170,6 +170,32 @@ level_is_found order level =
     found_by order level (level_found order level)
     (least_answers (suc largest_level)
     (λ k. nat_le level k && is_some (first_of (listed order k))))
+
+-- the lists of the levels before it are empty
+none_listed : (places : List ℕ) → is_some (first_of places) ≡ false → places ≡ []
+none_listed [] none = refl
+none_listed (place ∷ rest) none = cc
+
+least_by : (order : Order) (level : ℕ) (answer : Option ℕ)
+    → Answers (suc largest_level) (λ k. nat_le level k && is_some (first_of (listed order k))) answer
+    → (found : ℕ) → answer ≡ Some found
+    → (k : ℕ) → level ≤ k → k < found → listed order k ≡ []
+unfolding Answers
+least_by order level None none found is k from before = cc
+least_by order level (Some least) answer found is k from before =
+    let same : least ≡ found = cc in
+    let fails : (nat_le level k && is_some (first_of (listed order k))) ≡ false
+    = answer.2 k (omega (arith, same, before)) in
+    none_listed (listed order k)
+    (sym (ap (λ (b : Bool). b && is_some (first_of (listed order k))) (le-leb level k from)) ∙ fails)
+
+pub found_least : (order : Order) (level found : ℕ) → Some found ≡ level_found order level
+    → (k : ℕ) → level ≤ k → k < found → listed order k ≡ []
+unfolding level_found
+found_least order level found is =
+    least_by order level (level_found order level)
+    (least_answers (suc largest_level)
+    (λ k. nat_le level k && is_some (first_of (listed order k)))) found (sym is)
 
 -- the first piece of the level found answers
 answer_of : (units : ℕ) (blocks : Blocks) (order : Order) → Tiles units blocks order

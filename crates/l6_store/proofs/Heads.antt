@@ -35,3 +35,10 @@ module _ (units : ℕ) (words heads : List ℕ) (place_tags : List PlaceTag)
       ap (λ (l : ArenaLayout). is_some (first_of (listed l.order level))) (sym is)
       ∙ ap is_some (sym (some_first (listed (order_of words heads) level)
       (λ none. some (omega (arith, laid.are_lists.links.begun level, none)))))
+
+-- the head of an empty list
+pub head_alone : (units : ℕ) (words heads : List ℕ) (place_tags : List PlaceTag)
+    → IsArena units words place_tags heads → (level : ℕ)
+    → listed (order_of words heads) level ≡ [] → get_or heads level 0 ≡ 0
+head_alone units words heads place_tags laid level none =
+    laid.are_lists.links.begun level ∙ ap (λ (places : List ℕ). first_or places 0) none

@@ -6,7 +6,7 @@ use Rattle.std.specs.Option.{MatchOption, is_some}
 use Rattle.l6_word.specs.Numerals.{largest_level, unit_size}
 use Rattle.l6_store.specs.Blocks.{Blocks, IsAlignedPlace, end_of}
 use Rattle.l6_store.specs.Rule.{Order}
-use Rattle.l6_store.specs.Buddy.{DetachedPiece, has, listed, IsListed, buddy_of, first_of, halved, halved_often, joined, joined_often, level_found, whole_of}
+use Rattle.l6_store.specs.Buddy.{DetachedPiece, has, listed, IsListed, buddy_of, first_of, halved, halved_often, joined, joined_often, level_found, taken_out, whole_of}
 use Rattle.l6_store.specs.Least.{least}
 use Rattle.l6_store.specs.inner.Detached.{HalvesPiece, IsDetached, JoinsPiece}
 use Rattle.l6_store.proofs.Least.{Answers, least_answers, answers_alone}
@@ -103,7 +103,7 @@ halved_more : (times : ℕ) (detached : DetachedPiece)
 unfolding halved_often
 halved_more times detached = refl
 
-halved_none : (detached : DetachedPiece) → halved_often zero detached ≡ detached
+pub halved_none : (detached : DetachedPiece) → halved_often zero detached ≡ detached
 unfolding halved_often
 halved_none detached = refl
 
@@ -155,6 +155,34 @@ joins_more units blocks level first now moves less is joins =
       comes = sym (joined_often_more (largest_level - suc now.level) now is)
           ∙ ap (λ (t : ℕ). joined_often t now) (sym times) ∙ joins.comes;
     }
+
+-- the piece joined, as the code has it
+pub joins_to : (units : ℕ) (blocks : Blocks) (level : ℕ) (first now : DetachedPiece) (moves : ℕ)
+    (order : Order) (to place : ℕ) → order ≡ now.order → to ≡ now.level → place ≡ now.place
+    → JoinsPiece units blocks level first now moves
+    → JoinsPiece units blocks level first (record { order = order; level = to; place = place }) moves
+joins_to units blocks level first now moves order to place orders levels places joins =
+    subst (λ (o : Order). JoinsPiece units blocks level first
+    (record { order = o; level = to; place = place }) moves) (sym orders)
+    (subst (λ (k : ℕ). JoinsPiece units blocks level first
+    (record { order = now.order; level = k; place = place }) moves) (sym levels)
+    (subst (λ (p : ℕ). JoinsPiece units blocks level first
+    (record { order = now.order; level = now.level; place = p }) moves) (sym places) joins))
+
+-- the same, as the code has it
+pub joins_step : (units : ℕ) (blocks : Blocks) (level : ℕ) (first now : DetachedPiece) (moves more : ℕ)
+    (order : Order) (place : ℕ) → now.level < largest_level
+    → IsListed now.order now.level (buddy_of now.level now.place)
+    → order ≡ taken_out now.order now.level (buddy_of now.level now.place)
+    → place ≡ whole_of now.level now.place → moves + 1 ≡ more
+    → JoinsPiece units blocks level first now moves
+    → JoinsPiece units blocks level first
+    (record { order = order; level = now.level + 1; place = place }) more
+joins_step units blocks level first now moves more order place less is orders places counted joins =
+    joins_to units blocks level first (joined now) more order (now.level + 1) place orders (omega arith)
+    places
+    (subst (λ (times : ℕ). JoinsPiece units blocks level first (joined now) times) counted
+    (joins_more units blocks level first now moves less is joins))
 
 -- the loop ends at the largest level, or where the buddy is not listed
 pub joins_full : (units : ℕ) (blocks : Blocks) (level : ℕ) (first now : DetachedPiece) (moves : ℕ)
@@ -226,16 +254,3 @@ pub found_first : (order : Order) (level : ℕ) (found : Option ℕ)
 found_first order level None none = found_none order level none
 found_first order level (Some found) first =
     found_at order level found first.0 first.1 first.2 first.3
-
--- the piece joined, as the code has it
-pub joins_to : (units : ℕ) (blocks : Blocks) (level : ℕ) (first now : DetachedPiece) (moves : ℕ)
-    (order : Order) (to place : ℕ) → order ≡ now.order → to ≡ now.level → place ≡ now.place
-    → JoinsPiece units blocks level first now moves
-    → JoinsPiece units blocks level first (record { order = order; level = to; place = place }) moves
-joins_to units blocks level first now moves order to place orders levels places joins =
-    subst (λ (o : Order). JoinsPiece units blocks level first
-    (record { order = o; level = to; place = place }) moves) (sym orders)
-    (subst (λ (k : ℕ). JoinsPiece units blocks level first
-    (record { order = now.order; level = k; place = place }) moves) (sym levels)
-    (subst (λ (p : ℕ). JoinsPiece units blocks level first
-    (record { order = now.order; level = now.level; place = p }) moves) (sym places) joins))

@@ -9,7 +9,7 @@ use Rattle.l6_store.specs.inner.Chains.{before_in, after_in, with_before, with_a
 use Rattle.l6_store.specs.inner.ArenaLayout.{AreDistinct}
 use Rattle.l6_store.proofs.Counts.{has_first, has_more}
 use Rattle.l6_store.proofs.PlaceLists.{has_front, has_back, last_or, has_last_or, AreWithin, within_rest, first_or_within, Split, split, distinct_front, distinct_back, distinct_apart}
-use Rattle.l6_store.proofs.Chains.{before_of, after_of, with_after_none, before_others, after_others, length_with_before, length_with_after, linked_parts, linked_whole, linked_along, last_renamed, first_renamed}
+use Rattle.l6_store.proofs.Chains.{before_of, after_of, with_after_none, with_before_none, before_others, after_others, length_with_before, length_with_after, linked_parts, linked_whole, linked_along, last_renamed, first_renamed}
 
 -- what its link says
 pub record Around (words : List ℕ) (place : ℕ) (places : List ℕ) : Type 0 where
@@ -259,3 +259,13 @@ pub with_head_first : (heads : List ℕ) (level before after : ℕ) → before �
 unfolding with_head
 with_head_first heads level before after first =
     sym (ap (λ (b : Bool). if b then set heads level after else heads) (eq-eqb before 0 first))
+
+-- a place whose link is 0 is alone in its list, so no other word changes
+pub words_unlinked_alone : (words : List ℕ) (place : ℕ) → get_or words place 0 ≡ 0
+    → words ≡ words_unlinked words place
+unfolding words_unlinked
+words_unlinked_alone words place alone =
+    let before : ℕ = before_in (get_or words place 0) in
+    let after : ℕ = after_in (get_or words place 0) in
+    sym (with_before_none (with_after words before after) after before (ap after_in alone)
+    ∙ with_after_none words before after (ap before_in alone))

@@ -10,7 +10,7 @@ ghost use Rattle.l6_store.specs.Buddy.{IsListed, first_of, first_or, has, in_fro
 ghost use Rattle.l6_store.specs.inner.ArenaLayout.{IsSoundLayout};
 
 use crate::level::size_of;
-use crate::link::{link, neighbors_at, pop, unlink};
+use crate::link::{link, link_alone, neighbors_at, pop, unlink};
 use crate::place_tag::{PlaceTag, PlaceTags};
 use crate::places::{Level, Place};
 use crate::units::{UNIT_PLACES, UNITS, end_of};
@@ -116,19 +116,18 @@ impl Arena {
         if place == 0 { None } else { Some(place) }
     }
 
-    /// The least level with a free piece that is at least the level asked for.
-    pub(crate) fn least_level(&self, level: Level) -> Option<Level>
+    /// The least level with a free piece that is at least the level asked for, as an index of the heads:
+    /// so loops over levels have one counter.
+    pub(crate) fn least_level(&self, level: Level) -> Option<usize>
         requires { level ≤ largest_level }
         ensures { result ≡ level_found self.now.order level }
     {
-        let mut found = usize::from(level);
-        while self.heads[found] == 0 {
-            if found == usize::from(LARGEST_LEVEL) {
-                return None;
+        for found in usize::from(level)..LEVELS {
+            if self.heads[found] != 0 {
+                return Some(found);
             }
-            found += 1;
         }
-        Some(found as Level)
+        None
     }
 
     /// The place after this one in a level's list, if it is in that list and not the last.
@@ -168,6 +167,25 @@ impl Arena {
         self.place_tags.list(place, level);
     }
 
+    /// Puts a free piece into its level's list, which is empty. Its unit is used from then on.
+    pub(crate) fn link_alone(&mut self, level: usize, place: Place)
+        requires level { level ≤ largest_level }
+        requires some { 1 ≤ place }
+        requires within { place < end_of self.old.units }
+        requires alone { listed self.old.order level ≡ [] }
+        requires fresh { (k : ℕ) → IsListed self.old.order k place → ⊥ }
+        requires beside { LiesIn self.old.blocks place → ⊥ }
+        ensures units { self.new.units ≡ self.old.units }
+        ensures blocks { self.new.blocks ≡ self.old.blocks }
+        ensures order { self.new.order ≡ in_front self.old.order level place }
+        ensures sound { IsSoundLayout self.new }
+    {
+        let its_unit = place as usize / UNIT_PLACES;
+        self.used[its_unit] = true;
+        link_alone(&mut self.words, &mut self.heads, level, place);
+        self.place_tags.list(place, level as Level);
+    }
+
     /// Puts a whole unit in front of the list of the largest level. It stays as unused as it was.
     fn link_unit(&mut self, place: Place)
         requires some { 1 ≤ place }
@@ -198,7 +216,7 @@ impl Arena {
     }
 
     /// Takes the first free piece out of a level's list.
-    pub(crate) fn pop(&mut self, level: Level) -> Place
+    pub(crate) fn pop(&mut self, level: usize) -> Place
         requires level { level ≤ largest_level }
         requires there { IsListed self.old.order level (first_or (listed self.old.order level) 0) }
         ensures first { result ≡ first_or (listed self.old.order level) 0 }
@@ -260,8 +278,8 @@ impl Arena {
         ensures sound { IsSoundLayout self.new }
     {
         self.used[place as usize / UNIT_PLACES] = true;
-        self.words.fill(place as usize, size_of(level));
         self.place_tags.open(place, level);
+        self.words.fill(place as usize, size_of(level));
     }
 
     /// Takes out a block, which leaves a detached piece.

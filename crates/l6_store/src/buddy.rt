@@ -12,7 +12,7 @@ ghost use Rattle.l6_store.specs.Tiles.{Tiles};
 
 use crate::arena::Arena;
 use crate::fault::StoreFault;
-use crate::piece::{count_free_words, count_pieces, halve, join, largest_free_level};
+use crate::piece::{count_free_words, count_pieces, join, largest_free_level, open_piece};
 use crate::places::{Level, Place, Places};
 use crate::units::MAX_UNITS;
 use l6_word::Word;
@@ -161,7 +161,7 @@ impl Buddy {
         ensures sound { IsSound buddy_rule self.new.store }
     {
         self.arena.close(place);
-        self.moves = join(&mut self.arena, level, place);
+        join(&mut self.arena, &mut self.moves, level, place);
     }
 
     /// Of each buddy store, whatever calls made it what it is: its words and its heads hold its free
@@ -206,16 +206,14 @@ impl Places for Buddy {
     }
 
     fn peek(&self, level: Level) -> Option<Place> {
-        self.arena.first(self.arena.least_level(level)?)
+        self.arena.first(self.arena.least_level(level)? as Level)
     }
 
     fn get(&mut self, level: Level) -> Option<Place> {
         self.moves = 0;
         let found = self.arena.least_level(level)?;
         let place = self.arena.pop(found);
-        self.moves = halve(&mut self.arena, found, level, place);
-        self.arena.open(level, place);
-        Some(place)
+        Some(open_piece(&mut self.arena, &mut self.moves, found, level, place))
     }
 
     fn free(&mut self, place: Place) {

@@ -96,6 +96,18 @@ pub(crate) fn link(words: &mut Region, heads: &mut [Place], level: Level, place:
     heads[usize::from(level)] = place;
 }
 
+/// Puts a free piece into the list of its level, which is empty.
+pub(crate) fn link_alone(words: &mut Region, heads: &mut [Place], level: usize, place: Place)
+    requires level { level < length heads.old }
+    requires place { place < length words.old }
+    requires alone { slice_index heads.old level ≡ 0 }
+    ensures words { words.new ≡ words_linked words.old place (slice_index heads.old level) }
+    ensures heads { heads.new ≡ slice_set heads.old level place }
+{
+    words.write(place as usize, 0);
+    heads[level] = place;
+}
+
 /// Takes a free piece out of the list of its level: the list after it is the one before it, without
 /// the piece.
 pub(crate) fn unlink(words: &mut Region, heads: &mut [Place], level: Level, place: Place)
@@ -112,6 +124,11 @@ pub(crate) fn unlink(words: &mut Region, heads: &mut [Place], level: Level, plac
         ≡ with_head heads.old level (before_in (slice_index words.old place))
         (after_in (slice_index words.old place)) }
 {
+    if words.read(place as usize) == 0 {
+        // it is alone in its list, as most pieces are that are joined
+        heads[usize::from(level)] = 0;
+        return;
+    }
     let neighbors = neighbors_at(words, place);
     set_after(words, heads, level, neighbors.before, neighbors.after);
     set_before(words, neighbors.after, neighbors.before);
@@ -119,7 +136,7 @@ pub(crate) fn unlink(words: &mut Region, heads: &mut [Place], level: Level, plac
 
 /// Takes the first free piece out of the list of a level: the list after it is the rest of the one
 /// before it.
-pub(crate) fn pop(words: &mut Region, heads: &mut [Place], level: Level) -> Place
+pub(crate) fn pop(words: &mut Region, heads: &mut [Place], level: usize) -> Place
     requires level { level < length heads.old }
     requires place { slice_index heads.old level < length words.old }
     requires first { let place = slice_index heads.old level in
@@ -135,9 +152,9 @@ pub(crate) fn pop(words: &mut Region, heads: &mut [Place], level: Level) -> Plac
         ≡ with_head heads.old level (before_in (slice_index words.old result))
         (after_in (slice_index words.old result)) }
 {
-    let place = heads[usize::from(level)];
+    let place = heads[level];
     let next = neighbors_at(words, place).after;
-    heads[usize::from(level)] = next;
+    heads[level] = next;
     set_before(words, next, 0);
     place
 }

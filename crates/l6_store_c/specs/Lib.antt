@@ -1,3 +1,4 @@
 pub mod Answer
 pub mod Handle
+pub mod Lending
 pub mod Outcome

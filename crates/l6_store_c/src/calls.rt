@@ -33,8 +33,10 @@ pub(crate) fn get(store: &mut Buddy, level: u32) -> Result<u64, CallFault>
     ensures same { OnErr result (store.new ≡ store.old) }
     ensures range { IfOk result (λ place. place < 2 ^ 32) }
 {
-    let level = level_of(level)?;
-    match store.get(level) {
+    if level > u32::from(LARGEST_LEVEL) {
+        return Err(CallFault::BadLevel);
+    }
+    match store.get(level as Level) {
         Some(place) => Ok(u64::from(place)),
         None => Ok(0),
     }

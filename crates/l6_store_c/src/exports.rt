@@ -12,8 +12,6 @@ ghost use Rattle.l6_store_c.specs.Outcome.{IsLeastLevel, at_level, copy_outcome,
 
 use crate::calls;
 use crate::fault::CallFault;
-use crate::handle::Handle;
-use crate::loose::Loose;
 use crate::store::L6Store;
 use l6_store::{Buddy, StoreFault, level_for};
 use std::alloc::Global;
@@ -29,18 +27,15 @@ fn code(outcome: Result<u64, CallFault>) -> i64
     }
 }
 
-/// The number of what a call answers of the store that is held, or that of `Closed`. The handle alone is taken out and put
-/// back: the struct is open all the time.
+/// The number of what a call answers of the store that is held, or that of `Closed`. The handle lends its store where
+/// it is: nothing is taken out and put back.
 macro_rules! on_open {
-    ($store:ident, $alloc:ident, $call:ident($($number:expr),*)) => {{
+    ($store:ident, $call:ident($($number:expr),*)) => {{
         if !$store.is_open() {
             return CallFault::Closed.code();
         }
-        let handle = std::mem::replace(&mut $store.handle, Handle::none());
-        let mut held = handle.into_loose($alloc).into_box();
-        let outcome = calls::$call(&mut held $(, $number)*);
-        $store.handle = Handle::of(Loose::of(held));
-        code(outcome)
+        let held = $store.handle.lend();
+        code(calls::$call(held $(, $number)*))
     }};
 }
 
@@ -98,67 +93,61 @@ pub extern "C" fn l6_store_close(alloc: Global, store: &mut L6Store) -> i64
 
 /// Gets a block of a level: its place, or 0 if none is open.
 #[unsafe(no_mangle)]
-pub extern "C" fn l6_store_get(alloc: Global, store: &mut L6Store, level: u32) -> i64
+pub extern "C" fn l6_store_get(store: &mut L6Store, level: u32) -> i64
     ensures place { result ≡ answered store.old.handle.held
         (λ old. at_level level (place_or_0 (picked buddy_rule old level))) }
     ensures refused { IsFault result → store.new.handle.held ≡ store.old.handle.held }
     ensures after { IfSome store.old.handle.held (λ old. level ≤ largest_level → Holds store.new.handle.held
         (after_get buddy_rule old.store level (picked buddy_rule old.store level))) }
 {
-    on_open!(store, alloc, get(level))
+    on_open!(store, get(level))
 }
 
 /// The place that a get of a level would give, or 0 if none is open.
 #[unsafe(no_mangle)]
-pub extern "C" fn l6_store_peek(alloc: Global, store: &mut L6Store, level: u32) -> i64
+pub extern "C" fn l6_store_peek(store: &mut L6Store, level: u32) -> i64
     ensures place { result ≡ answered store.old.handle.held
         (λ old. at_level level (place_or_0 (picked buddy_rule old level))) }
     ensures still { store.new.handle.held ≡ store.old.handle.held }
 {
-    on_open!(store, alloc, peek(level))
+    on_open!(store, peek(level))
 }
 
 /// Frees the block that begins at a place.
 #[unsafe(no_mangle)]
-pub extern "C" fn l6_store_free(alloc: Global, store: &mut L6Store, place: u32) -> i64
+pub extern "C" fn l6_store_free(store: &mut L6Store, place: u32) -> i64
     ensures outcome { result ≡ answered store.old.handle.held
         (λ old. free_outcome (map.get old.blocks place)) }
     ensures refused { IsFault result → store.new.handle.held ≡ store.old.handle.held }
     ensures freed { IfSome store.old.handle.held (λ old. result ≡ pos 0
         → Holds store.new.handle.held (after_free buddy_rule old.store place)) }
 {
-    on_open!(store, alloc, free(place))
+    on_open!(store, free(place))
 }
 
 /// The level of the block that begins at a place.
 #[unsafe(no_mangle)]
-pub extern "C" fn l6_store_live(alloc: Global, store: &mut L6Store, place: u32) -> i64
+pub extern "C" fn l6_store_live(store: &mut L6Store, place: u32) -> i64
     ensures level { result ≡ answered store.old.handle.held
         (λ old. live_outcome old.blocks place) }
     ensures still { store.new.handle.held ≡ store.old.handle.held }
 {
-    on_open!(store, alloc, live(place))
+    on_open!(store, live(place))
 }
 
 /// The word of an index in the block that begins at a place.
 #[unsafe(no_mangle)]
-pub extern "C" fn l6_store_read(alloc: Global, store: &mut L6Store, place: u32, index: u32) -> i64
+pub extern "C" fn l6_store_read(store: &mut L6Store, place: u32, index: u32) -> i64
     ensures word { result ≡ answered store.old.handle.held
         (λ old. read_outcome (map.get old.blocks place) index) }
     ensures still { store.new.handle.held ≡ store.old.handle.held }
 {
-    on_open!(store, alloc, read(place, index))
+    on_open!(store, read(place, index))
 }
 
 /// Writes a word in the block that begins at a place.
 #[unsafe(no_mangle)]
-pub extern "C" fn l6_store_write(
-    alloc: Global,
-    store: &mut L6Store,
-    place: u32,
-    index: u32,
-    word: u64,
-) -> i64
+pub extern "C" fn l6_store_write(store: &mut L6Store, place: u32, index: u32, word: u64) -> i64
     ensures outcome { result ≡ answered store.old.handle.held
         (λ old. write_outcome (map.get old.blocks place) index word) }
     ensures refused { IsFault result → store.new.handle.held ≡ store.old.handle.held }
@@ -166,73 +155,73 @@ pub extern "C" fn l6_store_write(
         → Holds store.new.handle.held (with_block old.store place
         (slice_set (block_at old.store.blocks place) index word))) }
 {
-    on_open!(store, alloc, write(place, index, word))
+    on_open!(store, write(place, index, word))
 }
 
 /// Copies the words of a block into another of its size.
 #[unsafe(no_mangle)]
-pub extern "C" fn l6_store_copy(alloc: Global, store: &mut L6Store, from: u32, to: u32) -> i64
+pub extern "C" fn l6_store_copy(store: &mut L6Store, from: u32, to: u32) -> i64
     ensures outcome { result ≡ answered store.old.handle.held
         (λ old. copy_outcome from (map.get old.blocks from) to (map.get old.blocks to)) }
     ensures refused { IsFault result → store.new.handle.held ≡ store.old.handle.held }
     ensures copied { IfSome store.old.handle.held (λ old. result ≡ pos 0
         → Holds store.new.handle.held (with_block old.store to (block_at old.store.blocks from))) }
 {
-    on_open!(store, alloc, copy(from, to))
+    on_open!(store, copy(from, to))
 }
 
 /// How often the last get halved a piece, or the last free joined two.
 #[unsafe(no_mangle)]
-pub extern "C" fn l6_store_moves(alloc: Global, store: &mut L6Store) -> i64
+pub extern "C" fn l6_store_moves(store: &mut L6Store) -> i64
     ensures moves { result ≡ answered store.old.handle.held (λ old. Ok old.moves) }
     ensures still { store.new.handle.held ≡ store.old.handle.held }
 {
-    on_open!(store, alloc, moves())
+    on_open!(store, moves())
 }
 
 /// Frees all blocks.
 #[unsafe(no_mangle)]
-pub extern "C" fn l6_store_reset(alloc: Global, store: &mut L6Store) -> i64
+pub extern "C" fn l6_store_reset(store: &mut L6Store) -> i64
     ensures done { result ≡ answered store.old.handle.held (λ _. Ok 0) }
     ensures refused { IsFault result → store.new.handle.held ≡ store.old.handle.held }
     ensures after { IfSome store.old.handle.held
         (λ old. Holds store.new.handle.held (fresh buddy_rule old.store.units)) }
 {
-    on_open!(store, alloc, reset())
+    on_open!(store, reset())
 }
 
 /// How many units the store has.
 #[unsafe(no_mangle)]
-pub extern "C" fn l6_store_units(alloc: Global, store: &mut L6Store) -> i64
+pub extern "C" fn l6_store_units(store: &mut L6Store) -> i64
     ensures units { result ≡ answered store.old.handle.held (λ old. Ok old.units) }
     ensures still { store.new.handle.held ≡ store.old.handle.held }
 {
-    on_open!(store, alloc, units())
+    on_open!(store, units())
 }
 
 /// The first free piece in the list of a level, or 0.
 #[unsafe(no_mangle)]
-pub extern "C" fn l6_store_first(alloc: Global, store: &mut L6Store, level: u32) -> i64
+pub extern "C" fn l6_store_first(store: &mut L6Store, level: u32) -> i64
     ensures place { result ≡ answered store.old.handle.held
         (λ old. at_level level (place_or_0 (first_of (listed old.order level)))) }
     ensures still { store.new.handle.held ≡ store.old.handle.held }
 {
-    on_open!(store, alloc, first(level))
+    on_open!(store, first(level))
 }
 
 /// The free piece after one in the list of a level, or 0 where that is the last, or not in the list.
 #[unsafe(no_mangle)]
-pub extern "C" fn l6_store_next(alloc: Global, store: &mut L6Store, level: u32, place: u32) -> i64
+pub extern "C" fn l6_store_next(store: &mut L6Store, level: u32, place: u32) -> i64
     ensures place { result ≡ answered store.old.handle.held
         (λ old. at_level level (place_or_0 (next_in place (listed old.order level)))) }
     ensures still { store.new.handle.held ≡ store.old.handle.held }
 {
-    on_open!(store, alloc, next(level, place))
+    on_open!(store, next(level, place))
 }
 
 /// The largest level with a free piece.
 #[unsafe(no_mangle)]
-pub extern "C" fn l6_store_largest(alloc: Global, store: &mut L6Store) -> i64
+pub extern "C" fn l6_store_largest(store: &mut L6Store) -> i64
     ensures closed { store.old.handle.held ≡ None → result ≡ code_of CallFault.Closed }
     ensures still { store.new.handle.held ≡ store.old.handle.held }
     ensures level { IfSome store.old.handle.held (λ old. (level : ℕ)
@@ -240,26 +229,26 @@ pub extern "C" fn l6_store_largest(alloc: Global, store: &mut L6Store) -> i64
     ensures full { IfSome store.old.handle.held (λ old. IsLargestFree old.store.order None
         → result ≡ code_of CallFault.Full) }
 {
-    on_open!(store, alloc, largest())
+    on_open!(store, largest())
 }
 
 /// How many words are in no block.
 #[unsafe(no_mangle)]
-pub extern "C" fn l6_store_free_words(alloc: Global, store: &mut L6Store) -> i64
+pub extern "C" fn l6_store_free_words(store: &mut L6Store) -> i64
     ensures words { result ≡ answered store.old.handle.held (λ old. Ok (free_words old.order)) }
     ensures still { store.new.handle.held ≡ store.old.handle.held }
 {
-    on_open!(store, alloc, free_words())
+    on_open!(store, free_words())
 }
 
 /// How many free pieces a level has.
 #[unsafe(no_mangle)]
-pub extern "C" fn l6_store_pieces(alloc: Global, store: &mut L6Store, level: u32) -> i64
+pub extern "C" fn l6_store_pieces(store: &mut L6Store, level: u32) -> i64
     ensures count { result ≡ answered store.old.handle.held
         (λ old. at_level level (length (listed old.order level))) }
     ensures still { store.new.handle.held ≡ store.old.handle.held }
 {
-    on_open!(store, alloc, pieces(level))
+    on_open!(store, pieces(level))
 }
 
 /// The version of the calls: 10,000 times the first number, 100 times the second, and the third.

@@ -23,6 +23,9 @@ impl Model for Handle {
 }
 
 impl Handle {
+    ghost use Rattle.std.specs.Borrow.{sem};
+    ghost use Rattle.l6_store_c.specs.Lending.{LendsStore};
+
     /// No store.
     pub(crate) fn none() -> Handle
         ensures { result.held ≡ None }
@@ -38,6 +41,15 @@ impl Handle {
     {
         let Loose { at, alloc: _ } = store;
         Handle { at: at as *mut u8 }
+    }
+
+    /// Its store, lent. The caller owes that there is one.
+    pub(crate) fn lend(&mut self) -> &mut Buddy
+        requires { self.old.held ≢ None }
+        ensures* writes_back { sem 𝓛 (LendsStore self.entry result) }
+        ensures value { self.old.held ≡ Some result.now }
+    {
+        unsafe { &mut *(self.at as *mut Buddy) }
     }
 
     /// Its store. The caller owes that there is one.

@@ -7,41 +7,29 @@ use Rattle.l6_store.proofs.FreeLists.{unlinked_list, without_first}
 use Rattle.l6_store.proofs.Unlinking.{words_unlinked_first, with_head_first}
 use Rattle.l6_store.proofs.link.pop.Goals as goal
 
--- the head, as the code reads it
-head : (c : goal.After-set_before) →
-    get_or c.args.heads.now c.from.result 0 ≡ get_or c.args.heads.now c.args.level 0
-head c = ap (λ (level : ℕ). get_or c.args.heads.now level 0) c.from.ensures
-
-none_before : (c : goal.After-set_before) →
-    before_in (get_or c.args.words.now (get_or c.args.heads.now c.from.result 0) 0) ≡ 0
-none_before c =
-    ap (λ (place : ℕ). before_in (get_or c.args.words.now place 0)) (head c) ∙ c.requires.first
-
 pub returns-clause-words : goal.returns-clause-words
 returns-clause-words c =
     c.set_before.ensures
     ∙ ap (λ (after : ℕ). with_before c.args.words.now after 0) c.neighbors_at-next.ensures.after
-    ∙ words_unlinked_first c.args.words.now (get_or c.args.heads.now c.from.result 0) (none_before c)
+    ∙ words_unlinked_first c.args.words.now (get_or c.args.heads.now c.args.level 0) c.requires.first
 
 pub returns-clause-heads : goal.returns-clause-heads
 returns-clause-heads c =
-    let word : ℕ = get_or c.args.words.now (get_or c.args.heads.now c.from.result 0) 0 in
-    ap (λ (level : ℕ). set c.args.heads.now level c.neighbors_at-next.result.after) c.from-2.ensures
-    ∙ ap (set c.args.heads.now c.args.level) c.neighbors_at-next.ensures.after
-    ∙ with_head_first c.args.heads.now c.args.level (before_in word) (after_in word) (none_before c)
+    let word : ℕ = get_or c.args.words.now (get_or c.args.heads.now c.args.level 0) 0 in
+    ap (set c.args.heads.now c.args.level) c.neighbors_at-next.ensures.after
+    ∙ with_head_first c.args.heads.now c.args.level (before_in word) (after_in word) c.requires.first
 
 pub returns-clause-list : goal.returns-clause-list
 returns-clause-list c first rest are =
-    let place = get_or c.args.heads.now c.from.result 0 in
-    let same : place ≡ first = head c ∙ are.begun in
+    let place = get_or c.args.heads.now c.args.level 0 in
+    let heads : List ℕ = set c.args.heads.now c.args.level c.neighbors_at-next.result.after in
+    let same : place ≡ first = are.begun in
     let there : has place (first ∷ rest) ≡ true
     = subst (λ (p : ℕ). has p (first ∷ rest) ≡ true) (sym same) (has_first first rest) in (
       same,
-      subst (λ (ps : List ℕ). IsFreeList c.set_before.new.words
-          (set c.args.heads.now c.from-2.result c.neighbors_at-next.result.after) c.args.level ps)
+      subst (λ (ps : List ℕ). IsFreeList c.set_before.new.words heads c.args.level ps)
           (ap (λ (p : ℕ). without p (first ∷ rest)) same ∙ without_first first rest)
-          (subst (λ (words : List ℕ). IsFreeList words
-          (set c.args.heads.now c.from-2.result c.neighbors_at-next.result.after) c.args.level
+          (subst (λ (words : List ℕ). IsFreeList words heads c.args.level
           (without place (first ∷ rest))) (sym (returns-clause-words c))
           (subst (λ (heads : List ℕ). IsFreeList (words_unlinked c.args.words.now place) heads
           c.args.level (without place (first ∷ rest))) (sym (returns-clause-heads c))

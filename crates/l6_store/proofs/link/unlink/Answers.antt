@@ -1,9 +1,9 @@
-use Rattle.std.proofs.Common.{◌≡◌, ◌∙◌, length, get_or, ap, sym, subst, arith, List, ℕ}
+use Rattle.std.proofs.Common.{◌≡◌, ◌∙◌, length, get_or, set, ap, sym, subst, arith, List, ℕ}
 use Rattle.l6_store.specs.Buddy.{without}
 use Rattle.l6_store.specs.inner.Chains.{before_in, after_in, with_head, words_unlinked}
 use Rattle.l6_store.specs.inner.FreeLists.{IsFreeList}
 use Rattle.l6_store.proofs.FreeLists.{unlinked_list}
-use Rattle.l6_store.proofs.Unlinking.{words_unlinked_by}
+use Rattle.l6_store.proofs.Unlinking.{with_head_first, words_unlinked_alone, words_unlinked_by}
 use Rattle.l6_store.proofs.Chains.{length_with_after}
 use Rattle.l6_store.proofs.link.unlink.Goals as goal
 
@@ -42,5 +42,29 @@ returns-clause-list c places are is =
     (without c.args.place places)) (sym (returns-clause-words c))
     (subst (λ (heads : List ℕ). IsFreeList (words_unlinked c.args.words.now c.args.place) heads
     c.args.level (without c.args.place places)) (sym (heads_are c))
+    (unlinked_list c.args.words.now c.args.heads.now places c.args.level c.args.place are
+    c.requires.small c.requires.level is))
+
+-- a place that is alone
+alone : (c : goal.After-from) → get_or c.args.words.now c.args.place 0 ≡ 0
+alone c = sym c.read.ensures.value ∙ c.if-read-eq0.true
+
+pub returns-then-read-eq0-clause-words : goal.returns-then-read-eq0-clause-words
+returns-then-read-eq0-clause-words c = words_unlinked_alone c.args.words.now c.args.place (alone c)
+
+pub returns-then-read-eq0-clause-heads : goal.returns-then-read-eq0-clause-heads
+returns-then-read-eq0-clause-heads c =
+    let word : ℕ = get_or c.args.words.now c.args.place 0 in
+    ap (λ (level : ℕ). set c.args.heads.now level 0) c.from.ensures
+    ∙ ap (set c.args.heads.now c.args.level) (sym (ap after_in (alone c)))
+    ∙ with_head_first c.args.heads.now c.args.level (before_in word) (after_in word)
+    (ap before_in (alone c))
+
+pub returns-then-read-eq0-clause-list : goal.returns-then-read-eq0-clause-list
+returns-then-read-eq0-clause-list c places are is =
+    subst (λ (words : List ℕ). IsFreeList words (set c.args.heads.now c.from.result 0) c.args.level
+    (without c.args.place places)) (sym (returns-then-read-eq0-clause-words c))
+    (subst (λ (heads : List ℕ). IsFreeList (words_unlinked c.args.words.now c.args.place) heads
+    c.args.level (without c.args.place places)) (sym (returns-then-read-eq0-clause-heads c))
     (unlinked_list c.args.words.now c.args.heads.now places c.args.level c.args.place are
     c.requires.small c.requires.level is))

@@ -14,33 +14,33 @@ use Rattle.l6_store.specs.inner.Units.{IsKeptArena}
 use Rattle.l6_store.proofs.KeptArenas.{opened_kept, used_before, used_here}
 use Rattle.l6_store.proofs.arena.Arena.open.Goals as goal
 
-cleared : (c : goal.After-open) → c.fill.new.self
+cleared : (c : goal.After-fill) → c.fill.new.self
     ≡ overwritten c.self.inside.words c.args.place (replicate (2 ^ c.args.level) 0)
 cleared c =
     c.fill.ensures
     ∙ ap (λ (size : ℕ). overwritten c.self.inside.words c.args.place (replicate size 0))
     c.size_of.ensures
 
-is_aligned : (c : goal.After-open) → IsAlignedPlace c.self.inside.units c.args.level c.args.place
+is_aligned : (c : goal.After-fill) → IsAlignedPlace c.self.inside.units c.args.level c.args.place
 is_aligned c =
     subst (λ (l : ArenaLayout). IsAlignedPlace l.units c.args.level c.args.place) (sym c.self.view_is)
     c.requires.is_aligned
 
-beside : (c : goal.After-open) → (at : ℕ) → c.args.place ≤ at
+beside : (c : goal.After-fill) → (at : ℕ) → c.args.place ≤ at
     → at < c.args.place + 2 ^ c.args.level
     → LiesIn (blocks_of c.self.inside.place_tags c.self.inside.words) at → ⊥
 beside c at from before lies =
     c.requires.beside at from before
     (subst (λ (l : ArenaLayout). LiesIn l.blocks at) c.self.view_is lies)
 
-unlisted : (c : goal.After-open) → (k at : ℕ) → c.args.place ≤ at
+unlisted : (c : goal.After-fill) → (k at : ℕ) → c.args.place ≤ at
     → at < c.args.place + 2 ^ c.args.level
     → IsListed (order_of c.self.inside.words c.self.inside.heads) k at → ⊥
 unlisted c k at from before is =
     c.requires.unlisted k at from before
     (subst (λ (l : ArenaLayout). IsListed l.order k at) c.self.view_is is)
 
-unit_within : (c : goal.After-open) → c.args.place / 1024 < length c.self.inside.used
+unit_within : (c : goal.After-fill) → c.args.place / 1024 < length c.self.inside.used
 unit_within c =
     omega (
       arith,
@@ -50,7 +50,7 @@ unit_within c =
       pow_pos c.args.level,
     )
 
-laid : (c : goal.After-open) →
+laid : (c : goal.After-fill) →
     IsArena c.self.inside.units c.fill.new.self c.open.new.self c.self.inside.heads
 laid c =
     subst (λ (ms : List PlaceTag). IsArena c.self.inside.units c.fill.new.self ms c.self.inside.heads)

@@ -1,4 +1,4 @@
-use Rattle.std.proofs.Common.{◌≡◌, ℕ, ◌^◌, List, [], ◌∷◌, true, Option, Some, None, refl, sym, ap, ◌∙◌, subst}
+use Rattle.std.proofs.Common.{◌≡◌, ℕ, ◌^◌, List, [], ◌∷◌, true, Option, Some, None, refl, sym, ap, ◌∙◌, subst, arith}
 use Rattle.l6_store.specs.BuddyStore.{BuddyStore}
 use Rattle.l6_store.specs.Open.{IsAnswer}
 use Rattle.l6_store.specs.Buddy.{first_of, first_or, has, level_found, listed}
@@ -74,3 +74,9 @@ returns-clause-fits c =
     subst (λ (o : Option ℕ). IsAnswer c.args.self.now.store.units c.args.self.now.store.blocks
     (2 ^ c.args.level) o) (sym (first_is c))
     (answer_then c (Some c.in_ok-least_level.field-0) c.in_ok-least_level.ensures)
+
+pub overflow_cast-branch : goal.overflow_cast-branch
+overflow_cast-branch c =
+    let facts = found_facts c.self.inside.arena.order c.args.level c.in_ok-least_level.field-0
+    c.in_ok-least_level.ensures in
+    record { fits = omega (arith, facts.1) }

@@ -8,7 +8,7 @@ manual.
 
 Beside the pages are completions, headers of C and the files for editors: what they say of options, limits, columns and
 findings is compared, too (option_lists.py, page_figures.py, editor_files.py), and so are the versions that programs need
-(page_needs.py) and the papers that texts cite (citations.py). All that pages state is entered a second time (stated.py).
+(page_needs.py) and the papers that texts cite (citations.py).
 """
 from __future__ import annotations
 
@@ -38,7 +38,6 @@ from option_lists import option_lists
 from page_figures import figures, in_source
 from page_needs import needs
 from page_tables import TOP, canary, plain, spans_of, table_with, tables_of, text_of
-from stated import statements
 from trials import Trial, report
 
 LANGUAGE, SUMMARY, MANUAL = "docs/language.md", "docs/summary.md", "docs/l6.1"
@@ -494,11 +493,6 @@ def canaries(program: str) -> Iterator[Trial]:
     yield canary("docs/l6db.1", ".It Ev PAGER", ".It Ev MORE", lambda: option_lists(program))
     yield canary("docs/history.md", "Peterson, 1974)", "Peterson, 1975)", citations)
     yield canary("docs/editors.md", "`gr` lists", "`gt` lists", lambda: editor_files(program))
-    yield canary("docs/page.md", "The last ten decks", "The last nine decks", statements)
-    yield canary("docs/measurements.md", "4,581", "4,582", statements)
-    yield canary("docs/l6db.1", ".It Ev PAGER", ".It Ev MORE", statements)
-    yield canary("library/l6_offset.h", "is at most 24", "is at most 25", statements)
-    yield canary("docs/library.md", "that is not null", "that is null", statements)
     yield canary("editors/vscode/package.json", '"editor.rulers": [72]', '"editor.rulers": [73]', lambda: editor_files(program))
 
 
@@ -518,7 +512,6 @@ def trials(program: str) -> Iterator[Trial]:
     yield from needs()
     yield from citations()
     yield from editor_files(program)
-    yield from statements()
 
 
 if __name__ == "__main__":

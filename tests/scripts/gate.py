@@ -67,7 +67,7 @@ PACKAGES = {  # without which tests are left out
     "emacs-nox", "vim-nox",
 }
 # Scripts of tests/ that ./test does not call.
-NOT_A_STEP = {"adapter.py", "compiled_edits.py", "hostile.py", "python_lines.py", "same_answers.py", "stated.py", "wrong_answers.py"}
+NOT_A_STEP = {"adapter.py", "compiled_edits.py", "hostile.py", "python_lines.py", "same_answers.py", "wrong_answers.py"}
 
 STAND_IN = """#!/bin/sh
 # A stand-in for python3 and rt: notes its words, and prints a count, which $HOW makes a bad one in what $FAILS

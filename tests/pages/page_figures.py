@@ -156,6 +156,8 @@ def figures(of_facts: list[tuple[str, str]]) -> Iterator[Trial]:
         pattern = re.escape(sentence).replace(r"\#", f"({DIGITS})")
         found = re.findall(pattern, sentences_of(page), re.IGNORECASE)
         yield f"{page}: {sentence}", [number], [int(it.replace(",", "")) for it in found]
+    header = "library/l6_offset.h"
+    yield f"{header}: L6_OFFSET_MOST_TOP", FACTS["largest_top"], in_source(header, r"L6_OFFSET_MOST_TOP = (\d+)")
     for page in PAGES:
         sentences = [sentence for where, sentence in [*of_facts, *((it[0], it[1]) for it in TIED)] if where == page]
         yield f"{page}: limits that nothing compares", [], untied(page, sentences)

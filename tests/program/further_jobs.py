@@ -222,7 +222,7 @@ def parted_job(chance: random.Random) -> Job:
 
 def worded_job(chance: random.Random) -> Job:
     """A job with words of which most are wrong, or at the end of a range."""
-    verb = chance.choice(["run", "run", "load", "debug", "asm", "list", "renew", "help", "Run", ""])
+    verb = chance.choice(["run", "run", "load", "debug", "asm", "list", "renew", "helps", "Run", ""])
     words = [verb]
     for _ in range(chance.choice([0, 1, 1, 2])):
         option = chance.choice(["--store", "--steps", "--output", "--stor", "--help", "-s", "store", "--STORE"])

@@ -88,6 +88,7 @@ case $how in
     skipped-as-asked) echo "skipped: a tool: as was asked"; echo "99998 passed, 0 failed" ;;
     skipped-and-more) echo "skipped: a tool: it is missing"; echo "100000 passed, 0 failed" ;;
     a-failed-trial) echo "99999 passed, 1 failed" ;;
+    three-failed-trials) echo "99999 passed, 3 failed"; exit 1 ;;
     a-status) echo "99999 passed, 0 failed"; exit 1 ;;
     no-count) echo "99999 passed" ;;
     no-trial) echo "0 passed, 0 failed" ;;
@@ -228,6 +229,8 @@ def words_of_the_command(gate: Gate) -> Iterator[Trial]:
         yield f"--only {names[at]}", ([STEPS[at]], 0), (known_in(STEPS, calls), actual.status)
     actual, _ = gate.test("--only", "install", fails="tests/", how="a-status")
     yield "--only a step that fails", ("99999 passed, 1 failed", 1), last_line(actual)
+    actual, _ = gate.test("--only", "install", fails="tests/", how="three-failed-trials")
+    yield "--only a step of which three trials fail", ("99999 passed, 3 failed", 1), last_line(actual)
     actual, calls = gate.test("--only", "no word")
     yield "--only a trial", ([step for step in STEPS[1:] if step != "web/tests/all.py"], 0), (known_in(STEPS, calls), actual.status)
     yield "--only a trial, what is asked for", True, all(call.endswith(" of no word") for call in calls)

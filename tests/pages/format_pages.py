@@ -232,7 +232,7 @@ OTHERS: dict[str, set[int]] = {
     # megabytes and turns that were measured; places of the session, one in octal; what checkpoints reach
     DEBUGGER: {340, 200_000, 1026, 1028, 2002, 61_440},
     # the year, the places of the table, the largest store, instructions that were measured
-    ALLOCATOR: {1965, *PLACES, 261_120, 98_000, 128, 133, 139, 574, 600},
+    ALLOCATOR: {1965, *PLACES, 261_120, 98_000, 128, 133, 138, 574, 600},
     IMAGE: set(),
     LISTING: {128},  # (a byte without a code)
 }

@@ -139,7 +139,7 @@ def files(bench: Bench) -> Iterator[Trial]:
         yield f"reload keeps {stop.decode()}", True, stop in shown
     yield terminal.has("reload keeps the state", b"stats\r", b"STATE 6 ")
     bench.deck.write_bytes(LIST.replace(b"(L,GT,1)", b"(L,GQ,1)"))
-    shown = terminal.answer(b"reload")
+    shown = terminal.answer(b"RELOAD")  # (words are taken in capitals, too)
     said_of_it = b"The deck has errors; the session is still with the one before.", b"error"
     yield "a deck with errors", [True, True], [it in shown for it in said_of_it]
     yield terminal.has("a deck with errors leaves the session", b"stats\r", b"STATE 6 ")
@@ -291,7 +291,7 @@ def terminals(bench: Bench) -> Iterator[Trial]:
     os.kill(terminal.process, signal.SIGHUP)
     terminal.status()
     terminal = bench.begin()
-    terminal.give(b"view\r")
+    terminal.give(b"View\r")
     yield "cards in view", True, b"\x1b[11;30r" in terminal.until(b"\x1b[11;30r")
     terminal.until(PROMPT)
     terminal.resize(24, 70)

@@ -47,7 +47,7 @@ def idle(tree: ast.Module) -> Iterator[tuple[int, str]]:
             yield node.lineno, "a trial of two constants"
         elif isinstance(node, ast.Yield) and is_made_of_it(node.value):
             yield node.lineno, "an actual value that is made of the expected one"
-        elif isinstance(node, ast.Yield) and has_a_part_twice(node.value):
+        elif isinstance(node, (ast.Yield, ast.Return)) and has_a_part_twice(node.value):
             yield node.lineno, "a part that is compared with itself"
 
 
@@ -150,7 +150,7 @@ def is_made_of_it(value: ast.expr | None) -> bool:
 
 
 def has_a_part_twice(value: ast.expr | None) -> bool:
-    """Whether what is yielded is a trial of two tuples that have the same expression, and no constant, at one place."""
+    """Whether a trial is of two tuples that have the same expression, and no constant, at one place."""
     if not isinstance(value, ast.Tuple) or len(value.elts) != 3:
         return False
     expected, actual = value.elts[1:]
@@ -177,6 +177,7 @@ IDLE = (
     "try:\n    print(1)\nexcept AssertionError:\n    pass\n", "try:\n    print(1)\nexcept:\n    pass\n",
     "def one():\n    yield 'a', True, True\n", "def one(a, b):\n    yield 'a', a, b and a\n", "def one(a, b):\n    yield 'a', a, {**b, **a}\n",
     "def one(a, b):\n    yield 'a', (0, a), (b, a)\n", "for it in range(3, 3):\n    print(it)\n",
+    "def one(a, b):\n    return 'a', (0, a), (b, a)\n",
     "def one(a, b):\n    yield 'a', a, sorted({*b, *a})\n", "def one(a, b):\n    yield 'a', a, a if b else b\n",
 )
 BUSY = (

@@ -215,7 +215,8 @@ def in_python(archive: Path, room: Path) -> Iterator[Trial]:
     actual = run([sys.executable, "-B", "-"], env=known, input=code)
     yield "random calls beside a plain model", (0, expected), (actual[0], actual[1].split())
     wrong = "from l6_offset import Offset, OffsetError\np = Offset(4)\ntry:\n    p.get(1 << 32)\nexcept OverflowError as e:\n    print(e)\n"
-    yield "a number that does not fit", (0, "4294967296 is no number of 32 bits\n"), run(
+    wrong += "print(Offset(4, end=0).free_places())\n"
+    yield "a number that does not fit, and an end at place 0", (0, "4294967296 is no number of 32 bits\n0\n"), run(
         [sys.executable, "-B", "-c", wrong], env=known)
     left = ("from l6_offset import Offset, OffsetError\nwith Offset(4) as p:\n    p.get(0)\ntry:\n    p.get(0)\n"
             "except OffsetError as e:\n    print(int(e.fault))\n")

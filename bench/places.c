@@ -2,11 +2,11 @@
    one with classes of sizes: gets and frees, by time.
 
    places WORK KIND TOP ROUNDS does so many rounds in a memory of 2^TOP places, and prints the nanoseconds of the processor
-   that a call took. WORK is one of
+   that a round took. WORK says what a round is:
 
        none       a block of one place, got and freed, whose buddy is free: nothing is halved or joined
        all        a block of one place, got and freed in an empty memory: all levels are halved, and joined again
-       mix        gets and frees of 1 to 256 places, about half of the memory in blocks
+       mix        a get or a free of 1 to 256 places, about half of the memory in blocks
 
    and KIND is proved, lists, or classes, which is the way of S. Aaltonen's OffsetAllocator, written for this: a class of sizes for
    each float with 3 bits of mantissa, two levels of bits that say which have free pieces, and neighbours that are joined. With
@@ -224,13 +224,12 @@ static const struct kind {
 #endif
 };
 
-static uint64_t one_block(const struct kind *kind, long rounds) {
+static void one_block(const struct kind *kind, long rounds) {
     for (long round = 0; round < rounds; round++)
         kind->free(kind->get(0));
-    return 2 * (uint64_t)rounds;
 }
 
-static uint64_t mixed(const struct kind *kind, int top, long rounds) {
+static void mixed(const struct kind *kind, int top, long rounds) {
     static int64_t held[HELD];
     static int levels[HELD];
     uint32_t number = 12345;
@@ -254,7 +253,6 @@ static uint64_t mixed(const struct kind *kind, int top, long rounds) {
         held[at] = held[--count];
         levels[at] = levels[count];
     }
-    return (uint64_t)rounds;
 }
 
 int main(int count, char **words) {
@@ -272,8 +270,11 @@ int main(int count, char **words) {
         kind->free(place);
     }
     clock_t start = clock();
-    uint64_t calls = strcmp(words[1], "mix") == 0 ? mixed(kind, top, rounds) : one_block(kind, rounds);
+    if (strcmp(words[1], "mix") == 0)
+        mixed(kind, top, rounds);
+    else
+        one_block(kind, rounds);
     double nanoseconds = (double)(clock() - start) * 1e9 / CLOCKS_PER_SEC;
-    printf("%.1f\n", nanoseconds / (double)calls);
+    printf("%.1f\n", nanoseconds / (double)rounds);
     return 0;
 }

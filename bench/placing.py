@@ -16,7 +16,6 @@ WORKS = {
     "mix": "a call of a mix of 1 to 256 places",
 }
 KINDS = {"proved": "the proved places", "lists": "a buddy system with lists", "classes": "classes of sizes"}
-CALLS = {"none": 2, "all": 2, "mix": 1}  # of a round
 ROUNDS, COUNTED = 1_000_000, 10_000
 
 
@@ -32,4 +31,4 @@ def measured(times: int, folder: str) -> Iterator[list[str]]:
             for kind, by in KINDS.items():
                 least = min(float(run_well(command(work, kind, top, ROUNDS)).stdout) for _ in range(times))
                 few, more = (collected(command(work, kind, top, count * COUNTED)) for count in (1, 2))
-                yield [f"2^{top}", what, by, f"{least * CALLS[work]:.0f}", f"{(more - few) / COUNTED:.0f}"]
+                yield [f"2^{top}", what, by, f"{least:.0f}", f"{(more - few) / COUNTED:.0f}"]

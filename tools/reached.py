@@ -79,7 +79,6 @@ class Reach:
 
     def follow(self, crate: str, module: str, name: str) -> None:
         """Adds a definition, and then what it names."""
-        key = (crate, module, name)
         where = self._module(crate, module)
         definition = where.definitions.get(name) or self._of_constructor(where, name)
         if definition is None and name in where.brought:  # by a `pub use`

@@ -18,6 +18,7 @@
     ("^.\\{72\\}\\(.+\\)$" 1 'shadow t)
     ("(\\([^(),]*\\),[ \t]*PH[ \t]*)" 1 font-lock-string-face)
     ("([^(),]*,[ \t]*\\([A-Za-z0-9]\\{1,3\\}\\)[ \t]*[,)]" 1 font-lock-builtin-face)
+    ("([ \t]*\\(PL\\)[ \t]*)" 1 font-lock-builtin-face)
     ("\\_<\\(IF\\|NOT\\|IFALL\\|IFANY\\|IFNONE\\|IFNALL\\|THEN\\|DONE\\|FAIL\\)\\_>" . font-lock-keyword-face))
   "What is shown in which face in a deck.")
 
@@ -54,6 +55,9 @@
 (declare-function dap--cur-active-session-or-die "dap-mode")
 (declare-function dap--make-request "dap-mode")
 (declare-function dap--send-message "dap-mode")
+(declare-function dap--resp-handler "dap-mode")
+(declare-function dap--resume-application "dap-mode")
+(declare-function dap-request "dap-mode")
 
 (defun l6-debug-provider (configuration)
   "Add to CONFIGURATION how the debug adapter is started, and which deck is run."
@@ -80,6 +84,20 @@
                        (funcall shown (gethash "body" answer))
                      (gethash "message" answer))))
    (dap--cur-active-session-or-die)))
+
+(defun l6-step-into ()
+  "Step into one of the calls that are ahead in the statement."
+  (interactive)
+  (let* ((session (dap--cur-active-session-or-die))
+         (ahead (gethash "targets" (dap-request session "stepInTargets" :frameId 0)))
+         (calls (mapcar (lambda (call) (cons (gethash "label" call) (gethash "id" call))) ahead)))
+    (if (null calls)
+        (message "No call is ahead in the statement")
+      (dap--send-message
+       (dap--make-request
+        "stepIn" (list :threadId 1 :targetId (cdr (assoc (completing-read "Step into: " calls nil t) calls))))
+       (dap--resp-handler) session)
+      (dap--resume-application session))))
 
 (defun l6-evaluate (text)
   "Show what TEXT reads as: a chain or a number; or make a move, as :goto 57."

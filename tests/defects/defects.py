@@ -15,9 +15,10 @@ and perhaps more pairs. A step fails by a trial that fails, or by having other t
 trials nothing says how many there are.) Of the page `trial` is one trial in Chromium.
 
 defects.py tries those on which verdicts (beside this script) has no verdict of the files as they are, as many as it has
-time for by the COSTS of their steps, and a twentieth of the others: first those whose files or scripts have changed since the
-commit before, then as the commit chooses. With --all all are tried, with --only WORD those with a word
-in their names. What a step found is written to verdicts. The last line is 'N passed, M failed'.
+time for by the COSTS of their steps, and of the others at most a twentieth: first those whose files or scripts have changed since the
+commit before, then as the commit chooses. With --few, for a gate that is late, it tries a few of the first kind and none of the others.
+With --all all are tried, with --only WORD those with a word in their names. What a step found is written to verdicts. The last line is
+'N passed, M failed'.
 """
 from __future__ import annotations
 
@@ -47,10 +48,15 @@ from trials import ONLY, Trial, report
 VERDICTS = HERE / "verdicts"
 LINE = re.compile(r"(?P<name>[\w/]+) (?P<sum>[0-9a-f]{64})")
 SAMPLE = 20  # of so many defects that were found before one is tried again
-# How many processor seconds a step takes, about; others take OTHERWISE, and a group of trials OF_GROUP. Of those without a verdict so many are tried that
-# they take TIME together, but at least LEAST_TRIED, so that the step takes five minutes.
-COSTS = {"facts": 3, "tables": 2, "formats": 2, "pictures": 2, "pages": 4, "bundle": 2, "reports": 2, "memory-words": 4, "verdicts": 4}
-OTHERWISE, OF_GROUP, TIME, LEAST_TRIED = 15, 6, 360, 12
+# How many processor seconds a step takes, about; others take OTHERWISE, and a group of trials a fifth of it, at least
+# OF_GROUP. Of those without a verdict so many are tried that they take TIME together, but at least LEAST_TRIED, and of the
+# others so many that they take TIME_AGAIN. Each is tried once more without the defect, so on four processors that is two
+# minutes, and five on two that are slow.
+COSTS = {"named": 45, "facts": 10, "sentences": 45, "tables": 2, "formats": 2, "pictures": 2, "pages": 5, "bundle": 4, "reports": 2,
+         "memory-words": 4, "traces": 20, "verdicts": 50, "gate": 75, "scripts-read": 50, "ports": 140, "editors": 30, "terminal": 20,
+         "launcher": 100, "library": 25, "release": 40, "install": 30, "memory": 45, "model": 30}
+OTHERWISE, OF_GROUP, TIME, TIME_AGAIN, LEAST_TRIED = 15, 6, 100, 40, 1
+FEW = 60  # the processor seconds for those without a verdict, where the gate is late
 AT_ONCE = 4
 SECONDS = 900  # for a step
 ESCAPES = {"n": "\n", "t": "\t"}
@@ -98,14 +104,14 @@ class Defect:
     def cost(self) -> int:
         """How many processor seconds it takes, about."""
         of_step = COSTS.get(self.step, OTHERWISE)
-        return min(of_step, OF_GROUP) if self.trial and self.step != PAGE else of_step
+        return min(of_step, max(OF_GROUP, of_step // 5)) if self.trial and self.step != PAGE else of_step
 
     @property
     def key(self) -> str:
         """A sum of all that a verdict on it depends on, and of itself."""
         total = hashlib.sha256(self.path.read_bytes())
         for file in sorted(self.files):
-            total.update(f"{file.relative_to(TOP)} {hashlib.sha256(file.read_bytes()).hexdigest()}\n".encode())
+            total.update(f"{file.relative_to(TOP)} {sum_of(file, file.stat().st_mtime_ns)}\n".encode())
         return total.hexdigest()
 
     def fits(self) -> str:
@@ -128,6 +134,12 @@ class Defect:
             if text.count(old) != 1:
                 raise BadDefect(f"an old text is in {name} {text.count(old)} times")
             file.write_text(text.replace(old, new), "utf-8")
+
+
+@functools.cache
+def sum_of(file: Path, _written: int) -> str:
+    """The sum of what a file holds that was written last at this time: hundreds of defects depend on the same files."""
+    return hashlib.sha256(file.read_bytes()).hexdigest()
 
 
 def read_defect(path: Path) -> Defect:
@@ -273,18 +285,24 @@ def write(verdicts: dict[str, str]) -> None:
     VERDICTS.write_text("".join(f"{name} {key}\n" for name, key in sorted(verdicts.items())), "utf-8")
 
 
-def chosen(defects: list[Defect], is_all: bool, commit: str) -> list[Defect]:
+def chosen(defects: list[Defect], is_all: bool, commit: str, is_few: bool = False) -> list[Defect]:
     """The defects that are tried: of those without a verdict of the files as they are the first ones, those whose files have
-    just changed and then in an order that the commit makes, and some of the others; or all of them."""
+    just changed and then in an order that the commit makes, and some of the others; or all of them; or a few of the first kind."""
     before, changed = known(), just_changed()
     def place_of(name: str) -> int:
         return int(hashlib.sha256(f"{commit} {name}".encode()).hexdigest(), 16)
     unknown = sorted((it for it in defects if before.get(it.name) != it.key),
                      key=lambda it: (changed.isdisjoint(it.files), place_of(it.name)))
-    ends = accumulate(it.cost for it in unknown)
-    first = {it.name for at, (it, end) in enumerate(zip(unknown, ends)) if end <= TIME or at < LEAST_TRIED}
-    sampled = {it.name for it in defects if before.get(it.name) == it.key and place_of(it.name) % SAMPLE == 0}
-    return [it for it in defects if is_all or it.name in first | sampled]
+    others = [it for it in defects if before.get(it.name) == it.key and place_of(it.name) % SAMPLE == 0]
+    sampled = sorted(others, key=lambda it: place_of(it.name))
+    taken = within(unknown, FEW, 1) if is_few else within(unknown, TIME, LEAST_TRIED) | within(sampled, TIME_AGAIN, 1)
+    return [it for it in defects if is_all or it.name in taken]
+
+
+def within(defects: list[Defect], time: int, least: int) -> set[str]:
+    """The names of the first defects, as many as there is time for, but at least so many."""
+    ends = accumulate(it.cost for it in defects)
+    return {it.name for at, (it, end) in enumerate(zip(defects, ends)) if end <= time or at < least}
 
 
 def just_changed() -> set[Path]:
@@ -298,11 +316,11 @@ def read_all(word: str) -> list[Defect]:
     return [it for it in map(read_defect, sorted(HERE.glob("*/*.defect"))) if word in it.name]
 
 
-def trials(word: str, is_all: bool) -> Iterator[Trial]:
+def trials(word: str, is_all: bool, is_few: bool) -> Iterator[Trial]:
     """The trials that each step passes without a defect, and that each defect is found."""
     defects = read_all(word)
     commit = subprocess.run(["git", "rev-parse", "HEAD"], cwd=TOP, capture_output=True, text=True).stdout
-    wanted = chosen(defects, is_all or bool(word), commit)
+    wanted = chosen(defects, is_all or bool(word), commit, is_few)
     verdicts = known() if word else {}
     waiting = [it for it in defects if it not in wanted and known().get(it.name) != it.key]
     verdicts |= {it.name: it.key for it in defects if it not in (*wanted, *waiting)}
@@ -335,9 +353,10 @@ def main() -> int:
     parser = argparse.ArgumentParser(description=__doc__.split("\n", 1)[0])
     parser.add_argument("--only", default="", metavar="WORD", help="only defects with this in their names")
     parser.add_argument("--all", action="store_true", help="try those that were found before, too")
+    parser.add_argument("--few", action="store_true", help="try a few of those without a verdict, and no others")
     options = parser.parse_args()
     own = own_trials.trials() if not options.only else ()
-    return report(chain(own, trials(options.only, options.all)))
+    return report(chain(own, trials(options.only, options.all, options.few)))
 
 
 if __name__ == "__main__":

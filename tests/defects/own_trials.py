@@ -35,6 +35,8 @@ case $2:$is_right in
 esac
 """
 DEFECT = "file: file\nold: right\\n\nnew: wrong\\tly\\n\nstep: {step}\n"
+# The processor seconds that the trials of choosing reckon with, whatever a gate has.
+TIMES = {"COSTS": {}, "OTHERWISE": 15, "OF_GROUP": 6, "TIME": 200, "TIME_AGAIN": 60, "FEW": 60}
 BAD = {
     "no step": "file: file\nold: right\nnew: wrong\n",
     "no new text": "file: file\nold: right\nstep: sees\n",
@@ -105,23 +107,23 @@ def keys(top: Path) -> Iterator[Trial]:
 
 
 def choosing(top: Path) -> Iterator[Trial]:
-    """Of those without a verdict as many are tried as there is time for, and a twentieth of the others; all, if that is asked."""
+    """Of those without a verdict as many are tried as there is time for, and some of the others; all, if that is asked."""
     known = [Defect(top / f"small/{number}.defect", "sees") for number in range(400)]
     subprocess.run(["git", "-c", "user.name=one", "-c", "user.email=one@localhost", "commit", "-q", "--allow-empty", "-m", "one"],
                    cwd=top, check=True)
     yield "what has just changed in a checkout of one commit", set(), defects.just_changed()
-    with mock.patch.object(Defect, "key", "a sum"):
+    with mock.patch.object(Defect, "key", "a sum"), mock.patch.multiple(defects, **TIMES):
         with mock.patch.object(defects, "known", dict):
-            for step, trial, count in (("sees", "", 24), ("sees", "a group:", 60)):
+            for step, trial, count in (("sees", "", 13), ("sees", "a group:", 33)):
                 of_step = [Defect(it.path, step, trial) for it in known]
                 yield f"how many of 400 are tried by {trial or 'a step'}", count, len(defects.chosen(of_step, False, "a commit"))
-            changed = [Defect(it.path, "sees", "", [("other", "", "")] if number % 20 == 0 else []) for number, it in enumerate(known)]
+            changed = [Defect(it.path, "sees", "", [("other", "", "")] if number % 40 == 0 else []) for number, it in enumerate(known)]
             with mock.patch.object(defects, "just_changed", lambda: {top / "other"}):
                 chosen = {it.name for it in defects.chosen(changed, False, "a commit")}
             yield "those whose files have just changed", set(), {it.name for it in changed if it.pairs} - chosen
             with mock.patch.object(defects, "TIME", 0):
-                yield "how many are tried where there is no time", 12, len(defects.chosen(known, False, "a commit"))
-        for sum_of, least, most in (("a sum", 5, 40), ("another sum", 24, 24)):
+                yield "how many are tried where there is no time", 1, len(defects.chosen(known, False, "a commit"))
+        for sum_of, least, most in (("a sum", 1, 4), ("another sum", 13, 13)):
             with mock.patch.object(defects, "known", lambda: {it.name: sum_of for it in known}):
                 count = len(defects.chosen(known, False, "a commit"))
                 yield f"how many of 400 are tried with {sum_of}", True, least <= count <= most
@@ -129,11 +131,13 @@ def choosing(top: Path) -> Iterator[Trial]:
                 yield f"what other commits choose with {sum_of}", False, others == [
                     it.name for it in defects.chosen(known, False, "a commit")]
                 yield f"how many of 400 are tried with {sum_of} if all are asked for", 400, len(defects.chosen(known, True, ""))
+                few = 4 if sum_of == "another sum" else 0
+                yield f"how many of 400 are tried with {sum_of} if the gate is late", few, len(defects.chosen(known, False, "", True))
 
 
 def whole(_top: Path) -> Iterator[Trial]:
     """A defect that is found has a verdict, and another has none."""
-    made = {name: (expected, actual) for name, expected, actual in defects.trials("small/", False)}
+    made = {name: (expected, actual) for name, expected, actual in defects.trials("small/", False, False)}
     seen = {name: expected == actual for name, (expected, actual) in made.items()}
     expected = {"small/blind, by blind": False, "small/names, by names": True, "small/one, by sees": True, "small/sees, by sees": True}
     yield "what is found", expected, seen

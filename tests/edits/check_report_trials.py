@@ -96,6 +96,8 @@ def edits_alone() -> Iterator[Trial]:
         ("a goal of a function with no line", {TAKE}, OTHER_GOAL, Said.REFUSED),
         ("a goal near a trait's function", {GET}, of_get + OTHER_GOAL, Said.REFUSED),
         ("a goal of one of two functions", {GET, TAKE}, BARE + GOAL, Said.REFUSED),
+        ("a goal elsewhere, of a function and a constant", {TAKE, None}, proved + OTHER_GOAL, Said.REFUSED),
+        ("a goal elsewhere, of a function and a trait's", {TAKE, GET}, proved + of_get.replace("not ", "") + OTHER_GOAL, Said.REFUSED),
         ("a goal, of a constant", {None}, BARE + GOAL, Said.REFUSED),
         ("an answer, of a constant", {None}, BARE + ANSWER_ERROR, Said.REFUSED),
         ("a search, of a constant", {None}, f"{OF_TAKE}`search` did not prove it\n", Said.REFUSED),

@@ -33,7 +33,7 @@ from lanes import Lanes, processors
 from prove import prove
 from trials import Trial, report
 
-MOST_LINES = 6_000  # of a crate and those below it that are proved again for a sample
+MOST_LINES = 3_500  # of a crate and those below it that are proved again for a sample
 
 
 def main() -> int:

@@ -8,6 +8,7 @@ checkout with a stand-in for rt, by which a function that answers 2 is not prove
 from __future__ import annotations
 
 import ast
+import os
 import shutil
 import subprocess
 import sys
@@ -18,10 +19,10 @@ from typing import Any
 
 sys.path[:0] = [str(Path(__file__).resolve().parents[1] / it) for it in ("harness", "../tools")]
 from answers import Answer
-from checkout import TOP, Checkout
+from checkout import TOP, WRONG, Checkout, Idle, without_files
 from edit_verdicts import FILE, HARNESS, LINE, SAMPLE, sample
 from promise_trials import CHANGES_BELOW, LOW, promised
-from trials import Trial, report
+from trials import ONLY, Trial, few_pass, first_wrong, groups_asked_for, named, report
 
 RT = f'''#!{sys.executable}
 """A stand-in for rt: proves all functions but those that answer 2."""
@@ -249,32 +250,75 @@ def scripts() -> Iterator[Trial]:
 def known() -> Iterator[Trial]:
     """The lines of this checkout's file: each is whole, stands in order, and names an edit that is there."""
     lines = (TOP / VERDICTS).read_text("utf-8").splitlines()
-    edits = {f"{file.parents[1].name} {file.stem}" for file in TOP.glob("crates/*/edits/*.edit")}
-    named = [" ".join(line.split()[:2]) for line in lines]
+    yield "how many verdicts there are", True, len(lines) > len(edits_known()) // 2
+    yield from lines_known(lines, edits_known())
+
+
+def edits_known() -> set[str]:
+    """The edits of this checkout, as a verdict names them."""
+    return {f"{file.parents[1].name} {file.stem}" for file in TOP.glob("crates/*/edits/*.edit")}
+
+
+def lines_known(lines: list[str], edits: set[str]) -> Iterator[Trial]:
+    """Lines of verdicts on edits."""
+    names = [" ".join(line.split()[:2]) for line in lines]
     yield "verdicts that are no lines", [], [line for line in lines if not LINE.fullmatch(line)]
     yield "the order of the verdicts", sorted(lines), lines
-    yield "edits with two verdicts", [], sorted({it for it in named if named.count(it) > 1})
-    yield "verdicts on edits that are not there", [], sorted(set(named) - edits)
+    yield "edits with two verdicts", [], sorted({it for it in names if names.count(it) > 1})
+    yield "verdicts on edits that are not there", [], sorted(set(names) - edits)
 
 
 def texts() -> Iterator[Trial]:
     """The edits of this checkout can be applied: each old text stands once in the code as it is."""
-    ran = subprocess.run([sys.executable, "-B", TOP / "tests/edits/edits.py", "--texts"], capture_output=True, text=True)
+    whole = {name: value for name, value in os.environ.items() if name != ONLY}  # (it would print what passes)
+    ran = subprocess.run([sys.executable, "-B", TOP / "tests/edits/edits.py", "--texts"], env=whole, capture_output=True, text=True)
     *wrong, count = ran.stdout.splitlines() or [""]
     yield "edits that can't be applied", ([], 0, ""), (wrong, ran.returncode, ran.stderr)
-    yield "how edits that can be applied are counted", True, count.endswith(" passed, 0 failed")
+    yield "how edits that can be applied are counted", f"{len(edits_known())} passed, 0 failed", count
 
 
 def trials() -> Iterator[Trial]:
-    """All trials, each group in a checkout of its own."""
-    yield from scripts()
-    yield from known()
-    yield from texts()
-    yield from promised()
-    for group in (verdicts, samples, changes, copies, crates_below):
-        with tempfile.TemporaryDirectory() as folder:
-            yield from group(Edits(Path(folder)))
+    """All trials, or those of the group that is asked for; each of the last ones in a checkout of its own."""
+    alone, groups = (scripts, known, texts, promised), (verdicts, samples, changes, copies, crates_below)
+    asked = groups_asked_for(group.__name__ for group in (*alone, *groups))
+    for group in alone:
+        if group.__name__ in asked:
+            yield from named(group.__name__, group())
+    for of_edits in groups:
+        if of_edits.__name__ in asked:
+            with tempfile.TemporaryDirectory() as folder:
+                yield from named(of_edits.__name__, of_edits(Edits(Path(folder))))
+
+
+class OtherEdits(Edits):
+    """A checkout whose scripts do nothing, and answer something else."""
+
+    def __init__(self, whole: Edits, folder: Path) -> None:
+        self.checkout = Idle(whole.checkout, folder)
+        self.top, self.verdicts, self.first = self.checkout.top, self.checkout.top / VERDICTS, folder / "first"
+
+    def tried(self, *words: str) -> tuple[Answer[str], bool]:
+        """Another answer."""
+        return Answer(*WRONG), False
+
+
+# How many trials of groups are about texts of their own, or about an edit that is not tried.
+PASSING = {"samples": 5, "crates_below": len(CHANGES_BELOW)}
+
+
+def canaries() -> Iterator[Trial]:
+    """Scripts that try no edit, and lines of verdicts that are wrong."""
+    with tempfile.TemporaryDirectory() as folder:
+        whole = Edits(Path(folder) / "checkout")
+        whole.verdicts.write_text("nothing\n")
+        for group in (verdicts, samples, changes, copies, crates_below):
+            other = OtherEdits(whole, Path(folder) / group.__name__)
+            yield few_pass(f"{group.__name__} where no edit is tried", PASSING.get(group.__name__, 0), without_files(group(other)))
+    line, other_line = (f"a_crate an_edit {digit * 64}" for digit in "12")
+    for what, lines in (("no line", ["nothing"]), ("another order", [other_line, line]), ("two verdicts", [line, other_line]),
+                        ("an edit that is not there", [line.replace("an_edit", "no_edit")])):
+        yield first_wrong(what, lines_known(lines, {"a_crate an_edit"}))
 
 
 if __name__ == "__main__":
-    sys.exit(report(trials()))
+    sys.exit(report(trials(), canaries()))

@@ -277,6 +277,31 @@ class Checkout:
         return answer
 
 
+WRONG = ("wrong\n" * 10, "wrong\n", 77)  # what another script answers
+
+
+class Idle(Checkout):
+    """A copy of a checkout whose scripts do nothing, and answer something else, and whose rt was asked for something else."""
+
+    def __init__(self, whole: Checkout, folder: Path) -> None:
+        shutil.copytree(whole.folder, folder, symlinks=True)
+        self.folder, self.top, self.state = folder, folder / "top", folder / "state"
+
+    def run_words(self, words: list[str], folder: Path, environment: dict[str, str], **options: Any) -> Answer[str]:
+        """Another answer."""
+        return Answer(*WRONG)
+
+    def calls(self) -> list[str]:
+        """Other builds."""
+        return ["nothing"]
+
+
+def without_files(trials: Iterator[Trial]) -> Iterator[Trial]:
+    """Trials up to one that needs a file which should have been made."""
+    with contextlib.suppress(FileNotFoundError):
+        yield from trials
+
+
 Group = Callable[[Checkout], Iterator[Trial]]
 
 

@@ -17,7 +17,7 @@ class Pseudoterminal:
     """A program on a pseudoterminal, with this environment."""
 
     def __init__(self, command: list[str], environment: Mapping[str, str] = os.environ) -> None:
-        self.shown = b""  # and not taken yet
+        self.shown, self.was_found = b"", True  # what is shown and not taken yet; whether what was waited for last has come
         self.process, self.device = pty.fork()
         if self.process == 0:
             for number in UNWANTED:
@@ -41,6 +41,7 @@ class Pseudoterminal:
                     break
                 self.shown += more
         before, found, self.shown = self.shown.partition(text)
+        self.was_found = bool(found)
         return before + found
 
     def status(self) -> int:

@@ -2,8 +2,9 @@
 from __future__ import annotations
 
 import dataclasses
+import multiprocessing
 import os
-from collections.abc import Iterable, Iterator
+from collections.abc import Callable, Iterable, Iterator, Mapping
 
 from answers import Answer, answer, answer_of
 
@@ -17,14 +18,15 @@ def report(trials: Iterable[Trial], canaries: Iterable[Trial] = ()) -> int:
     """Makes the trials, prints their differences and the count, and returns the exit status.
 
     First come canaries, none of which may pass: an answer that is wrong in one part, and those of the script.
-    If one of them passes, the script does not see what it is to look at, and no trial counts.
+    If one of them passes, the script does not see what it is to look at, and no trial counts as passed.
     """
     missed = list(missed_canaries(canaries))
     if missed:
         print(*(f"a canary that must fail, or one that must pass: {name}" for name in missed), sep="\n")
-        print(f"0 passed, {len(missed)} failed")
-        return 1
     passed, failed = tally(filter(is_chosen, trials))
+    if missed:
+        print(f"0 passed, {len(missed) + failed} failed")
+        return 1
     print(f"{passed} passed, {failed} failed")
     return 1 if failed else 0
 
@@ -99,6 +101,34 @@ def groups_asked_for(names: Iterable[str]) -> set[str]:
     groups = set(names)
     group, colon, _ = os.environ.get(ONLY, "").partition(":")
     return {group} if colon and group in groups else groups
+
+
+def named(group: str, trials: Iterable[Trial]) -> Iterator[Trial]:
+    """Trials with the name of their group before their own."""
+    return ((f"{group}: {name}", expected, actual) for name, expected, actual in trials)
+
+
+def side_by_side(groups: Mapping[str, Callable[[], Iterable[Trial]]], processes: int) -> Iterator[Trial]:
+    """The trials of groups, each with its group's name, in the order of the groups.
+
+    A group is made in a process of its own, a few at a time, so that what one changes of its process is no other's.
+    """
+    with multiprocessing.get_context("fork").Pool(processes, _take_over, [groups], maxtasksperchild=1) as pool:
+        for group, trials in zip(groups, pool.imap(_made, groups), strict=True):
+            yield from named(group, trials)
+
+
+_taken: dict[str, Callable[[], Iterable[Trial]]] = {}  # in a process of `side_by_side`: the groups
+
+
+def _take_over(groups: Mapping[str, Callable[[], Iterable[Trial]]]) -> None:
+    """Begins a process, which has the groups from the one that it was parted from."""
+    _taken.update(groups)
+
+
+def _made(group: str) -> list[Trial]:
+    """The trials of a group."""
+    return list(_taken[group]())
 
 
 def differences(expected: object, actual: object) -> Iterator[str]:

@@ -50,7 +50,7 @@ from pathlib import Path
 
 sys.path.insert(0, str(Path(__file__).resolve().parents[1] / "harness"))
 from answers import Answer
-from trials import Trial, report
+from trials import Trial, few_pass, report
 
 TOP = Path(__file__).resolve().parents[2]
 DOCS = TOP / "docs"
@@ -339,7 +339,7 @@ It prints:
 
 `./l6 run --store 0 < examples/first.deck` prints `5`, and its exit status is 0.
 
-`./l6 run < examples/first.deck` prints `6`.
+`./l6 run < examples/first.deck` prints `6`, and its exit status is 3.
 
 ```sh
 ./l6 run my.deck
@@ -386,7 +386,7 @@ show
 
 [A heading](README.md#is-not-there), [a file](is-not-there.md), ![a picture](is-not-there.svg).
 """
-BAD_TRIALS = 13  # of that page
+BAD_TRIALS = 14  # of that page
 
 
 def canaries(program: str) -> Iterator[Trial]:
@@ -400,6 +400,14 @@ def canaries(program: str) -> Iterator[Trial]:
     yield from wrong
     # (a canary must fail)
     yield f"a bad page has {len(wrong)} trials that fail, and must have {BAD_TRIALS}", len(wrong) != BAD_TRIALS, True
+    with tempfile.TemporaryDirectory() as folder:
+        wrong_help = Path(folder, "wrong")
+        wrong_help.write_text("#!/bin/sh\nprintf 'Examples:\\n  exit 3\\n' >&2\n")
+        wrong_help.chmod(0o755)
+        page = Page("a help whose examples fail", str(Path(folder, "page")), str(wrong_help))
+        read_help(page)
+    yield few_pass("a help whose examples fail", 0, page.trials)
+    yield "how many examples of it there are", len(page.trials) != len(VERBS), True
 
 
 def trials(program: str) -> Iterator[Trial]:

@@ -15,8 +15,9 @@ from collections.abc import Iterator
 from pathlib import Path
 
 from answers import answer_of
-from model import cards, groups
-from page_tables import TOP, plain, text_of
+from editor_colours import colours
+from model import cards, groups, programs
+from page_tables import TOP, plain, spans_of, tables_of, text_of
 from trials import Trial
 
 COMMANDS, PAGE = "docs/command-line.md", "docs/editors.md"
@@ -52,27 +53,6 @@ KEYS = {  # what the page says that a key does, and the call of neovim
 # A deck with an error, and a warning; and where each is, by hand.
 DECK = f" (A,ZZ,5)\nLOOP (A,PD){' ' * 72}X\n"
 FOUND = [(1, 5, "error"), (2, 84, "warning")]
-COLOURED = f"""* A (A,E,5)
-LOOP   (A,EO,17)(B,E,17)(HI 5,PH)(PL) IF (A,E,5) THEN DONE{' ' * 14}(A,E,5)
-+      (A,PD) FAIL
-$INPUT
-"""
-COLOURS = {  # what stands on a line in a column, by hand
-    (1, 1): "l6Comment", (1, 8): "l6Comment", (2, 1): "l6Label", (2, 9): "l6Group", (2, 11): "l6Operation", (2, 14): "l6Octal",
-    (2, 22): "l6Number", (2, 26): "l6Text", (2, 29): "l6Text", (2, 31): "l6Operation", (2, 35): "l6Operation", (2, 39): "l6Word",
-    (2, 55): "l6Exit", (2, 73): "l6Ignored", (2, 77): "l6Ignored", (3, 1): "l6Continuation", (3, 15): "l6Exit",
-    (4, 1): "l6Separator",
-}
-COLOURING = r"""
-vim.cmd("set rtp^=%(top)s/editors/vim")
-vim.cmd("filetype plugin on")
-vim.cmd("syntax on")
-vim.cmd("edit %(deck)s")
-for _, at in ipairs({ %(places)s }) do
-  print(vim.fn.synIDattr(vim.fn.synID(at[1], at[2], 1), "name") .. "\n")
-end
-vim.cmd("qall!")
-"""
 QUICKFIX = r"""
 vim.cmd("set rtp^=%(top)s/editors/vim")
 vim.cmd("filetype plugin on")
@@ -94,6 +74,25 @@ for _, key in ipairs({ %(keys)s }) do print(key .. " text " .. tostring(vim.fn.m
 vim.cmd("qall!")
 """
 MAPS = ("gd", "gr", "K", "<F2>", "<F4>")
+# A session of nvim-dap that watches the first of two chains, and not the second.
+WATCHING = r"""
+local asked
+package.loaded.dap = { adapters = {}, configurations = {}, session = function()
+  return { request = function(_, what, given, answer)
+    asked = { what, given.breakpoints[1].dataId, given.breakpoints[2].dataId }
+    answer(nil, { breakpoints = { { verified = true }, { verified = false } } })
+  end }
+end }
+vim.cmd("luafile %(top)s/editors/neovim/l6.lua")
+vim.cmd("L6Watch MV LN")
+print("\n" .. table.concat(asked, " ") .. "\n")
+vim.cmd("qall!")
+"""
+# Where each file lists the words that are no groups: conditions, THEN, and the exits that are no labels.
+WORDS = {
+    "editors/kate/l6.xml": r"<item>(\w+)</item>", "editors/vim/syntax/l6.vim": r"^syntax keyword l6(?:Word|Exit) (.*)$",
+    "editors/emacs/l6-mode.el": r"\((IF\b.*\bFAIL)\b", "editors/vscode/syntaxes/l6.tmLanguage.json": r"\((IF\b.*\bFAIL)\b",
+}
 
 
 def numbers() -> Iterator[Trial]:
@@ -139,19 +138,26 @@ def findings(program: str) -> Iterator[Trial]:
             yield f"findings by {where}, in neovim", expected, quickfix(deck, f"cgetfile {listed}", further)
 
 
-def colours() -> Iterator[Trial]:
-    """What neovim takes the columns of a deck for, with the file for its colours."""
+def words_of_cards() -> Iterator[Trial]:
+    """The words that each editor colours are all that there are."""
+    words = {*(it.name for it in programs.Condition), "THEN", *(it.name for it in programs.Exit)} - {"NONE", "LABEL"}
+    for file, pattern in WORDS.items():
+        listed = " ".join(re.findall(pattern, text_of(file), re.MULTILINE))
+        yield f"the words in {file}", sorted(words), sorted(re.findall(r"[A-Z]+", listed))
+
+
+def watched_in_neovim() -> Iterator[Trial]:
+    """`:L6Watch` asks that chains are watched, and names those that are not."""
     if not shutil.which("nvim"):
-        print("skipped: colours in neovim: it is missing")
+        print("skipped: chains that are watched in neovim: it is missing")
         return
     with tempfile.TemporaryDirectory() as folder:
-        deck, script = Path(folder, "a.deck"), Path(folder, "script.lua")
-        deck.write_text(COLOURED, "ascii")
-        places = ", ".join(f"{{{line}, {column}}}" for line, column in COLOURS)
-        script.write_text(COLOURING % {"top": TOP, "deck": deck, "places": places}, "utf-8")
+        script = Path(folder, "script.lua")
+        script.write_text(WATCHING % {"top": TOP}, "utf-8")
         words = ["nvim", "--headless", "-u", "NONE", "-i", "NONE", "-n", "-c", f"luafile {script}"]
         ran = subprocess.run(words, capture_output=True, text=True, timeout=120, env={**os.environ, "HOME": folder})
-        yield "colours in neovim", list(COLOURS.values()), (ran.stdout + ran.stderr).split()
+        said = [line.strip() for line in (ran.stdout + ran.stderr).splitlines() if line.strip()]
+        yield "chains that are watched in neovim", ["not watched: LN", "setDataBreakpoints MV LN"], said
 
 
 def quickfix(deck: Path, command: str, further: str = "") -> list[str]:
@@ -211,6 +217,15 @@ def launched_in_emacs() -> Iterator[Trial]:
     yield "the decks that are launched in Emacs", ["other.deck", "own.deck"], said
 
 
+def commands_of_emacs() -> Iterator[Trial]:
+    """The commands in the page's table are those of the file for Emacs, and each does something of its own."""
+    text = text_of("editors/emacs/l6-mode.el")
+    known = set(re.findall(r"^\(defun (l6-[\w-]+) \([^()]*\)\n +\"[^\"]*\"\n +\(interactive", text, re.MULTILINE))
+    rows = (row for table in tables_of(text_of(PAGE)) for row in table.rows)
+    told = {name for row in rows for name in spans_of(row[0]) if re.fullmatch(r"l6-[a-z-]+", name)}
+    yield "the commands of Emacs", known - {"l6-indent-line"}, told
+
+
 def vscode() -> Iterator[Trial]:
     """In VS Code decks have what each kind of contribution needs: breakpoints, a debugger, colours and settings."""
     package = json.loads(text_of("editors/vscode/package.json"))
@@ -219,6 +234,45 @@ def vscode() -> Iterator[Trial]:
     yield "languages with breakpoints in VS Code", languages, [it["language"] for it in its.get("breakpoints", [])]
     yield "languages with a debugger in VS Code", [languages], [it.get("languages") for it in its.get("debuggers", [])]
     yield "languages with colours in VS Code", languages, [it["language"] for it in its.get("grammars", [])]
+    beside = TOP / "editors/vscode"
+    named = [it["configuration"] for it in its["languages"]] + [it["path"] for it in its["grammars"]] + [it["program"] for it in its["debuggers"]]
+    yield "files that VS Code does not find", [], [it for it in named if not (beside / it).is_file()]
+    grammar = json.loads(text_of("editors/vscode/syntaxes/l6.tmLanguage.json"))
+    yield "the grammar in VS Code", [grammar["scopeName"]], [it["scopeName"] for it in its["grammars"]]
+    yield "what decks are in VS Code", [[".deck"]], [it["extensions"] for it in its["languages"]]
+    settings = its["configurationDefaults"][f"[{languages[0]}]"]
+    yield "blanks in VS Code", (True, False), (settings["editor.insertSpaces"], settings["editor.detectIndentation"])
+    debugger = its["debuggers"][0]
+    launch = debugger["configurationAttributes"]["launch"]
+    yield "how a run begins in VS Code", [(debugger["type"], "launch", "${file}", True)], [
+        (it["type"], it["request"], it["program"], it["stopOnEntry"]) for it in debugger["initialConfigurations"]]
+    yield "the deck that is run from VS Code if none is named", "${file}", launch["properties"]["program"].get("default")
+    row = next(row for table in tables_of(text_of(PAGE)) for row in table.rows if row[0] == "launches a deck")
+    options = {it for it in spans_of(row[1]) if it.isalpha()} - {"noDebug"}
+    yield "what a run is given in VS Code", (["program"], options), (launch["required"], {*launch["properties"]})
+
+
+def words_and_task_of_vscode(program: str) -> Iterator[Trial]:
+    """What is a word for VS Code, the task that checks a deck, and the script that runs the adapter."""
+    language = json.loads(text_of("editors/vscode/language-configuration.json"))
+    found = re.findall(language["wordPattern"], "NEXT   (A,EO,17)(XN2,P,B) DONE")
+    yield "words in VS Code", ["NEXT", "A", "EO", "17", "XN2", "P", "B", "DONE"], found
+    yield "brackets in VS Code", [[["(", ")"]]] * 3, [language[it] for it in ("brackets", "autoClosingPairs", "surroundingPairs")]
+    task = json.loads(text_of("editors/vscode/tasks.json"))["tasks"][0]
+    matchers = json.loads(text_of("editors/vscode/package.json"))["contributes"]["problemMatchers"]
+    yield "the task in VS Code", (["$" + it["name"] for it in matchers], {"kind": "build", "isDefault": True}, True), (
+        [task["problemMatcher"]], task["group"], f"the task *{task['label']}*" in plain(text_of(PAGE)))
+    with tempfile.TemporaryDirectory(prefix="l6-vscode-") as folder:
+        deck = Path(folder, "a deck.deck")
+        deck.write_text(" (A,E,5\n", "ascii")
+        for name, text in (("l6", f'#!/bin/sh\nexec "{program}" "$@"\n'), ("l6ed", '#!/bin/sh\necho l6ed "$@"\n')):
+            Path(folder, name).write_text(text, "ascii")
+            Path(folder, name).chmod(0o755)
+        path = {**os.environ, "PATH": f"{folder}:{os.environ['PATH']}"}
+        told = [subprocess.run(words, env=path, capture_output=True, text=True).stdout for words in (
+            ["sh", "-c", task["command"].replace("${file}", str(deck))], ["sh", str(TOP / "editors/vscode/dap.sh")])]
+    yield "what the task in VS Code says", f"{deck}:1:", told[0][:len(f"{deck}:1:")]
+    yield "what dap.sh of VS Code runs", "l6ed dap\n", told[1]
 
 
 def manual_page() -> Iterator[Trial]:
@@ -240,7 +294,11 @@ def editor_files(program: str) -> Iterator[Trial]:
     yield from keys()
     yield from keys_of_decks_alone()
     yield from launched_in_emacs()
+    yield from commands_of_emacs()
     yield from vscode()
+    yield from words_and_task_of_vscode(program)
     yield from made_by_an_editor(program)
     yield from colours()
+    yield from words_of_cards()
+    yield from watched_in_neovim()
     yield from findings(program)

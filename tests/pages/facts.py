@@ -6,9 +6,10 @@ codes, operations, commands, faults and statuses stand in docs/language.md, on t
 the manual page docs/l6.1 and in the program's help. The model has each of them once, written by hand from the
 manual.
 
-Beside the pages are completions, headers of C and the files for editors: what they say of options, limits, columns and
+Each number of a sentence has a source (page_numbers.py). Beside the pages are completions, headers of C and the files for editors: what they say of options, limits, columns and
 findings is compared, too (option_lists.py, page_figures.py, editor_files.py), and so are the versions that programs need
-(page_needs.py) and the papers that texts cite (citations.py).
+(page_needs.py) and the papers that texts cite (citations.py). What some sentences tell of is made to happen (run_sentences.py;
+sentences.py has more of them).
 """
 from __future__ import annotations
 
@@ -37,8 +38,10 @@ from editor_files import editor_files
 from option_lists import option_lists
 from page_figures import figures, in_source
 from page_needs import needs
-from page_tables import TOP, canary, plain, spans_of, table_with, tables_of, text_of
-from trials import Trial, report
+from page_numbers import numbers, sections
+from page_tables import canary, plain, report_of, spans_of, table_with, tables_of, text_of
+from run_sentences import run_sentences
+from trials import Trial
 
 LANGUAGE, SUMMARY, MANUAL = "docs/language.md", "docs/summary.md", "docs/l6.1"
 OF_TRAPS = "crates/l6_steps/specs/Trap.antt"  # their definition
@@ -242,6 +245,7 @@ def statuses() -> Iterator[Trial]:
 
 # Numbers that pages write as words.
 WORDS = ("no", "one", "two", "three", "four", "five", "six", "seven", "eight", "nine", "ten", "eleven", "twelve")
+PARTS = {10: "tenth", 20: "twentieth", 40: "fortieth"}  # one of so many
 
 
 def in_words(program: str) -> Iterator[Trial]:
@@ -255,6 +259,17 @@ def in_words(program: str) -> Iterator[Trial]:
     errors = len(re.findall(r"^\d+:\d+: error: ", told, re.MULTILINE))
     yield "the errors of a statement by docs/command-line.md", [WORDS[errors]], re.findall(
         r"up to (\w+) errors of a statement", plain(text_of("docs/command-line.md")))
+
+
+def samples() -> Iterator[Trial]:
+    """Which part of the edits and defects that were refused before the gate tries again, and when it no longer does."""
+    parts = [in_source(f"tests/{name}.py", r"^SAMPLE = (\d+) ") for name in ("edits/edit_verdicts", "defects/defects")]
+    for page, times in (("README.md", 1), ("docs/DECISIONS.md", 2), ("docs/architecture.md", 1), ("docs/measurements.md", 1)):
+        told = re.findall(r"(?:tries|and) a (\w+)(?=: all| again,| of the others)", plain(text_of(page)))
+        yield f"what is tried again by {page}", [PARTS[it] for it in sorted({*parts})] * times, told
+    late = in_source("test", r"^late=\$\(\(\$\{L6_LATE-(\d+)\}")
+    yield "when the gate is late by docs/DECISIONS.md", [str(late)], re.findall(
+        r"Where the gate has taken (\d+) minutes", plain(text_of("docs/DECISIONS.md")))
 
 
 def pools(program: str) -> Iterator[Trial]:
@@ -271,7 +286,7 @@ def jobs_of_the_model() -> Iterator[Trial]:
     """How many random jobs are made if no number is given, and how many calls of a trace are measured."""
     calls = in_source("bench/run", r"^TRACE_CALLS = ([\d_]+)$")
     yield "the calls that bench/README.md tells of", (1_000_000, True), (calls, "a million calls" in plain(text_of("bench/README.md")))
-    text = (TOP / "tests/program/model_jobs.py").read_text("utf-8")
+    text = text_of("tests/program/model_jobs.py")
     yield "the random jobs of tests/program/model_jobs.py", [f"{RANDOM_JOBS:_}"], re.findall(
         r'"--jobs", type=int, default=(\w+)', text
     )
@@ -471,8 +486,11 @@ def canaries(program: str) -> Iterator[Trial]:
     yield canary("docs/trace.md", "The first 100 are", "The first 101 are", lambda: figures(KNOWN))
     yield canary("docs/places.md", "A get gives", "It has at most 77 legs. A get gives", lambda: figures(KNOWN))
     yield canary("README.md", "up to 10 GB", "up to 11 GB", lambda: figures(KNOWN))
+    for page, old, new in (("docs/allocator.md", "8 bytes a word", "9 bytes a word"), ("docs/editors.md", "The server", "Its 5 parts")):
+        yield canary(page, old, new, lambda page=page: numbers(KNOWN, [page]))  # type: ignore[misc]
     yield canary(LANGUAGE, "| names of a chain | 6 |", "| names of a chain | 7 |", limits)
     yield canary(SUMMARY, "up to 15 cards", "up to 16 cards", limits)
+    yield canary("README.md", "twentieth of the others", "tenth of the others", samples)
     yield canary(MANUAL, "an\nimage up to 8,388,608", "an\nimage up to 8,388,609", limits)
     yield canary(ROBUSTNESS, "a deck longer than 1,048,576", "a deck longer than 1,048,567", limits)
     yield canary(LANGUAGE, "| 1 to 255 | 8 |", "| 1 to 256 | 8 |", lambda: options(program))
@@ -487,11 +505,16 @@ def canaries(program: str) -> Iterator[Trial]:
     yield canary(LANGUAGE, "| c + cd |", "| c - cd |", arithmetic_and_tests)
     yield canary(SUMMARY, "| c < cd |", "| c > cd |", arithmetic_and_tests)
     yield canary("library/l6_store.h", "has 1 to 255 units", "has 1 to 256 units", lambda: figures(KNOWN))
+    yield canary("docs/tutorial.md", "the tree of section 10", "the tree of section 22", sections)
+    yield canary("tests/program/model_jobs.py", "default=1_000", "default=1_001", jobs_of_the_model)
+    yield canary("docs/page.md", "last ten decks", "last nine decks", lambda: in_words(program))
+    yield canary("docs/l6db.1", ".It 5\nMemory ran out", ".It 6\nMemory ran out", statuses)
     yield canary("docs/trace.md", "begin at 1792", "begin at 1793", lambda: pools(program))
     yield canary("CHANGELOG.md", "version 2.34 of the GNU", "version 2.35 of the GNU", needs)
     yield canary("completions/_l6db", "units, 1 to 255 [8]", "units, 1 to 255 [9]", lambda: option_lists(program))
     yield canary("docs/l6db.1", ".It Ev PAGER", ".It Ev MORE", lambda: option_lists(program))
     yield canary("docs/history.md", "Peterson, 1974)", "Peterson, 1975)", citations)
+    yield canary(LANGUAGE, "If fewer are left none is", "If fewer are left one is", lambda: run_sentences(program))
     yield canary("docs/editors.md", "`gr` lists", "`gt` lists", lambda: editor_files(program))
     yield canary("editors/vscode/package.json", '"editor.rulers": [72]', '"editor.rulers": [73]', lambda: editor_files(program))
 
@@ -500,8 +523,11 @@ def trials(program: str) -> Iterator[Trial]:
     """All trials."""
     yield from limits()
     yield from figures(KNOWN)
+    yield from numbers(KNOWN)
+    yield from sections()
     yield from jobs_of_the_model()
     yield from in_words(program)
+    yield from samples()
     yield from pools(program)
     yield from statuses()
     yield from options(program)
@@ -512,10 +538,8 @@ def trials(program: str) -> Iterator[Trial]:
     yield from needs()
     yield from citations()
     yield from editor_files(program)
+    yield from run_sentences(program)
 
 
 if __name__ == "__main__":
-    if len(sys.argv) != 2:
-        sys.exit(__doc__)
-    named = str(Path(sys.argv[1]).resolve())
-    sys.exit(report(trials(named), canaries(named)))
+    sys.exit(report_of(__doc__, trials, canaries))

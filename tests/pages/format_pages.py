@@ -8,6 +8,7 @@ from __future__ import annotations
 
 import re
 import sys
+import tempfile
 from collections.abc import Callable, Iterator
 from itertools import product
 from pathlib import Path
@@ -19,8 +20,8 @@ from model import images
 from model.cards import CONDITION_WORDS
 from model.machine import DECIDED
 from model.programs import OPERATIONS, TESTS, Chain, Condition, Exit, Number, Text
-from page_tables import canary, plain, spans_of, table_with, tables_of, text_of
-from trials import Trial, report
+from page_tables import canary, other_status, plain, report_of, spans_of, table_with, tables_of, text_of, wrong_lines
+from trials import Trial, few_pass
 
 IMAGE, LISTING, PAGE = "docs/image.md", "docs/listing.md", "docs/page.md"
 
@@ -110,9 +111,7 @@ def image_format() -> Iterator[Trial]:
                 named[2],
             )
     marks = re.findall(r"`(\d{12})`(?:[^`]*?)says `(L6IMG\d)`", plain_spans(text))
-    yield "the magic words", [f"{images.MARKS[2]:012o}", f"{images.MARKS[1]:012o}"], [
-        word for word, _ in marks
-    ]
+    yield "the magic words", [(f"{images.MARKS[2]:012o}", "L6IMG2"), (f"{images.MARKS[1]:012o}", "L6IMG1")], marks
 
 
 # An image of version 1, of a program that goes back to its own statement for ever: its third line is the header.
@@ -268,6 +267,11 @@ def canaries(program: str) -> Iterator[Trial]:
     yield canary(ROBUSTNESS, "`l6: deck too long` | 4 |", "`l6: deck too long` | 5 |", statuses)
     yield canary(PAGE, "Next break four times", "Next break five times", lambda: lessons(program))
     yield canary(LANGUAGE, "1,048,576 bytes |", "1,048,567 bytes |", large_numbers)
+    with tempfile.TemporaryDirectory() as folder:
+        wrong = wrong_lines(folder)
+        for most, group in ((1, old_images), (1, listing_format), (0, debugger_answers), (0, lessons)):  # (one is of the page alone)
+            yield few_pass(f"{group.__name__} on a wrong program", most, group(wrong))
+        yield few_pass("old_images on a program with another status", 1, old_images(other_status(folder, program)))
 
 
 def trials(program: str) -> Iterator[Trial]:
@@ -283,7 +287,4 @@ def trials(program: str) -> Iterator[Trial]:
 
 
 if __name__ == "__main__":
-    if len(sys.argv) != 2:
-        sys.exit(__doc__)
-    named = str(Path(sys.argv[1]).resolve())
-    sys.exit(report(trials(named), canaries(named)))
+    sys.exit(report_of(__doc__, trials, canaries))

@@ -20,11 +20,12 @@ from answers import answer_of
 from cases import read_cases
 from documents import headings_of
 from model.programs import OPERATIONS
-from page_tables import TOP, Table, canary, plain, spans_of, tables_of, text_of
-from trials import Trial, report
+from page_tables import TOP, Table, canary, plain, report_of, spans_of, tables_of, text_of
+from trials import Trial
 
 import tables
 import whole_lists
+from span_words import span_words
 
 MEASUREMENTS = "docs/measurements.md"
 NAMED_DEFECTS = 32  # in docs/contracts.md
@@ -279,10 +280,8 @@ def generated() -> Iterator[Trial]:
 def numbers_of_operations() -> Iterator[Trial]:
     """How many operations and traps the pages say there are."""
     for page in PAGES:
-        for number in re.findall(
-            r"\b(\d+) operations of the language|\ball (\d+) operations", plain(text_of(page))
-        ):
-            yield f"{page}: the number of operations", str(len(OPERATIONS)), next(filter(None, number))
+        for number in re.findall(r"\b(?:the|all) (\d+) operations", plain(text_of(page))):
+            yield f"{page}: the number of operations", str(len(OPERATIONS)), number
 
 
 def lessons(program: str) -> Iterator[Trial]:
@@ -338,14 +337,19 @@ def canaries(program: str) -> Iterator[Trial]:
     yield canary(MEASUREMENTS, "| `l6_word` | ", "| `l6_word` | 1", generated)
     yield canary(SUMMARY, "| 13 | BAD COUNT", "| 12 | BAD COUNT", generated)
     yield canary(MANUAL, "7 STORE FULL,", "8 STORE FULL,", generated)
+    yield canary(DEFINITIONS, "of the 28 operations", "of the 27 operations", numbers_of_operations)
+    yield canary("docs/gallery.md", "[A tree](#a-tree)", "[A tree](#a-queue)", contents)
+    yield canary("docs/l6db.md", "`L6DB_PLAIN`", "`L6DB_PLANE`", variables)
     yield canary(DEFINITIONS, "in 102 files", "in 101 files", counting_commands)
+    yield canary("docs/proof.md", "`perform`", "`perforn`", lambda: words_of_spans(program))
+    yield canary("docs/l6.1", "Fl -levels", "Fl -layers", lambda: words_of_spans(program))
     yield canary(PAGE, "click the 8 beside", "click the 7 beside", lambda: lessons(program))
     yield canary(PAGE, "step to state 13", "step to state 12", lambda: lessons(program))
 
 
 def variables() -> Iterator[Trial]:
     """The variables and macros of ours that pages name are in the code."""
-    code = "\n".join(text for file, text in files().items() if file.suffix != ".md")
+    code = "\n".join(text for file, text in files().items() if file.suffix != ".md" and file != Path(__file__))
     others = [*(TOP / "library").glob("*.h"), *(TOP / name for name in ("install", "l6", "l6db", "l6ed", "test"))]
     code += "\n".join(file.read_text("utf-8") for file in others)
     known = set(VARIABLE.findall(code))
@@ -353,8 +357,18 @@ def variables() -> Iterator[Trial]:
         yield f"variables that {page} names, and that are nowhere", [], sorted(set(VARIABLE.findall(text_of(page))) - known)
 
 
+def words_of_spans(program: str) -> Iterator[Trial]:
+    """Each word in a span of a page is there, and each option, of which the help of the programs has most."""
+    verbs = ("asm", "list", "check", "run", "load", "renew", "debug", "trace")
+    helps = [[program, "--help"], *([program, verb, "--help"] for verb in verbs), *([str(TOP / "dist" / it), "--help"] for it in ("l6db", "l6ed"))]
+    said = [answer_of(words, input=b"") for words in helps]
+    pages = [*PAGES, "CONTRIBUTING.md", "CHANGELOG.md", "ports/README.md", "docs/l6.1", "docs/l6db.1", "docs/l6ed.1"]
+    yield from span_words(pages, words(), "\n".join((it.stdout + it.stderr).decode() for it in said))
+
+
 def trials(program: str) -> Iterator[Trial]:
     """All trials."""
+    yield from words_of_spans(program)
     yield from trial_names()
     yield from identifiers()
     yield from calls_of_types()
@@ -373,7 +387,4 @@ def trials(program: str) -> Iterator[Trial]:
 
 
 if __name__ == "__main__":
-    if len(sys.argv) != 2:
-        sys.exit(__doc__)
-    named = str(Path(sys.argv[1]).resolve())
-    sys.exit(report(trials(named), canaries(named)))
+    sys.exit(report_of(__doc__, trials, canaries))

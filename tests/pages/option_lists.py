@@ -75,6 +75,25 @@ def in_completions(known: dict[str, Range], usual: dict[str, str], program: str)
     yield f"the ranges that fish shows for {program}", {it: known.get(it) for it in shown}, shown
 
 
+def stems(text: str) -> set[str]:
+    """The beginnings of the words of a text, and its numbers."""
+    return {it if it.isdigit() else it[:3] for it in re.findall(r"[a-z]{3,}|\d+", text.lower())}
+
+
+def described(program: str, path: str) -> Iterator[Trial]:
+    """What completions say of a verb or an option is in the words of its help."""
+    verbs = re.findall(r"^  (\w+) ", said_by(path, "--help").partition("Commands:\n")[2].partition("\n\n")[0], re.MULTILINE)
+    helps = {verb: said_by(path, *words_of(verb), "--help") for verb in ("", *verbs) if verb != "help"}
+    zsh = text_of(f"completions/_{program}")
+    fish = text_of(f"completions/{program}.fish").replace("\\\n", "").replace("\\'", "\0")
+    said = [*re.findall(r"^ +['\"](\w+):(.*)['\"]$", zsh, re.MULTILINE), *re.findall(r"['\"](-[\w-]+)[=+]?\[([^\]]*)\]", zsh)]
+    said += re.findall(r"-a (\w+) -d ['\"](.*)['\"]$", fish, re.MULTILINE)
+    said += [(f"{'--' if dash == 'l' else '-'}{name}", what) for dash, name, what in re.findall(r"-(l|s) ([\w-]+)(?: -\w)* +-d '(.*)'$", fish, re.MULTILINE)]
+    for name, what in said:
+        texts = [helps[name]] if name in helps else [it for it in helps.values() if re.search(rf"{name}\b", it)]
+        yield f"what completions of {program} say of {name}: {what}", set(), stems(what) - stems("\n".join(texts))
+
+
 def in_texts(known: dict[str, Range], usual: dict[str, str]) -> Iterator[Trial]:
     """What the manual page and the table of traces say of a range, and of what counts without a number."""
     items = re.findall(r"^\.It Fl -([\w-]+) Ar \w+\n((?:(?!\.It|\.El|\.Sh).*\n)+)", text_of(MANUAL), re.MULTILINE)
@@ -109,6 +128,9 @@ def verbs(program: str) -> Iterator[Trial]:
     }
     for where, found in lists.items():
         yield f"the verbs of {where}", known, set(found) - {"help"}
+    numbered = {f"--{option}" for options in verbs_of(program).values() for option in options}
+    told = re.findall(r"^ *(--.*)\) return ;; # a number$", bash, re.MULTILINE)
+    yield "the options with a number in completions/l6.bash", [numbered], [set(it.split(" | ")) for it in told]
     count = re.findall(r"The program has (\w+) verbs", text_of(LANGUAGE))
     yield f"how many verbs {LANGUAGE} says", [COUNTS[len(known)]], count
 
@@ -144,6 +166,8 @@ def option_lists(program: str) -> Iterator[Trial]:
     yield from in_texts(known, usual)
     debugger = debugger_beside(program)
     yield from in_completions(ranges(debugger), defaults(debugger), "l6db")
+    yield from described("l6", program)
+    yield from described("l6db", debugger)
     yield from verbs(program)
     yield from other_pages()
     yield from variables()

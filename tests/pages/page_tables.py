@@ -2,11 +2,13 @@
 from __future__ import annotations
 
 import re
+import shlex
+import sys
 from collections.abc import Callable, Iterator
 from dataclasses import dataclass
 from pathlib import Path
 
-from trials import Trial
+from trials import Trial, report
 
 TOP = Path(__file__).resolve().parents[2]
 SPAN = re.compile(r"`([^`]*)`")
@@ -46,6 +48,30 @@ def canary(page: str, old: str, new: str, group: Callable[[], Iterator[Trial]]) 
         if wrong:
             return wrong
     return f"{page} with {new!r} in the place of {old!r}", True, True
+
+
+def wrong_lines(folder: str) -> str:
+    """A program that writes many lines, none of which is right."""
+    program = Path(folder, "wrong")
+    program.write_text("#!/bin/sh\nyes wrong | head -n 40\n")
+    program.chmod(0o755)
+    return str(program)
+
+
+def other_status(folder: str, program: str) -> str:
+    """A program that writes what another one does, and ends with a status that none has."""
+    wrapper = Path(folder, "other status")
+    wrapper.write_text(f"#!/bin/sh\n{shlex.quote(program)} \"$@\"\nexit 77\n")
+    wrapper.chmod(0o755)
+    return str(wrapper)
+
+
+def report_of(usage: str | None, trials: Callable[[str], Iterator[Trial]], canaries: Callable[[str], Iterator[Trial]]) -> int:
+    """Makes the trials of a script on pages, on the program that its command line names; returns the exit status."""
+    if len(sys.argv) != 2:
+        sys.exit(usage)
+    program = str(Path(sys.argv[1]).resolve())
+    return report(trials(program), canaries(program))
 
 
 def tables_of(text: str) -> list[Table]:

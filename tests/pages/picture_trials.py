@@ -22,6 +22,7 @@ from unittest import mock
 
 TOP = Path(__file__).resolve().parents[2]
 sys.path[:0] = [str(Path(__file__).resolve().parents[1] / it) for it in ("harness", "../tools", "../tools/drawing")]
+from layouts import SIDE, ranks
 from pictures import EXAMPLES, PICTURES, texts_of, texts_of_trace
 from transcripts import drawings_and_maps
 from trials import Trial, report
@@ -112,6 +113,10 @@ def handmade() -> Iterator[Trial]:
         yield f"the node {node}", 1, len(found)
     yield "the arrows", EDGES, [line for line in lines if "->" in line]
     yield "the strip", STRETCHES, shown_stretches(texts["hand-store-1.svg"])
+    # (the lost block alone needs a second part of the store)
+    behind = TRANSCRIPT.replace("1028 BLOCK 4 LOST\n1032 FREE 1016", "1028 FREE 16\n1044 BLOCK 4 LOST\n1048 FREE 1000")
+    expected = [("block", 2), ("block", 2), ("free", 16), ("lost", 4), ("free", 8)]
+    yield "a lost block behind the last live one", expected, shown_stretches(texts_of("hand", behind)["hand-store-1.svg"])
     yield "the words of a block", WORDS, drawn_words(texts["hand.svg"])
     boxes = xml.etree.ElementTree.fromstring(texts["hand.svg"]).iter(f"{SVG}rect")
     wide = [(float(it.get("x", "0")), float(it.get("width", "0"))) for it in boxes]
@@ -256,7 +261,7 @@ def layout(file: Path, text: str) -> Iterator[Trial]:
     places = [str(block.place + word) for block in blocks for word in range(block.size)]
     arrows = sum(len(block.arrows) for block in blocks) + len(set(drawings[0].bugs.values()))
     picture = file.read_text("ascii")
-    yield f"the places of {file.name}", places, [it for it in drawn_words(picture) if it in places]
+    yield f"the places of {file.name}", places, [it for it in drawn_words(picture) if PLACE.fullmatch(it)]
     yield f"the arrows of {file.name}", arrows, arrows_in(picture)
 
 
@@ -320,6 +325,7 @@ def framed(picture: str) -> list[str]:
 
 # How a picture's description begins that says how many words or blocks it shows.
 COUNTED = re.compile(r"^(?:The |A \w+ of )?(\w+) (words?|blocks?)\b(?! of)", re.IGNORECASE)
+PLACE = re.compile(r"[1-9]\d{3}")  # as it stands beside a word
 NUMBERS = "no one two three four five six seven eight nine ten eleven twelve".split()
 FIELDS = re.compile(r"\bfields ((?:[A-Z0-9], )*[A-Z0-9] and [A-Z0-9])\b")
 IMAGE = re.compile(r"!\[([^\]\n]+)\]\(([^)\s]+\.svg)\)")
@@ -346,7 +352,7 @@ def described(where: str, what: str, picture: str) -> Iterator[Trial]:
     counted = COUNTED.match(what)
     if counted and counted[1].lower() in NUMBERS:
         nodes = [title for title in drawn_titles(picture) if re.fullmatch(r"b\d+", title)]
-        rows = [word for word in words if re.fullmatch(r"[1-9]\d{3}", word)]
+        rows = [word for word in words if PLACE.fullmatch(word)]
         is_of_blocks = counted[2].lower().startswith("block") and nodes
         count = len(nodes) if is_of_blocks or not rows else len(rows)
         if nodes or counted[2].lower().startswith("word"):
@@ -375,6 +381,13 @@ def pictures_that_are_wrong() -> Iterator[Trial]:
     yield list(layout(PICTURES / "list.svg", transcript.replace("  N -> 1024\n", "", 1)))[2]
 
 
+def many_arrows() -> Iterator[Trial]:
+    """Nine arrows that all pass each other, the shortest first: each goes out by 14 more, as far as there is room beside the blocks."""
+    arrows = [(0.0, 10.0 * length) for length in range(1, 10)]
+    room = [min(36 + 14 * at, SIDE) for at in range(9)]
+    yield "how far out arrows go", list(zip(arrows, room)), [(ends, 36 + 14 * rank) for ends, rank in ranks(arrows[::-1])]
+
+
 def canaries() -> Iterator[Trial]:
     """A map, words and arrows that are another transcript's, and a picture with two cells exchanged."""
     texts, others = texts_of("hand", TRANSCRIPT), texts_of("narrow", NARROW)
@@ -388,6 +401,9 @@ def canaries() -> Iterator[Trial]:
     yield from pictures_that_are_wrong()
     with mock.patch.object(sys.modules[__name__], "DOCS", DOCS[:1]):
         yield next(it for it in shown() if it[0] == "the pictures that documents show")
+    with tempfile.TemporaryDirectory() as folder, mock.patch.object(sys.modules[__name__], "DOCS", [Path(folder, "page.md")]):
+        Path(folder, "page.md").write_text("![A list](nowhere.svg)\n", "ascii")
+        yield next(it for it in shown() if it[0] == "the places of pictures")
     with mock.patch.object(sys.modules[__name__], "RECORDED", RECORDED[::-1]):
         yield from (it for it in recorded() if it[1] != it[2])
     wrong = list(described("a picture", "Four words with the fields C and X", texts["hand.svg"]))
@@ -396,4 +412,4 @@ def canaries() -> Iterator[Trial]:
 
 
 if __name__ == "__main__":
-    sys.exit(report(chain(handmade(), refusals(), committed(), recorded(), drawn_traces(), shown()), canaries()))
+    sys.exit(report(chain(handmade(), refusals(), committed(), recorded(), drawn_traces(), many_arrows(), shown()), canaries()))

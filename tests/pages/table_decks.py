@@ -10,6 +10,7 @@ from __future__ import annotations
 
 import re
 import sys
+import tempfile
 from collections.abc import Iterator
 from itertools import islice
 from pathlib import Path
@@ -21,8 +22,8 @@ from model.cards import assemble
 from model.faults import NoReading
 from model.groups import read_operation, read_test
 from model.programs import OPERATIONS, TESTS, Condition, Exit
-from page_tables import Table, canary, plain, spans_of, table_with, tables_of, text_of
-from trials import Trial, report
+from page_tables import Table, canary, other_status, plain, report_of, spans_of, table_with, tables_of, text_of, wrong_lines
+from trials import Trial, few_pass
 
 LANGUAGE, SUMMARY, ALLOCATOR = "docs/language.md", "docs/summary.md", "docs/allocator.md"
 MANUAL, DEBUGGER, HELP = "docs/l6.1", "docs/debugger.md", "docs/command-line.md"
@@ -400,6 +401,13 @@ def canaries(program: str) -> Iterator[Trial]:
         LANGUAGE, "| `l6: not an image` |", "| `l6: no image` |", lambda: statuses_and_faults(program)
     )
     yield canary(MANUAL, ".It 3\n", ".It 6\n", lambda: statuses_and_faults(program))
+    with tempfile.TemporaryDirectory() as folder:
+        wrong = wrong_lines(folder)
+        for group in (faults, widths):
+            yield few_pass(f"{group.__name__} on a wrong program", 0, group(wrong))
+        ending = other_status(folder, program)
+        for most, group in ((0, faults), (50, examples)):  # (the examples of tests and exits are read by the model)
+            yield few_pass(f"{group.__name__} on a program with another status", most, group(ending))
 
 
 def trials(program: str) -> Iterator[Trial]:
@@ -415,7 +423,4 @@ def trials(program: str) -> Iterator[Trial]:
 
 
 if __name__ == "__main__":
-    if len(sys.argv) != 2:
-        sys.exit(__doc__)
-    named = str(Path(sys.argv[1]).resolve())
-    sys.exit(report(trials(named), canaries(named)))
+    sys.exit(report_of(__doc__, trials, canaries))

@@ -38,6 +38,7 @@ def trials() -> Iterator[Trial]:
 def files_with(words: Iterable[str]) -> set[str]:
     """The files of these folders in which nearly all of these words stand."""
     patterns = [re.compile(rf"\b{word}\b") for word in words]
-    files = [it for folder in FOLDERS for it in (TOP / folder).rglob("*") if it.is_file() and not MADE & set(it.parts)]
+    found = (it for folder in FOLDERS for it in (TOP / folder).rglob("*") if it.is_file() and not MADE & set(it.parts))
+    files = [it for it in found if it.suffix != ".defect"]  # (a defect may be a list that is too many)
     texts = {str(it.relative_to(TOP)): it.read_bytes().decode("utf-8", "replace") for it in files}
     return {it for it, text in texts.items() if sum(bool(one.search(text)) for one in patterns) >= LIST * len(patterns)}

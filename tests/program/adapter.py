@@ -12,6 +12,7 @@ from __future__ import annotations
 
 import argparse
 import itertools
+import json
 import random
 import re
 import sys
@@ -19,21 +20,17 @@ import tempfile
 from collections.abc import Iterator
 from pathlib import Path
 from typing import Any
+from unittest import mock
 
 sys.path.insert(0, str(Path(__file__).resolve().parents[1] / "harness"))
+import adapter_editor
+from adapter_editor import DOUBLE, Editor, OtherEditor, launched
+from adapter_targets import targets
 from answers import Answer, answer, answer_of
-from peers import JUNK, Frames, framed
+from peers import JUNK, framed
 from refused_memory import Shim
-from trials import Trial, first_wrong, report
+from trials import Trial, few_pass, report
 
-DOUBLE = """* TAKES A LIST OF TWO BLOCKS APART, FROM ITS HEAD L
-       (0,DV,0,17)(0,DN,18,35)
-       (M,GT,1)(MV,E,8)
-       (L,GT,1)(LV,E,7)(LN,E,M)
-       (DROP,DO)(DROP,DO)(M,FR) DONE
-* FREES THE FIRST BLOCK, AND L LEADS TO THE NEXT ONE
-DROP   (K,E,LN)(L,FR)(L,E,K) DONE
-"""
 COUNTS = """* COUNTS DOWN, AND CALLS A SUBROUTINE FOR EACH NUMBER
        (A,E,9)
 LOOP   (TELL,DO)
@@ -54,94 +51,16 @@ MOVES = {  # requests, the words that go with them, and the commands of l6db tha
     ("stepBack", ""): "reverse-next", ("stepBack", "instruction"): "backi",
 }
 ABILITIES = ["ConditionalBreakpoints", "ConfigurationDoneRequest", "DataBreakpoints", "EvaluateForHovers",
-             "ExceptionInfoRequest", "FunctionBreakpoints", "RestartRequest", "StepBack", "SteppingGranularity",
+             "ExceptionInfoRequest", "FunctionBreakpoints", "RestartRequest", "StepBack", "StepInTargetsRequest", "SteppingGranularity",
              "TerminateRequest"]
 SESSIONS = 12  # of random requests
 REQUESTS = 30  # in each
+TOLD = 300  # places, at least, which the debugger has told, of those to which all of them lead
 HOSTILE = 2_000  # messages, unless there is another number
 UNREAD = "this is no chain and no number, or the chain can't be followed"
 NO_RUN = "no run is launched"
 UNKNOWN = "there is no such request"
 PLACE = re.compile(r"^(?:AT|==.* AT) (\d+\.\d+) AFTER|^(== (?:DONE|FAIL|LIMIT) AFTER)|^(No call waits)", re.MULTILINE)
-
-
-class Editor:
-    """An editor that speaks to the adapter."""
-
-    def __init__(self, program: list[str]) -> None:
-        self.frames = Frames([*program, "dap"])
-        self.number = 0  # of the last request
-        self.numbers: list[int] = []  # of the messages that came
-        self.events: list[dict[str, Any]] = []  # that came and were not waited for
-        self.printed = ""  # so far
-
-    def take(self) -> dict[str, Any] | None:
-        """The next message, or None if the adapter has ended."""
-        message: dict[str, Any] | None = self.frames.take()
-        if message:
-            self.numbers.append(message["seq"])
-        if message and message.get("event") == "output" and message["body"]["category"] == "stdout":
-            self.printed += message["body"]["output"]
-        return message
-
-    def ask(self, command: str, **arguments: object) -> dict[str, Any]:
-        """The answer to a request."""
-        self.number += 1
-        self.frames.send({"seq": self.number, "type": "request", "command": command, "arguments": arguments})
-        while True:
-            message = self.take()
-            if message is None or message["type"] == "response":
-                return message or {}
-            self.events.append(message)
-
-    def event(self, name: str) -> dict[str, Any]:
-        """The body of the next event of this name."""
-        while True:
-            message = self.events.pop(0) if self.events else self.take()
-            if message is None or message["event"] == name:
-                body: dict[str, Any] = (message or {}).get("body", {})
-                return body
-
-    def stands(self) -> tuple[str, str, int]:
-        """Why the run stands, and where: the name and the line of the first frame."""
-        why = self.event("stopped")["reason"]
-        frame = self.ask("stackTrace", threadId=1)["body"]["stackFrames"][0]
-        return why, frame["name"], frame["line"]
-
-    def move(self, command: str, **arguments: object) -> tuple[str, str, int]:
-        """Where a request leads."""
-        self.ask(command, **arguments)
-        return self.stands()
-
-    def value(self, text: str) -> str:
-        """What an expression reads as, or why it does not."""
-        answered = self.ask("evaluate", expression=text)
-        return str(answered["body"]["result"] if answered["success"] else answered["message"])
-
-    def variables(self, number: int) -> list[dict[str, Any]]:
-        """The variables of a number."""
-        listed: list[dict[str, Any]] = self.ask("variables", variablesReference=number)["body"]["variables"]
-        return listed
-
-    def breakpoints(self, deck: Path, *wanted: dict[str, object]) -> list[dict[str, Any]]:
-        """What is said of breakpoints on cards."""
-        made: list[dict[str, Any]] = self.ask(
-            "setBreakpoints", source={"path": str(deck)}, breakpoints=list(wanted))["body"]["breakpoints"]
-        return made
-
-    def end(self) -> int:
-        """Closes the session; the exit status of the adapter."""
-        self.ask("disconnect")
-        return self.frames.end()
-
-
-def launched(program: list[str], deck: Path, **options: object) -> Editor:
-    """An editor that has launched a deck, and may set breakpoints."""
-    editor = Editor(program)
-    editor.ask("initialize", adapterID="l6")
-    editor.ask("launch", program=str(deck), **options)
-    editor.event("initialized")
-    return editor
 
 
 def freed_twice(program: list[str], folder: Path) -> Iterator[Trial]:
@@ -418,7 +337,7 @@ def protocol(program: list[str], folder: Path) -> Iterator[Trial]:
     yield "adapter: the one thread", [{"id": 1, "name": "run"}], editor.ask("threads")["body"]["threads"]
     yield "adapter: exceptions can't be chosen", True, editor.ask("setExceptionBreakpoints", filters=[])["success"]
     for command in ("continue", "next", "configurationDone", "setBreakpoints", "variables", "evaluate", "pause",
-                    "terminate", "restart", "nonsense"):
+                    "terminate", "restart", "stepInTargets", "nonsense"):
         yield f"adapter: {command} where nothing is launched", (False, NO_RUN), (
             (refused := editor.ask(command))["success"], refused["message"])
     editor.ask("launch", program=str(deck))
@@ -445,6 +364,7 @@ def protocol(program: list[str], folder: Path) -> Iterator[Trial]:
 
 def as_the_debugger(program: list[str], debugger: str, folder: Path) -> Iterator[Trial]:
     """Random requests lead where the commands of l6db lead."""
+    told = 0
     for seed in range(SESSIONS):
         chosen = random.Random(seed)
         deck = folder / f"random{seed}.deck"
@@ -467,10 +387,12 @@ def as_the_debugger(program: list[str], debugger: str, folder: Path) -> Iterator
         breaks = f"break {set_at['id']}\n" if set_at["verified"] else ""
         said = answer_of([debugger, str(deck)], input=f"{breaks}{commands}".encode()).stdout.decode()
         led: list[str] = []
-        for place, end, nowhere in PLACE.findall(said):
+        for place, _, nowhere in PLACE.findall(said):
+            told += bool(place or nowhere)
             led.append(place or (led[-1] if nowhere else "") or places[len(led):len(led) + 1][0])
         yield f"adapter: where the requests of seed {seed} lead", led, places
         editor.end()
+    yield "adapter: places that the debugger has told itself", True, told > TOLD
 
 
 def hostile(program: list[str], folder: Path, count: int) -> Iterator[Trial]:
@@ -481,21 +403,23 @@ def hostile(program: list[str], folder: Path, count: int) -> Iterator[Trial]:
     editor.ask("configurationDone")
     names = ["variables", "evaluate", "setBreakpoints", "setDataBreakpoints", "dataBreakpointInfo", "stackTrace", "scopes",
              "setFunctionBreakpoints", "exceptionInfo", "threads", "pause", "restart", "continue", "stepBack", "next",
-             "launch", "stepOut", "reverseContinue", "configurationDone"]
-    keys = ["variablesReference", "expression", "breakpoints", "name", "startFrame", "levels", "granularity", "program",
+             "launch", "stepOut", "reverseContinue", "configurationDone", "stepIn", "stepInTargets"]
+    keys = ["variablesReference", "targetId", "frameId", "expression", "breakpoints", "name", "startFrame", "levels", "granularity", "program",
             "store", "steps", "output", "input"]
     lines = [{"line": 4}, {"line": 2**64 - 1}, {"name": "DROP"}, {"dataId": "LN"}, {"line": 3, "condition": "(A,E,5)"}]
     values: list[Any] = [*JUNK, lines, ":goto 7", "LN", str(deck), 1]
-    answered = 0
+    answered, sent = 0, set[str]()
     for _ in range(count):
         arguments = chosen.choice([*JUNK, *[{key: chosen.choice(values) for key in keys}] * len(JUNK)])
         editor.number += 1
-        editor.frames.send({"seq": chosen.choice([*JUNK, editor.number]), "type": "request",
-                            "command": chosen.choice([*names, *JUNK]), "arguments": arguments})
-        while (message := editor.take()) is not None and message["type"] != "response":
+        message = {"seq": chosen.choice([*JUNK, editor.number]), "type": "request", "command": chosen.choice([*names, *JUNK]),
+                   "arguments": arguments}
+        sent.add(json.dumps(message))
+        editor.frames.send(message)
+        while (said := editor.take()) is not None and said["type"] != "response":
             pass
-        answered += message is not None
-    yield f"adapter: {count} hostile messages are answered", count, answered
+        answered += said is not None
+    yield f"adapter: {count} hostile messages are answered", (count, True), (answered, len(sent) > count * 3 // 4)
     editor.ask("launch", program=str(deck), stopOnEntry=True)
     yield "adapter: and a run can still be launched and gone through", "state 3", editor.value(":goto 3")
     yield "adapter: the exit status then", 0, editor.end()
@@ -507,20 +431,23 @@ def session_of(deck: Path) -> bytes:
         ("initialize", {}), ("launch", {"program": str(deck), "store": 1, "output": 100}),
         ("setBreakpoints", {"breakpoints": [{"line": 7}, {"line": 99}]}), ("configurationDone", {}), ("scopes", {}),
         ("variables", {"variablesReference": 1}), ("variables", {"variablesReference": 3}), ("stackTrace", {}),
-        ("evaluate", {"expression": "LN"}), ("setDataBreakpoints", {"breakpoints": [{"dataId": "MV"}]}), ("continue", {}),
+        ("evaluate", {"expression": "LN"}), ("stepInTargets", {"frameId": 0}), ("setDataBreakpoints", {"breakpoints": [{"dataId": "MV"}]}), ("continue", {}),
         ("exceptionInfo", {}), ("reverseContinue", {}), ("restart", {}), ("disconnect", {})]
     return b"".join(framed({"seq": number, "type": "request", "command": command, "arguments": arguments})
                     for number, (command, arguments) in enumerate(asked, 1))
 
 
 def refused_memory(program: list[str], folder: Path) -> Iterator[Trial]:
-    """Each request for memory of a session is refused in turn: a beginning of its answers goes out, and nothing is kept."""
+    """Each request for memory of a session is refused in turn."""
     deck = folder / "double.deck"
     deck.write_text(DOUBLE)
     stream = session_of(deck)
-    whole = answer_of([*program, "dap"], input=stream)
-    shim, refused = Shim(program[0], str(folder)), 0
-    wrong: list[int] = []
+    yield from adapter_refusals(answer_of([*program, "dap"], input=stream), Shim(program[0], str(folder)), stream)
+
+
+def adapter_refusals(whole: Answer[bytes], shim: Shim, stream: bytes) -> Iterator[Trial]:
+    """A beginning of the answers of a session goes out, and nothing is kept."""
+    refused, wrong = 0, list[int]()
     for request in itertools.count(1):
         made, counted = shim.run(["dap"], stream, request)
         if counted and not counted.was_refused:
@@ -534,11 +461,15 @@ def refused_memory(program: list[str], folder: Path) -> Iterator[Trial]:
     yield "adapter: the requests for memory that end it", True, refused > 300
 
 
+GROUPS = (freed_twice, variables, printouts, limits, launches, conditions, other_decks, restarts, frames, targets, protocol)
+SAID_OTHERWISE = 20  # of their trials do not depend on what the adapter says
+
+
 def adapter_trials(program: list[str], debugger: str, messages: int = HOSTILE) -> Iterator[Trial]:
     """All trials of an adapter."""
     with tempfile.TemporaryDirectory() as room:
         folder = Path(room)
-        for trials in (freed_twice, variables, printouts, limits, launches, conditions, other_decks, restarts, frames, protocol):
+        for trials in GROUPS:
             yield from trials(program, folder)
         yield from as_the_debugger(program, debugger, folder)
         yield from hostile(program, folder, messages)
@@ -546,10 +477,11 @@ def adapter_trials(program: list[str], debugger: str, messages: int = HOSTILE) -
 
 
 def adapter_canary(program: list[str]) -> Trial:
-    """A canary: each place of the session is expected to be another one."""
-    with tempfile.TemporaryDirectory() as room:
-        rows = list(freed_twice(program, Path(room)))
-    return first_wrong("places that are wrong", [(name, expected, not actual) for name, expected, actual in rows])
+    """A canary: an editor to which all is something else. What passes expects nothing, or two answers that are the same."""
+    with tempfile.TemporaryDirectory() as room, mock.patch.object(adapter_editor, "Editor", OtherEditor), \
+            mock.patch.object(sys.modules[__name__], "Editor", OtherEditor):
+        made = [it for trials in GROUPS for it in trials(program, Path(room))]
+    return few_pass("an adapter that says something else", SAID_OTHERWISE, made)
 
 
 def main() -> int:

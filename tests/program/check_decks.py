@@ -13,12 +13,16 @@ which no way leads, that decide nothing, or that run on into a subroutine. A dec
 from __future__ import annotations
 
 import argparse
+import contextlib
+import io
 import json
 import multiprocessing
 import re
 import sys
+import tempfile
 from collections.abc import Iterator
 from dataclasses import dataclass
+from itertools import islice
 from pathlib import Path
 from typing import Any
 
@@ -30,7 +34,7 @@ from model.faults import Fault
 from model.jobs import CHECK, answer_of_job
 from model.state import Options
 from model.ways import idle_cards, running_cards, unreached_cards
-from trials import Trial, report
+from trials import Trial, few_pass, first_wrong, report
 
 CHECKS = Path(__file__).resolve().parent / "checks.jsonl"
 SLIPS = CHECKS.with_name("slips.jsonl")
@@ -70,7 +74,7 @@ def checks(program: str) -> Iterator[Trial]:
     for check in read_checks():
         yield f"check: {check.name}", check.expected, answer_of([program, "check"], input=check.deck)
         shown = answer_of([program, "check", "--long"], input=check.deck)
-        yield f"check --long: {check.name}", check.expected, answer(without_cards(shown.stdout, check.deck), status=shown.status)
+        yield f"check --long: {check.name}", check.expected, answer(without_cards(shown.stdout, check.deck), shown.stderr, shown.status)
 
 
 def without_cards(shown: bytes, deck: bytes) -> bytes:
@@ -199,11 +203,50 @@ def some_damaged(program: str, numbers: range) -> list[Trial]:
 
 def all_damaged(program: str, first: int, jobs: int, processes: int) -> Iterator[Trial]:
     """The trials on damaged decks."""
-    last = first + jobs
+    last, cards = first + jobs, list[int]()
     batches = [range(at, min(at + BATCH, last)) for at in range(first, last, BATCH)]
     with multiprocessing.Pool(processes) as pool:
         for trials in pool.starmap(some_damaged, [(program, batch) for batch in batches]):
             yield from trials
+            cards += [expected[0] for _, expected, _ in trials if isinstance(expected, tuple)]
+    decks = {job_of(number).deck for number in range(first, last)}
+    yield "damaged decks that differ, of which some are refused, and some are not", (True, True, True), (
+        len(decks) > jobs * 9 // 10, sum(card > 0 for card in cards) > jobs // 10, sum(card == 0 for card in cards) > jobs // 5)
+
+
+# What stands in place of a program's `check`: it finds something on a card that is not there, or leaves out findings of a kind.
+ELSEWHERE = "cat > /dev/null; printf '99:1: error: it is wrong\\n1 error, 0 warnings\\n'; exit 4"
+LEAVING_OUT = "said=$('{program}' check); status=$?; printf '%s\\n' \"$said\" | grep -v '{words}'; exit $status"
+KINDS = ("no way leads to", "decides nothing", "runs on into")
+SHOWN = b"1:5: error: it is wrong\n    1 |  (A,ZZ,5)\n      |     ^^\n"
+
+
+def damaged_canaries(program: str, room: Path) -> Iterator[Trial]:
+    """Of damaged decks it is seen that errors are said of other cards, and that warnings of each kind are left out."""
+    said = {"elsewhere": ELSEWHERE, **{f"without-{number}": LEAVING_OUT.format(program=program, words=words)
+                                       for number, words in enumerate(KINDS)}}
+    for name, text in said.items():
+        other = room / name
+        other.write_text(f"#!/bin/sh\n[ \"$1\" != asm ] || exec '{program}' asm\n{text}\n")
+        other.chmod(0o755)
+        decks = (damaged(str(other), number) for number in range(1, DAMAGED))
+        yield few_pass(name, 0, islice(decks, 20)) if text == ELSEWHERE else first_wrong(name, decks)
+    for old, new in ((b"1 |  (", b"1 | ("), (b"|     ^", b"|    ^"), (b"    1 | ", b"    2 | ")):
+        shown = SHOWN.replace(old, new)
+        yield f"a card that is shown otherwise: {new.decode()}", SHOWN.partition(b"    ")[0], without_cards(shown, b" (A,ZZ,5)\n")
+
+
+def canaries(program: str) -> Iterator[Trial]:
+    """On a program that answers wrong no trial passes but the one of how many slips there are."""
+    with tempfile.TemporaryDirectory() as folder:
+        wrong = Path(folder, "wrong")
+        wrong.write_text("#!/bin/sh\ncat > /dev/null\necho wrong\nexit 77\n")
+        wrong.chmod(0o755)
+        with contextlib.redirect_stdout(io.StringIO()):  # (each slip that is not named is printed)
+            yield few_pass("slips on a wrong program", 1, slips(str(wrong)))
+        yield few_pass("large decks on a wrong program", 0, large(str(wrong)))
+        yield few_pass("damaged decks on a wrong program", 0, some_damaged(str(wrong), range(1, 21)))
+        yield from damaged_canaries(program, Path(folder))
 
 
 def main() -> int:
@@ -222,7 +265,7 @@ def main() -> int:
         yield from large(program)
         yield from all_damaged(program, given.first, given.jobs, given.processes)
 
-    return report(trials(), [("an error that the model has not", 1, 0)])
+    return report(trials(), canaries(program))
 
 
 if __name__ == "__main__":

@@ -21,18 +21,21 @@ import shutil
 import sys
 import tempfile
 import time
-from collections.abc import Callable, Iterator
+from collections.abc import Callable, Iterable, Iterator
 from pathlib import Path
 from typing import Any
+from unittest import mock
 
 sys.path[:0] = [str(Path(__file__).resolve().parents[1] / it) for it in ("harness", "../tools")]
 import editor_picture
-from adapter import DOUBLE, adapter_canary, adapter_trials
+from adapter import adapter_canary, adapter_refusals, adapter_trials
+from adapter_editor import DOUBLE, other
 from answers import Answer, answer, answer_of
 from editor_clients import client_trials
+from editor_settings import settings_trials
 from peers import JUNK, SECONDS, Frames, frame_of, framed
-from refused_memory import Shim
-from trials import Trial, first_wrong, report
+from refused_memory import Requests, Shim, WrongShim
+from trials import Trial, few_pass, groups_asked_for, report
 
 ROWS = Path(__file__).resolve().with_name("editors.jsonl")
 CHECKS = ROWS.with_name("checks.jsonl")
@@ -286,7 +289,7 @@ def change_trials(peer: Peer, count: int) -> Iterator[Trial]:
     chance = random.Random(1966)
     text = "".join(chance.choices(PIECES, k=30))
     peer.open(text, "a")
-    differences = 0
+    differences, found_in, texts = 0, 0, set[str]()
     for _ in range(count):
         start, end = sorted(chance.randrange(len(text) + 1) for _ in range(2))
         end = min(end, start + 12)
@@ -300,7 +303,10 @@ def change_trials(peer: Peer, count: int) -> Iterator[Trial]:
             for other in found.get("relatedInformation", ()):
                 other["location"].pop("uri")
         differences += mine != whole
+        found_in += bool(whole)
+        texts.add(text)
     yield f"changes: {count} of ranges", 0, differences
+    yield "changes: of texts that differ, and that have findings", (True, True), (len(texts) > count * 3 // 4, found_in > count // 2)
 
 
 def altered(chance: random.Random, value: Any) -> Any:
@@ -332,15 +338,18 @@ def hostile_message(chance: random.Random) -> Any:
 
 def hostile_trials(peer: Peer, count: int) -> Iterator[Trial]:
     """Wrong messages end nothing: a request after each of them is answered."""
-    chance = random.Random(36)
+    chance, sent = random.Random(36), set[str]()
     answered = 0
     for number in range(count):
-        peer.send(hostile_message(chance))
+        message = hostile_message(chance)
+        sent.add(json.dumps(message))
+        peer.send(message)
         peer.send({"jsonrpc": "2.0", "id": f"after {number}", "method": "unknown"})
         while (said := peer.take()) is not None and said.get("id") != f"after {number}":
             pass
         answered += said is not None
     yield f"hostile: {count} messages", count, answered
+    yield "hostile: messages that differ", True, len(sent) > count * 3 // 4
 
 
 def word_trials(program: list[str]) -> Iterator[Trial]:
@@ -380,8 +389,8 @@ def piece_trials(program: list[str]) -> Iterator[Trial]:
     yield "pieces: each request is answered", 3, whole.stdout.count(b"Content-Length: ")
 
 
-def refused_trials(program: list[str]) -> Iterator[Trial]:
-    """Each request for memory of a talk is refused in turn: a beginning of its answers goes out, and nothing is kept."""
+def refused_talk() -> bytes:
+    """A talk with each request, in frames."""
     document = {"uri": URI, "version": 1, "text": "LOOP   (A,PD) LOPP\n       (A,E,1) LOOP\n"}
     place = {"textDocument": document, "position": at([0, 1]), "newName": "B", "range": {"start": at([0, 0]), "end": at([1, 0])},
              "contentChanges": [{"text": "LOOP   (A,PD) LOOP\n"}]}
@@ -389,21 +398,28 @@ def refused_trials(program: list[str]) -> Iterator[Trial]:
     asked = [{"jsonrpc": "2.0", "id": it, "method": f"textDocument/{it}", "params": place} for it in METHODS.values()]
     first = [{"jsonrpc": "2.0", "id": 1, "method": "initialize"}, notes[0], *asked, notes[1], *asked]
     last = [{"jsonrpc": "2.0", "id": 2, "method": "shutdown"}, {"jsonrpc": "2.0", "method": "exit"}]
-    stream = b"".join(map(framed, [*first, *last]))
-    whole = answer_of([*program, "lsp"], input=stream)
+    return b"".join(map(framed, [*first, *last]))
+
+
+def refused_trials(program: list[str]) -> Iterator[Trial]:
+    """Each request for memory of a talk is refused in turn."""
     with tempfile.TemporaryDirectory() as folder:
-        shim = Shim(program[0], folder)
-        refused = 0
-        for request in itertools.count(1):
-            made, counted = shim.run(["lsp"], stream, request)
-            if counted and not counted.was_refused:
-                break
-            refused += made != whole
-            expected = Answer(made.stdout, b"l6ed: out of memory\n", 5) if made != whole else whole
-            is_front = whole.stdout.startswith(made.stdout)
-            kept = counted.kept if counted else None
-            yield f"memory: request {request} is refused", (expected, True, 0), (made, is_front, kept)
-        yield "memory: the requests end the talk", True, refused > 500
+        yield from refusals(answer_of([*program, "lsp"], input=refused_talk()), Shim(program[0], folder))
+
+
+def refusals(whole: Answer[bytes], shim: Shim) -> Iterator[Trial]:
+    """A beginning of the answers of a talk goes out, and nothing is kept."""
+    stream, refused = refused_talk(), 0
+    for request in itertools.count(1):
+        made, counted = shim.run(["lsp"], stream, request)
+        if counted and not counted.was_refused:
+            break
+        refused += made != whole
+        expected = Answer(made.stdout, b"l6ed: out of memory\n", 5) if made != whole else whole
+        is_front = whole.stdout.startswith(made.stdout)
+        kept = counted.kept if counted else None
+        yield f"memory: request {request} is refused", (expected, True, 0), (made, is_front, kept)
+    yield "memory: the requests end the talk", True, refused > 500
 
 
 def picture_trials(peer: Peer, program: str, is_whole: bool) -> Iterator[Trial]:
@@ -425,6 +441,13 @@ def picture_trials(peer: Peer, program: str, is_whole: bool) -> Iterator[Trial]:
 
 
 def trials(program: list[str], debugger: str, messages: int, is_whole: bool) -> Iterator[Trial]:
+    """All trials, or those of settings alone if they are asked for."""
+    if "talks" in groups_asked_for(("settings", "talks")):
+        yield from talk_trials(program, debugger, messages, is_whole)
+    yield from settings_trials()
+
+
+def talk_trials(program: list[str], debugger: str, messages: int, is_whole: bool) -> Iterator[Trial]:
     """All trials of a program."""
     peer = started(program)
     yield from picture_trials(peer, program[0], is_whole)
@@ -443,6 +466,50 @@ def trials(program: list[str], debugger: str, messages: int, is_whole: bool) -> 
         yield from client_trials(program, DOUBLE)
 
 
+class OtherPeer(Peer):
+    """A server of whose answers each number and each text is another one."""
+
+    def take(self) -> Any:
+        """The next message, and what it says otherwise."""
+        message = super().take()
+        return message and {name: value if name in ("id", "method") else other(value) for name, value in message.items()}
+
+
+SAID_OTHERWISE = 11  # trials of a group do not depend on it: of what has changed nothing, of ids, and of names
+
+
+def passing(trials: Iterable[Trial]) -> list[str]:
+    """The names of trials that pass, and expect something."""
+    return [name for name, expected, actual in trials if expected == actual and expected not in (None, [], [[], []])]
+
+
+def canaries(program: list[str]) -> Iterator[Trial]:
+    """Answers with other numbers and texts, and talks that end otherwise where memory is refused."""
+    peer = OtherPeer(program)
+    peer.ask("initialize", {"capabilities": {}})
+    peer.send({"jsonrpc": "2.0", "method": "initialized", "params": {}})
+    for group in (row_trials, check_trials):
+        yield f"{group.__name__} of other answers", True, bool(passing(group(peer)))
+    yield few_pass("documents of other answers", SAID_OTHERWISE, document_trials(peer))
+    peer.end()
+    with mock.patch.object(sys.modules[__name__], "Peer", OtherPeer):
+        yield few_pass("a talk of other answers", SAID_OTHERWISE, protocol_trials(program))
+    whole = answer_of([*program, "lsp"], input=refused_talk())
+    said, lacks = whole.stdout[:9], b"l6ed: out of memory\n"
+    nothing = WrongShim(whole, Requests(1, False, 0, 1, 1))
+    yield from refusals(whole, nothing)
+    yield list(adapter_refusals(whole, nothing, b""))[-1]
+    for what, ended, kept in (
+        ("another answer", answer(b"other", lacks, 5), 0), ("another message", answer(said, b"l6ed: out of paper\n", 5), 0),
+        ("another status", answer(said, lacks, 4), 0), ("what is kept", answer(said, lacks, 5), 1),
+    ):
+        requests = [Requests(1, was_refused, kept, 1, 1) for was_refused in (True, False)]
+        _, expected, actual = next(refusals(whole, WrongShim(ended, *requests)))
+        yield f"refused memory: {what}", expected, actual
+        _, (_, expected, actual), _ = adapter_refusals(whole, WrongShim(ended, *requests), b"")
+        yield f"refused memory of the adapter: {what}", expected, actual
+
+
 def main() -> int:
     """Tries the program that the command line names."""
     reader = argparse.ArgumentParser(description="Tries l6ed.")
@@ -452,12 +519,8 @@ def main() -> int:
     reader.add_argument("--whole", action="store_true", help="whether all is tried that the gate tries")
     words = reader.parse_args()
     program = [words.program]
-    peer = started(program)
-    rows = list(row_trials(peer))
-    canary = first_wrong("an answer that is wrong", [(name, expected, not actual) for name, expected, actual in rows])
-    peer.end()
     messages = words.messages or (WHOLE if words.whole else MESSAGES)
-    return report(trials(program, words.debugger, messages, words.whole), [canary, adapter_canary(program)])
+    return report(trials(program, words.debugger, messages, words.whole), [*canaries(program), adapter_canary(program)])
 
 
 if __name__ == "__main__":

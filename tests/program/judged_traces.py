@@ -12,13 +12,13 @@ import sys
 import tempfile
 import xml.etree.ElementTree
 from collections.abc import Iterator
-from itertools import pairwise
+from itertools import islice, pairwise
 from pathlib import Path
 
 sys.path.insert(0, str(Path(__file__).resolve().parents[1] / "harness"))
 from answers import Answer, answer, answer_of
 from model.judge import Finding, findings_of
-from trials import Trial
+from trials import Trial, few_pass
 
 TOP = Path(__file__).resolve().parents[2]
 ZOO, LIBRARY = TOP / "bench/zoo", TOP / "library"
@@ -66,7 +66,7 @@ def judged(program: str, text: str, *options: str) -> Answer[bytes]:
     return answer_of([program, "trace", "--any-place", *options], input=text.encode(), preexec_fn=lambda: None)
 
 
-def by_hand(program: str) -> Iterator[Trial]:
+def judged_by_hand(program: str) -> Iterator[Trial]:
     """The table."""
     for name, text, findings in BY_HAND:
         said = judged(program, text, "--levels", "4", "--units", "1")
@@ -75,7 +75,8 @@ def by_hand(program: str) -> Iterator[Trial]:
         yield f"a judged trace: {name}", (findings, int(bool(findings)), b""), (lines[:at], said.status, said.stderr)
     said = judged(program, "get a 40 = 64\nget b 16 = 100\nget c 100 = 128\nend 3\n", "--levels", "4", "--units", "1",
                   "--first", "0", "--piece", "16")
-    yield "bytes in pieces", ["line 2: misaligned: the place is between pieces"], said.stdout.decode().splitlines()[:1]
+    yield "bytes in pieces", (["line 2: misaligned: the place is between pieces", "findings 1"], 1, b""), (
+        said.stdout.decode().splitlines()[:2], said.status, said.stderr)
     yield from large_pools(program)
     said = judged(program, "get a 1 = 16\nput\n")
     yield "a line that is no call", answer(b"", b"l6: line 2: not a call\n", 4), said
@@ -192,11 +193,16 @@ def zoo(program: str) -> Iterator[Trial]:
             text = run([placer, rule, "10", str(CALLS), "1"], check=True).stdout
             said = judged(program, text, "--units", "1", "--first", "0", "--json")
             yield f"a million calls by the rule {rule}", (0, True), summed(said)
-        for bug in sorted(ZOO.glob("bugs/*.bug")):
-            source, says = with_bug(bug)
-            text = run([compiled(source, room, bug.stem)], check=False).stdout  # (some bugs end it)
-            first = judged(program, text, "--units", "1").stdout.decode().splitlines()[0]
-            yield f"the bug {bug.stem}", says, first
+        yield from bugs(program, room)
+
+
+def bugs(program: str, room: Path) -> Iterator[Trial]:
+    """Each bug is found at the first wrong answer."""
+    for bug in sorted(ZOO.glob("bugs/*.bug")):
+        source, says = with_bug(bug)
+        ran = subprocess.run([compiled(source, room, bug.stem)], check=False, capture_output=True, text=True)  # (some bugs end it)
+        said = judged(program, ran.stdout, "--units", "1")
+        yield f"the bug {bug.stem}", (says, 1), (said.stdout.decode().splitlines()[0], said.status)
 
 
 # What a program asks for, as record.c writes it down; the trace that is made of it with pieces of 16 bytes, a largest
@@ -221,6 +227,13 @@ TRACE_OF_MUCH = "get aa 1250 = 1048576\nfree aa = 9\n" + "".join(
 # One block that is got and freed so often that a trace of all would be too long. By hand: of a name of 64 bytes the two lines
 # have 76 and 74 bytes, and 111,848 times as many, with the last line, are the most that fit.
 OFTEN, OFTEN_ENDS = f"+ {64 * 'a'} 16\n- {64 * 'a'}\n" * 120_000, "end 223696\n"
+# By hand, too: with names of 27 and 28 bytes at first, whose four lines have 154 bytes, the trace has just as many bytes as may be in
+# front of its last line, which may have 12. If the first block takes ten pieces, so that one digit more is written, the last call is left out.
+FULL = "+ {name} {size}\n- {name}\n".format
+FULL_CALLS = 2 * (111_847 + 2)
+FULL_BYTES = 111_847 * (76 + 74) + 154
+# As many calls as are taken, if no other number is asked for: one block, got and freed. The lines of a round have 24 bytes.
+MANY, MANY_BYTES = "+ a 16\n- a\n" * 500_001, 500_000 * 24
 ASKING = """#define _GNU_SOURCE
 #include <stdint.h>
 #include <stdlib.h>
@@ -232,10 +245,14 @@ int main(void) {
     void *volatile four = reallocarray(three, 11, 409);
     free(two);
     free(four);
+    void *volatile five = malloc(6007);
+    volatile size_t none = 0;
+    if (realloc(five, none) != NULL)
+        return 1;
     return 0;
 }
 """
-ASKED = ["1005", "2080", "3007", "4499"]
+ASKED = ["1005", "2080", "3007", "4499", "6007"]
 # A program whose child asks for so much that what is written down would fill the room for lines.
 FORKING = """#include <stdlib.h>
 #include <sys/wait.h>
@@ -254,6 +271,7 @@ int main(void) {
 }
 """
 # A program that asks for one byte more each time. Files may have 8 KiB at first, and any size after half of them.
+ROOM_OF_FILES = 8192
 GROWING = """#define _GNU_SOURCE
 #include <signal.h>
 #include <stdlib.h>
@@ -324,10 +342,10 @@ def drawn(text: str, *options: str) -> list[list[int]]:
     return lines_of(subprocess.run(words, input=text, capture_output=True, text=True, check=True).stdout)
 
 
-def drawn_by_hand() -> Iterator[Trial]:
+def drawn_by_hand(_program: str) -> Iterator[Trial]:
     """Pictures of a short trace, of one in bytes, of one that is longer than a picture is wide, and of none."""
     for name, text in zip(("another allocator", "the program"), DRAWN):
-        yield f"the answers of {name}, drawn", [LARGEST_BY_HAND, USED_BY_HAND], drawn(text, "--levels", "4", "--units", "1")
+        yield f"the answers of {name}, drawn", [LARGEST_BY_HAND, USED_BY_HAND], drawn(text, *NARROW)
     in_bytes = drawn("get a 33 = 64\nget b 16 = 15\nfree a\n", "--levels", "3", "--units", "1", "--first", "0", "--piece", "16")
     yield "a trace in bytes, drawn", [[4, 4, 8], [4, 4, 0]], in_bytes
     often = "get a 8 = 0\nfree a = 0\n" * 1000
@@ -351,6 +369,7 @@ def recorded_by_hand(room: Path, library: Path) -> Iterator[Trial]:
     made = subprocess.run(words, capture_output=True, text=True, check=False)
     yield "a trace of as many calls as may be", (OFTEN_ENDS, 0, True), (
         made.stdout[-len(OFTEN_ENDS):], made.returncode, len(made.stdout) <= 16_777_216)
+    yield from full_traces(calls, words)
     for name, source, expected in (
         ("a program", ASKING, ASKED),
         ("a program with a child", FORKING, ASKED[:1]),
@@ -362,14 +381,33 @@ def recorded_by_hand(room: Path, library: Path) -> Iterator[Trial]:
         yield f"the end of the record of {name}", ["."], end
         yield f"the sizes that {name} asks for", expected, [it[2] for it in lines if it[0] == "+" and it[2] in ASKED]
         held: set[str] = set()
+        asked = {it[1] for it in lines if it[0] == "+" and it[2] in ASKED}
         unknown = []
         for sign, address, *_ in lines:
             if sign == "-" and address not in held:
                 unknown.append(address)
             (held.add if sign == "+" else held.discard)(address)
-        yield f"the blocks that {name} frees, and was not given", [], unknown
+        yield f"the blocks that {name} frees, and was not given", ([], True), (unknown, any(it[0] == "-" for it in lines))
+        yield f"the blocks that {name} asks for and has at its end", set(), held & asked
     yield from in_order(room, library)
     yield from cut_off(room, library)
+
+
+def full_traces(calls: Path, words: list[str]) -> Iterator[Trial]:
+    """Traces that have just as many bytes as may be, or calls as are taken, and would have one more."""
+    for name, size, taken in (("as many bytes as may be", 16, FULL_CALLS), ("one byte more", 160, FULL_CALLS - 1)):
+        calls.write_text("".join([FULL(name=27 * "b", size=size), FULL(name=28 * "c", size=16), FULL(name=64 * "a", size=16) * 111_847]))
+        made = subprocess.run(words, capture_output=True, text=True, check=False).stdout
+        end = f"end {taken}\n"
+        size_of_lines = FULL_BYTES if size == 16 else FULL_BYTES + 1 - 74
+        yield f"a trace of {name}", (end, size_of_lines, True), (
+            made[-len(end):], len(made) - len(end), len(made) <= 16_777_216)
+    calls.write_text(MANY, "ascii")
+    made = subprocess.run(words, capture_output=True, text=True, check=False).stdout
+    yield "a trace of as many calls as are taken", ("end 1000000\n", MANY_BYTES), (made[-12:], len(made) - 12)
+    calls.write_text(CALLS_BY_HAND + ".\n", "ascii")
+    made = subprocess.run([*words, "--most", "3"], capture_output=True, text=True, check=False).stdout
+    yield "a trace of the calls that are asked for", "".join(TRACE_BY_HAND.splitlines(keepends=True)[:3]) + "end 3\n", made
 
 
 def in_order(room: Path, library: Path) -> Iterator[Trial]:
@@ -390,8 +428,9 @@ def cut_off(room: Path, library: Path) -> Iterator[Trial]:
     *lines, _ = calls.read_text("ascii").split("\n")  # (the last one is cut)
     sizes = [it.split()[-1] for it in lines if it.startswith("+")]
     yield "a program whose record can't be written", 0, ran.returncode
-    yield "a record that is cut off", [str(it + 1) for it in range(len(sizes))], sizes
-    yield "how much of it is recorded", True, 100 < len(sizes) < 1000
+    yield "a record that is cut off", [str(it + 1) for it in range(len(lines))], sizes
+    # (a line has at most 24 bytes: a sign, an address of 16 digits, a size of 4, two spaces and a line feed)
+    yield "how much of it is recorded", (ROOM_OF_FILES, True), (calls.stat().st_size, len(lines) >= ROOM_OF_FILES // 24)
 
 
 # Programs that are recorded, each in a folder that is a repository of three commits.
@@ -402,6 +441,7 @@ RECORDED = [
 ]
 
 
+NARROW = ["--levels", "4", "--units", "1"]  # one unit of 16 places
 WIDE = ["--levels", "20", "--units", "1"]  # the memory that they are given, of 16 MiB
 
 
@@ -439,7 +479,7 @@ def recorded(program: str) -> Iterator[Trial]:
             least = 20_000 if name == "Python" else 100
             yield f"{name}, recorded", (0, 0, 0, True), (ran.returncode, said.status, it["findings"], text.count("\n") > least)
             apart = abs(it["most_used"] - max(drawn(text, *WIDE)[1]))  # (a tenth of a step is 440 places)
-            yield f"{name}, drawn", True, apart < 440
+            yield f"{name}, drawn", (True, True), (apart < 440, it["most_used"] > 440)
 
 
 def summed(said: Answer[bytes]) -> tuple[int, bool]:
@@ -448,11 +488,15 @@ def summed(said: Answer[bytes]) -> tuple[int, bool]:
     return it["findings"], it["refused"] > 0 and said.status == int(it["findings"] > 0) and set(it) - OF_REFUSALS == SUMMARY
 
 
-def trials(program: str) -> Iterator[Trial]:
-    """All of them."""
-    yield from by_hand(program)
-    yield from summary(program)
-    yield from modelled(program)
-    yield from zoo(program)
-    yield from drawn_by_hand()
-    yield from recorded(program)
+def judged_canaries(wrong: str, room: Path) -> Iterator[Trial]:
+    """What is wrong with an allocator is seen, and what is drawn of other traces is something else."""
+    right = {"findings": 0, "gets": 2, "frees": 0, "refused": 1, "most_used": 1, "most_lost": 0, "split": [], "joined": []}
+    changes: list[tuple[str, dict[str, int], int]] = [
+        ("a finding", {"findings": 1}, 1), ("no refusal", {"refused": 0}, 0), ("another status", {}, 1), ("another key", {"more": 0}, 0)]
+    for what, change, status in changes:
+        yield f"a summary with {what}", (0, True), summed(answer(json.dumps({**right, **change}).encode() + b"\n", b"", status))
+    yield few_pass("bugs of which something else is said", 0, islice(bugs(wrong, room), 2))
+    yield "a picture of another trace", drawn(DRAWN[0], *NARROW), drawn(DRAWN[0].replace("= 24", "= none"), *NARROW)
+
+
+GROUPS = (judged_by_hand, summary, modelled, zoo, drawn_by_hand, recorded)

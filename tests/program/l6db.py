@@ -17,34 +17,30 @@ import json
 import os
 import random
 import re
-import signal
 import subprocess
 import sys
 import tempfile
-import time
 from collections.abc import Iterator
 from dataclasses import dataclass, replace
-from itertools import count
+from itertools import islice
 from pathlib import Path
 
 sys.path.insert(0, str(Path(__file__).resolve().parents[1] / "harness"))
-from answers import Answer, answer, answer_of
+from answers import answer, answer_of
 from batches import batches, prompts
 from further_jobs import aliased_job, churned_deck
 from lives import lives, words_watched
-from refused_memory import Shim, library_of
 from model.cards import assemble
 from model.groups import chain_of
 from model.machine import take_step
 from model.state import Options, State, Trap, characters_of_input
 from page_sessions import page_sessions, readme
-from terminals import Pseudoterminal
 from trials import Trial, few_pass, first_wrong, report
+from typed_sessions import NESTED, at_terminal, interrupted, one_by_one, refused_memory, typed_canaries
 
 HERE = Path(__file__).resolve().parent
 TOP = HERE.parents[1]
 EXAMPLES = TOP / "examples"
-PROMPT = b"(l6db) "
 COUNTING = b"""* COUNTS DOWN FROM 9000 IN A, AND CALLS AT EACH NUMBER
        (A,E,9000)
 LOOP   (DOWN,DO)
@@ -62,12 +58,6 @@ MAKE   (L,GT,1)(LV,E,7)
 SHOW   (K,E,L)
 NEXT   IF (K,E,0) THEN DONE
        (KV,PD)(PL)(K,E,KN) NEXT
-"""
-NESTED = b"""* CALLS ITSELF 27 TIMES, AND COUNTS ON THE WAY
-       (DEEP,DO) DONE
-DEEP   (A,A,1)
-       IF (A,L,27) THEN (DEEP,DO)
-       (B,A,1) DONE
 """
 
 
@@ -164,6 +154,7 @@ def numbers_in(text: bytes) -> list[int]:
     return [int(number) for number in re.findall(rb"^STATE (\d+) ", text, re.MULTILINE)]
 
 
+LEADING, LED = 20, 1_000  # commands that lead somewhere, as they are written; and at least so many times that they lead elsewhere
 MOVES = ["c", "rc", "next", "rn", "finish", "rf"] * 3 + [
     "c 3", "rc 2", "next 4", "rn 3", "until", "until 2", "until 3", "run", "nexti", "rni", "step", "back", "step 3", "back 2",
 ]
@@ -176,7 +167,7 @@ def seeking(program: str, folder: Path) -> Iterator[Trial]:
         ((EXAMPLES / "queue.deck").read_bytes(), "QN", 7, 300),
         ((EXAMPLES / "tree.deck").read_bytes(), "A", 3, 280),
     ]
-    chosen = random.Random(1966)
+    chosen, given, ends = random.Random(1966), set[str](), set[tuple[int, int]]()
     for deck, chain, statement, number in decks:
         (folder / "my.deck").write_bytes(deck)
         states = states_of(deck, [chain], Options())
@@ -192,19 +183,26 @@ def seeking(program: str, folder: Path) -> Iterator[Trial]:
                 command = chosen.choice(MOVES)
                 lines += [f"goto {at}", command, "stats"]
                 goals.append(goal_of(states, at, command, stop))
+                given.add(command)
+                ends.add((at, goals[-1]))
             made = answer_of(
                 [program, str(folder / "my.deck")], input="\n".join(lines).encode() + b"\n",
                 seconds=120, preexec_fn=None,
             )
-            yield f"{number // 4} commands, {chain}, {has_break}, {watches}, {over}", goals, numbers_in(made.stdout)
+            found = numbers_in(made.stdout)
+            yield f"{number // 4} commands, {chain}, {has_break}, {watches}, {over}", (number // 4, goals), (len(found), found)
+    yield "commands that lead somewhere, and states from which they lead elsewhere", (LEADING, True), (
+        len(given), sum(start != end for start, end in ends) > LED)
 
 
 WATCHED = 150  # decks of which several chains are watched
 STEPS = 2_000  # of a run of one
+ASKED, STOPS = 6, 400  # commands for each; and at least so many stops within runs
 
 
 def watching(program: str, folder: Path) -> Iterator[Trial]:
     """Several chains, of which most change, in the runs of random decks, with a breakpoint or without."""
+    within, kinds = 0, set[tuple[str, bool]]()
     for number in range(WATCHED):
         chance = random.Random(f"watched {number}")
         deck = chance.choice([churned_deck, aliased_deck])(chance)
@@ -213,14 +211,18 @@ def watching(program: str, folder: Path) -> Iterator[Trial]:
         statement = chance.choice([None, 1])
         lines = [f"watch {chain}" for chain in chains] + ["break 1"] * (statement is not None)
         goals = []
-        for _ in range(6):
+        for _ in range(ASKED):
             at, command = chance.randrange(len(states)), chance.choice(["c", "c", "rc", "c 3", "next"])
             lines += [f"goto {at}", command, "stats"]
             goals.append(goal_of(states, at, command, Stop(statement, watches=True)))
+            kinds.add((command, statement is None))
+            within += 0 < goals[-1] < len(states) - 1
         (folder / "my.deck").write_bytes(deck)
         words = [program, "--store", "1", "--steps", str(STEPS), str(folder / "my.deck")]
         made = answer_of(words, input="\n".join(lines).encode() + b"\n", preexec_fn=None)
-        yield f"watches {number}: {' '.join(chains)}", goals, numbers_in(made.stdout)
+        found = numbers_in(made.stdout)
+        yield f"watches {number}: {' '.join(chains)}", (ASKED, goals), (len(found), found)
+    yield "commands with a breakpoint and without, and stops within a run", (2 * 4, True), (len(kinds), within > STOPS)
 
 
 def aliased_deck(chance: random.Random) -> bytes:
@@ -233,6 +235,7 @@ def a_chain(chance: random.Random) -> str:
     return chance.choice("ABCJKLQST") + "".join(chance.choices("NVFG0", k=chance.choice([0, 0, 1, 1, 2, 3])))
 
 
+FIRST = 5  # trials of a group that are made on a wrong program
 LIKE = sys.argv[2:3]  # the program l6, if it is given
 
 
@@ -253,7 +256,7 @@ def free_lists(program: str, _folder: Path) -> Iterator[Trial]:
         given = "".join(f"goto {goal}\nlists\n" for goal in goals).encode()
         made = answer_of([program, str(file)], input=given, seconds=120, preexec_fn=None)
         found = re.findall(r"(?:^LEVEL .*\n)+|^NO FREE PIECE\n", made.stdout.decode(), re.MULTILINE)
-        yield f"free lists of {file.stem}", [shown[goal] for goal in goals], found
+        yield f"free lists of {file.stem}", (number, [shown[goal] for goal in goals]), (len(found), found)
 
 
 def lists_of(state: State) -> str:
@@ -264,69 +267,6 @@ def lists_of(state: State) -> str:
         for size, places in sorted(lists) if places
     ]
     return "".join(lines) or "NO FREE PIECE\n"
-
-
-class Terminal(Pseudoterminal):
-    """A session on a pseudoterminal."""
-
-    def read(self, until: bytes = PROMPT) -> bytes:
-        """What is shown up to a text."""
-        return self.until(until).replace(b"\r\n", b"\n")
-
-    def answer(self, line: bytes) -> bytes:
-        """The answer to a line; the terminal repeats the line before it."""
-        self.give(line + b"\n")
-        shown = self.read()
-        return shown.removeprefix(line + b"\n").removesuffix(PROMPT)
-
-
-def at_terminal(program: str, folder: Path) -> Iterator[Trial]:
-    """A whole session at a terminal."""
-    deck = folder / "nested.deck"
-    deck.write_bytes(NESTED)
-    terminal = Terminal([program, str(deck)])
-    shown = terminal.read()
-    yield "the first state", b"AT 0.0 AFTER 0 STEPS\n", shown[:shown.index(b"\n") + 1]
-    yield "a breakpoint", b"Breakpoint at 1 DEEP\n    3 DEEP   (A,A,1)\n", terminal.answer(b"break DEEP")
-    yield "on to it", b"AT 1.0 AFTER 2 STEPS DEEP\n", terminal.answer(b"c")[:26]
-    yield "an empty line", b"AT 1.0 AFTER 7 STEPS DEEP\n", terminal.answer(b"")[:26]
-    yield "back", b"AT 1.0 AFTER 2 STEPS DEEP\n", terminal.answer(b"rc")[:26]
-    yield "calls", b"#0 at 1.0 DEEP\n#1 returns to 0.2\n", terminal.answer(b"where")
-    yield "a value", b'A = 0 000000000000 "      "\n', terminal.answer(b"p A")
-    for number in (signal.SIGWINCH, signal.SIGSTOP, signal.SIGCONT):
-        os.kill(terminal.process, number)
-    time.sleep(0.2)
-    yield "after signals", b"No call waits: there is nothing to finish\n", (
-        terminal.answer(b"start"), terminal.answer(b"fin"))[1]
-    yield "a byte that is no text", b"Not a command: help lists them\n", terminal.answer(b"\xff")
-    terminal.give(b"\x04")
-    yield "a new line at the end", b"\n", terminal.read(b"\n")
-    yield "the end of the input", 0, terminal.status()
-    terminal = Terminal([program, str(deck)])
-    terminal.read()
-    terminal.give(b"quit\n")
-    yield "quit", 0, terminal.status()
-    terminal = Terminal([program, str(deck)])
-    terminal.read()
-    terminal.give(b"\x03")
-    yield "an interrupt", -signal.SIGINT, terminal.status()
-
-
-def one_by_one(program: str, folder: Path) -> Iterator[Trial]:
-    """Each answer is out before the next line is read, also over a pipe."""
-    deck = folder / "nested.deck"
-    with subprocess.Popen(
-        [program, str(deck)], stdin=subprocess.PIPE, stdout=subprocess.PIPE,
-    ) as process:
-        assert process.stdin and process.stdout
-        lines = [process.stdout.readline() for _ in range(2)]
-        for line, first in ((b"p A", b"A = 0 "), (b"delete 1", b"No breakpoint is left at 1 "), (b"set A", b"A run is")):
-            process.stdin.write(line + b"\n")
-            process.stdin.flush()
-            yield f"the answer to {line.decode()}", first, process.stdout.readline()[:len(first)]
-        process.stdin.close()
-    yield "no prompt", [False] * 2, [PROMPT in line for line in lines]
-    yield "the status", 0, process.returncode
 
 
 def words(program: str, folder: Path) -> Iterator[Trial]:
@@ -430,7 +370,7 @@ def manual_words(page: str) -> list[str]:
 
 # What pages say of commands in words: the page, its words, the lines that show it, and what is shown last then.
 SAYINGS = [
-    ("l6db.1", "without a place all of them, and watch nothing", "b 1\nb 2\nwatch A\ninfo\ndelete\ninfo", []),
+    ("l6db.1", "without a place there is no breakpoint left, and nothing is watched", "b 1\nb 2\nwatch A\ninfo\ndelete\ninfo", []),
     ("l6db.md", "without PLACE there is no breakpoint left, and nothing is watched", "b 1\nb 2\nwatch A\ndelete\ninfo", []),
     ("l6db.md", "N is the number that info shows, and what comes after it has another one then",
      "watch A\nwatch B\nwatch C\nunwatch 1\nunwatch 2\ninfo", ["watch 1: B"]),
@@ -502,46 +442,6 @@ def said_to(program: str, deck: str, lines: str) -> str:
     return answer_of([program, deck], input=f"{lines}\n".encode()).stdout.removeprefix(begin).decode()
 
 
-INTERRUPTIONS = 3_000
-SESSION = (
-    b"break DEEP\nc\nwhere\nwatch B\np A\nc\nrc\nblock 5\ndraw\nstats\nend\nback\n"
-    b"run\nc 3\nuntil\nlists\ninfo breakpoints\ninfo locals\nstack\nb 2\nignore 2\np ANN\nhelp\nlist\n"
-    b"watch A\nwatch AN\nc\nrc\nfinish\ndelete\nwatch A\nwatch AN\nc\nc\nwho A\nwho 1024\nwatch *A+2\nc\n"
-)
-TABLES = 4  # of the actions that may change watched chains, which the session makes on its ways forward
-
-
-def refused_memory(program: str, folder: Path) -> Iterator[Trial]:
-    """Each request for memory of a session is refused in turn.
-
-    Whole answers go out, and then it is said that memory ran out; a refused checkpoint changes nothing.
-    """
-    deck = str(folder / "nested.deck")
-    whole = answer_of([program, deck], input=SESSION)
-    shim = Shim(program, str(folder))
-    refused, unchanged = 0, 0
-    for request in count(1):
-        made, counted = shim.run([deck], SESSION, request)
-        if counted and not counted.was_refused:
-            break
-        refused += made != whole
-        unchanged += made == whole
-        expected = Answer(made.stdout, b"l6db: out of memory\n", 5) if made != whole else whole
-        is_front = whole.stdout.startswith(made.stdout) and made.stdout[-1:] in (b"", b"\n")
-        yield f"request {request} is refused", (expected, True), (made, is_front)
-    yield "some requests end a session", True, refused > 20
-    yield "requests for tables change nothing", True, unchanged > TABLES
-
-
-def interrupted(program: str, folder: Path) -> Iterator[Trial]:
-    """Reads that are interrupted change nothing."""
-    deck = str(folder / "nested.deck")
-    whole = answer_of([program, deck], input=SESSION)
-    library = library_of("interrupt", str(folder))
-    given = {"LD_PRELOAD": library, "INTERRUPT_READS": str(INTERRUPTIONS), "INTERRUPT_WRITES": "900"}
-    yield "interrupted reads", whole, answer_of([program, deck], input=SESSION, env={**os.environ, **given})
-
-
 def trials(program: str) -> Iterator[Trial]:
     """All trials."""
     with tempfile.TemporaryDirectory() as name:
@@ -569,7 +469,7 @@ def canaries() -> Iterator[Trial]:
         folder, wrong = Path(name), Path(name, "wrong")
         wrong.write_text("#!/bin/sh\ncat > /dev/null\necho wrong\nexit 77\n")
         wrong.chmod(0o755)
-        (folder / "nested.deck").write_bytes(NESTED)
+        yield from typed_canaries(folder)
         for group in (words, habits, one_list, page_sessions, free_lists):
             yield first_wrong(f"{group.__name__} on a wrong program", group(str(wrong), folder))
         quiet = Path(name, "quiet")
@@ -578,6 +478,8 @@ def canaries() -> Iterator[Trial]:
         yield few_pass("habits on a program that says something else", 1, habits(str(quiet), folder))
         # (what of the list is compared with pages alone passes)
         yield few_pass("the list of commands on it", 3 + COMMANDS, one_list(str(quiet), folder))
+        for group in (seeking, watching, lives, words_watched):
+            yield few_pass(f"{group.__name__} on it", 0, islice(group(str(quiet), folder), FIRST))
     states = states_of(LIST, ["KV"], Options())
     goals = [goal_of(states, 3, "c", Stop(statement, False)) for statement in (4, 5)]
     yield "where another breakpoint is", goals[0], goals[1]

@@ -21,6 +21,7 @@ from trials import Trial
 LIVES = 120  # decks of whose blocks one asks
 STEPS = 1_000  # of a run of one
 ASKED = 12  # questions of each deck
+STOPS = 700  # of those who watch words, at least, within runs
 KNOWN = re.compile(
     r"^(?:BLOCK \d+ (?:SIZE \d+|IS FREED)|NO BLOCK AT \d+, NOW OR BEFORE"
     r"|(?:got|written|freed) AT \d+\.\d+ AFTER \d+ STEPS)", re.MULTILINE)
@@ -91,6 +92,14 @@ def random_deck(chance: random.Random) -> bytes:
     return aliased_job(chance).stdin.partition(b"$COMMANDS\n")[0]
 
 
+def random_run(name: str) -> tuple[random.Random, bytes, list[Seen], list[int]]:
+    """Chance by a name, a random deck, the states of its run, and the places at which blocks begin in them."""
+    chance = random.Random(name)
+    deck = random_deck(chance)
+    states = states_of(deck)
+    return chance, deck, states, sorted({place for state in states for place in state.blocks}) or [1_024]
+
+
 def answered(program: str, folder: Path, deck: bytes, lines: list[str]) -> str:
     """What is answered to lines of a session with a deck."""
     (folder / "my.deck").write_bytes(deck)
@@ -100,29 +109,29 @@ def answered(program: str, folder: Path, deck: bytes, lines: list[str]) -> str:
 
 def lives(program: str, folder: Path) -> Iterator[Trial]:
     """The lives of blocks, at random states of random decks; the session stays where it is."""
+    told = set[str]()
     for number in range(LIVES):
-        chance = random.Random(f"lives {number}")
-        deck = random_deck(chance)
-        states = states_of(deck)
-        places = sorted({place for state in states for place in state.blocks}) or [1_024]
+        chance, deck, states, places = random_run(f"lives {number}")
         lines, wanted, numbers = [], [], []
         for _ in range(ASKED):
             at, place = chance.randrange(len(states)), chance.choice([*places, *places, *places, 2_047])
             lines += [f"goto {at}", f"who {place}", "stats"]
             wanted += life(states, at, place)
             numbers.append(at)
+        told |= {re.sub(r"\d+(\.\d+)?", "N", line) for line in wanted}
         made = answered(program, folder, deck, lines)
+        found = [int(it) for it in re.findall(r"^STATE (\d+) ", made, re.MULTILINE)]
         yield f"lives {number}", wanted, KNOWN.findall(made)
-        yield f"who stays, {number}", numbers, [int(it) for it in re.findall(r"^STATE (\d+) ", made, re.MULTILINE)]
+        yield f"who stays, {number}", (ASKED, numbers), (len(found), found)
+    yield "each kind of line that is printed of a block", {"BLOCK N SIZE N", "BLOCK N IS FREED", "NO BLOCK AT N, NOW OR BEFORE",
+                                        *(f"{did} AT N AFTER N STEPS" for did in ("got", "written", "freed"))}, told
 
 
 def words_watched(program: str, folder: Path) -> Iterator[Trial]:
     """Words of blocks that are watched, at random states of random decks, and with a chain beside them."""
+    within, kinds = 0, set[tuple[str, int]]()
     for number in range(LIVES):
-        chance = random.Random(f"words {number}")
-        deck = random_deck(chance)
-        states = states_of(deck)
-        places = sorted({place for state in states for place in state.blocks}) or [1_024]
+        chance, deck, states, places = random_run(f"words {number}")
         watched = [(chance.choice(places), chance.choice([0, 0, 1, 2])) for _ in range(chance.choice([1, 1, 2, 3]))]
         lines = [f"watch *{place}+{word}" if word else f"watch *{place}" for place, word in watched]
         goals = []
@@ -130,9 +139,12 @@ def words_watched(program: str, folder: Path) -> Iterator[Trial]:
             at, command = chance.randrange(len(states)), chance.choice(["c", "rc"])
             lines += [f"goto {at}", command, "stats"]
             goals.append(goal_of(states, at, command, watched))
+            kinds.add((command, len(watched)))
+            within += 0 < goals[-1] < len(states) - 1
         made = answered(program, folder, deck, lines)
         found = [int(it) for it in re.findall(r"^STATE (\d+) ", made, re.MULTILINE)]
-        yield f"words {number}: {lines[:len(watched)]}", goals, found
+        yield f"words {number}: {lines[:len(watched)]}", (ASKED, goals), (len(found), found)
+    yield "ways on and back, by one to three words, and stops within a run", (2 * 3, True), (len(kinds), within > STOPS)
 
 
 def goal_of(states: list[Seen], at: int, command: str, watched: list[tuple[int, int]]) -> int:

@@ -24,7 +24,7 @@ from cases import Case, read_cases
 from largest_jobs import MAX_OUTPUT, debug_job, full_store, longest_image, run_job
 from model import command, jobs, programs
 from refused_memory import library_of
-from trials import Trial, at_least, is_asked_for, report
+from trials import Trial, at_least, few_pass, is_asked_for, report
 
 HERE = Path(__file__).resolve().parent
 EXAMPLES = HERE.parents[1] / "examples"
@@ -300,12 +300,20 @@ def trials(program: str) -> Iterator[Trial]:
     yield from at_least(130, "cut images", cut_images(program))
     yield from at_least(2, "the largest jobs", largest(program))
     yield from sizes_of_the_largest()
+    yield from little_room()
     yield from at_least(4, "the longest image", longest(program))
     yield from at_least(6, "failing devices", failing_devices(program))
     with tempfile.TemporaryDirectory() as folder:
         yield from at_least(30, "help", helps(program, folder))
         yield from at_least(30, "limited files", limited_files(program, folder))
         yield from at_least(5, "interrupted devices", interrupted_devices(program, folder))
+
+
+def little_room() -> Iterator[Trial]:
+    """A program that is tried may ask for a MiB of memory, and not for 64."""
+    for size, status in (("1M", 0), ("64M", 1)):
+        asked = ["dd", f"bs={size}", "count=1", "if=/dev/zero", "of=/dev/null"]
+        yield f"a program that asks for {size}", status, answer_of(asked).status
 
 
 def script_that(folder: str, name: str, does: str) -> str:
@@ -316,21 +324,33 @@ def script_that(folder: str, name: str, does: str) -> str:
     return str(program)
 
 
+# Blocks of documents that do not show a session of two commands with an answer each.
+WRONG_DOCUMENTS = {
+    "without its deck": ["other\n", "si\none\n", "end\ntwo\n"], "before its deck": ["si\none\nend\ntwo\n", "deck\n"],
+    "without an answer": ["deck\n", "si\none\n", "end\n"], "without an answer between": ["deck\n", "si\nend\ntwo\n"],
+    "with another answer": ["deck\n", "si\none\n", "end\nthree\n"], "with one answer more": ["deck\n", "si\none\n", "end\ntwo\nthree\n"],
+    "without a command": ["deck\n", "si\none\n", "two\n"], "without any": ["deck\n"],
+}
+
+
 def canaries() -> Iterator[Trial]:
-    """The first trial of each group, on a program that is wrong; cases that are wrong in one part."""
+    """Each group, on a program that is wrong, where only what documents show passes; cases that are wrong in one part."""
     with tempfile.TemporaryDirectory() as folder:
         refused = next(case for case in read_cases() if case.expected.status == 4 and not case.has_free_text)
         yield from case_trials(script_that(folder, "other-line", "echo wrong >&2; exit 4"), [refused])
         yield from case_trials(script_that(folder, "other-status", "cat /dev/null; exit 5"), [refused])
         first = script_that(folder, "wrong", "echo wrong; exit 77")
-        groups = [
-            case_trials(first, list(islice(read_cases(), 1))), examples(first), sessions(first),
-            large_stores(first), cut_images(first), largest(first), longest(first), failing_devices(first),
-            helps(first, folder), limited_files(first, folder), interrupted_devices(first, folder),
+        yield next(case_trials(first, list(islice(read_cases(), 1))))
+        decks, listed = (len(list(EXAMPLES.glob(f"*.{kind}"))) for kind in ("deck", "listing"))
+        groups: list[tuple[int, Iterator[Trial]]] = [
+            (decks + listed + 1, examples(first)), (len(list(EXAMPLES.glob("*.session"))), sessions(first)),  # (of documents)
+            (0, large_stores(first)), (0, cut_images(first)), (0, largest(first)), (0, longest(first)), (0, failing_devices(first)),
+            (0, helps(first, folder)), (0, limited_files(first, folder)), (0, interrupted_devices(first, folder)),
         ]
-        for group in groups:
-            name, expected, actual = next(group)
-            yield f"of a wrong program, {name}", expected, actual
+        for most, group in groups:
+            yield few_pass("on a wrong program", most, group)
+    for what, blocks in WRONG_DOCUMENTS.items():
+        yield f"a session in a document {what}", True, shows(blocks, "deck\n", "si\nend\n", "one\ntwo\n")
 
 
 if __name__ == "__main__":

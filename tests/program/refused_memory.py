@@ -19,7 +19,7 @@ import sys
 import tempfile
 from collections.abc import Iterable, Iterator
 from dataclasses import dataclass
-from itertools import chain
+from itertools import chain, cycle
 from pathlib import Path
 from typing import Any
 
@@ -44,6 +44,7 @@ UNIT_MARKS = 16  # of a unit: what of it was used
 CHECKPOINTS = 16  # that are kept at most
 STRIDE = 4_096  # states from one checkpoint to the next
 DOUBLED = 2  # a list that grows by doubling has at most so many times the room that it needs
+ROOMY = 5  # a room that is so many times what is held, or more, shows nothing
 WORDS = 4_096  # requested for the words of the command line, and given back before the job is read: each option takes some
 
 
@@ -142,14 +143,14 @@ def known_requests(folder: str) -> Iterator[Trial]:
 class WrongShim(Shim):
     """A shim that finds fault with each run of a program that answers as it must."""
 
-    def __init__(self, right: Answer[bytes], requests: Requests) -> None:
-        self._right, self._requests = right, requests
+    def __init__(self, right: Answer[bytes], *requests: Requests) -> None:
+        self._right, self._requests = right, cycle(requests)
 
     def run(
         self, args: list[str], stdin: bytes, refused: int = 0, has_little_room: bool = True
     ) -> tuple[Answer[bytes], Requests | None]:
-        """The right answer, and the wrong requests."""
-        return self._right, self._requests
+        """The right answer, and the wrong requests, those of each run after another."""
+        return self._right, next(self._requests)
 
 
 def memory_canaries() -> Iterator[Trial]:
@@ -157,9 +158,10 @@ def memory_canaries() -> Iterator[Trial]:
     right, room = answer(b"5"), Room("a canary", ["run"], b"", answer(b"5"), 1_000)
     peak = PIECE + DOUBLED * (room.needed + 1)
     for what, requests in (
-        ("too much at one time", Requests(1, False, 0, peak + 1, 1)),
-        ("too much in all", Requests(1, False, 0, 1, DOUBLED * peak + WORDS + 1)),
-        ("a block that is kept", Requests(1, False, 1, 1, 1)),
+        ("too much at one time", Requests(1, False, 0, peak + 1, peak)),
+        ("too much in all", Requests(1, False, 0, peak, DOUBLED * peak + WORDS + 1)),
+        ("a room that is far too large", Requests(1, False, 0, peak // (ROOMY + 1), peak)),
+        ("a block that is kept", Requests(1, False, 1, peak, peak)),
     ):
         name, expected, actual = room.trial(WrongShim(right, requests))
         yield f"{what}: {name}", expected, actual
@@ -167,8 +169,12 @@ def memory_canaries() -> Iterator[Trial]:
     kept = WrongShim(right, Requests(1, False, 1, 1, 1))
     yield next(refused_memory(kept, case))
     yield next(equal_requests(kept, [case]))
-    answered = WrongShim(answer(b"4"), Requests(1, True, 0, 1, 1))
-    yield next(refused_memory(answered, case))
+    alike = Case('{"name": "another canary", "stdout": "5", "status": 0, "memory": "a group"}')
+    yield list(equal_requests(WrongShim(right, *(Requests(made, False, 0, 1, 1) for made in (1, 2))), [case, alike]))[1]
+    for told, left in (
+        (answer(b"4"), 0), (answer(b"4", OUT_OF_MEMORY, 5), 0), (answer(b"", b"l6: out of paper\n", 5), 0), (answer(b"", OUT_OF_MEMORY, 5), 1),
+    ):
+        yield next(refused_memory(WrongShim(told, Requests(1, True, left, 1, 1)), case))
 
 
 def memory_trials(program: str, cases: list[Case]) -> Iterator[Trial]:
@@ -255,7 +261,7 @@ class Room:
         most_in_all = DOUBLED * peak + WORDS + self.requested_again
         if requests:
             bounds = [("at one time", requests.peak, peak), ("in all", requests.total, most_in_all)]
-            excess = [f"{many} {what}, of {most}" for what, many, most in bounds if many > most]
+            excess = [f"{many} {what}, of {most}" for what, many, most in bounds if many > most or most > ROOMY * many]
             too_many = ", ".join(excess)
         actual = Measured(ended, requests.kept if requests else None, None, too_many)
         return f"room for {self.name}", Measured(self.expected, 0), actual

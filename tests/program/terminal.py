@@ -35,6 +35,8 @@ AFTER_A_KEY = 0.3  # seconds: a signal right after a key, before readline waits 
 FEW, MANY = 6, 50  # commands that are stopped at random moments
 GOES_ON = b" s; Ctrl-C stops the command, not the session"
 MOST_SOURCES = 1_000  # files that are obeyed for one line
+IN_VIEW = 9  # cards at the top of the terminal
+LISTED = 50  # words of three letters or more in the help, at least
 SPIN = b"""* COUNTS FOR EVER
        (A,E,0)
 LOOP   (A,A,1)(B,E,A)
@@ -62,7 +64,7 @@ class Terminal(Pseudoterminal):
         """The trial that a text is shown after keys, and that the prompt comes then."""
         self.give(keys)
         shown = self.until(text)
-        if text in shown:
+        if self.was_found:
             shown += self.until(PROMPT)
         return name, (True, True), (text in shown, shown.endswith(PROMPT))
 
@@ -94,13 +96,25 @@ class Bench:
         terminal.until(PROMPT)
         return terminal
 
+    def engines(self) -> set[str]:
+        """The engines of its sessions that run. (Other steps run the same program meanwhile.)"""
+        found, own = set(), os.fsencode(f"XDG_STATE_HOME={self.folder / 'state'}")
+        for folder in Path("/proc").glob("[0-9]*"):
+            with contextlib.suppress(OSError):
+                if os.readlink(folder / "exe") == os.path.realpath(self.engine) and own in (folder / "environ").read_bytes().split(b"\0"):
+                    found.add(folder.name)
+        return found
+
 
 def editing(bench: Bench) -> Iterator[Trial]:
     """Lines are completed, repeated, dropped, searched and kept."""
     terminal = bench.begin()
     yield terminal.has("Tab completes a command", b"finis\t\r", b"No call waits")
     yield terminal.has("Tab completes a label", b"b NEX\t\r", b"Breakpoint at 5 NEXT")
-    yield terminal.has("Tab completes a chain", b"p K\t\x15p L\r", b"L = 0")
+    terminal.give(b"p K\t")
+    shown = terminal.until(b"KV")
+    yield "Tab completes a chain", [True, True], [it in shown for it in (b"KN", b"KV")]
+    yield terminal.has("a chain in the place of another one", b"\x15p L\r", b"L = 0")
     yield terminal.has("an empty line", b"si\r", b"AFTER 1 STEPS")
     yield terminal.has("an empty line repeats the last one", b"\r", b"AFTER 2 STEPS")
     terminal.give(b"quit")
@@ -143,8 +157,9 @@ def files(bench: Bench) -> Iterator[Trial]:
     said_of_it = b"The deck has errors; the session is still with the one before.", b"error"
     yield "a deck with errors", [True, True], [it in shown for it in said_of_it]
     yield terminal.has("a deck with errors leaves the session", b"stats\r", b"STATE 6 ")
-    bench.deck.write_bytes(LIST)
-    yield terminal.has("run reads the deck again", b"run\r", b"again")
+    for word, deck in ((b"run", LIST), (b"r", b"* IT IS ANOTHER\n" + LIST), (b"restart", LIST)):
+        bench.deck.write_bytes(deck)
+        yield terminal.has(f"{word.decode()} reads the deck again", word + b"\r", f"Read {bench.deck} again".encode())
     terminal.answer(b"b SHOW")
     bench.deck.write_bytes(LIST.replace(b"SHOW", b"SHED"))
     yield terminal.has("a breakpoint whose label is gone", b"reload\r", b"No place there for: break SHOW\r\n")
@@ -180,7 +195,7 @@ def sources(bench: Bench) -> Iterator[Trial]:
     last.write_text("b MAKE\nquit\nb SHOW\n", "utf-8")
     terminal = bench.begin()
     shown = terminal.answer(f"source {outer}".encode())
-    yield "a file that names another one", True, shown.find(b"Breakpoint at 1 MAKE") < shown.find(b"Breakpoint at 4 SHOW")
+    yield "a file that names another one", True, 0 <= shown.find(b"Breakpoint at 1 MAKE") < shown.find(b"Breakpoint at 4 SHOW")
     yield "a comment in a file", False, b"a comment" in shown
     shown = terminal.answer(f"source {own}".encode())
     said = b"own.lines: 1000 files were obeyed before it; no more are, for one line"
@@ -205,6 +220,7 @@ def stops(bench: Bench) -> Iterator[Trial]:
     terminal.answer(b"tb 0")
     terminal.answer(b"goto 200000000")
     before = settled(terminal)
+    yield "the session before Ctrl-C", (b"STATE 200000000 ", 3), (before[0], len(before[1]))
     terminal.give(b"rc\r")
     yield "it is shown that a command goes on", True, GOES_ON in terminal.until(GOES_ON)
     terminal.give(b"\x03")
@@ -223,13 +239,14 @@ def stops(bench: Bench) -> Iterator[Trial]:
             for line in (b"delete", b"watch C", b"tb 0", b"goto 200000000"):
                 terminal.answer(line)
         yield f"the session after a command that may be stopped, {number}", before, settled(terminal)
-    engines = processes_of(bench.engine)
+    engines = bench.engines()
+    yield "an engine before its front end is killed", 1, len(engines)
     os.kill(terminal.process, signal.SIGKILL)
     terminal.status()
     end = time.monotonic() + SECONDS
-    while processes_of(bench.engine) & engines and time.monotonic() < end:
+    while bench.engines() & engines and time.monotonic() < end:
         time.sleep(0.05)
-    yield "an engine whose front end was killed", set(), processes_of(bench.engine) & engines
+    yield "an engine whose front end was killed", set(), bench.engines() & engines
 
 
 def stopped_reloads(bench: Bench) -> Iterator[Trial]:
@@ -240,7 +257,8 @@ def stopped_reloads(bench: Bench) -> Iterator[Trial]:
     terminal = bench.begin("--steps", "1000000000", "-x", begun, bench.spin)
     terminal.answer(b"tb 0")
     terminal.answer(b"goto 999999999")
-    before, engines = settled(terminal), processes_of(bench.engine)
+    before, engines = settled(terminal), bench.engines()
+    yield "the session before it is stopped", (b"STATE 999999999 ", 1, 1), (before[0], len(before[1]), len(engines))
     bench.spin.write_bytes(SPIN.replace(b"COUNTS", b"WILL COUNT"))
     for name, further in (("on the way to its state", b""), ("as it begins", b"end\nstart\n" * 5)):
         begun.write_bytes(further)
@@ -248,7 +266,7 @@ def stopped_reloads(bench: Bench) -> Iterator[Trial]:
             stopped = stopped_at_once(terminal, line, b"Stopped: the session is still with the deck before")
             yield f"Ctrl-C in {line.decode()}, {name}", True, stopped
             yield f"the session after {line.decode()}, {name}", before, settled(terminal)
-            yield f"the engines after {line.decode()}, {name}", engines, processes_of(bench.engine)
+            yield f"the engines after {line.decode()}, {name}", engines, bench.engines()
     yield "Ctrl-C in a command of a file", True, stopped_at_once(terminal, f"source {lines}".encode(), b"as before")
     yield "the line after it", False, b"break 1" in terminal.answer(b"info")
     terminal.end()
@@ -330,6 +348,18 @@ def terminals(bench: Bench) -> Iterator[Trial]:
         terminal.end()
 
 
+def cards_in_view(bench: Bench) -> Iterator[Trial]:
+    """The cards in view are those around the one that comes next, and no row is empty at either end of the deck."""
+    deck = bench.folder / "twenty.deck"
+    deck.write_bytes(b" (A,A,1)\n" * 20)
+    terminal = bench.begin(deck)
+    for line, first in ((b"view", 1), (b"until 3", 1), (b"until 9", 6), (b"until 19", 12)):
+        rows = dict(re.findall(rb"\x1b\[(\d+);1H\x1b\[2K>? *(\d+) ", terminal.answer(line)))
+        expected = {row: first + row - 1 for row in range(1, IN_VIEW + 1)}
+        yield f"the cards in view after {line.decode()}", expected, {int(row): int(card) for row, card in rows.items()}
+    terminal.end()
+
+
 def faults(bench: Bench) -> Iterator[Trial]:
     """What is wrong with a deck or the words is said as the engine says it."""
     bad = bench.folder / "bad.deck"
@@ -393,6 +423,12 @@ def launcher(bench: Bench) -> Iterator[Trial]:
     terminal.give(b"view\r\x04")
     yield "./l6db --echo at a terminal is the engine alone", True, b"Not a command" in terminal.until(b"Not a command")
     terminal.status()
+    for given in (["--prompt", "next>"], ["--prompt=next>"]):
+        terminal = Terminal([words[0], *given, words[1]], **state)
+        terminal.until(b"next>")
+        terminal.give(b"view\r\x04")
+        yield f"./l6db {' '.join(given)} at a terminal is the engine alone", True, b"Not a command" in terminal.until(b"Not a command")
+        terminal.status()
     terminal = Terminal([words[0], "--batch", "-x", "/dev/null", words[1]], **state)
     shown, status = terminal.until(b"AFTER 0 STEPS"), terminal.status()
     yield "./l6db --batch at a terminal", (True, 0), (b"AT 0.0 AFTER 0 STEPS" in shown and PROMPT not in shown, status)
@@ -447,25 +483,17 @@ def words_of_completion(bench: Bench) -> Iterator[Trial]:
         for column in (row[1:24], row[40:62]) if row.startswith(" ") and len(row) > 40 else (row[1:24],):
             if row.startswith(" "):
                 listed |= {it for it in re.split(r"[|, ]+", column.partition("[")[0]) if re.fullmatch(r"[a-z-]{3,}", it)}
-    yield "words of the help that are not completed", set(), listed - set(known) - {"fin"}
-    given = "".join(f"help {word}\n" for word in known).encode()
+    yield "words of the help that are not completed", (set(), True), (listed - set(known) - {"fin"}, len(listed) > LISTED)
+    # (of one word that is none it is said, so what is said of a word that is none is seen)
+    given = "".join(f"help {word}\n" for word in [*known, "nothing"]).encode()
     ran = subprocess.run([bench.engine, "--echo", str(bench.deck)], input=given, capture_output=True)
-    yield "words that the engine does not know", 0, ran.stdout.count(b"No such command")
-
-
-def processes_of(program: str) -> set[str]:
-    """The processes of a program."""
-    kept = set()
-    for folder in Path("/proc").glob("[0-9]*"):
-        with contextlib.suppress(OSError):
-            if os.readlink(folder / "exe") == os.path.realpath(program):
-                kept.add(folder.name)
-    return kept
+    yield "words that the engine does not know", (1, len(known) + 1), (
+        ran.stdout.count(b"\nNot a command: "), ran.stdout.count(b"\nhelp "))
 
 
 def trials(engine: str, is_whole: bool) -> Iterator[Trial]:
     """All trials, each group with a folder of its own."""
-    groups = (editing, files, sources, stops, stopped_reloads, terminals, faults, launcher, without_readline, words_of_completion)
+    groups = (editing, files, sources, stops, stopped_reloads, terminals, cards_in_view, faults, launcher, without_readline, words_of_completion)
     asked = groups_asked_for(group.__name__ for group in groups)
     for group in (it for it in groups if it.__name__ in asked):
         with tempfile.TemporaryDirectory(prefix="l6-terminal-") as folder:
@@ -473,7 +501,44 @@ def trials(engine: str, is_whole: bool) -> Iterator[Trial]:
                 yield f"{group.__name__}: {name}", expected, actual
 
 
+class Showing(Terminal):
+    """A terminal that shows these texts, each where one waits for something, and ends with a status of its own."""
+
+    def __init__(self, *texts: bytes) -> None:
+        self._texts, self.was_found = list(texts), True
+
+    def give(self, keys: bytes) -> None:
+        """Takes keys, and does nothing."""
+
+    def until(self, text: bytes) -> bytes:
+        """The next text, whatever is waited for."""
+        return self._texts.pop(0) if self._texts else b""
+
+    def status(self) -> int:
+        """The status."""
+        return 77
+
+
+def canaries() -> Iterator[Trial]:
+    """What is shown is another text, or has no prompt; and sessions, ends and answers that are others."""
+    yield Showing(b"other", PROMPT).has("a text that is not shown", b"", b"text")
+    yield Showing(b"text", b"other").has("a prompt that does not come", b"", b"text")
+    yield "an end with another status", 0, Showing().end()
+    one, *others = (
+        settled(Showing(b"", state, b"", stops)) for state, stops in (
+            (b"STATE 1 ", b"break 1\n"), (b"STATE 2 ", b"break 1\n"), (b"STATE 1 ", b"break 2\n"), (b"STATE 1 ", b"break 1\nwatch A\n")))
+    for number, other in enumerate(others):
+        yield f"another session, {number}", one, other
+    for shown in ((b"other", PROMPT), (b"text", b"other")):
+        yield f"a command that is not stopped: {shown[0].decode()}", True, stopped_at_once(Showing(b"", *shown), b"", b"text")
+    for shown in ((b"Breakpoint at 4 SHOW", b""), (b"Breakpoint at 1 MAKE", b"Breakpoint at 4 SHOW"), (b"", b"")):
+        yield f"ended by other lines: {shown[0].decode()}", (True, False), ended_by(Showing(*shown), b"")[:2]
+    yield "ended with another status", 0, ended_by(Showing(b"Breakpoint at 1 MAKE"), b"")[2]
+    for words in ("echo b", "echo a >&2", "echo a; exit 1"):
+        yield f"another answer: {words}", said(["sh", "-c", "echo a"]), said(["sh", "-c", words])
+
+
 if __name__ == "__main__":
     if len(sys.argv) < 2 or sys.argv[2:] not in ([], ["--whole"]):
         sys.exit(__doc__)
-    sys.exit(report(trials(str(Path(sys.argv[1]).resolve()), bool(sys.argv[2:]))))
+    sys.exit(report(trials(str(Path(sys.argv[1]).resolve()), bool(sys.argv[2:])), canaries()))

@@ -21,7 +21,7 @@ from answers import Answer, answer, answer_of
 from model.faults import Fault
 from model.store import UNIT, Store
 from model.trace import MOST_CALLS, answer_of_trace, pieces_of
-from trials import Trial, first_wrong, report
+from trials import Trial, first_wrong, groups_asked_for, named, report
 
 EXAMPLES = Path(__file__).resolve().parents[2] / "examples"
 RANDOM = 300  # random traces
@@ -235,6 +235,13 @@ def long_trace(count: int) -> str:
     return "".join(f"get b{number % 50} {1 + number % 60}\nfree b{number % 50}\n" for number in range(count // 2))
 
 
+def long_answer(count: int) -> str:
+    """What is answered to it, by hand: each block is the first of the first unit, which is whole before it is got and after it is freed."""
+    levels = [(number % 50, number % 60, (number % 60).bit_length()) for number in range(count // 2)]
+    return "".join(f"get b{name} {1 + words}: 1024, level {level}, halved {10 - level}\nfree b{name}: joined {10 - level}\n"
+                   for name, words, level in levels)
+
+
 def by_hand(program: str) -> Iterator[Trial]:
     """The table."""
     for name, text, stdout, stderr, status in BY_HAND:
@@ -263,22 +270,24 @@ def long_traces(program: str) -> Iterator[Trial]:
     """As many calls as a trace may have, and more; a trace that is too long."""
     text = long_trace(MOST_CALLS)
     actual = traced_with_room(program, text)
-    yield "a million calls", (0, MOST_CALLS), (actual.status, actual.stdout.count(b"\n"))
+    yield "a million calls", answer(long_answer(MOST_CALLS).encode()), actual
     actual = traced_with_room(program, text + "lists\n")
     yield "a call more than a million", answer(b"", b"l6: line 1000001: too many calls\n", 4), actual
     actual = traced(program, b"#" * 16_777_217)
     yield "a trace that is too long", answer(b"", b"l6: job too long\n", 4), actual
 
 
-GROUPS: tuple[Callable[[str], Iterator[Trial]], ...] = (
-    by_hand, examples, at_random, planted, in_c, judged_traces.trials, long_traces,
-)
+GROUPS: tuple[Callable[[str], Iterator[Trial]], ...] = (by_hand, examples, at_random, planted, in_c, long_traces)
+CHEAP = (judged_traces.judged_by_hand, judged_traces.summary, judged_traces.modelled)  # of those of judged traces
 
 
 def trials(program: str) -> Iterator[Trial]:
-    """All trials."""
-    for group in GROUPS:
-        yield from group(program)
+    """All trials, or those of the group that is asked for."""
+    groups = {group.__name__: group for group in (*GROUPS, *judged_traces.GROUPS)}
+    asked = groups_asked_for(groups)
+    for name, group in groups.items():
+        if name in asked:
+            yield from named(name, group(program))
 
 
 def canaries() -> Iterator[Trial]:
@@ -287,11 +296,12 @@ def canaries() -> Iterator[Trial]:
         wrong = Path(folder, "wrong")
         wrong.write_text("#!/bin/sh\ncat > /dev/null\necho wrong\nexit 77\n")
         wrong.chmod(0o755)
-        for group in (*GROUPS, judged_traces.summary, judged_traces.modelled):
+        for group in (*GROUPS, *CHEAP):
             try:
                 yield first_wrong(f"{group.__name__} on a wrong program", group(str(wrong)))
             except ValueError as error:  # (what it prints is no JSON)
                 yield f"{group.__name__} on a wrong program", "", str(error)
+        yield from judged_traces.judged_canaries(str(wrong), Path(folder))
 
 
 if __name__ == "__main__":

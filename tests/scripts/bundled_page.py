@@ -15,11 +15,14 @@ import sys
 from collections.abc import Iterator
 from contextlib import ExitStack
 from importlib.machinery import SourceFileLoader
+from itertools import islice
 from pathlib import Path
 from types import ModuleType
+from typing import Any
 from unittest import mock
 
 sys.path.insert(0, str(Path(__file__).resolve().parents[1] / "harness"))
+from bundled_where import bundled_where
 from trials import Trial, report
 
 sys.dont_write_bytecode = True  # (no folder is made beside web/bundle)
@@ -63,23 +66,34 @@ def trials(page: bytes) -> Iterator[Trial]:
     yield "dist/l6.html (web/bundle makes it)", page.decode("utf-8"), script.page_of(module).decode("utf-8")
     yield from new_manual()
     yield from sections()
+    yield from bundled_where(bundler())
 
 
 def new_manual() -> Iterator[Trial]:
     """The manual that a page has is taken again only as long as docs/ is the same."""
     script = bundler()
-    own = json.loads(script.part_of(PAGE.read_bytes(), b"texts"))
-    for sum_of_pages, is_kept in ((own["manualOf"], True), ("0" * 64, False)):
-        old = json.dumps({"manual": "an old one", "manualOf": sum_of_pages}).encode()
-        with ExitStack() as patched:
-            for where, name, stand_in in (
-                (script, "part_of", lambda *_, old=old: old), (script.sys, "argv", ["bundle"]),
-                (script.subprocess, "run", made_by_nobody), (script.shutil, "which", lambda _: "here"),
-            ):
-                patched.enter_context(mock.patch.object(where, name, stand_in))
-            made = script.manual()
-        actual = made["manual"] == "an old one", made["manualOf"]
-        yield f"whether the manual is kept, {is_kept}", (is_kept, own["manualOf"]), actual
+    own = json.loads(script.part_of(PAGE.read_bytes(), b"texts"))["manualOf"]
+    for sum_of_pages, is_kept in ((own, True), ("0" * 64, False)):
+        made = made_where(script, sum_of_pages)
+        yield f"whether the manual is kept, {is_kept}", (is_kept, own), (made["manual"] == "an old one", made["manualOf"])
+    for page in script.MANUAL:
+        made = made_where(script, own, f"{page}.md")
+        yield f"whether the manual is kept after a change of {page}", False, made["manual"] == "an old one"
+
+
+def made_where(script: ModuleType, sum_of_pages: str, changed: str = "") -> dict[str, Any]:
+    """The manual where a page has an old one of pages with this sum, and one file of docs/ has changed since."""
+    old = json.dumps({"manual": "an old one", "manualOf": sum_of_pages}).encode()
+    read = Path.read_text
+    with ExitStack() as patched:
+        for where, name, stand_in in (
+            (script, "part_of", lambda *_: old), (script.sys, "argv", ["bundle"]),
+            (script.subprocess, "run", made_by_nobody), (script.shutil, "which", lambda _: "here"),
+            (Path, "read_text", lambda file, *more: read(file, *more) + "more" * (file.name == changed)),
+        ):
+            patched.enter_context(mock.patch.object(where, name, stand_in))
+        made: dict[str, Any] = script.manual()
+    return made
 
 
 def made_by_nobody(*_: object, **__: object) -> subprocess.CompletedProcess[str]:
@@ -103,7 +117,7 @@ def canaries(page: bytes) -> Iterator[Trial]:
     """Pages with a defect each: no module, another one, another script, another style."""
     yield next(trials(page.replace(b"module", b"")))
     for old, new in ((b"</script>", b";</script>"), (b"</style>", b" </style>"), (b"<title>", b"<title>.")):
-        yield list(trials(page.replace(old, new, 1)))[1]
+        yield next(islice(trials(page.replace(old, new, 1)), 1, None))
 
 
 if __name__ == "__main__":

@@ -22,3 +22,12 @@ def further_programs(checkout: Checkout) -> Iterator[Trial]:
         for command in (checkout.top / name, checkout.folder / f"a link to {name}"):
             actual = checkout.run_words([str(command), *words], Path("/"), path, input="typed")
             yield f"the words of {command.name}", expected, actual
+        yield f"{name} with a path for cd", Answer(checkout.made_of, "", 0), by_path_for_cd(checkout, name)
+
+
+def by_path_for_cd(checkout: Checkout, name: str) -> Answer[str]:
+    """The answer of a script by a relative path, where cd would look for that elsewhere first, and say where it went."""
+    elsewhere = checkout.folder / "elsewhere"
+    (elsewhere / checkout.top.name).mkdir(parents=True, exist_ok=True)
+    path = {"PATH": str(checkout.folder / "plain"), "CDPATH": str(elsewhere)}
+    return checkout.run_words([f"{checkout.top.name}/{name}"], checkout.top.parent, path)

@@ -8,10 +8,10 @@ they print if an answer is wrong.
 """
 from __future__ import annotations
 
-import json
 import os
 import re
 import shutil
+import signal
 import subprocess
 import sys
 import tempfile
@@ -22,10 +22,9 @@ from unittest import mock
 
 sys.path[:0] = [str(Path(__file__).resolve().parents[1] / it) for it in ("harness", "program", "systems")]
 from answers import Answer, answer_of
-from checkout import TOP, Checkout
-from node_lines import node_lines
-from ran_lines import Ran, lines_with_code
-from trials import ONLY, Trial, at_least, few_pass, first_wrong, groups_asked_for, report, tally
+from checkout import TOP, WRONG, Checkout, Idle
+from lines_of_node import lines_that_are_run
+from trials import ONLY, Trial, at_least, few_pass, first_wrong, groups_asked_for, named, report, tally
 
 import same_answers
 
@@ -46,6 +45,7 @@ STEPS = [
     "tests/systems/library.py",
     "tests/pages/documents.py",
     "tests/pages/facts.py",
+    "tests/pages/sentences.py",
     "tests/pages/table_decks.py",
     "tests/pages/format_pages.py",
     "tests/pages/named.py",
@@ -66,6 +66,12 @@ PACKAGES = {  # without which tests are left out
     "lintian", "firefox-esr", "node-typescript", "python3-markdown", "rlwrap", "pkgconf", "neovim",
     "emacs-nox", "vim-nox",
 }
+OF_EDITORS = {  # for which .ci/run asks dpkg
+    "elpa-eglot", "elpa-lsp-mode", "elpa-dap-mode", "vim-ale", "golang-github-google-go-dap-dev", "golang-go",
+}
+LIBRARIES = {"x86_64": "musl-dev", "aarch64": "musl-dev:arm64"}  # of C, by processor
+# What else tests look for: it is there, or tests are left out with a word.
+FURTHER_TOOLS = {"bash", "c++", "cc", "cargo", "cp", "dpkg-deb", "find", "git", "go", "nm", "rt", "rustc", "sort", "yes"}
 # Scripts of tests/ that ./test does not call.
 NOT_A_STEP = {"adapter.py", "compiled_edits.py", "hostile.py", "python_lines.py", "same_answers.py", "wrong_answers.py"}
 
@@ -90,11 +96,37 @@ case $how in
     a-failed-trial) echo "99999 passed, 1 failed" ;;
     three-failed-trials) echo "99999 passed, 3 failed"; exit 1 ;;
     a-status) echo "99999 passed, 0 failed"; exit 1 ;;
+    a-status-of-*) echo "99999 passed, 0 failed"; exit "${how##*-}" ;;
     no-count) echo "99999 passed" ;;
     no-trial) echo "0 passed, 0 failed" ;;
+    until=*) # another step has begun
+        times=0
+        while ! grep -q "${how#until=}" "$STAND_IN/steps" && [ "$times" -lt 100 ]; do
+            sleep 0.1
+            times=$((times + 1))
+        done
+        [ "$times" -lt 100 ] && echo "99999 passed, 0 failed"
+        ;;
+    before=*) # another step begins
+        sleep 1
+        grep -q "${how#before=}" "$STAND_IN/steps" || echo "99999 passed, 0 failed"
+        ;;
+    works) # for two seconds of processor time
+        trap "echo '99999 passed, 0 failed'; exit 0" XCPU
+        ulimit -S -t 2
+        while :; do :; done
+        ;;
+    sleeps) echo $$ >> "$STAND_IN/sleepers"; exec sleep 60 ;;
 esac
 """
-HOWS = ["a-failed-trial", "a-status", "no-count", "no-trial", "fewer-trials", "more-trials", "skipped-and-more"]
+HOWS = ["a-failed-trial", "a-status", "no-count", "no-trial", "fewer-trials", "more-trials", "skipped-and-more",
+        "a-status-of-2", "a-status-of-137", "a-status-of-139"]
+# The options that steps have in ./test, and in the gate, where nothing is left out.
+OPTIONS = {
+    (): {"run": ["--check"], "all.py": ["--quick"], "ports.py": ["--quick"], "release.py": ["--quick"]},
+    ("--prove",): {"run": ["--check"], "library.py": ["--prove"], "all.py": ["--unless-passed"], "terminal.py": ["--whole"], "editors.py": ["--whole"],
+                   "edits.py": ["--sample"]},
+}
 NONE = "none of these steps"
 COUNTED = 99_999  # trials that the stand-in has
 COUNTS = "".join(
@@ -126,13 +158,21 @@ class Gate:
         self.counts = self.top / "tests/counts"
         self.checkout.write("tests/counts", COUNTS)
 
-    def test(self, *words: str, fails: str = NONE, how: str = "well") -> tuple[Answer[str], list[str]]:
-        """What ./test answers if a step fails, and what it called."""
+    def test(self, *words: str, fails: str = NONE, how: str = "well", late: int = 140) -> tuple[Answer[str], list[str]]:
+        """What ./test answers if a step fails, and what it called. The gate is late after so many minutes."""
         log = self.checkout.state / "steps"
         log.unlink(missing_ok=True)
-        actual = self.checkout.run("test", *words, FIRST=str(self.first), FAILS=fails, HOW=how)
+        actual = self.checkout.run("test", *words, FIRST=str(self.first), FAILS=fails, HOW=how, L6_LATE=str(late))
         calls = log.read_text().splitlines() if log.exists() else []
         return actual, [call for call in calls if MODULE not in call]
+
+    def begin(self, fails: str, how: str) -> subprocess.Popen[bytes]:
+        """Begins ./test, in which some steps fail."""
+        path = f"{self.first}:{self.checkout.folder / 'whole'}:{os.environ['PATH']}"
+        given = {"PATH": path, "STAND_IN": str(self.checkout.state), "FAILS": fails, "HOW": how}
+        # (what runs beside a shell, as this may, ignores that one is interrupted, and so would ./test)
+        return subprocess.Popen([self.top / "test"], env=os.environ | given, stdout=subprocess.DEVNULL, stderr=subprocess.DEVNULL,
+                                preexec_fn=lambda: signal.signal(signal.SIGINT, signal.SIG_DFL))
 
     def names(self, *words: str) -> list[str]:
         """The names of the steps, as they are said when each begins."""
@@ -152,8 +192,9 @@ def last_line(actual: Answer[str]) -> tuple[str, int | str]:
 
 
 def known_in(steps: list[str], calls: list[str]) -> list[str]:
-    """The steps that calls are, in the order of the calls."""
-    return [next((step for step in steps if step in call), call) for call in calls]
+    """The steps that calls are, in the order of the steps, since some run side by side; then calls that are none."""
+    found = [next((step for step in steps if step in call), call) for call in calls]
+    return sorted(found, key=lambda it: steps.index(it) if it in steps else len(steps))
 
 
 def steps_that_fail(gate: Gate) -> Iterator[Trial]:
@@ -165,6 +206,7 @@ def steps_that_fail(gate: Gate) -> Iterator[Trial]:
         yield f"{name} with all steps well", (f"{count} passed, 0 failed", 0), last_line(actual)
         yield f"the steps of {name}", steps, known_in(steps, calls)
         yield f"what {name} says of failures then", [], failures_in(actual)
+        yield f"the options of the steps of {name}", OPTIONS[words], options_of(calls)
     # (each step fails once, beside others that do not)
     for which in range(2):
         yield from steps_fail(gate, (), STEPS[which::2], HOWS[which])
@@ -183,6 +225,49 @@ def steps_fail(gate: Gate, words: tuple[str, ...], failing: list[str], how: str)
     expected = (f"{len(failing)} failed", 1, wrong, len(names))
     what = f"./test {' '.join(words)}: {how} of {', '.join(failing)}"
     yield what, expected, (count, actual.status, failures_in(actual), len(calls))
+
+
+def steps_side_by_side(gate: Gate) -> Iterator[Trial]:
+    """Steps run beside others, but for those that take all processors. What each prints is shown whole, in their order."""
+    name = "a step that ends when the next one has begun"
+    actual, _ = gate.test(fails="tests/program/program.py", how="until=tests/program/model_jobs.py")
+    yield name, 0 if (os.cpu_count() or 1) > 1 else actual.status, actual.status
+    counts = [line for line in actual.stdout.splitlines() if line.endswith(" failed")]
+    yield f"what is shown after {name}", ["99999 passed, 0 failed"] * len(STEPS), counts[:-1]
+    for step, following in ((STEPS[-4], STEPS[-3]), (STEPS[-3], STEPS[-2]), (STEPS[-2], STEPS[-1])):
+        actual, _ = gate.test(fails=step, how=f"before={following}")
+        yield f"{step} ends before {following} begins", 0, actual.status
+
+
+def interruptions(gate: Gate) -> Iterator[Trial]:
+    """Where ./test is interrupted, its steps end, too."""
+    for kind, status in ((signal.SIGINT, 130), (signal.SIGTERM, 143)):
+        sleepers = gate.checkout.state / "sleepers"
+        sleepers.write_text("")
+        begun = gate.begin(fails="tests/", how="sleeps")
+        end = time.monotonic() + 60
+        while not sleepers.read_text() and time.monotonic() < end:
+            time.sleep(0.1)
+        begun.send_signal(kind)
+        yield f"the status after {kind.name}", status, begun.wait(120)
+        while any(map(runs, sleepers.read_text().split())) and time.monotonic() < end:
+            time.sleep(0.1)
+        slept = sleepers.read_text().split()
+        yield f"what runs after {kind.name}", (True, []), (bool(slept), [it for it in slept if runs(it)])
+
+
+def runs(process: str) -> bool:
+    """Whether a process runs. (One that has ended may be listed for a while, without its words.)"""
+    try:
+        return bool(Path("/proc", process, "cmdline").read_bytes())
+    except OSError:
+        return False
+
+
+def options_of(calls: list[str]) -> dict[str, list[str]]:
+    """The options of each script that is called with some, by its name."""
+    found = {Path(call.split()[1]).name: re.findall(r"(?<= )--\S+", call) for call in calls}
+    return {name: options for name, options in found.items() if options}
 
 
 def failures_in(actual: Answer[str]) -> list[str]:
@@ -234,7 +319,7 @@ def words_of_the_command(gate: Gate) -> Iterator[Trial]:
     actual, calls = gate.test("--only", "no word")
     yield "--only a trial", ([step for step in STEPS[1:] if step != "web/tests/all.py"], 0), (known_in(STEPS, calls), actual.status)
     yield "--only a trial, what is asked for", True, all(call.endswith(" of no word") for call in calls)
-    actual, calls = gate.test("--only", "no word", fails="tests/", how="no-trial")
+    actual, _ = gate.test("--only", "no word", fails="tests/", how="no-trial")
     yield "--only a trial of one step", 0, actual.status
     actual, _ = gate.test("--only", "no such trial", fails=" ", how="no-trial")
     yield "--only a trial that is not there", ("0 passed, 1 failed", 1), last_line(actual)
@@ -246,6 +331,9 @@ def words_of_the_command(gate: Gate) -> Iterator[Trial]:
     _, calls = gate.test("--prove", "--anew")
     tried = [call for call in calls if "edits.py" in call]
     yield "--anew", ["python3 tests/edits/edits.py --sample --anew"], tried
+    _, calls = gate.test("--prove", late=0)
+    tried = [call for call in calls if "edits.py" in call or "defects.py" in call]
+    yield "a gate that is late", ["python3 tests/defects/defects.py --few", "python3 tests/edits/edits.py"], tried
 
 
 def counts(gate: Gate) -> Iterator[Trial]:
@@ -287,6 +375,10 @@ def another_kit(gate: Gate) -> Iterator[Trial]:
     yield "with the kit of dist/", [], [call for call in calls if compares in call]
     took = re.search(r"^test: \d+ minutes, \d+ processor minutes$", actual.stderr, re.MULTILINE)
     yield "the minutes that the gate has taken", True, took is not None
+    for step, name in (("tests/pages/facts.py", "facts"), (GATE_STEPS[-1], "edits")):
+        actual, _ = gate.test("--prove", fails=step, how="works")
+        longest = re.search(r"^test: processor seconds of the longest steps: (\w+) [23]\b", actual.stderr, re.MULTILINE)
+        yield f"the step that took longest, where {name} works", name, longest and longest[1]
     gate.checkout.set_version("another kit")
     actual, calls = gate.test("--prove")
     said = "\ndist/l6 was made by a toolchain, and this is another kit\n" in actual.stdout
@@ -354,18 +446,22 @@ def harnesses() -> Iterator[Trial]:
         last_line(passed),
         "a canary" in passed.stdout,
     )
+    also_wrong = harness("right stdout", 1)
+    yield "a canary that passes, and a trial that fails", (("0 passed, 2 failed", 1), True), (
+        last_line(also_wrong), SHOWN["stdout"] in also_wrong.stdout)
     room = answer_of(["sh", "-c", "ulimit -v"]).stdout
     yield "the addresses that a program has, in KiB", b"49152\n", room
     begun = time.monotonic()
     yield "a program that does not end", "none within 1 seconds", answer_of(["sleep", "60"], seconds=1).status
     yield "how long one waits for it", True, time.monotonic() - begun < 15
+    yield "a program that a signal kills", -15, answer_of(["sh", "-c", "kill $$"]).status
     few = list(at_least(2, "trials", [("one", 1, 1)]))
     yield "one trial where two are the least", [("one", 1, 1), ("at least 2 trials: trials", 2, 1)], few
     yield "one trial that is wrong", ("b", 1, 2), first_wrong("what", [("a", 1, 1), ("b", 1, 2)])
     for most, is_missed in ((0, True), (1, False)):
-        canary = few_pass("what", most, [("a", 1, 1), ("b", 1, 2)])
+        canary = few_pass("what", most, [("a", [1], [1]), ("b", [1], [2])])  # (equal lists are not the same one)
         yield f"one of two passes, where {most} may", is_missed, canary[1] == canary[2]
-    yield "no trial that is wrong", True, tally([first_wrong("what", [("a", 1, 1)])], is_shown=False) == (1, 0)
+    yield "no trial that is wrong", True, tally([first_wrong("what", [("a", [1], [1])])], is_shown=False) == (1, 0)
     for asked, expected in (("", {"a", "b"}), ("b: it", {"b"}), ("b:", {"b"}), ("c: it", {"a", "b"}), ("b", {"a", "b"})):
         with mock.patch.dict(os.environ, {ONLY: asked}):
             yield f"the groups that are made for {asked!r}", expected, groups_asked_for(["a", "b"])
@@ -385,44 +481,31 @@ def scripts() -> Iterator[Trial]:
     yield "what .ci/run ends in", True, re.fullmatch(r"exec .*/\.\./test\" --prove", last) is not None
 
 
-SCRIPT = "// What is run\nfirst();\nif (asked) {\n  /* one\n  two */\n  second();\n}\nlast();\n"
-
-
-def lines_that_are_run() -> Iterator[Trial]:
-    """Which lines of a script have code, and which were run, by what V8 counts; and that too few are seen."""
-    yield "lines with code", {2, 3, 6, 8}, lines_with_code(SCRIPT)
-    with tempfile.TemporaryDirectory() as folder:
-        room, script, program = (Path(folder, name) for name in ("room", "script.js", "program.mjs"))
-        room.mkdir()
-        script.write_text(SCRIPT)
-        program.write_text(f"begin();\n{SCRIPT}end();\n")
-        text = program.read_text()
-        block = (text.index("{"), text.index("}") + 1)
-        for count, expected in ((0, ["6: second();"]), (1, [])):
-            ranges = [(0, len(text), 1), (*block, count)]
-            functions = [{"ranges": [dict(zip(("startOffset", "endOffset", "count"), it)) for it in ranges]}]
-            counted = {"functions": functions, "url": program.resolve().as_uri()}
-            (room / f"coverage-{count}.json").write_text(json.dumps({"result": [counted]}))
-            ran = Ran(text)
-            ran.add(functions)
-            seen = ran.lines() & {it + 1 for it in lines_with_code(SCRIPT)}
-            yield f"lines that were run, with a part that was run {count} times", {3, 4, 9} | ({7} if count else set()), seen
-            made = {name: actual for name, _, actual in node_lines(room, {program: (script,)})}
-            yield f"lines that are missed with {count}", [expected], [it for name, it in made.items() if "per cent" in name]
+def tools_of_tests() -> Iterator[Trial]:
+    """Each tool that tests look for is known: by a wrong name of one its tests would all be left out."""
+    scripts = (it for folder in ("tests", "web/tests") for it in (TOP / folder).rglob("*.py"))
+    looked = {name for script in scripts for name in re.findall(r'which\("([^"]+)"\)', script.read_text("utf-8"))}
+    installed = set(re.findall(r" ([\w-]+):[\w-]+", (TOP / ".ci/run").read_text("utf-8")))
+    yield "what tests look for and .ci/run does not install", FURTHER_TOOLS, looked - installed
 
 
 def machine_of_the_gate() -> Iterator[Trial]:
     """.ci/run installs the packages whose tools are missing, where it may, and is then the gate, whose status it has."""
-    libraries = {"musl-dev": "x86_64", "musl-dev:arm64": "aarch64"}
-    missing = {it for it, processor in libraries.items() if not Path(f"/usr/lib/{processor}-linux-musl/libc.a").is_file()}
-    for user, expected in ((0, PACKAGES | missing), (1_000, set())):
+    everything = PACKAGES | OF_EDITORS | {*LIBRARIES.values()}
+    cases: list[tuple[int, str, set[str]]] = [
+        (0, "none", everything), (1_000, "none", set()),
+        *((0, processor, everything - {package}) for processor, package in LIBRARIES.items()),
+    ]
+    for user, processor, expected in cases:
         with tempfile.TemporaryDirectory() as folder:
             room, log = Path(folder), Path(folder, "log")
-            for name in (".ci", "bin"):
-                (room / name).mkdir()
-            shutil.copy(TOP / ".ci/run", room / ".ci/run")
+            library = room / f"lib/{processor}-linux-musl/libc.a"
+            for needed in (room / ".ci", room / "bin", library.parent):
+                needed.mkdir(parents=True)
+            library.touch()
+            (room / ".ci/run").write_text((TOP / ".ci/run").read_text("utf-8").replace("/usr/lib/", f"{room}/lib/"), "utf-8")
             for name, text in {"test": "echo the gate with $*; exit 3", "bin/id": f"echo {user}",
-                               "bin/apt-get": f'echo "$*" >> "{log}"', "bin/dpkg": "exit 0"}.items():
+                               "bin/apt-get": f'echo "$*" >> "{log}"', "bin/dpkg": '[ "$1" != -s ]'}.items():
                 (room / name).write_text(f"#!/bin/sh\n{text}\n")
                 (room / name).chmod(0o755)
             for name in ("bash", "dirname"):
@@ -430,8 +513,8 @@ def machine_of_the_gate() -> Iterator[Trial]:
             path = {"PATH": str(room / "bin")}
             ended = subprocess.run([room / "bin/bash", room / ".ci/run"], env=path, capture_output=True, text=True)
             calls = log.read_text().splitlines() if log.exists() else []
-            yield f"packages that the user {user} installs", expected, {it.split()[-1] for it in calls if "install" in it.split()}
-            yield f"what the user {user} has then", ("the gate with --prove", 3), (ended.stdout.splitlines()[-1], ended.returncode)
+            yield f"packages that the user {user} installs, with the library of {processor}", expected, {it.split()[-1] for it in calls if "install" in it.split()}
+            yield f"what the user {user} has then, with the library of {processor}", ("the gate with --prove", 3), (ended.stdout.splitlines()[-1], ended.returncode)
 
 
 def answers_of_another_kit() -> Iterator[Trial]:
@@ -450,10 +533,10 @@ def answers_of_another_kit() -> Iterator[Trial]:
 
 
 ON_CHECKOUTS: tuple[Callable[[Gate], Iterator[Trial]], ...] = (
-    steps_that_fail, counts, other_programs, another_kit, no_program, words_of_the_command,
+    steps_that_fail, steps_side_by_side, interruptions, counts, other_programs, another_kit, no_program, words_of_the_command,
 )
 ALONE: tuple[Callable[[], Iterator[Trial]], ...] = (
-    harnesses, scripts, lines_that_are_run, machine_of_the_gate, answers_of_another_kit,
+    harnesses, scripts, lines_that_are_run, tools_of_tests, machine_of_the_gate, answers_of_another_kit,
 )
 
 
@@ -467,10 +550,39 @@ def trials() -> Iterator[Trial]:
         yield from named(alone.__name__, alone())
 
 
-def named(group: str, trials: Iterator[Trial]) -> Iterator[Trial]:
-    """Trials with the name of their group."""
-    return ((f"{group}: {name}", expected, actual) for name, expected, actual in trials)
+class OtherGate(Gate):
+    """A checkout with a ./test that does nothing, and answers something else."""
+
+    def __init__(self, whole: Gate, folder: Path) -> None:
+        self.checkout = Idle(whole.checkout, folder)
+        self.top, self.counts = self.checkout.top, self.checkout.top / "tests/counts"
+
+    def test(self, *words: str, fails: str = NONE, how: str = "well", late: int = 140) -> tuple[Answer[str], list[str]]:
+        """Another answer, and another call."""
+        return Answer(*WRONG), ["python3 nothing"]
+
+    def begin(self, fails: str, how: str) -> subprocess.Popen[bytes]:
+        """Begins what is not ended by a signal, and ends otherwise."""
+        sleepers = self.checkout.state / "sleepers"
+        return subprocess.Popen(["sh", "-c", f"trap '' INT TERM; echo $$ >> '{sleepers}'; sleep 1; exit 77"])
+
+    def names(self, *words: str) -> list[str]:
+        """Other names of the steps."""
+        return ["nothing"] * len(GATE_STEPS)
+
+
+# How many trials of groups expect that nothing runs, is made, named or compared.
+PASSING = {"steps_that_fail": 2, "interruptions": 2, "another_kit": 2}
+
+
+def canaries() -> Iterator[Trial]:
+    """A ./test that does nothing: groups see it."""
+    with tempfile.TemporaryDirectory() as folder:
+        whole = Gate(Path(folder) / "checkout")
+        for group in ON_CHECKOUTS:
+            other = OtherGate(whole, Path(folder) / group.__name__)
+            yield few_pass(f"{group.__name__} with a ./test that does nothing", PASSING.get(group.__name__, 0), group(other))
 
 
 if __name__ == "__main__":
-    sys.exit(report(trials()))
+    sys.exit(report(trials(), canaries()))

@@ -62,11 +62,52 @@ def idle_names(function: Function) -> Iterator[tuple[int, str]]:
     for one in given:
         if one.arg not in used and not one.arg.startswith("_") and one.arg not in ("self", "cls"):
             yield one.lineno, f"{function.name} does not look at {one.arg}"
+    # (also those of loops, of `with`, and of what is taken apart: where a trial forgets its actual value, that has such a name)
+    firsts: dict[str, int] = {}
     for node in ast.walk(function):
-        if isinstance(node, ast.Assign) and len(node.targets) == 1 and isinstance(node.targets[0], ast.Name):
-            name = node.targets[0].id
-            if name not in used | outer and not name.startswith("_"):
-                yield node.lineno, f"{function.name} does not use {name}"
+        if isinstance(node, ast.Name) and isinstance(node.ctx, ast.Store) and node.id not in used | outer and not node.id.startswith("_"):
+            firsts.setdefault(node.id, node.lineno)
+    for name, line in firsts.items():
+        yield line, f"{function.name} does not use {name}"
+    yield from overwritten(function, outer)
+
+
+Event = tuple[tuple[int, int], str, bool, tuple[int, ...]]  # a place in the text, a name, whether it is set, and the blocks around
+
+
+def overwritten(function: Function, outer: set[str]) -> Iterator[tuple[int, str]]:
+    """What a function sets, and sets once more in the same block or in one around it before anything has looked at it."""
+    events: list[Event] = []
+    read_events(function.body, (), events)
+    hidden = {it.id for one in ast.walk(function) if one is not function and isinstance(one, (ast.FunctionDef, ast.Lambda))
+              for it in ast.walk(one) if isinstance(it, ast.Name)} | outer
+    events.sort(key=lambda it: (it[0], it[2]))
+    for at, (place, name, is_set, blocks) in enumerate(events):
+        if not is_set or name in hidden or name.startswith("_"):
+            continue
+        later = next((it for it in events[at + 1:] if it[1] == name), None)
+        if later and later[2] and later[0] != place and later[3] == blocks[:len(later[3])]:
+            yield place[0], f"{function.name} sets {name} again, and nothing has looked at it"
+
+
+def read_events(block: list[ast.stmt], around: tuple[int, ...], events: list[Event]) -> None:
+    """Notes where the statements of a block set names and look at them, in the order in which that is done."""
+    blocks = (*around, id(block))
+    for statement in block:
+        inner = [it for it in ast.iter_child_nodes(statement) if isinstance(it, (ast.stmt, ast.ExceptHandler, ast.match_case))]
+        parts = [it for it in ast.iter_child_nodes(statement) if it not in inner]
+        own = {it for one in parts for it in ast.walk(one)}
+        local = {it for one in own if isinstance(one, ast.comprehension) for it in ast.walk(one.target)}
+        last = max(((it.end_lineno or 0, it.end_col_offset or 0) for it in parts if isinstance(it, ast.expr)), default=(0, 0))
+        for it in own - local:
+            if isinstance(it, ast.Name):
+                # (a loop may set nothing, so what was set before it counts)
+                is_set = isinstance(it.ctx, ast.Store) and not isinstance(statement, (ast.AugAssign, ast.For))
+                events.append((last if is_set else (it.lineno, it.col_offset), it.id, is_set, blocks))
+        for name in ("body", "orelse", "finalbody"):
+            read_events(getattr(statement, name, []), blocks, events)
+        for handler in getattr(statement, "handlers", []):
+            read_events(handler.body, blocks, events)
 
 
 def own_returns(function: Function) -> list[ast.Return]:
@@ -167,10 +208,22 @@ def never_called(texts: Iterable[str]) -> list[str]:
     return sorted({it.name for it in functions if words[it.name] == 1 and not it.decorator_list and not it.name.startswith("__")})
 
 
+def without_canaries(tree: ast.Module) -> set[str]:
+    """The groups of trials of a script on pages for which it has no page with a defect; none if it is no such script."""
+    functions = {it.name: it for it in tree.body if isinstance(it, ast.FunctionDef)}
+    if not {"trials", "canaries"} <= functions.keys():
+        return set()
+    calls = [it.value for it in ast.walk(functions["trials"]) if isinstance(it, ast.YieldFrom) and isinstance(it.value, ast.Call)]
+    groups = {it.func.id for it in calls if isinstance(it.func, ast.Name)}
+    return groups - {it.id for it in ast.walk(functions["canaries"]) if isinstance(it, ast.Name)}
+
+
 # Code of each kind, as a trial that sees nothing has it.
 IDLE = (
     "def one() -> bool:\n    return True\n", "def one(it: str) -> bool:\n    if it:\n        return True\n    return True\n",
     "def one(it, other):\n    return it\n", "def one(it):\n    found = it\n    return 1\n", "for it in []:\n    print(it)\n",
+    "def one(it):\n    a, found = it\n    return a\n", "def one(it):\n    for a in it:\n        print(1)\n",
+    "def one(it):\n    a, b = it\n    print(a)\n    a, b = it\n    print(a, b)\n",
     "for it in rows[:0]:\n    print(it)\n", "print([it for it in ()])\n", "for it in range(0):\n    print(it)\n",
     "for n, it in enumerate(rows[2:2]):\n    print(it)\n", "if False:\n    print(1)\n", "print(a or True)\n", "print(True or a)\n",
     "print(len(a) >= 0)\n", "print(len(a) > -1)\n", "print('' in a)\n", "print(1 == 1)\n",
@@ -183,6 +236,7 @@ IDLE = (
 BUSY = (
     "def one(it: str) -> bool:\n    return it == ''\n", "def one(_it):\n    return 1\n", "for it in rows[:1]:\n    print(it)\n",
     "print(a or '')\n", "print(len(a) >= 1)\n", "while True:\n    print(1)\n", "def one(it):\n    raise ValueError\n",
+    "def one(it):\n    if it:\n        a = 1\n    else:\n        a = 2\n    return a\n",
     "class A(B):\n    def one(self, it):\n        return 1\n", "def one():\n    yield 'a', True, False\n",
     "def one(a, b):\n    yield 'a', (0, a), (a, b)\n", "for it in range(3, 4):\n    print(it)\n",
     "def one(a, b):\n    yield 'a', a, b[:len(a)]\n", "def one(a, b):\n    yield 'a', a, [it for it in b if it in a]\n",
@@ -196,6 +250,8 @@ def own_trials() -> Iterator[Trial]:
         yield f"idle: {text!r}", 1, len(list(idle(ast.parse(text))))
     for text in BUSY:
         yield f"not idle: {text!r}", [], list(idle(ast.parse(text)))
+    script = "def trials():\n    yield from one()\n    yield from two()\n\ndef canaries():\n    yield canary('a', one)\n"
+    yield "a group without a canary", {"two"}, without_canaries(ast.parse(script))
     yield "a function that nothing calls", ["other"], never_called(["def one():\n    return 1\n", "def other():\n    return one()\n"])
 
 
@@ -205,5 +261,7 @@ def trials(top: Path, files: list[Path]) -> Iterator[Trial]:
     for name, text in texts.items():
         found = sorted(idle(ast.parse(text)))
         yield f"what does nothing in {name}", KNOWN.get(name, []), [what if name in KNOWN else f"{line}: {what}" for line, what in found]
+        if name.startswith("tests/pages/"):
+            yield f"groups without a canary in {name}", set(), without_canaries(ast.parse(text))
     yield "functions that nothing calls", [], never_called(texts.values())
     yield from own_trials()

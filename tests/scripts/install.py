@@ -75,7 +75,7 @@ def announced(place: str, *further: str) -> str:
     return f"installed {programs}, manual pages, completions, examples and licences\n"
 
 
-def shipped() -> Iterator[Trial]:
+def shipped(_checkout: Checkout) -> Iterator[Trial]:
     """The list of what is shipped has each file of the folders that are shipped, once, with its mode."""
     rows = [line.split() for line in (TOP / "tools/shipped").read_text().splitlines() if line[:1] not in ("#", "")]
     found = [(row[3], sorted(str(it.relative_to(TOP)) for it in TOP.glob(row[3])))
@@ -215,6 +215,15 @@ def companions(checkout: Checkout) -> Iterator[Trial]:
         said = f"{announced(what, *further)}{what}/bin is not on the path\n"
         yield f"with a further program {what}", Answer(said, "", 0), actual
         yield f"what is installed with one {what}", bool(further), (checkout.folder / what / "lib/l6/l6db").is_file()
+    program.write_text(text)
+    second = program.with_name("l6db-static")
+    second.write_text(text + "# linked in another way\n")
+    second.chmod(0o755)
+    checkout.run_words(["sh", "-c", noted.replace("dist/l6db", second.relative_to(checkout.top).as_posix())], checkout.top,
+                       {"PATH": str(checkout.folder / "plain")})
+    actual = checkout.run("install", "two", has_rt=False)
+    yield "with two further programs that start", Answer(f"{announced('two', 'l6db')}two/bin is not on the path\n", "", 0), actual
+    yield "which of two is installed", text, (checkout.folder / "two/lib/l6/l6db").read_text()
 
 
 def libraries(checkout: Checkout) -> Iterator[Trial]:
@@ -244,8 +253,11 @@ def libraries(checkout: Checkout) -> Iterator[Trial]:
     yield "libraries beside a program for Node", announced(f"{folder}/usr"), actual.stdout
     folder = checkout.folder / "with libraries"
     keep_compiled(folder)
+    for archive in (checkout.top / "dist").glob("*.a"):  # (who removes libraries need not have them any more)
+        archive.unlink()
     actual = checkout.run("install", "--uninstall", "/usr", has_rt=False, DESTDIR=str(folder))
     yield "their removal", (0, []), (actual.status, names_in(folder))
+    yield "the folders after their removal", [], sorted(it.name for it in folder.rglob("*") if it.name != "usr")
 
 
 def keep_compiled(folder: Path) -> None:
@@ -291,11 +303,14 @@ def removals(checkout: Checkout) -> Iterator[Trial]:
     (checkout.folder / "alone/bin/l6").symlink_to("nowhere")
     checkout.run("install", "--uninstall", "alone", has_rt=False)
     alone = checkout.folder / "alone"
-    yield "a removal of all leaves the prefix", (True, []), (alone.is_dir(), sorted(alone.iterdir()))
+    yield "a removal of all leaves the prefix", [], sorted(alone.iterdir()) if alone.is_dir() else "no prefix"
     stage: dict[str, Any] = {"DESTDIR": str(checkout.folder / "a stage")}
     checkout.run("install", "/usr", has_rt=False, **stage)
     actual = checkout.run("install", "--uninstall", "/usr", has_rt=False, **stage)
     yield "a removal from a stage", (0, []), (actual.status, names_in(checkout.folder / "a stage"))
+    (checkout.folder / "odd/bin/l6").mkdir(parents=True)
+    actual = checkout.run("install", "--uninstall", "odd", has_rt=False)
+    yield "a removal where a folder has the program's place", Answer("", "install: odd/bin/l6 is a folder\n", 1), actual
 
 
 def running_program(checkout: Checkout) -> Iterator[Trial]:
@@ -384,13 +399,13 @@ def damaged_program(checkout: Checkout) -> Iterator[Trial]:
 
 
 GROUPS: tuple[Group, ...] = (
-    arguments, installations, staged, further_programs, companions, libraries, removals, running_program, refusals, damaged_program,
+    shipped, arguments, installations, staged, further_programs, companions, libraries, removals, running_program, refusals,
+    damaged_program,
 )
 
 
 def trials() -> Iterator[Trial]:
     """All trials, each group on a checkout of its own."""
-    yield from shipped()
     yield from on_checkouts((group,) for group in GROUPS)
 
 

@@ -20,10 +20,10 @@ from typing import Any
 
 sys.path.insert(0, str(Path(__file__).resolve().parents[1] / "harness"))
 from answers import Answer
-from checkout import PROGRAMS, TOP, UNPROVED, WARNED, Checkout, Group, on_checkouts, on_terminal
-from further_scripts import further_programs
+from checkout import PROGRAMS, TOP, UNPROVED, WARNED, Checkout, Group, Idle, on_checkouts, on_terminal, without_files
+from further_scripts import by_path_for_cd, further_programs
 from making_dist import making_all, making_dist
-from trials import Trial, first_wrong, report
+from trials import Trial, few_pass, first_wrong, report
 
 SOURCES = (
     "crates.txt", "HANDLES", "crates/l6_word/src/lib.rt", "crates/l6_word/specs/Lib.antt",
@@ -89,11 +89,12 @@ def changed_sources(checkout: Checkout) -> Iterator[Trial]:
     os.utime(first, ns=(times, times))
     yield from builds_again(checkout, "an edit that keeps size and time", stale(f"{name} has changed"))
     first.write_bytes(before)
-    for name in SOURCES[2:]:
-        checkout.write(name, "-- edited\n")
-    said = [f"{name} has changed" for name in sorted(SOURCES[2:])[:3]]
-    expected = stale(*said, f"and {len(SOURCES) - 5} more files differ")
-    yield "several edits", Answer("", expected + NO_RT, 1), checkout.run("l6", has_rt=False)
+    whole = {name: (checkout.top / name).read_bytes() for name in sorted(SOURCES[2:])}
+    said = [f"{name} has changed" for name in whole]
+    for count, more in ((3, ""), (4, "and 1 more files differ"), (6, "and 3 more files differ")):
+        for name in [*whole][:count]:
+            checkout.write(name, "-- edited\n")
+        yield f"{count} edits", Answer("", stale(*said[:3], *([more] if more else ())) + NO_RT, 1), checkout.run("l6", has_rt=False)
 
 
 def other_files(checkout: Checkout) -> Iterator[Trial]:
@@ -342,14 +343,25 @@ def notes(checkout: Checkout) -> Iterator[Trial]:
         actual = checkout.run("l6", has_rt=False, XDG_CACHE_HOME=place)
         kept = checkout.folder / "kept/l6/l6"
         yield f"notes in a folder that is {'absolute' if is_noted else 'relative'}", (expected, is_noted), (actual, kept.is_file())
+    checkout.run("l6", has_rt=False, XDG_CACHE_HOME="", HOME=str(checkout.folder / "other home"))
+    yield "notes where the folder for caches is empty", True, (checkout.folder / "other home/.cache/l6/l6").is_file()
+    (quick / "xargs").unlink()
+    (quick / "mv").write_text("#!/bin/sh\nexit 1\n")
+    (quick / "mv").chmod(0o755)
+    actual = checkout.run("l6", has_rt=False, XDG_CACHE_HOME=str(checkout.folder / "unmoved"), FIRST=str(quick))
+    yield "a note that can't be put in its place", (expected, ["l6"]), (actual, [it.name for it in (checkout.folder / "unmoved").rglob("*")])
     source, program = checkout.top / "crates/l6_word/src/lib.rt", checkout.top / "dist/l6"
-    for file in (source, program):
+    noting = 'top=$1; . "$top/tools/program.sh"; . "$top/tools/note.sh"; note_of "$2"'
+    for file in (*(checkout.top / it for it in SOURCES), program):
+        # (a note of the files as they are, since those before were changed and written back)
+        note.write_text(checkout.run_words(["sh", "-c", noting, "sh", str(checkout.top), str(program)], checkout.folder,
+                                           {"PATH": str(checkout.folder / "plain")}).stdout)
         before, times = file.read_bytes(), os.stat(file).st_mtime_ns
         file.write_bytes(before.swapcase())
         os.utime(file, ns=(times, times))
         actual = checkout.run("l6", **home)
         right = (f"this is l6-static\n{checkout.made_of}", 0) if file == program else ("", 1)
-        yield f"{file.name} changed behind the note", right, (actual.stdout, actual.status)
+        yield f"{file.relative_to(checkout.top)} changed behind the note", right, (actual.stdout, actual.status)
         file.write_bytes(before)
     source.with_name("new.rt").write_text("")
     yield "a new file behind the note", 1, checkout.run("l6", **home).status
@@ -361,7 +373,6 @@ def notes(checkout: Checkout) -> Iterator[Trial]:
     elsewhere.parent.mkdir()
     elsewhere.write_text(program.read_text().replace("#!/bin/sh\n", "#!/bin/sh\nit=elsewhere\n", 1))
     elsewhere.chmod(0o755)
-    noting = 'top=$1; . "$top/tools/program.sh"; . "$top/tools/note.sh"; note_of "$2"'
     note.write_text(checkout.run_words(["sh", "-c", noting, "sh", str(checkout.top), str(elsewhere)], checkout.folder,
                                        {"PATH": os.environ["PATH"]}).stdout)
     yield "its lines", [f"{checkout.top}", f"{elsewhere}"], lines_of(note)[::2]
@@ -405,6 +416,7 @@ def places(checkout: Checkout) -> Iterator[Trial]:
             words = [shell, "sh"] if shell == "busybox" else [shell]
             yield f"by {shell}", expected, checkout.run_words([*words, "./l6"], checkout.top, {})
     yield "with an empty environment", expected, checkout.run_words(["./l6"], checkout.top, {})
+    yield "with a path for cd", expected, by_path_for_cd(checkout, "l6")
     yield "from the root", expected, checkout.run_words([f"{checkout.top}/l6"], Path("/"), {})
     for file in sorted(checkout.top.rglob("*")):
         file.chmod(0o555 if file.is_dir() or os.access(file, os.X_OK) else 0o444)
@@ -435,7 +447,7 @@ def keyboard(checkout: Checkout) -> Iterator[Trial]:
     yield "the verbs of the help", [*VERBS, "help"], listed
     said = "l6: reading the job from the keyboard, up to Ctrl-D at the beginning of a line\n"
     calls: tuple[tuple[list[str], str | None], ...] = (
-        *(([verb], said) for verb in VERBS), (["debug", "--store", "2"], said), (["run", "--help"], ""),
+        *(([verb], said) for verb in VERBS), (["debug", "--store", "2"], said), (["run", "--help"], ""), (["run", "-h"], ""),
         (["--version"], None), (["nonsense"], ""), ([], ""),
     )
     for words, why in calls:
@@ -493,10 +505,17 @@ def trials() -> Iterator[Trial]:
     yield from on_checkouts((group,) for group in GROUPS)
 
 
+# How many trials of groups look at files that they have written themselves, or at another program.
+PASSING = {"notes": 1, "keyboard": 1, "making_dist": 2}
+
+
 def canaries() -> Iterator[Trial]:
-    """With an ./l6 that runs nothing, or what is in dist/ whatever it is, groups see it."""
+    """With an ./l6 that runs nothing, or what is in dist/ whatever it is, or scripts that do nothing, groups see it."""
     with tempfile.TemporaryDirectory() as folder:
         checkout = Checkout(Path(folder) / "checkout")
+        for group in (it for it in GROUPS if it is not terminals):
+            made = without_files(group(Idle(checkout, Path(folder) / group.__name__)))
+            yield few_pass(f"{group.__name__} with scripts that do nothing", PASSING.get(group.__name__, 0), made)
         checkout.write("l6", "#!/bin/sh\necho wrong\nexit 77\n")
         for group in (distributed, other_systems, other_files, keyboard, terminals):
             yield first_wrong(f"{group.__name__} with an ./l6 that runs nothing", group(checkout))

@@ -29,15 +29,17 @@ def making_dist(checkout: Checkout) -> Iterator[Trial]:
     dist = checkout.top / "dist"
     before = {file.name: file.read_bytes() for file in dist.iterdir()}
     yield "what is in dist/", IN_DIST, sorted(before)
-    actual = checkout.run("tools/make_dist")
+    rooms = checkout.folder / "rooms of make_dist"
+    rooms.mkdir()
+    actual = checkout.run("tools/make_dist", TMPDIR=str(rooms))
     again = {file.name: file.read_bytes() for file in dist.iterdir()}
-    yield "dist/ made again", (0, before), (actual.status, again)
+    yield "dist/ made again", (0, before, []), (actual.status, again, [it.name for it in rooms.iterdir()])
     for crate in ("l6", "l6_word", "l6_tests"):
         text = (checkout.top / f"crates/{crate}/specs/Lib.antt").read_text()
         checkout.write(f"crates/{crate}/specs/Lib.antt", UNPROVED)
-        actual = checkout.run("tools/make_dist")
+        actual = checkout.run("tools/make_dist", TMPDIR=str(rooms))
         again = {file.name: file.read_bytes() for file in dist.iterdir()}
-        yield f"{crate} is not proved", (1, before), (actual.status, again)
+        yield f"{crate} is not proved", (1, before, []), (actual.status, again, [it.name for it in rooms.iterdir()])
         checkout.write(f"crates/{crate}/specs/Lib.antt", text)
     checkout.write("crates/l6/src/main.rt", "another main\n")
     (dist / "l6").chmod(0o600)

@@ -61,8 +61,8 @@ CONSTANTS = {
 COUNTS = {
     ("l6_instructions/src/layout.rt", "count"):
         ("let count = entries.last().copied().unwrap_or(0).saturating_add(2);", "actions of a program"),
-    ("l6_image/src/decode/statements.rt", "count as usize"):
-        ("count: u64,", "rows that the first word of a statement announces, 63 at most"),
+    ("l6_image/src/decode/listed.rt", "count.min(MAX_OPERATIONS as u64) as usize"):
+        ("count: u64,", "tests or operations that the first word of a statement announces, 63 at most"),
     ("l6_draw/src/walk.rt", "blocks"):
         ("fn new(alloc: Global, end: Place, blocks: usize)", "blocks of the store"),
     ("l6_draw/src/walk.rt", "end as usize"):
@@ -100,6 +100,7 @@ KEPT_ALLOCATORS = {
     "l6_store_c/src/loose.rt": {"of", "into_box"},  # (a box that is taken apart, and made again)
     "l6_offset_c/src/loose.rt": {"of", "into_box"},  # (the same)
     "l6ed/src/wire.rt": {"new", "send"},  # (a wire makes the frames that are sent, and is gone with the talk)
+    "l6_lsp/src/group_candidates.rt": None,  # (changes of a group make their list, and are gone with the answer)
     "l6_card/src/reader.rt": None,  # (a reader makes the lists of a deck, and is gone once the deck is read)
 }
 STRUCT = re.compile(r"^(?:pub(?:\([^)]*\))? )?struct \w+[^;{]*\{.*?^\}", re.M | re.S)
@@ -180,8 +181,9 @@ def is_counted(code: str, word: re.Match[str], file: str) -> bool:
         return given[0] == "alloc" and len([it for it in given if it]) == 2 and is_count(given[1], code, file)
     if word[0] == ENTRIES_WORD:
         given = parts_in(code[word.end():], ";")
+        allocators = {"alloc", *(["self.alloc"] if file in KEPT_ALLOCATORS else [])}
         # (a list that names its entries, one by one, has the room of what goes into it)
-        return given[0] == "alloc" and (len(given) == 2 or len(given) == 3 and is_count(given[2], code, file))
+        return given[0] in allocators and (len(given) == 2 or len(given) == 3 and is_count(given[2], code, file))
     return False
 
 

@@ -20,14 +20,17 @@ import sys
 import tarfile
 import tempfile
 from collections.abc import Callable, Iterator
+from itertools import chain
 from pathlib import Path
 from unittest import mock
 
-sys.path.insert(0, str(Path(__file__).resolve().parents[1] / "harness"))
+sys.path[:0] = [str(Path(__file__).resolve().parents[2] / it) for it in ("tests/harness", "tools")]
+import notices
 from answers import answer, answer_of
 from completed_options import options_by_help
-from shipped_files import packed
-from trials import Trial, first_wrong, groups_asked_for, report
+from shipped_files import in_package, in_tar, packed
+from trials import Trial, few_pass, first_wrong, groups_asked_for, report
+from wrong_packages import ALTERED, wrong_archive, wrong_package
 
 TOP = Path(__file__).resolve().parents[2]
 KIT = Path(shutil.which("rt") or "/nowhere/bin/rt").resolve().parent.parent / "rattle"
@@ -143,6 +146,13 @@ def licences() -> Iterator[Trial]:
     for name, its in {**dict.fromkeys(("dist/l6.html", "dist/l6.mjs", "dist/l6db.mjs"), free), "dist/l6ed.mjs": of_editors}.items():
         texts = [own, *(text_of(f"licenses/{it}.txt") for it in sorted(its))]
         yield f"licences in {name}", [], [text for text in texts if text.strip() not in text_of(name)]
+    rows = [(re.split(r"\W*\|\W*", line)[1:3]) for line in listed.splitlines() if re.match(r"\| \w+, ", line)]
+    for name, works in {"l6": notices.WORKS, "l6db": notices.WORKS, "l6ed": notices.WORKS_OF_EDITORS}.items():
+        listed_works = [what for what, programs in rows if programs == "all" or name in programs.split("`, `")]
+        titles = {it for work in works.values() for it in re.split(", | and ", work)}
+        yield f"works of {name} whose licences its notices leave out", [], [it for it in listed_works if it.partition(",")[0] not in titles]
+        yield f"works that are not in {name}", set(), {it for it in titles if not any(re.search(rf"\b{it}\b", row) for row in listed_works)}
+        yield f"the notices of {name}", [], [it for it in works if text_of(f"licenses/{it}.txt").strip() not in notices.notices(works)]
     spdx = "`MIT OR Apache-2.0`"
     yield "the licences in README.md", True, spdx in text_of("README.md")
 
@@ -176,7 +186,7 @@ printf '%s\\n' "${COMPREPLY[@]}"
 """
 IN_FISH = 'for it in l6 l6db l6ed; source completions/$it.fish; end; complete -C "$argv[1]"'
 # What comes after an option: files, where one is asked for. (In bash it is asked to offer them.)
-FILES = {"l6db --input README": True, "l6db -x README": True, "l6 check --name README": True, "l6 run --store README": False}
+FILES = {"l6 run < README": True, "l6 run <README": True, "l6db --input README": True, "l6db -x README": True, "l6 check --name README": True, "l6 run --store README": False}
 # In a shell of its own, on a terminal of its own, a function in place of zsh's prints each match that is offered.
 ZSH_SETUP = """
 fpath=($PWD/completions $fpath)
@@ -220,6 +230,7 @@ def completions() -> Iterator[Trial]:
                 yield f"{shell} completes {line!r}", expected, offered(shell, line, run([*words, line]).stdout)
             for line, is_file in FILES.items():
                 typed = line.replace(" README", "=README") if shell == "zsh" and "--" in line else line
+                typed = typed.replace("<R", "< R") if shell == "bash" else typed  # (a word ends at each <, COMP_WORDBREAKS says)
                 sign = "compopt -o default" if shell == "bash" else "README.md"
                 yield f"{shell} completes a file after {line!r}", is_file, sign in run([*words, typed]).stdout
             yield from options_by_help(lambda line: offered(shell, line, run([*words, line]).stdout), shell)
@@ -268,7 +279,20 @@ def packages(is_quick: bool) -> Iterator[Trial]:
         yield stale(Path(room, "stale"))
         for name in ("l6-static", "l6db-static", "l6ed-aarch64"):
             yield damaged(Path(room, f"with {name}"), name)
+        yield from folder_of_packages(Path(room, "folder"))
         yield from failing(Path(room, "failing"))
+
+
+def folder_of_packages(top: Path) -> Iterator[Trial]:
+    """Packages go to out/packages if no folder is named, or to the one that is, which is made."""
+    linked_checkout(top, "out")
+    (top / "mktemp").write_text("#!/bin/sh\nexit 2\n", "ascii")
+    (top / "mktemp").chmod(0o755)
+    for folder, is_named in (("out/packages", False), ("a folder/of packages", True)):
+        words = [str(top / folder)] if is_named else []
+        ran = subprocess.run([str(top / "tools/make_deb"), *words], capture_output=True, text=True,
+                             env={**os.environ, "PATH": f"{top}:{os.environ['PATH']}"})
+        yield f"the folder of packages: {folder}", (1, True), (ran.returncode, (top / folder).is_dir())
 
 
 def linked_checkout(top: Path, own: str) -> None:
@@ -316,11 +340,14 @@ def failing(room: Path) -> Iterator[Trial]:
         folder.mkdir(parents=True)
         (folder / tool).write_text(f'#!/bin/sh\n{shutil.which(tool)} "$@"\ncase "$*" in {words}) exit 2 ;; esac\n')
         (folder / tool).chmod(0o755)
+        (folder / "rooms").mkdir()
         ran = subprocess.run([TOP / "tools/make_deb", folder / "made"], capture_output=True, text=True,
-                             env={**os.environ, "PATH": f"{folder}:{os.environ['PATH']}"})
-        actual = ran.returncode != 0, len([it for it in (folder / "made").iterdir() if tool != "dpkg-deb"])
-        yield f"packages where {tool} fails", (True, made), actual
-        yield f"what is said where {tool} fails", said, ran.stderr[len(ran.stderr) - len(said):]
+                             env={**os.environ, "PATH": f"{folder}:{os.environ['PATH']}", "TMPDIR": str(folder / "rooms")})
+        left = [it.name for it in (folder / "rooms").iterdir()]
+        actual = ran.returncode != 0, len([it for it in (folder / "made").iterdir() if tool != "dpkg-deb"]), left
+        yield f"packages where {tool} fails", (True, made, []), actual
+        ending = ran.stderr[-len(said):] if said else ran.stderr
+        yield f"what is said where {tool} fails", said, ending
     tools = room / "without dpkg-deb"
     tools.mkdir()
     for name in ("dirname", "readlink", "rm", "sha256sum", "sh"):
@@ -368,6 +395,10 @@ def control(package: Path) -> Iterator[Trial]:
     expected = {name: hashlib.md5(text, usedforsecurity=False).hexdigest() for name, text in texts.items()}
     yield f"the sums of {package.name}", expected, {line[34:]: line[:32] for line in sums.splitlines()}
     day = datetime.date.fromisoformat(found(rf"^date-released: ({DATE})$", "CITATION.cff"))
+    zipped = {name: text for name, text in texts.items() if name.endswith(".gz")}
+    # (byte 3 says whether a name follows, bytes 4 to 7 are a time: with either, no two packages have the same bytes)
+    yield f"packed files of {package.name} with a name or a time", [], [it for it, text in zipped.items() if any(text[3:8])]
+    yield f"packed files of {package.name}", True, len(zipped) > 3
     changes = gzip.decompress(texts.get("usr/share/doc/l6/changelog.gz", gzip.compress(b""))).decode()
     yield f"the day in the changelog of {package.name}", [day.strftime("%a, %d %b %Y 00:00:00 +0000")], re.findall(
         r"^ -- .*>  (.*)$", changes, re.MULTILINE)
@@ -401,9 +432,10 @@ def installed(package: Path, root: Path) -> Iterator[Trial]:
     for name in ("share/man/man1/l6.1.gz", "share/doc/l6/copyright", "share/doc/l6/examples/first.deck",
                  "share/bash-completion/completions/l6", "share/zsh/vendor-completions/_l6"):
         yield f"{name} of {package.name}", True, (root / "usr" / name).is_file()
+    there = (root / "usr/bin/l6").exists()
     ran = subprocess.run([*dpkg, "-P", "l6"], capture_output=True, text=True)
     left = [it for it in (root / "usr").rglob("*")] if (root / "usr").exists() else []
-    yield f"{package.name} is removed", (0, []), (ran.returncode, left)
+    yield f"{package.name} is removed", (True, 0, []), (there, ran.returncode, left)
 
 
 def unpacked(archive: Path, folder: Path) -> Iterator[Trial]:
@@ -443,20 +475,33 @@ def trials(program: str, is_quick: bool) -> Iterator[Trial]:
             yield f"{group}: {name}", expected, actual
 
 
-def canaries(program: str) -> Iterator[Trial]:
-    """Of files in which something is wrong, or nothing is written, each group sees it."""
-    wrong: dict[str, tuple[str, str]] = {
-        "CITATION.cff": ("date-released: 2", "date-released: 3"), "THIRD-PARTY.md": ("]: licenses/itoa-MIT.txt", "]: licenses/none.txt"),
-        "CONTRIBUTING.md": ("docs/proof.md", "docs/prove.md"), "docs/l6.1": (".Os L6 ", ".Os L6 0"),
-    }
+def altered_file(name: str, old: str, new: str) -> Callable[[str], str]:
+    """What stands in place of `text_of`: in one file a text is another one, and it must be there."""
     real = text_of
 
-    def altered(name: str) -> str:
-        return real(name).replace(*wrong.get(name, ("", "")), 1)
+    def text_with(other: str) -> str:
+        text = real(other)
+        if other == name and old not in text:
+            raise ValueError(f"{old} is not in {name}")
+        return text.replace(old, new) if other == name else text
 
-    with mock.patch.object(sys.modules[__name__], "text_of", altered):
-        for what, group in (("versions", versions(program)), ("citation", citation()), ("licences", licences()), ("links", links())):
-            yield first_wrong(f"{what} of files that are wrong", group)
+    return text_with
+
+
+def canaries(program: str) -> Iterator[Trial]:
+    """Of files in which something is wrong, or nothing is written, the trial of it fails; and of packages in which all is wrong, all."""
+    for name, old, new, what in ALTERED:
+        with mock.patch.object(sys.modules[__name__], "text_of", altered_file(name, old, new)):
+            _, expected, actual = next(it for it in chain(versions(program), citation(), licences(), links()) if it[0] == what)
+        yield f"{what}, where {name} is another one", expected, actual
+    if shutil.which("dpkg-deb"):
+        with tempfile.TemporaryDirectory() as folder:
+            room = Path(folder)
+            package, archive = wrong_package(room), wrong_archive(room)
+            of_package = chain(times(room, [package.name]), control(package), in_package(package, "-static"), installed(package, room / "root"))
+            of_archive = chain(times(room, [archive.name]), in_tar(archive, "-static"), unpacked(archive, room / "unpacked"))
+            yield few_pass("a package in which all is wrong", 0, of_package)
+            yield few_pass("an archive in which all is wrong", 0, of_archive)
     nothing = dict.fromkeys(COMPLETIONS, {"--no-such-option"})
     with mock.patch.dict(COMPLETIONS, nothing):
         yield first_wrong("completions of options that are not there", completions())

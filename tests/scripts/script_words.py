@@ -21,7 +21,10 @@ from pathlib import Path
 sys.path[:0] = [str(Path(__file__).resolve().parents[1] / it) for it in ("harness", "../tools")]
 from answers import Answer
 from checkout import PLAIN, TOP, UNPROVED, Checkout, Group, on_checkouts
+from kept_modules import kept_modules
+from proving import proving
 from module import Edit, Stop, call, edited, program_of
+from shared_rooms import shared_rooms
 from trials import CANARY, Trial, report
 
 # A stand-in for sort: another order than that of bytes, unless that is asked for.
@@ -263,7 +266,7 @@ def interrupted(checkout: Checkout) -> Iterator[Trial]:
         asked.terminate()
         _, said = asked.communicate(timeout=30)
     yield "one who is asked to stop", (-signal.SIGINT, True), (asked.returncode, "stopped; what was proved is kept" in said)
-    check = Path("/proc", note.read_text().strip())
+    check, end = Path("/proc", note.read_text().strip()), time.monotonic() + 30
     while check.exists() and time.monotonic() < end:
         time.sleep(0.05)
     yield "the check that ran", False, check.exists()
@@ -318,6 +321,7 @@ def modules(_checkout: Checkout) -> Iterator[Trial]:
         ("no place for an edit", [("^nothing$", "", 1)], False, "the module has 0 places for the edit ^nothing$"),
         ("no place for an edit of any number", [("^nothing$", "", None)], False, "the module has 0 places for the edit ^nothing$"),
         ("two places for one edit", [("^target", "", 1)], False, "the module has 2 places for the edit ^target"),
+        ("one place for two edits", [("one", "", 2)], False, "the module has 1 places for the edit one"),
         ("another processor", [("one", "x86_64", 1)], False, "the module speaks of another processor still"),
         ("the same processor", [("one", "x86_64", 1)], True, text.replace("one", "x86_64")),
     )
@@ -329,6 +333,13 @@ def modules(_checkout: Checkout) -> Iterator[Trial]:
     named = [str(TOP / "dist/l6")]
     yield "a program that is named", named[0], stopped(lambda: program_of(named))
     yield "a command that fails", "sh -c failed:\nwhy\n", stopped(functools.partial(call, "sh", "-c", "echo why >&2; exit 3"))
+    yield from kept_modules()
+
+
+def proving_by_stand_ins(_checkout: Checkout) -> Iterator[Trial]:
+    """What tools/prove.py and the tools around it do with crates, jobs, memory and rooms."""
+    yield from proving()
+    yield from shared_rooms()
 
 
 def stopped(act: Callable[[], object]) -> str:
@@ -347,6 +358,7 @@ def tools(_checkout: Checkout) -> Iterator[Trial]:
         ["tools/pictures.py", "one"],
         ["tests/program/program.py"],
         ["tests/pages/facts.py"],
+        ["tests/pages/sentences.py"],
         ["bench/run", "--times", "0"],
     ):
         ended = subprocess.run([sys.executable, *command], cwd=TOP, capture_output=True, text=True)
@@ -372,6 +384,7 @@ GROUPS: tuple[tuple[Group, ...], ...] = (
         interrupted,
         rooms,
         modules,
+        proving_by_stand_ins,
         tools,
     ),
 )

@@ -51,7 +51,7 @@ def python_groups() -> list[Group]:
     """All scripts of Python. Those of web/tests have answers of a browser, which are of any type."""
     folders = (*(f"tests/{folder.name}" for folder in sorted(TOP.glob("tests/*/"))), "tools", "tools/drawing")
     shared = tuple(sorted([*TOP.glob("tests/**/*.py"), *TOP.glob("tools/**/*.py")]))
-    bench = tuple(TOP / "bench" / name for name in ("run", "editing.py", "measure.py", "placing.py", "workloads.py"))
+    bench = tuple(TOP / "bench" / name for name in ("run", "checked.py", "editing.py", "measure.py", "placing.py", "workloads.py"))
     groups = [
         Group(folders, shared),
         Group(("bench", *folders), bench),

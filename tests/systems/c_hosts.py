@@ -10,6 +10,7 @@ import importlib.util
 import io
 import os
 import shutil
+import signal
 import subprocess
 import sys
 import tempfile
@@ -157,6 +158,8 @@ def c_hosts() -> Iterator[Trial]:
             yield f"words and memory by the host for {which}", (SAID.encode(), 7), (ran.stdout, ran.returncode)
             if which != "x86-64":  # (there the toolchain's own `main` sees to pipes)
                 yield f"a closed pipe by the host for {which}", 3, written_to_nobody(folder / "program")
+    ended_by = -signal.SIGPIPE
+    yield "a closed pipe by a program that does not see to it", ended_by, written_to_nobody(Path(shutil.which("yes") or "yes"))
     yield from module_host()
     yield from names_given()
     if os.uname().machine == "x86_64":
@@ -224,6 +227,39 @@ def names_given() -> Iterator[Trial]:
             for processor in (script.X86, script.ARM):
                 script.make(Path("nowhere"), processor, Path(room, f"{name}-{processor.suffix}"), [], [])
     yield "the names of hosts", [f'-DPROGRAM="{name}"' for name in ("l6", "l6db", "l6ed") for _ in range(2)], given
+
+
+def wrong_hosts() -> Iterator[Trial]:
+    """Canaries: hosts with one error each, and programs whose exit status is another one."""
+    words, errors = "words and memory by the host for other processors", "errors and memory by the host of modules"
+    with tempfile.TemporaryDirectory(prefix="l6-hosts-") as room:
+        for host, changed, old, new, group, name in (
+            (HOST, "HOST", "return -2;", "return -1;", c_hosts, words),
+            (HOST, "HOST", "signal(SIGPIPE, SIG_IGN);", "", c_hosts, "a closed pipe by the host for other processors"),
+            (HOST, "HOST", "{1, 7, 0x80000001}", "{7, 1, 0x80000001}", processor, "what the host says of the processor"),
+            (SESSION_HOST, "SESSION_HOST", "error = -got;", "error = got;", module_host, errors),
+        ):
+            text = host.read_text("utf-8")
+            copy = Path(room, host.name)
+            copy.write_text(text.replace(old, new).replace("../web/", f"{HOST.parents[1]}/web/"), "utf-8")
+            with mock.patch.object(sys.modules[__name__], changed, copy):
+                yield next((it for it in group() if it[0] == name), (f"{name}: it is not tried", 0, 0))
+    for told, group, name in (("STAND_IN", c_hosts, words), ("MODULE", module_host, errors)):
+        other = getattr(sys.modules[__name__], told).replace("return 7;", "return 8;")
+        with mock.patch.object(sys.modules[__name__], told, other):
+            yield next((it for it in group() if it[0] == name), (f"{name}: it is not tried", 0, 0))
+    yield from wrong_makers()
+
+
+def wrong_makers() -> Iterator[Trial]:
+    """Canaries: scripts that say what they must of what they don't make, with another status, and to the other output, too."""
+    for more in ("exit 0", "echo made; exit 1"):
+        with tempfile.TemporaryDirectory(prefix="l6-hosts-") as room:
+            script = Path(room, "bundle")
+            script.write_text(f"#!/bin/sh\necho 'ports/bundle: the page has no module' >&2\n{more}\n", "ascii")
+            script.chmod(0o755)
+            with mock.patch.object(sys.modules[__name__], "HOST", Path(room, "host.c")):
+                yield next(not_made())
 
 
 def written_to_nobody(program: Path) -> int:

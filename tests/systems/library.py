@@ -189,6 +189,7 @@ def in_python(archive: Path, room: Path) -> Iterator[Trial]:
         script.append(f"print({made} or '', s.moves(), *(f'l.{{k}}: ' + ', '.join(map(str, s.list(k)))"
                       " for k in range(11) if s.pieces(k)), sep='|')")
     status, printed = run([sys.executable, "-B", "-c", "\n".join(script)], env=known)
+    yield "the status of the calls of the table", 0, status
     for (call, place, moves, lists), line in zip(rows, printed.splitlines()):
         yield f"{call}, {place or 'no place'}: place and moves", [place, moves], line.split("|")[:2]
         shown = [it for it in lists.split(" · ") if ".. as before" not in it and it != ".."]

@@ -88,6 +88,9 @@ def stream_devices(program: Path, native: Path) -> Iterator[Trial]:
                 os.close(folder)
             actual = over(program, words, given, device, Path(room))
             yield f"{what} of {program.name}", (failed.stderr, failed.status), (actual.stderr, actual.status)
+        ends = (0, ENDLESS, "EOF", 0)  # as a console of Windows does
+        yield f"an input of {program.name} that ends as a console of Windows", answer_of([native, *words], input=b""), over(
+            program, words, b"", ends, Path(room))
         if native.name == "l6db":
             more = [*LONGEST_SESSION, "-x", str(deck), "--input", str(deck), str(deck)]
             yield f"the longest right command line of {program.name}", answer_of([native, *more], input=given), answer_of(

@@ -117,9 +117,11 @@ def endings(command: list[str], folder: Path) -> Iterator[Trial]:
 
 
 def plain(command: list[str], folder: Path, deck: Path) -> Iterator[Trial]:
-    """At a terminal some words have the engine alone: it shows where the run begins, and no line is edited."""
-    for words in (["--batch", "-x", os.devnull], ["--echo"], ["--prompt", "? "], ["--prompt=? "]):
-        terminal = Terminal([*command, *words, str(deck)], XDG_STATE_HOME=str(folder / "state"))
+    """With some words, or at a terminal that is dumb, the engine is alone: it shows where the run begins, and no line is edited."""
+    for words in (["--batch", "-x", os.devnull], ["--echo"], ["--prompt", "? "], ["--prompt=? "], ["TERM=dumb"], ["L6DB_PLAIN=1"]):
+        options = [it for it in words if not it[0].isupper()]
+        further = {} if options else {words[0].partition("=")[0]: words[0].partition("=")[2]}
+        terminal = Terminal([*command, *options, str(deck)], XDG_STATE_HOME=str(folder / "state"), **further)
         shown = terminal.until(b"AFTER 0 STEPS")
         if words[0] != "--batch":
             terminal.give(b"\x04")

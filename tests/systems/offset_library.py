@@ -159,6 +159,14 @@ def numbers() -> Iterator[Trial]:
     yield "the calls of l6_offset.py", exports, sorted(f"l6_offset_{name}" for name in calls)
 
 
+def variables_of_builds() -> Iterator[Trial]:
+    """Cargo makes a crate again where a variable that its build.rs reads is another one, and for no other. Its own it knows."""
+    for crate in ("rust", "rust_offset"):
+        text = (LIBRARY / crate / "build.rs").read_text("utf-8")
+        read = {it for it in re.findall(r'\bof\("(\w+)"\)', text) if not it.startswith("CARGO_")} - {"HOST", "TARGET"}
+        yield f"the variables of {crate}/build.rs", (1, read), (len(read), set(re.findall(r"cargo:rerun-if-env-changed=(\w+)", text)))
+
+
 def in_c(archive: Path, store: Path, room: Path) -> Iterator[Trial]:
     """Programs in C and C++."""
     program, heap = room / "gpu", LIBRARY / "heap.c"
@@ -214,6 +222,8 @@ def in_python(archive: Path, room: Path) -> Iterator[Trial]:
     code, expected = modelled(3000)
     actual = run([sys.executable, "-B", "-"], env=known, input=code)
     yield "random calls beside a plain model", (0, expected), (actual[0], actual[1].split())
+    places = "from l6_offset import Offset\nprint(Offset(5, 18).free_places(), Offset(5).free_places(), Offset(5, 18, 20).free_places())\n"
+    yield "places with a first one and no end", (0, "14 32 2\n"), run([sys.executable, "-B", "-c", places], env=known)
     wrong = "from l6_offset import Offset, OffsetError\np = Offset(4)\ntry:\n    p.get(1 << 32)\nexcept OverflowError as e:\n    print(e)\n"
     wrong += "print(Offset(4, end=0).free_places())\n"
     yield "a number that does not fit, and an end at place 0", (0, "4294967296 is no number of 32 bits\n0\n"), run(
@@ -286,6 +296,7 @@ def in_rust(archive: Path, store: Path, room: Path) -> Iterator[Trial]:
 def trials(archive: Path, store: Path, room: Path) -> Iterator[Trial]:
     """All of them, with the archives of both libraries."""
     yield from numbers()
+    yield from variables_of_builds()
     yield from in_c(archive, store, room)
     yield from in_rust(archive, store, room)
     yield from in_python(archive, room)

@@ -36,9 +36,9 @@ import adapter
 import answers
 import editors
 from answers import Answer, answer, answer_of
-from c_hosts import c_hosts
+from c_hosts import c_hosts, wrong_hosts
 from cases import read_cases
-from l6db import at_terminal, one_by_one, words
+from l6db import words
 from largest_jobs import MAX_OUTPUT, debug_job, longest_image, run_job
 from node_devices import node_devices, stream_devices
 from node_front import node_front
@@ -46,13 +46,15 @@ from node_lines import node_lines
 from page_sessions import page_sessions
 from program import cut_images, examples, failing_devices, helps, limited_files
 from ran_lines import IN_NODE
-from trials import Trial, first_wrong, groups_asked_for, report
+from trials import Trial, first_wrong, groups_asked_for, named, report, side_by_side
+from typed_sessions import at_terminal, one_by_one
 
 HERE = Path(__file__).resolve().parent
 TOP = HERE.parents[1]
 DIST, EXAMPLES = TOP / "dist", TOP / "examples"
 FEW = 500  # jobs on each program, with --quick
 AT_A_TIME = 4
+LINES = "lines of Node"  # a group of trials
 SECONDS = 120  # for one run
 QEMU = "qemu-aarch64-static"
 MAX_JOB = 1 << 24
@@ -444,7 +446,7 @@ def trials(is_quick: bool) -> Iterator[Trial]:
             **{it.name: functools.partial(program_trials, it, is_quick) for it in PROGRAMS},
             "devices of Node": lambda: node_devices(DIST / NODE, DIST / "l6"),
             **{f"streams of {it}": functools.partial(stream_devices, DIST / it, DIST / Path(it).stem) for it in OF_NODE},
-            "lines of Node": lambda: node_lines(Path(room), {DIST / it: tuple(TOP / script for script in OF_NODE[it][1]) for it in OF_NODE}),
+            LINES: lambda: node_lines(Path(room), {DIST / it: tuple(TOP / script for script in OF_NODE[it][1]) for it in OF_NODE}),
         }
         yield from asked_of(groups, is_quick)
 
@@ -452,14 +454,16 @@ def trials(is_quick: bool) -> Iterator[Trial]:
 def asked_of(groups: dict[str, Callable[[], Iterator[Trial]]], is_quick: bool) -> Iterator[Trial]:
     """The trials of the groups that are asked for, and whose programs can be tried here."""
     every = (*DEBUGGERS, *SERVERS, *PROGRAMS)
-    needs = {it.name: it.name for it in every} | {"devices of Node": NODE, "lines of Node": NODE}
+    needs = {it.name: it.name for it in every} | {"devices of Node": NODE, LINES: NODE}
     needs |= {f"streams of {it}": it for it in OF_NODE}
     asked = groups_asked_for(groups)
     needed = {needs[group] for group in asked & needs.keys()}
     tried = {it.name for it in programs(is_quick, tuple(it for it in every if it.name in needed))}
-    for group in (it for it in groups if it in asked and needs.get(it) in {*tried, None}):
-        for name, expected, actual in groups[group]():
-            yield f"{group}: {name}", expected, actual
+    chosen = {it: groups[it] for it in groups if it in asked and needs.get(it) in {*tried, None}}
+    last = chosen.pop(LINES, None)  # (it looks at what the others have run)
+    yield from side_by_side(chosen, AT_A_TIME)
+    if last:
+        yield from named(LINES, last())
 
 
 def canaries() -> Iterator[Trial]:
@@ -468,8 +472,10 @@ def canaries() -> Iterator[Trial]:
     for group in (devices, refused_memory, largest):
         yield first_wrong(f"{group.__name__} on a wrong program", group(wrong))
     yield first_wrong("known answers on a wrong program", known_answers(wrong, some(jobs(), 3), is_quick=False))
+    yield "some jobs, the first ones alone", jobs()[:4], some(jobs(), 4)
     yield "a file that belongs to the sources", True, belongs("README.md")
     yield "the sum of another file", sum_of("web/host.c"), sum_of("web/memory.h")
+    yield from wrong_hosts()
 
 
 if __name__ == "__main__":

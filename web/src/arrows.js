@@ -8,6 +8,7 @@ import {GRID, HEAD, ROW} from "./shape.js";
 import {tagsOf} from "./tags.js";
 
 export const PILL_STEP = 26; // from one bug above a block to the next
+export const PILL_HALF = 11; // of the sign of a bug
 const PILL_HEIGHT = GRID * 2;
 const MOST_ROUTED = 80;     // blocks
 const MOST_CELLS = 40_000;  // of the grid

@@ -6,7 +6,7 @@ import {KINDS} from "./store.js";
 import {count, seenThrough, UNIT, withCommas} from "./word.js";
 
 const MOST_TOLD = 7;
-const MOST_FOUND = 1000; // blocks that are told one by one
+const MOST_FOUND = 1000; // blocks that are named one by one
 
 /** @typedef {import("./view.js").View} View */
 /** @typedef {import("./store.js").Store} Store */

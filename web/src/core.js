@@ -108,7 +108,7 @@ export class Core {
   }
 
   // Waits a moment until the run is read, so that its first picture is the lasting one. A large run is shown
-  // at once, and its drawing made anew once it is read.
+  // at once, and its drawing made again once it is read.
   /** @param {Session} session */
   async told(session) {
     this.telling ??= this.survey(session);

@@ -96,7 +96,7 @@ export class Drawing {
   }
 
   /**
-   * The run was read: the drawing is made anew of all of it.
+   * The run was read: the drawing is made again, of all of it.
    * @param {import("./deck.js").Reading} reading
    * @param {import("./chronicle.js").Chronicle | null} chronicle
    */
@@ -238,14 +238,14 @@ export class Drawing {
     this.graph = this.view = null;
     this.figures.forget();
     this.picture.setAttribute("aria-label", text);
-    this.ask.told([], []);
+    this.camera.showMap([]); // (which tells that there is nothing to be told of)
   }
 
   // ---- What is said of it
 
   // Tells which pointers dangle, what is not drawn, and whether there is more than one sees.
   tell() {
-    if (!this.view || !this.graph) return;
+    if (!this.view || !this.graph) return this.ask.told([], []);
     const notes = [...this.hiddenInWords(this.graph, this.view), ...this.seenInWords(this.graph)];
     this.ask.told(danglingInWords(this.graph.dangling), notes);
   }
@@ -266,7 +266,7 @@ export class Drawing {
       hidden ? `Not drawn: ${count(hidden, "block")} further from the bugs` : "",
       hiddenLost ? `Not drawn: ${withCommas(hiddenLost)} lost` : "",
       folded ? `Folded: ${count(folded, "block")}` : "",
-      isPast ? `The run is read up to state ${withCommas(chronicle.last)}; past it no use after free is told` : ""
+      isPast ? `The run is read up to state ${withCommas(chronicle.last)}; past it no use after free is reported` : ""
     ].filter((it) => it);
   }
 

@@ -1,7 +1,7 @@
 // The elements of a drawing: one for each block, bug and arrow. They stay from state to state, so that what
 // moves glides, and what is the same is not drawn again.
 
-import {PILL_STEP} from "./arrows.js";
+import {PILL_HALF, PILL_STEP} from "./arrows.js";
 import {partsOfBlock, pillOf} from "./block.js";
 import {svg} from "./dom.js";
 import {glide} from "./glide.js";
@@ -9,7 +9,6 @@ import {blockInWords} from "./spoken.js";
 
 const COLOURS = 8;
 const CROSS = 5; // pixels, of the mark on a broken arrow
-const PILL_HALF = 11; // of the sign of a bug
 
 /** @typedef {import("./graph.js").Graph} Graph */
 /** @typedef {import("./graph.js").Block} Block */

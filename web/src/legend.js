@@ -1,4 +1,4 @@
-// The fields above the drawing: a click on a name turns the direction of its links, one on the sign behind it
+// The fields above the drawing: a click on a name turns the direction of its links, one on the sign after it
 // says what the field holds, links, numbers or texts. And the bugs that are hidden.
 
 import {byId, make} from "./dom.js";
@@ -11,7 +11,7 @@ const MANY = {link: "links", number: "numbers", text: "texts"};
 
 export class Legend {
   /**
-   * `ask` has what a click does: `changed` where the drawing is to be made anew, and `show` a bug again.
+   * `ask` has what a click does: `changed` where the drawing is to be made again, and `show` a bug again.
    * @param {Drawing} drawing
    * @param {{changed: () => void, show: (name: string) => void}} ask
    */

@@ -25,14 +25,15 @@ export class Overview {
   }
 
   /**
-   * Shows which part of a drawing of this size is seen; nothing where that is all.
+   * Shows which part of a drawing of this size is seen; nothing where that is all, or where there is no block.
    * @param {Box} view
    * @param {Size} size
    * @param {boolean} isWhole
    */
   show(view, size, isWhole) {
-    this.element.style.display = isWhole ? "none" : "";
-    if (isWhole) return;
+    const isNone = isWhole || this.blocks.length === 0;
+    this.element.style.display = isNone ? "none" : "";
+    if (isNone) return;
     if (this.drawn !== this.blocks) this.draw();
     for (const [name, value] of Object.entries(view)) this.seen.setAttribute(name, value);
     this.element.setAttribute("viewBox", `0 0 ${size.width} ${size.height}`);

@@ -81,7 +81,7 @@ class Page extends Typing {
     });
     this.keeper = new Keeper({
       work: () => this.work(),
-      refused: (why) => setTimeout(() => this.tell(why), 0), // (after what is told of a deck that is opened)
+      refused: (why) => setTimeout(() => this.tell(why), 0), // (after what is said of a deck that is opened)
     });
     this.panes = new Panes(() => this.viewer.resized());
     this.pictures = new Pictures({
@@ -149,7 +149,7 @@ class Page extends Typing {
   }
 
   // Opens what the address says, else what was typed last, else the first deck. What was typed at this very address
-  // is there again where the page is loaded anew; where a link opens something else, it is among the last decks.
+  // is there again where the page is loaded again; where a link opens something else, it is among the last decks.
   async begin() {
     const {library, keeper} = this;
     const address = location.hash;
@@ -248,7 +248,7 @@ class Page extends Typing {
   }
 }
 
-// Whether the page is loaded anew, or is come back to, and no link was followed.
+// Whether the page is loaded again, or reached by going back, and no link was followed.
 function isAgain() {
   const [way] = /** @type {PerformanceNavigationTiming[]} */ (performance.getEntriesByType("navigation"));
   return way?.type === "reload" || way?.type === "back_forward";

@@ -1,6 +1,7 @@
 // The lasting picture of a run: where each block is, how its fields lead, and how much of a block is drawn. It
 // is made once, of all states that are known, and stays until the reader asks for another one.
 
+import {PILL_HALF, PILL_STEP} from "./arrows.js";
 import {waysOf} from "./graph.js";
 import {nameOf, union} from "./lasting.js";
 import {pack} from "./packing.js";
@@ -85,6 +86,7 @@ export function planOf(material, {directions, detail, frame, isLecture, isLink, 
   if (plan.chip) putBugsAside(plan.places, edges);
   return {
     ...plan,
+    width: widthWithBugs(plan.places, plan.sizes, material.mostBugs, {...GAPS[plan.detail], width: plan.width}),
     ways,
     below: belowOf(rows),
     bugs: material.mostBugs,
@@ -108,6 +110,29 @@ function putBugsAside(places, edges) {
     weights.set(to, weight);
     below.side = above.x > below.x ? -1 : 1;
   }
+}
+
+/**
+ * How wide a drawing is that has room for the bugs beside its blocks, too. Where they stand further left than
+ * it begins, the blocks are moved.
+ * @param {Plan["places"]} places
+ * @param {(place: number) => Size} sizes
+ * @param {Map<number, number>} bugs
+ * @param {{width: number, unit: number}} without
+ */
+function widthWithBugs(places, sizes, bugs, {width, unit}) {
+  let [left, right] = [0, width];
+  for (const [place, {x, side = 0}] of places) {
+    const number = bugs.get(place) ?? 0;
+    if (!number) continue;
+    const more = (number - 1) * PILL_STEP;
+    const corner = side === 0 ? x : x - PILL_HALF + (side > 0 ? sizes(place).width : 0);
+    left = Math.min(left, side < 0 ? corner - more : corner);
+    right = Math.max(right, 2 * PILL_HALF + (side < 0 ? corner : corner + more));
+  }
+  const moved = Math.ceil(-left / unit) * unit;
+  for (const it of places.values()) it.x += moved;
+  return right + moved;
 }
 
 /**

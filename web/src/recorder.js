@@ -6,7 +6,7 @@ import {follow} from "./chain.js";
 import {windowsOf} from "./shape.js";
 import {seenThrough} from "./word.js";
 
-const MOST_SEEN = 500;      // blocks that are looked at where a field is defined anew
+const MOST_SEEN = 500;      // blocks that are looked at where a field is defined again
 const MOST_EVIDENCE = 4000; // stores that are remembered of one window
 
 /** @typedef {import("./chronicle.js").Life} Life */
@@ -132,7 +132,7 @@ export class Recorder {
   }
 
   /**
-   * What a window that is defined anew shows of the blocks that are there. For which block it was made is not
+   * What a window that is defined again shows of the blocks that are there. For which block it was made is not
    * known then: that which is there.
    * @param {Window} window
    * @param {number} number

@@ -25,7 +25,7 @@ const FULL = 1024; // entries of a pushdown, and calls that wait
  * What is said of a trap, the chain that could not be followed, and the step that freed its block.
  * @typedef {{text: (string | Node)[], steps?: ChainStep[], trap?: ChainTrap, freed?: Free}} Told
  *
- * What a trap is told by: `is` says what a chain or number is, `value` is its value.
+ * By what a trap is explained: `is` says what a chain or number is, `value` is its value.
  * @typedef {{is: (text: string) => string, value: (text: string) => number | null, view: View,
  *   session: Session}} By
  */
@@ -84,7 +84,8 @@ async function chainTrap(number, view, session) {
 
 /**
  * The chain behind a get. It is followed where the get's first chain has the place of the new block already, which is
- * taken back by the trap: so any place that is free stands for it here.
+ * taken back by the trap: so a free piece stands for it here, one of those that are just large enough, with which the
+ * chain traps so, too.
  * @param {number} number
  * @param {View} view
  * @param {Session} session
@@ -93,11 +94,29 @@ async function chainTrap(number, view, session) {
 async function chainBehindGet(number, view, session) {
   const elements = operationAt(session.reading, view.state)?.elements ?? [];
   const chain = chainBehind(elements);
-  const place = view.store.piecesBetween(view.store.begin, view.store.end).find((it) => it.isFree)?.place;
-  if (!chain || place === undefined) return null;
+  if (!chain) return null;
   const size = 2 ** Math.ceil(Math.log2(valueOf(elements[2], view) ?? 1));
-  const {steps, trap} = await followed(chain, view, session, stateWith(elements[0], place, size, view));
-  if (trap?.number !== number) return null;
+  const {store} = view;
+  const free = store.piecesBetween(store.begin, store.end).filter((it) => it.isFree && it.size >= size);
+  const least = free.reduce((most, it) => Math.min(most, it.size), Infinity);
+  for (const {place} of free.filter((it) => it.size === least)) {
+    const {steps, trap} = await followed(chain, view, session, stateWith(elements[0], place, size, view));
+    if (trap?.number === number) return tellBehindGet(chain, steps, trap, {place, size}, view, session);
+  }
+  return null;
+}
+
+/**
+ * @param {string} chain
+ * @param {ChainStep[]} steps
+ * @param {ChainTrap} trap
+ * @param {{place: number, size: number}} block that stands for the new one
+ * @param {View} view
+ * @param {Session} session
+ * @returns {Promise<Told>}
+ */
+async function tellBehindGet(chain, steps, trap, {place, size}, view, session) {
+  const {number} = trap;
   const last = steps[steps.length - 1];
   const isInside = last.place === place || last.value === place;
   if (!isInside || number === 1) return tellChain(chain, steps, trap, view, session);

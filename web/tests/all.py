@@ -1,13 +1,14 @@
 #!/usr/bin/env python3
 """Tests the page, dist/l6.html: all of it where node, binaryen and browsers are there.
 
-all.py PROGRAM [--quick] makes the page again and compares it byte for byte with the one that is handed out;
+all.py PROGRAM [--quick | --unless-passed] makes the page again and compares it byte for byte with the one that is handed out;
 runs the cases, examples and random jobs through the page's module, in node, against their answers and those
 of the program; and tries the page in headless Chromium, and in Firefox. It says what it skips. Its parts run
 side by side; each says how much it has tried, and less than is written here is a failure. Last it says which lines
 of web/src none of them ran, of which there may be few.
-With --quick the module is not made again, which takes two minutes, and the trials of large things and of the
-lesson are left out; the page is bundled again with the module that it has. The last line is 'N passed, M
+With --quick the module is not made again, which takes two minutes, and the long trials, of large things, of whole
+runs and of the lesson, are left out; the page is bundled again with the module that it has. With --unless-passed the
+long ones count without being made again if this page passed them before (passed.py). The last line is 'N passed, M
 failed'.
 """
 from __future__ import annotations
@@ -28,12 +29,14 @@ WEB = HERE.parent
 TOP = WEB.parent
 PAGE = TOP / "dist" / "l6.html"
 AT_ONCE = 4  # parts
-SHARDS = 3  # into which the trials in Chromium are parted
-LEAST_IN_CHROMIUM = {"quick": [4340, 785, 780], "all": [4340, 800, 800]}  # trials of each shard
+LEAST_IN_CHROMIUM = [4500, 890, 960]  # trials of each part into which those in Chromium are parted
+LEAST_OF_LONG = [100, 100]  # and of the long ones
+LONG = "the long trials in Chromium"
 NEW_MANUAL = ["--new-manual"] if shutil.which("markdown_py") else []
 COUNT = re.compile(r"^(\d+) passed, (\d+) failed$")
 MOST_NOT_RUN = {"quick": 2.0, "all": 2.0}  # per cent of the lines of web/src that no trial need run
 
+import passed as passed_before  # noqa: E402
 from browser import find_browser  # noqa: E402
 from firefox import find_firefox  # noqa: E402
 from lines import LINES, lines_not_run, shown  # noqa: E402
@@ -100,32 +103,32 @@ def missing() -> Iterator[str]:
         yield "firefox"
 
 
-def parts(program: Path, is_quick: bool) -> Iterator[Part]:
+def parts(program: Path, has_long: bool) -> Iterator[Part]:
     """The parts, the longest first."""
-    chromium = [sys.executable, str(HERE / "chromium.py"), *(["--quick"] if is_quick else [])]
-    for number in range(1, SHARDS + 1):
-        least = LEAST_IN_CHROMIUM["quick" if is_quick else "all"][number - 1]
-        shard = [*chromium, "--part", f"{number}/{SHARDS}"]
-        yield Part({"chromium"}, f"the page in Chromium, {number} of {SHARDS}", shard, least)
+    for name, option, leasts in ((LONG, "--long", LEAST_OF_LONG), ("the page in Chromium", "--quick", LEAST_IN_CHROMIUM)):
+        for number, least in enumerate(leasts, 1):
+            if has_long or name != LONG:
+                shard = [sys.executable, str(HERE / "chromium.py"), option, "--part", f"{number}/{len(leasts)}"]
+                yield Part({"chromium"}, f"{name}, {number} of {len(leasts)}", shard, least)
     random = [sys.executable, str(HERE / "random_jobs.py"), str(program)]
     yield Part({"node"}, "random jobs in node", random, 3000)
     yield Part({"node"}, "the parts of the page in node", ["node", str(HERE / "parts.mjs")], 920)
     yield Part({"node"}, "the small functions in node", ["node", str(HERE / "small.mjs")], 410)
     yield Part({"node"}, "the ways of arrows in node", ["node", str(HERE / "routes.mjs")], 190)
     yield Part({"node"}, "the provenance in node", ["node", str(HERE / "provenance.mjs")], 69)
-    yield Part({"node"}, "the layout in node", ["node", str(HERE / "layout.mjs")], 65)
+    yield Part({"node"}, "the layout in node", ["node", str(HERE / "layout.mjs")], 91)
     yield Part({"node"}, "the camera in node", ["node", str(HERE / "camera.mjs")], 15)
     yield Part({"node"}, "the cases in node", ["node", str(HERE / "cases.mjs")], 620)
     yield Part({"tsc"}, "the types of the scripts", [sys.executable, str(HERE / "check_types.py")], 1)
     yield Part({"firefox"}, "the page in Firefox", [sys.executable, str(HERE / "firefox.py")], 11)
+    yield Part(set(), "what is known of a page", [sys.executable, str(HERE / "passed.py")], 13)
 
 
 def main() -> int:
     """Runs the tests; answers the exit status."""
-    words = [word for word in sys.argv[1:] if word != "--quick"]
-    program, is_quick = Path(words[0]).resolve(), "--quick" in sys.argv
+    program, is_quick = Path(next(word for word in sys.argv[1:] if not word.startswith("--"))).resolve(), "--quick" in sys.argv
+    known = passed_before.known() if "--unless-passed" in sys.argv else None
     gone = set(missing())
-    wanted = list(parts(program, is_quick))
     done = []
     with tempfile.TemporaryDirectory(prefix="l6-lines-") as room, \
             ThreadPoolExecutor(min(AT_ONCE, os.cpu_count() or 1)) as pool:
@@ -134,7 +137,7 @@ def main() -> int:
             done.append(("the page bundled again", pool.submit(made_again, program, True)))
         else:
             done.append(("the page made again", pool.submit(made_again, program, is_quick)))
-        for part in wanted:
+        for part in parts(program, not is_quick and known is None):
             if part.needs & gone:
                 print(f"skipped: {part.name}: {', '.join(part.needs & gone)} is missing")
             else:
@@ -143,13 +146,22 @@ def main() -> int:
             print("skipped: the lines of web/src that are run: Chromium or Node is missing")
         else:
             wait(future for _, future in done)
-            done.append(("the lines of web/src that are run", pool.submit(lines_run, room, is_quick)))
-        passed = failed = 0
-        for name, future in done:
-            text, right, wrong = future.result()
-            print(f"web: {name}: {right} passed, {wrong} failed", flush=True)
-            print(f"{text}\n" if text else "", end="", flush=True)
-            passed, failed = passed + right, failed + wrong
+            done.append(("the lines of web/src that are run", pool.submit(lines_run, room, is_quick or known is not None)))
+        return told([(name, *future.result()) for name, future in done], known)
+
+
+def told(results: list[tuple[str, str, int, int]], known: int | None) -> int:
+    """Prints what came of the parts, and the count; answers the exit status. If the long trials passed, it is noted."""
+    if known is not None:
+        results.insert(1, (LONG, "this page passed them before", known, 0))
+    for name, text, right, wrong in results:
+        print(f"web: {name}: {right} passed, {wrong} failed", flush=True)
+        print(f"{text}\n" if text else "", end="", flush=True)
+    long = [(right, wrong) for name, _, right, wrong in results if name.startswith(LONG)]
+    count = passed_before.count_of(long, len(LEAST_OF_LONG))
+    if known is None and count is not None:
+        passed_before.note(count)
+    passed, failed = sum(right for _, _, right, _ in results), sum(wrong for _, _, _, wrong in results)
     print(f"{passed} passed, {failed} failed")
     return 1 if failed else 0
 

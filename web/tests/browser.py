@@ -101,7 +101,7 @@ class Browser:
             raise NotBegun(self.value("document.getElementById('run-note').textContent"))
 
     def reload(self) -> None:
-        """Loads the page anew, as its reader does, and waits until it is ready."""
+        """Loads the page again, as its reader does, and waits until it is ready."""
         self.value("l6.library.isChanged = false")  # (or the browser would ask)
         begun = len(self.events)
         self._call("Page.reload")
@@ -115,6 +115,15 @@ class Browser:
         if "exceptionDetails" in answer:
             raise AssertionError(f"{script[:200]}: {json.dumps(answer['exceptionDetails'])[:600]}")
         return answer["result"].get("value")
+
+    def spoken(self, selector: str) -> dict[str, object]:
+        """What a screen reader gets of an element: its role, its name, what describes it, and how it is."""
+        found = self._call("Runtime.evaluate", expression=f"document.querySelector({json.dumps(selector)})")["result"]
+        if "objectId" not in found:
+            return {"role": "nothing there"}
+        node = self._call("Accessibility.getPartialAXTree", objectId=found["objectId"], fetchRelatives=False)["nodes"][0]
+        parts = {part: node.get(part, {}).get("value", "") for part in ("role", "name", "description")}
+        return parts | {it["name"]: it["value"].get("value") for it in node.get("properties", [])}
 
     def wait(self, condition: str, seconds: float = SECONDS) -> None:
         """Waits until a condition holds."""

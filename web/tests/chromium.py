@@ -2,9 +2,9 @@
 """Tries the page in headless Chromium, as its readers do.
 
 chromium.py [PAGE] prints what differs, and last 'N passed, M failed'. With --tell it names each trial, and
-how long it took; with --only NAME it does that one alone, with --part I/N each N-th, from the I-th on, and
-with --quick those of large things and of the lesson are left out. With --pictures FOLDER it writes a picture
-of each deck of the gallery there, for you to look at.
+how long it took; with --only NAME it does that one alone, with --part I/N each N-th, from the I-th on, with --long
+those of large things, of whole runs and of the lesson, and with --quick all others. With --pictures FOLDER it writes
+a picture of each deck of the gallery there, for you to look at.
 """
 from __future__ import annotations
 
@@ -43,9 +43,18 @@ import trial_ways  # noqa: E402, F401
 import trial_told  # noqa: E402, F401
 import trial_style  # noqa: E402, F401
 import trial_beside  # noqa: E402, F401
+import trial_exact  # noqa: E402, F401
+import trial_edges  # noqa: E402, F401
+import trial_ends  # noqa: E402, F401
+import trial_names  # noqa: E402, F401
+import trial_asked  # noqa: E402, F401
+import trial_said  # noqa: E402, F401
 from browser import Browser, NotBegun  # noqa: E402
 from lines import LINES, CountedBrowser  # noqa: E402
 from page import TOP, TRIALS, Page  # noqa: E402
+
+
+LONG = ("trial_large", "trial_lesson", "trial_walks")  # modules whose trials take long
 
 
 def canaries(page: Page) -> None:
@@ -53,11 +62,16 @@ def canaries(page: Page) -> None:
     def breaks(_: Page) -> None:
         raise AssertionError("it must be counted")
 
+    def differs(got: object, want: object) -> Callable[[Page], None]:
+        return lambda it: it.same("what is there, and what is to be", got, want)
+
     looks: list[Callable[[Page], None]] = [
         lambda it: it.same("1", 1, 2),
         lambda it: it.has("2", "ab", "c"),
+        lambda it: it.has("text in none", "", "c"),
         lambda it: it.right("3", False),
         breaks,
+        *(differs(*both) for pair in ((1, 0), ("a", ""), ([1], []), (None, ""), (True, False)) for both in (pair, pair[::-1])),
     ]
     with contextlib.redirect_stdout(io.StringIO()):
         for look in looks:
@@ -104,8 +118,8 @@ def chosen(words: list[str]) -> list[Callable[[Page], None]]:
 
     only, part = taken("--only"), taken("--part")
     trials = [it for it in TRIALS if it.__name__ == only.replace(" ", "_")] if only else TRIALS
-    if "--quick" in words:
-        trials = [it for it in trials if it.__module__ not in ("trial_large", "trial_lesson", "trial_walks")]
+    if "--quick" in words or "--long" in words:
+        trials = [it for it in trials if (it.__module__ in LONG) == ("--long" in words)]
     first, step = map(int, part.split("/")) if part else (1, 1)
     return trials[first - 1::step]
 

@@ -77,6 +77,7 @@ for (const one of rowsOf("cases")) {
     same(`the statements of "${one.name}"`, readDeck(deck).statements.length + 1, statements);
   }
 }
+const signed = {findings: 0, cards: 0};
 for (const {name, deck, said} of rowsOf("checks")) {
   const found = findingsOf(said, linesOf(deck));
   const counts = said.trimEnd().split("\n").at(-1);
@@ -87,8 +88,14 @@ for (const {name, deck, said} of rowsOf("checks")) {
   const shown = findingsOf(serveText(module, ["check", "--long"], bytes).output, linesOf(bytes));
   same(`the same with its cards in ${name}`, Buffer.from(saidBy(shown), "latin1").toString(), saidBy(found));
   const isUnder = ({from, to, shown: card}) => card === "" || card.endsWith(`\n${" ".repeat(from)}${"^".repeat(to - from)}`);
-  tally.count(`signs under the columns in ${name}`, shown.every(isUnder), () => JSON.stringify(shown));
+  signed.findings += found.length;
+  signed.cards += shown.filter((it) => it.shown).length;
+  same(`signs elsewhere than under the columns in ${name}`, shown.filter((it) => !isUnder(it)), []);
+  const aside = shown.filter((it) => it.shown).map((it) => ({...it, from: it.from + 1, to: it.to + 1}));
+  same(`and they are not under the columns beside those in ${name}`, aside.filter(isUnder), []);
 }
+const rows = rowsOf("checks").length;
+tally.count("there was something to be found in most, and cards with signs", signed.findings > rows && signed.cards > rows / 2, () => JSON.stringify(signed));
 const [, , third] = findingsOf(
   "1:9: error: no card gives the label `LOPP`\n    is it `LOOP`?\n2:1: warning: an element\n" +
     "3:2: error: the statement `IF (A)` ends\n3 errors, 1 warning\n",

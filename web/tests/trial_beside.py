@@ -69,6 +69,7 @@ ASIDE = """(() => {
     }
     return [...new Set(found)];
 })()"""
+LOOKED_AT = "['.pill', '.arrow:not(.broken)'].map(it => document.querySelectorAll(`#drawing ${it}`).length)"
 # The elements of the picture as the page shows it: tag, properties, and how far it is moved.
 ELEMENTS = """(names => {
     const picture = document.querySelector('#drawing > .picture');
@@ -179,6 +180,9 @@ def bugs_and_arrows_in_their_places(page: Page) -> None:
             for state in states:
                 page.do(f"l6.state({state})")
                 page.same(f"{name} in {state}, {detail}", page.value(ASIDE), [])
+                page.right("bugs and arrows were looked at", min(page.value(LOOKED_AT)) > 0, str(page.value(LOOKED_AT)))
+    page.value("document.querySelector('#drawing .pill').style.transform = 'translate(-500px, 0px)'")
+    page.right("a bug that stands elsewhere is seen", bool(page.value(ASIDE)))
     page.fill("detail", "auto", "change")
 
 

@@ -116,8 +116,9 @@ def lecture(page: Page) -> None:
         for key, state in LECTURES.items():
             page.open(f"#{key}@{state};lecture")
             page.browser.wait("!l6.engine.isBusy")
-            small = [it for it in page.value(f"{LETTERS}('body')") if it < 18]
-            page.same(f"letters of {key} at {width}x{height}", small, [])
+            letters = page.value(f"{LETTERS}('body')")
+            page.same(f"letters of {key} at {width}x{height}", [it for it in letters if it < 18], [])
+            page.right("there are letters of several sizes", len(letters) > 1, str(letters))
             page.right("the card is in sight", page.value(f"{IN_VIEW}(document.querySelector('.cards .at'))"))
             cut = "[...document.querySelectorAll('.cards code')].filter(it => it.scrollWidth > it.clientWidth).length"
             page.same("each card is whole", page.value(cut), 0)
@@ -513,6 +514,7 @@ def the_manual_beside(page: Page) -> None:
     seen = f"(it => Boolean(it) && {IN_VIEW}(it))(document.querySelector('.spot.at'))"
     page.becomes("beside the deck, whose card comes into sight", seen, True)
     names = page.value("[...document.querySelectorAll('#manual-page option')].map(it => it.value)")
+    linked = 0
     for name in names:
         page.fill("manual-page", name, "change")
         title = (TOP / "docs" / f"{name}.md").read_text("utf-8").split("\n")[0].removeprefix("# ")
@@ -524,6 +526,8 @@ def the_manual_beside(page: Page) -> None:
             .map(it => it.getAttribute('href').slice(1)).filter(it => !document.getElementById(it))"""
         )
         page.same("its anchors", dead, [])
+        linked += page.count("#manual-text a[href^='#']")
+    page.right("pages lead to sections of their own", linked > 0)
     page.fill("manual-page", "page", "change")
     page.browser.click("#manual-text a[href$='l6.html#lost']")
     page.browser.wait("l6.library.example.key === 'lost'")
@@ -559,13 +563,12 @@ def on_a_small_screen(page: Page) -> None:
     )
     page.right("in sight", page.value(f"{IN_VIEW}(document.getElementById('card'))"))
     page.do("l6.viewer.chooseBlock(1024)")
-    small = page.value(
-        """[...document.querySelectorAll('button, select, summary, input:not([type=file])')]
+    targets = """[...document.querySelectorAll('button, select, summary, input:not([type=file])')]
         .filter(it => it.getClientRects().length && !it.closest('.gutter, .bits, .manual'))
-        .filter(it => !/checkbox|range/.test(it.type))
-        .filter(it => it.offsetWidth < 40 || it.offsetHeight < 32).map(it => it.outerHTML.slice(0, 80))"""
-    )
-    page.same("targets of less than 40 by 32", small, [])
+        .filter(it => !/checkbox|range/.test(it.type))"""
+    page.same("targets of less than 40 by 32", page.value(
+        f"{targets}.filter(it => it.offsetWidth < 40 || it.offsetHeight < 32).map(it => it.outerHTML.slice(0, 80))"), [])
+    page.right("there are many targets", page.value(f"{targets}.length") > 30, str(page.value(f"{targets}.length")))
     page.browser.resize(1400, 900)
 
 

@@ -131,6 +131,9 @@ def examples(page: Page) -> None:
     page.same("a listing", page.text("paper"), (TOP / "examples" / "first.listing").read_text("latin-1"))
     page.do("l6.papers.open('image')")
     page.right("an image", page.text("paper").startswith("542651554722\n000000000002\n"))
+    page.put(" (A,IN,1)(A,PR,1)(PL) DONE\n", "X\n")
+    page.do("l6.papers.open('printout')")
+    page.same("a printout, with an input", page.text("paper"), "X\n== DONE AFTER 5 STEPS\n")
     page.value("document.getElementById('papers-dialog').close()")
 
 
@@ -177,15 +180,16 @@ def links(page: Page) -> None:
 
 @trial
 def links_of_the_manual(page: Page) -> None:
-    """The page leads to the manual, and the manual's links to decks that the page has."""
+    """The page leads nowhere but to its own deck, as it is one file; the manual's links lead to decks that it has."""
     page.open()
-    to_manual = page.value("[...document.querySelectorAll('a')].map(it => it.getAttribute('href'))")
-    to_manual = [it for it in to_manual if it.startswith("../")]
-    page.same("each leads to a file", [it for it in to_manual if not (TOP / "dist" / it).is_file()], [])
+    page.same("its links", page.value("[...document.querySelectorAll('a')].map(it => it.getAttribute('href'))"), ["#deck"])
+    opened: set[str] = set()
     known = set(page.value("l6.library.examples.flatMap(({items}) => items).map(it => it.key)"))
     for file in [TOP / "README.md", *sorted((TOP / "docs").glob("*.md"))]:
         named = {part.split(")")[0].split("@")[0] for part in file.read_text("utf-8").split("l6.html#")[1:]}
         page.same(f"the decks that {file.name} opens", sorted(named - known), [])
+        opened |= named
+    page.right("pages open the decks of the lesson", {"reverse", "tree", "fields", "lost", "join", "buddy", "exercise-1"} <= opened, str(opened))
 
 
 @trial

@@ -111,6 +111,9 @@ def what_screen_readers_are_told(page: Page) -> None:
     page.do("l6.end()")
     page.browser.wait(READ)
     page.same("empty attributes", page.value(EMPTY), [])
+    page.value("document.getElementById('tidy').setAttribute('aria-label', '')")
+    page.same("one is seen", page.value(EMPTY), ["aria-label"])
+    page.value("document.getElementById('tidy').removeAttribute('aria-label')")
     page.same("the map", page.value("document.querySelector('.map').getAttribute('aria-hidden')"), "true")
     page.value("l6.panes.open('store'), document.getElementById('over-states').click()")
     label = "document.querySelector('#history svg')?.getAttribute('aria-label').split(',')[0] ?? ''"

@@ -1,4 +1,4 @@
-"""Trials of what the browser keeps: where the page is loaded anew, where a link is followed, where there is no room."""
+"""Trials of what the browser keeps: where the page is loaded again, where a link is followed, where there is no room."""
 from __future__ import annotations
 
 from page import Page, trial
@@ -38,7 +38,7 @@ def a_page_that_is_loaded_anew(page: Page) -> None:
         typed(page, f"* AT {address}\n")
         is_kept(page, f"* AT {address}\n")
         page.browser.reload()
-        page.becomes(f"what is told at {address!r}", TOLD, "This is what you typed last.")
+        page.becomes(f"what is said at {address!r}", TOLD, "This is what you typed last.")
         found = [page.box("deck"), page.value("l6.panes.isLecture")]
         page.same(f"at {address!r}", found, [f"* AT {address}\n", address.endswith("lecture")])
         typed(page, "* MORE\n")

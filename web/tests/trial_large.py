@@ -189,3 +189,5 @@ def steps_in_a_large_store(page: Page) -> None:
     page.has("what is not drawn is said", page.text("warnings"), "Not drawn: 179,")
     page.has("and up to where the run is read", page.value("document.getElementById('warnings').title"),
              "The run is read up to state ")
+    page.has("and what is not known past it", page.value("document.getElementById('warnings').title"),
+             "; past it no use after free is reported")

@@ -80,7 +80,7 @@ def the_camera_glides(page: Page) -> None:
 
 @trial
 def a_clipboard_that_refuses(page: Page) -> None:
-    """The code of a frame is told where it can't be copied, and papers are selected."""
+    """The code of a frame is shown where it can't be copied, and papers are selected."""
     page.open("#first")
     page.value("navigator.clipboard.writeText = () => Promise.reject(new Error('no'))")
     page.value("document.getElementById('share').open = true")

@@ -93,11 +93,24 @@ CONTRASTS = """(() => {
 def drawings(page: Page) -> None:
     """No arrow goes through a block that it does not begin in, and no table is cut off."""
     page.open()
+    page.value("l6.panes.open('tables')")
+    arrows = 0
     for name, state in PICTURES.items():
         page.example(name, state)
         page.same(f"arrows of {name}", page.value(CROSSINGS), [])
         page.same(f"their heads in {name}", page.value(AT_CORNERS), [])
         page.same(f"tables of {name}", page.value(CLIPPED), [])
+        arrows += page.count(".arrow")
+    page.right("arrows were looked at, and tables", arrows > len(PICTURES) and page.count(".table") == 3, str(arrows))
+    page.example("tree", 137)
+    page.value("Object.assign(l6.viewer.drawing.graph.blocks[0], {x: 0, y: 0, width: 5000, height: 5000, place: -1})")
+    page.right("arrows through a block are seen", bool(page.value(CROSSINGS)))
+    page.example("lost", 14)
+    page.value("l6.viewer.drawing.graph.blocks.forEach(it => Object.assign(it, {x: it.x + 1000, y: it.y + 1000}))")
+    page.right("and heads that are not at the edge", bool(page.value(AT_CORNERS)))
+    page.value("document.querySelector('.table').style.cssText = 'width: 20px; padding: 0'")
+    page.right("and a table that is cut off", bool(page.value(CLIPPED)))
+    page.value("document.querySelector('.table').style.cssText = ''")
     page.example("full", 30_000)
     page.fill("unit", 3)
     page.has("the third unit", page.label("strip"), "3072 block of 1")
@@ -308,6 +321,9 @@ def access(page: Page) -> None:
 def reached_by_all(page: Page) -> None:
     page.open("#tree@137")
     page.same("each control has a name", page.value(UNNAMED), [])
+    page.value("document.querySelector('nav').append(document.createElement('button'))")
+    page.same("one without is seen", page.value(UNNAMED), ["<button></button>"])
+    page.value("document.querySelector('nav').lastElementChild.remove()")
     for width, phone in ((1400, False), (1200, False), (1000, False), (390, True), (320, True)):
         page.browser.resize(width, 844, phone=phone)
         wide = page.value("document.documentElement.scrollWidth")
@@ -315,6 +331,9 @@ def reached_by_all(page: Page) -> None:
     for dark in (False, True):
         page.browser.resize(1400, 900, dark)
         page.same(f"texts can be read, dark {dark}", page.value(CONTRASTS), [])
+        page.value("document.getElementById('where').style.color = getComputedStyle(document.getElementById('now')).backgroundColor")
+        page.same("one that can't is seen", len(page.value(CONTRASTS)), 1)
+        page.value("document.getElementById('where').style.color = ''")
         hints = page.value("getComputedStyle(document.getElementById('chain'), '::placeholder').color")
         ground = page.value("getComputedStyle(document.getElementById('chain')).backgroundColor")
         ratio = contrast(hexadecimal(ground), hexadecimal(hints))

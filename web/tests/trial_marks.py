@@ -31,7 +31,7 @@ COLOURS = """((id, part) => {
     return Array.from({length: 40}, (_, at) => [...pen.getImageData(
         Math.floor(canvas.width * (at + 0.5) / 40), Math.floor(canvas.height * part), 1, 1).data].join(' '));
 })"""
-# Goes to the end, where the page begins to ask why the run has trapped, and elsewhere before it is told.
+# Goes to the end, where the page begins to ask why the run has trapped, and elsewhere before there is an answer.
 TRAPS = """(async (way) => {
     await l6.end();
     await l6.back();
@@ -52,6 +52,7 @@ TRAPS = """(async (way) => {
 # Where a long run is in some states, asked for in each way; the states in which the debugger says something else.
 TRAIL = """(async numbers => {
     const {session} = l6, wrong = [];
+    let looked = 0;
     await session.run();
     for (const ahead of [1, 2, 4, -1, -2, -4])
         for (const number of numbers) {
@@ -59,11 +60,12 @@ TRAIL = """(async numbers => {
             await session.trail.near(number, ahead);
             for (const at of [number, number - 1, number + 1, number - 4096, number + 4096]) {
                 if (at < 0 || at > session.last) continue;
+                looked++;
                 const [spot, {state}] = [await session.trail.at(at, ahead), await session.view(at)];
                 if (spot?.statement !== state.statement || spot?.action !== state.action) wrong.push(`${at} by ${ahead}`);
             }
         }
-    return wrong;
+    return [looked, wrong.slice(0, 4)];
 })([9, 4095, 4096, 6000, 12288, 20001])"""
 LONG_CALL = " (A,E,1)(S,FC,A)(LOOP,DO) DONE\nLOOP (B,A,1)\n IF (B,L,6000) THEN LOOP\n (R,FC,C) DONE\n"
 
@@ -214,7 +216,7 @@ def the_trail_of_a_long_run(page: Page) -> None:
     page.open()
     page.put(LONG_CALL)
     page.do("l6.state(0)")
-    page.same("states that are elsewhere", page.value(TRAIL)[:4], [])
+    page.same("how many states were looked at, and those that are elsewhere", page.value(TRAIL), [6 * (4 + 4 + 5 + 5 + 5 + 5), []])
     for number in (6000, 20_000):
         page.put(LONG_CALL)
         page.do(f"l6.state({number})")

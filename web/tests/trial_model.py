@@ -94,6 +94,10 @@ def told(run: Run, moment: Moment, before: Moment | None, way: str) -> dict[str,
         "calls": expected.calls(run, moment),
         "spot": [part.card, part.begin, part.end] if part and part.card >= 0 else None,
         "card": run.deck.split("\n")[part.card][part.begin:part.end] if part and part.card >= 0 else "",
+        "whole card": f"{part.card + 1} {run.deck.split(chr(10))[part.card]}" if part and part.card >= 0 else "",
+        "before what comes next": "" if part is None else "At: " if moment.ending else "Next: ",
+        "label": "Printed" if moment.ending else "Printed so far",
+        "looks": [moment.ending == "TRAP", not moment.blocks],
     }
     if run.is_whole:
         last = run.moments[-1].number

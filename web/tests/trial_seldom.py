@@ -116,6 +116,9 @@ def nothing_opens_past_the_window(page: Page) -> None:
         page.value("l6.manual.toggle()")
         found["manual"] = page.value(f"{OUTSIDE}(document.getElementById('manual-pane'))")
         page.same(f"what is cut off at {width}", {name: it for name, it in found.items() if it}, {})
+    page.value("void (document.getElementById('options').open = true)")
+    page.value("document.querySelector('#options .panel').style.cssText = 'width: 3000px; max-width: none'")
+    page.right("what is too wide is seen", bool(page.value(f"{OUTSIDE}(document.querySelector('#options .panel'))")))
     page.browser.resize(1400, 900)
 
 
@@ -137,7 +140,9 @@ def letters_of_what_a_lecture_tells(page: Page) -> None:
                 page.value(RESIZED)
             page.fill("chain", "ANNV")
             page.browser.wait("document.getElementById('answer').textContent !== ''")
-            page.same(f"small letters in {link} at {width}", [it for it in page.value(f"{LETTERS}('body')") if it < 18], [])
+            letters = page.value(f"{LETTERS}('body')")
+            page.same(f"small letters in {link} at {width}", [it for it in letters if it < 18], [])
+            page.right("there are letters of several sizes", len(letters) > 1, str(letters))
         page.put(" (A,E,5\n (A,Q,1)\n")
         page.do("l6.checker.check()")
         page.same("three lines at least", page.count("#fault p") >= 2, True)
@@ -213,13 +218,15 @@ def another_deck_begins_anew(page: Page) -> None:
     page.do("l6.viewer.chooseBlock(1026)")
     page.value("l6.viewer.watch({chain: 'A'}), l6.pictures.keep()")
     page.fill("chain", "AN")
+    page.becomes("marks are there before", "document.querySelectorAll('.block.chosen, .block.lit').length > 1", True)
     page.do("l6.hideBug('A')")
     page.click("tidy")
     page.same("Tidy is pressed", page.value("document.getElementById('tidy').ariaPressed"), "true")
-    page.example("list", 30)
     left = """['chain', 'place'].filter(it => document.getElementById(it).value)
         .concat(['answer', 'watched', 'hidden-bugs', 'handout', 'led'].filter(it => document.getElementById(it).textContent))
         .concat(document.querySelectorAll('.block.chosen, .block.lit').length ? ['marks'] : [])"""
+    page.same("what is there before", page.value(left), ["chain", "place", "answer", "watched", "hidden-bugs", "handout", "led"])
+    page.example("list", 30)
     page.same("what stays", page.value(left), [])
     page.same("and Tidy", page.value("[document.getElementById('tidy').ariaPressed, l6.viewer.drawing.isTidy]"), ["false", False])
     page.fill("deck", " (PL)\n")
@@ -312,6 +319,8 @@ def calls_that_wait_in_each_state(page: Page) -> None:
     page.do("l6.state(100)")
     page.click("show-calls")
     page.same("states with other calls", page.value(WAITING % (120, 150)), [])
+    page.do("l6.state(137)")
+    page.right("there are calls that wait", page.count("#call-tree .waits") > 1)
 
 
 @trial

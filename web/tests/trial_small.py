@@ -102,7 +102,7 @@ def the_length_of_a_list(page: Page) -> None:
 
 @trial
 def from_where_it_is_told(page: Page) -> None:
-    """What changed on a way of many states is told since the earlier one, or undone up to the later one."""
+    """A step over many states says what changed since the earlier one, or what is undone up to the later one."""
     page.open("#lost@3")
     page.do("l6.end()")
     page.has("on", page.text("changes"), "Changed since state 3: ")
@@ -119,7 +119,7 @@ def a_finger_that_is_taken_away(page: Page) -> None:
 
 @trial
 def a_note_comes_back(page: Page) -> None:
-    """What was told before something took long is told again after it."""
+    """What was said before something took long is said again after it."""
     page.open("#first")
     page.settle()
     page.browser.wait("!l6.engine.isBusy")

@@ -22,7 +22,7 @@ WALK = """(async (from, steps, back) => {
     const pictures = new Map();
     const moved = [];
     await l6.state(from);
-    let old = read();
+    let old = read(), [blocks, there] = [old.size, l6.view.store.blocks];
     pictures.set(l6.view.state.number, pictureOf());
     for (let step = 0; step < steps && !l6.view.state.ending; step++) {
         await l6.step();
@@ -32,6 +32,7 @@ WALK = """(async (from, steps, back) => {
             if (was && Math.hypot(x - was[0], y - was[1]) > 1) moved.push(`${place} in ${l6.view.state.number}`);
         }
         old = now;
+        [blocks, there] = [Math.max(blocks, now.size), Math.max(there, l6.view.store.blocks)];
         pictures.set(l6.view.state.number, pictureOf());
     }
     const other = [];
@@ -41,7 +42,7 @@ WALK = """(async (from, steps, back) => {
         const known = pictures.get(l6.view.state.number);
         if (known && known !== pictureOf()) other.push(l6.view.state.number);
     }
-    return {moved, other, shown};
+    return {moved, other, shown, blocks, there};
 })(%d, %d, %d)"""
 
 # Steps on until there is one more block.
@@ -162,7 +163,7 @@ def walk(page: Page, names: list[str], begin: float = 0.0, steps: int = 80, back
         found = page.value(WALK % (first, steps, back))
         page.same(f"{name}: blocks that live and move", found["moved"][:4], [])
         page.same(f"{name}: back shows the same picture", found["other"][:4], [])
-        page.right(f"{name}: it was walked through", found["shown"] > 1)
+        page.right(f"{name}: it was walked through", found["shown"] > 1 and (found["blocks"] > 0) == (found["there"] > 0), str(found))
 
 
 @trial
@@ -216,7 +217,7 @@ def shapes(page: Page) -> None:
     page.do("l6.end()")
     below = """(() => {
         const {plan, graph} = l6.viewer.drawing;
-        return graph.blocks.every(block => block.links.every(({target, name}) => {
+        return graph.blocks.length === 15 && graph.blocks.flatMap(it => it.links).length === 14 && graph.blocks.every(block => block.links.every(({target, name}) => {
             const [from, to] = [plan.places.get(block.place), plan.places.get(target)];
             return to.y > from.y && (name === 'L' ? to.x < from.x : to.x > from.x);
         }));
@@ -224,11 +225,13 @@ def shapes(page: Page) -> None:
     page.right("in a tree L leads down and left, R down and right", page.value(below))
     for name in ("list", "reverse", "queue", "josephus", "twostacks"):
         put(page, name)
-        passed = []
+        passed, links = [], 0
         for part in range(1, 9):
             page.do(f"l6.state(Math.round(l6.session.last * {part} / 8))")
             passed += page.value(PASSED)
+            links += page.value("l6.viewer.drawing.graph.blocks.flatMap(it => it.links).length")
         page.same(f"{name}: links that pass a block of their row", passed[:3], [])
+        page.right("there are links", links > 8, str(links))
     covered = []
     for name in ("double", "reverse", "josephus", "twostacks"):
         put(page, name)
@@ -251,6 +254,14 @@ def shapes(page: Page) -> None:
         covered += [f"graph in {state}: {it}" for it in page.value(COVERED)]
     page.fill("detail", "auto", "change")
     page.same("no arrowhead or line covers a name, and no bug an arrowhead", covered[:4], [])
+    put(page, "double")
+    page.fill("detail", "boxes", "change")
+    page.do("l6.state(93)")
+    page.right("there are names and bugs", min(page.count(it) for it in ("#drawing .tag", "#drawing .pill")) > 0)
+    page.value("(it => { const {x, y} = it.querySelector('path').getPointAtLength(30); it.querySelector('.tag').setAttribute('x', x - 4);"
+               " it.querySelector('.tag').setAttribute('y', y + 4); })(document.querySelector('#drawing .arrow:has(.tag)'))")
+    page.right("a line over a name is seen", bool(page.value(COVERED)))
+    page.fill("detail", "auto", "change")
 
 
 @trial
@@ -353,7 +364,7 @@ def a_camera(page: Page) -> None:
     page.do("l6.state(60)")
     page.browser.key("0")
     page.right("0 again shows the blocks that are there now", page.value(spot)[2] > fitted[2])
-    page.right("all of them", page.value("l6.viewer.drawing.graph.blocks.every(it => l6.viewer.drawing.camera.sees(it))"))
+    page.right("all of them", page.value("(it => it.length > 1 && it.every(one => l6.viewer.drawing.camera.sees(one)))(l6.viewer.drawing.graph.blocks)"))
     page.browser.key("0")
     page.same("and once more all", page.value(spot), fitted)
     page.do("l6.end()")
@@ -395,6 +406,16 @@ def subtrees_fold(page: Page) -> None:
     page.value("l6.viewer.drawing.focusBlock()")
     page.browser.key("f")
     page.same("F unfolds it", page.count(".block"), 31)
+    page.value("l6.viewer.drawing.fold(l6.viewer.drawing.plan.first)")
+    page.same("folded again", page.count(".block"), 1)
+    page.click("tidy")
+    page.same("Tidy unfolds it", [page.count(".block"), page.count(".folded")], [31, 0])
+    page.click("tidy")
+    page.value("l6.viewer.drawing.fold(l6.viewer.drawing.plan.first)")
+    page.put("* ANOTHER DECK\n" + DECKS["tree31"]["deck"], DECKS["tree31"]["input"])
+    page.do("l6.end()")
+    page.browser.wait(READ)
+    page.same("another deck has all its blocks", [page.count(".block"), page.count(".folded")], [31, 0])
     page.put(DECKS["tree100"]["deck"].replace("I,E,100", "I,E,900"))
     page.do("l6.run()")
     page.browser.wait(READ)
@@ -499,7 +520,7 @@ def shares(page: Page) -> None:
     page.same("the frame is the same in all states", len(frames), 1)
     page.value("l6.panes.open('tables')")
     cut = """[...document.querySelectorAll('.table')].filter(it => it.scrollWidth > it.clientWidth + 1).length"""
-    page.same("tables are not cut", page.value(cut), 0)
+    page.same("tables are not cut", [page.value(cut), page.count(".table")], [0, 3])
     page.example("lost", 14)
     page.do("l6.viewer.chooseBlock(1028)")
     hidden = """[...document.querySelectorAll('.table')].filter(it => it.scrollHeight > it.clientHeight + 1)

@@ -111,3 +111,60 @@ def notes_go(page: Page) -> None:
     page.same("what goes on does not fade", page.value(animation)[0], 0)
     page.value("l6.tell('')")
     page.same("without a note there is no box", page.value("document.getElementById('run-note').offsetHeight"), 0)
+
+
+# What is pressed, chosen, marked or wrong: what is done in state 14 of the deck `lost`, an element, a property, and its colour.
+STATES = [
+    ("l6.panes.open('store')", "#show-store", "backgroundColor", "accent-soft"), ("", "#show-store", "borderTopColor", "accent"),
+    ("document.getElementById('tidy').click()", "#tidy", "backgroundColor", "accent-soft"), ("document.getElementById('tidy').click()", "#tidy", "backgroundColor", "raised"),
+    ("l6.toggle(2)", "#gutter [aria-pressed=true]", "backgroundColor", "mark"), ("", "#gutter [aria-pressed=true]", "color", "paper"),
+    ("", ".ruler .edge", "color", "mark"), ("l6.editor.drawCards()", ".cards [aria-pressed=true]", "backgroundColor", "mark"), ("", ".cards mark", "backgroundColor", "now-strong"),
+    ("l6.end()", "#step", "color", "faint"), ("", "#back", "color", "ink"), ("", "#where", "color", "fault"),
+    ("document.getElementById('store').value = '0', l6.optionChanged()", "#store", "backgroundColor", "fault-soft"), ("", "#options-note", "color", "fault"),
+    ("document.getElementById('store').value = '8', l6.optionChanged()", "#store", "backgroundColor", "raised"),
+    ("l6.papers.open('listing')", "#tab-listing", "backgroundColor", "accent-soft"),
+    ("document.getElementById('papers-dialog').close(), document.getElementById('chain').value = 'A-', l6.state(14)", "#answer", "color", "fault"),
+    ("document.getElementById('chain').value = 'A', l6.viewer.chainTyped()", "#answer", "color", "lit"),
+    ("l6.put({deck: ' (A,Q,1)\\n' + ' (A,E,1)'.padEnd(72) + '(A,PD)\\n'}), l6.checker.check()", ".spot.bad", "borderBottomColor", "fault"), ("", ".spot.odd", "borderBottomColor", "mark"),
+    ("", ".line.bad", "backgroundColor", "fault-soft"), ("", "#fault", "color", "fault"), ("", "#fault .warning", "color", "soft"),
+    ("l6.library.openExample('tree'), l6.state(137).then(() => document.getElementById('show-calls').click())", ".call-tree .waits > details > summary > b", "color", "accent"),
+]
+RULES = """((selector, name, part) => (it => it ? getComputedStyle(it, part || undefined)[name] : 'nothing there')(document.querySelector(selector)))"""
+
+
+@trial
+def states_that_are_seen(page: Page) -> None:
+    """What is pressed, chosen or wrong has its colour; what can't be pressed is pale; a dialog stands before the page."""
+    for dark in (False, True):
+        page.browser.resize(1400, 1000, dark)
+        page.open("#lost@14")
+        for act, selector, name, colour in STATES:
+            if act:
+                page.value(f"(async () => {{ await ({act}); }})()")
+                page.browser.wait("!l6.isBusy && !l6.engine.isBusy")
+            got, want = page.value(COLOUR % (selector, name, colour))
+            page.same(f"{name} of {selector} after {act or 'that'}, dark {dark}", got, want)
+        page.value("l6.library.isChanged = false")
+    page.browser.resize(1400, 900)
+    page.open("#lost@0")
+    page.same("a button that does nothing is pale", page.value(f"{RULES}('#back', 'opacity')"), "0.75")
+    page.right("the statement where the run is has a ring", page.value(f"{RULES}('#gutter .at', 'boxShadow')").endswith("0px 0px 0px 2px"))
+    page.value("document.getElementById('help-dialog').showModal()")
+    page.right("what is behind a dialog is darkened", page.value(f"{RULES}('#help-dialog', 'backgroundColor', '::backdrop')").startswith("rgba(0, 0, 0, 0.4"))
+    page.value("document.getElementById('help-dialog').close()")
+    page.example("lost", 21)
+    page.browser.wait("!document.getElementById('trap').hidden && Boolean(document.querySelector('.block.stopped'))")
+    page.same("a block at which a chain ends", page.value(f"{RULES}('.block.stopped .edge', 'strokeDasharray')"), "7px, 4px")
+    for is_moving, want in ((False, "none"), (True, "transform")):
+        page.browser.moving(is_moving)
+        page.same(f"whether blocks glide, motion {is_moving}", page.value(f"{RULES}('.block', 'transitionProperty')"), want)
+    page.browser.moving(False)
+    page.value("l6.pictures.keep(), document.getElementById('manual').click()")
+    page.browser.printing(True)
+    page.same("the head of the manual is not printed", page.value(f"{RULES}('.manual-head', 'display')"), "none")
+    page.browser.printing(False)
+    page.click("manual-close")
+    page.browser.printing(True)
+    page.same("a picture stays on its sheet", page.value(f"{RULES}('#handout figure', 'breakInside')"), "avoid")
+    page.same("and leaves room for others, as it has nine centimetres", page.value(f"Math.round(parseFloat({RULES}('#handout svg', 'maxHeight')))"), 340)
+    page.browser.printing(False)

@@ -83,10 +83,15 @@ def an_answer_is_judged_by_its_task(page: Page) -> None:
     page.becomes("which are read", rows, want)
     page.same("and so is that of folders", page.value(CHOSEN % ("'answer-folder'", json.dumps(files))), 0)
     page.becomes("which are read, too", rows, want)
+    page.value("l6.tasks.open(), document.getElementById('answers-dialog').showModal()")
+    page.value("document.querySelector('#answers tr button').click()")
+    page.same("Open closes both dialogs", page.value(
+        "['task-dialog', 'answers-dialog'].map(it => document.getElementById(it).open)"), [False, False])
+    page.becomes("and opens the deck that was handed in", "document.getElementById('deck').value", RIGHT)
     page.fill("deck", SLOW)
     page.fill("steps", 1_000_000, "change")
     page.click("run")
-    page.becomes("a pupil is told the same", VERDICT,
+    page.becomes("a pupil reads the same", VERDICT,
                  "Not yet: just this is printed, but with the options of the exercise the run does not end by DONE.")
     page.value("l6.library.isChanged = false")
 

@@ -30,6 +30,7 @@ TOLD = [
     ("l6.library.openFile(new File([' (PL)\\n'], 'mine.deck'))", "opened mine.deck"),
 ]
 # Of each option a number that is too small, the least, the greatest, and one that is too large; and its name.
+INVALID = "[...document.querySelectorAll('[aria-invalid=true]')].map(it => it.id)"
 RANGES = {
     "store": (0, 1, 255, 256, "Units of the store: a number from 1 to 255, and not “{}”."),
     "steps": (-1, 0, 1_000_000_000, 1_000_000_001, "Steps: a number from 0 to 1,000,000,000, and not “{}”."),
@@ -42,6 +43,7 @@ LEFT = """['next', 'changes', 'bugs', 'bug-strip', 'fields', 'words', 'led', 'an
     'legend', 'hidden-bugs', 'store-text', 'amounts', 'warnings', 'of'].filter(it => document.getElementById(it).textContent)
     .concat(document.querySelectorAll('#drawing .block, #drawing .arrow, #drawing .pill, .spot.at, #gutter .at').length ? ['marks'] : [])
     .concat(['card', 'calls', 'call-tree', 'trap'].filter(it => !document.getElementById(it).hidden))"""
+SHOWN = {"next", "bugs", "bug-strip", "fields", "words", "answer", "frames", "legend", "store-text", "of", "marks", "card", "calls", "call-tree"}
 # Files of the dialog of what the program writes.
 PAPERS = {"printout": "printout.txt", "listing": "listing.txt", "image": "deck.image", "session": "transcript.txt", "asked": "asked.txt"}
 SEEN_BARS = "['left', 'details'].map(it => document.getElementById(it).getBoundingClientRect()).map(({width, height}, at) =>" \
@@ -72,8 +74,8 @@ def each_option_has_a_range(page: Page) -> None:
         for value, is_right in ((below, False), (least, True), (most, True), (above, False), ("", False), ("1.5", False), ("x", False)):
             page.value(f"(it => {{ it.type = 'text'; it.value = {json.dumps(str(value))}; it.dispatchEvent(new Event('change')); }})"
                        f"(document.getElementById('{name}'))")
-            want = ["", "false"] if is_right else [text.format(value), "true"]
-            page.same(f"{name} of {value!r}", [page.text("options-note"), page.value(f"document.getElementById('{name}').getAttribute('aria-invalid')")], want)
+            want = ["", []] if is_right else [text.format(value), [name]]
+            page.same(f"{name} of {value!r}", [page.text("options-note"), page.value(INVALID)], want)
             if not is_right:
                 page.click("run")
                 page.same(f"nothing is run with {name} of {value!r}", [page.state(), page.note()], [-1, text.format(value)])
@@ -98,7 +100,8 @@ def what_was_shown_goes(page: Page) -> None:
     for name, typed, event, why in (("deck", " (A,GT,1)(A,PD)\n", "input", "The deck has changed."), ("input", "X", "input", "The input has changed."),
                                     ("steps", "77", "change", "An option has changed.")):
         page.example("tree", 137)
-        page.value("document.getElementById('chain').value = 'TL', l6.viewer.chainTyped()")
+        page.value("document.getElementById('chain').value = 'TL', l6.viewer.chainTyped(), document.getElementById('show-calls').click()")
+        page.right("much is there before", SHOWN <= set(page.value(LEFT)), str(page.value(LEFT)))
         page.value("l6.play()")
         page.fill(name, typed, event)
         page.same(f"{name} pauses", page.value("l6.player.isPlaying"), False)

@@ -30,6 +30,9 @@ def the_manual_beside_at_each_size(page: Page) -> None:
         page.click("manual")
         page.value("new Promise(it => setTimeout(it, 300))")
         page.same(f"under the manual at {width}x{height}", page.value(UNDER), [])
+        page.value("document.getElementById('manual-pane').style.left = '0'")
+        page.right("what is under it is seen", bool(page.value(UNDER)))
+        page.value("document.getElementById('manual-pane').style.left = ''")
         (deck, deck_height), (drawing, drawing_height) = page.value(SIZES)
         page.right(f"the deck beside it at {width}x{height}", deck >= 330 and deck_height >= 75, f"{deck}x{deck_height}")
         page.right(f"the drawing beside it at {width}x{height}", drawing >= 480 and drawing_height >= 110,
@@ -64,7 +67,8 @@ def a_recursion_is_seen(page: Page) -> None:
     page.value("new Promise(it => setTimeout(it, 300))")
     beside = """(() => {
         const {right} = document.getElementById('call-tree').getBoundingClientRect();
-        return [...document.querySelectorAll('#drawing .block .edge')].every(it => it.getBoundingClientRect().left >= right);
+        const edges = [...document.querySelectorAll('#drawing .block .edge')];
+        return edges.length > 1 && edges.every(it => it.getBoundingClientRect().left >= right);
     })()"""
     page.right("the tree covers no block", page.value(beside))
     page.right("all blocks are seen", page.value("l6.viewer.drawing.camera.isWhole"))

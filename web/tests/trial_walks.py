@@ -70,7 +70,8 @@ def walk_whole(page: Page, names: list[str]) -> None:
             if not found["isEnd"]:
                 found = page.value(f"lookOn({AT_ONCE})")
         page.same(f"{name}: blocks that move in its run", found["moved"][:3], [])
-        page.right(f"{name}: it was gone through", found["isEnd"] and found["states"] > 3, str(found))
+        lives = page.value("l6.session.chronicle.lives.size")
+        page.right(f"{name}: it was gone through", found["isEnd"] and found["states"] > 3 and (found["blocks"] > 0) == (lives > 0), str(found))
 
 
 @trial

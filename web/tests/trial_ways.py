@@ -2,6 +2,7 @@
 from __future__ import annotations
 
 import json
+from collections.abc import Sequence
 
 from expected import commas, count, seen_through
 from modelled import Moment, Run
@@ -107,6 +108,13 @@ def after_call(run: Run, moment: Moment, depth: int) -> int:
     return next(found, run.moments[-1].number)
 
 
+def others(begun: Sequence[int], got: list[int], want: list[int]) -> Sequence[tuple[int, ...]]:
+    """The first few states from which one came elsewhere; where none was tried, or not each, how many there are."""
+    if not want or len({len(begun), len(got), len(want)}) > 1:
+        return [(len(begun), len(got), len(want))]
+    return [it for it in zip(begun, got, want) if it[1] != it[2]][:4]
+
+
 @trial
 def ways_to_go_on(page: Page) -> None:
     """Step, Back, Statement, Over and Out lead from each state where the model says."""
@@ -127,11 +135,11 @@ def ways_to_go_on(page: Page) -> None:
         numbers = json.dumps([it.number for it in moments])
         for way, all_of_it in want.items():
             got = page.value(NUMBERS % (numbers, way))
-            page.same(f"{way} from each state", [it for it in zip(range(last), got, all_of_it) if it[1] != it[2]][:4], [])
+            page.same(f"{way} from each state", others(range(last), got, all_of_it), [])
         inner = [it for it in moments if it.calls]
         got = page.value(NUMBERS % (json.dumps([it.number for it in inner]), "out"))
         out = [after_call(run, it, len(it.calls) - 1) for it in inner]
-        page.same("out of each call", [it for it in zip((it.number for it in inner), got, out) if it[1] != it[2]][:4], [])
+        page.same("out of each call", others([it.number for it in inner], got, out), [])
 
 
 @trial
@@ -245,7 +253,7 @@ def words_of_blocks(page: Page) -> None:
     page.value("l6.panes.open('tables')")
     run = open_run(page, ALL_OF_IT, "OK THEN\nAND MORE\n")
     moments = [it for it in run.moments if it.blocks and len(it.blocks) < 9][::6]
-    wrong = []
+    wrong, compared = [], 0
     for moment in moments:
         page.do(f"l6.state({moment.number})")
         for place, words in moment.blocks.items():
@@ -257,7 +265,9 @@ def words_of_blocks(page: Page) -> None:
             fields = sorted(f"{name} {seen_through(words[it[0]], it)}" for name, it in merged(moment).items() if it[0] < len(words))
             if got != [[str(at), f"{word:012o}"] for at, word in enumerate(words)] or cells != fields:
                 wrong.append([moment.number, place, got, cells, fields])
+            compared += 1
     page.same("blocks with other words", wrong[:2], [])
+    page.right("blocks in several states were compared", compared > len(moments) > 3, str(compared))
     page.fill("place", 5)
     page.same("where no block begins that is said", page.text("words"), "No block begins at 5.")
     page.fill("place", "")
@@ -336,7 +346,7 @@ def drawn_store(page: Page, name: str, before: Moment, moment: Moment) -> None:
     shown = sorted(it for it in pieces_of(moment) if any(text.startswith(f"{it[0]} ") for text in texts))
     boxes = [it for it in drawn if it[0] == "fillRect" and it[1] in ("block", "lost", "free")]
     what = f"{name} in {moment.number}"
-    page.same(f"the colours of the {what}", [it[1] for it in boxes], [it[2] for it in shown])
+    page.same(f"the colours of the {what}", ([it[1] for it in boxes], bool(boxes)), ([it[2] for it in shown], True))
     changed = sorted(it for it in shown if it not in pieces_of(before))
     page.same(f"frames of what has changed, {what}", sum(it[:2] == ["strokeRect", "changed"] for it in drawn), len(changed))
     wrong = []
@@ -354,3 +364,24 @@ def drawn_store(page: Page, name: str, before: Moment, moment: Moment) -> None:
     if name == "levels":
         sizes = {it[3]: it[5] for it in drawn if it[0] == "fillText" and it[2] == "right"}
         page.same(f"the lines by size, {what}", [0 < sizes.get(commas(2**at), 0) - (10 - at) * 16 < 16 for at in range(11)], [True] * 11)
+
+
+@trial
+def changes_far_away(page: Page) -> None:
+    """A change is found however far away it is, also where it is in the first or the last of the states that are looked at together."""
+    page.open()
+    page.put(" (A,E,5)\nL (B,A,1)\n IF (B,L,200) THEN L\n (C,E,6) DONE\n")
+    page.do("l6.state(0)")
+    page.do("l6.end()")
+    last = page.state()
+    page.value("l6.viewer.watch({chain: 'C'})")
+    page.do("l6.change(false)")
+    begins = page.state()
+    for away in (*range(62, 69), *range(319, 324)):
+        # (the condition of the statement is the first step, and then A changes)
+        for chain, at, act, want in (("A", 2 + away, "l6.change(false)", 2), ("C", begins - away, "l6.change(true)", begins)):
+            page.value(f"l6.viewer.watch({{chain: '{chain}'}})")
+            page.do(f"l6.state({at})")
+            page.do(act)
+            page.same(f"{act} from {away} states away", page.state(), want)
+    page.right("the run is long enough", begins > 324 and last >= begins, f"{begins} of {last}")

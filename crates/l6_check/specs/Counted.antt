@@ -46,9 +46,10 @@ abbrev pub warnings_of : Report → ℕ
 warnings_of report =
     let cards = report.cards in
     let program = report.program in
-    let of_labels = added (added (added cards.columns.count cards.image.count) program.conditions.count) program.unnamed.count in
-    let of_ways = added (added of_labels program.unreached.count) program.trapping.count in
-    added (added (added of_ways program.idle.count) program.running.count) program.fields.count
+    let statements = program.statements in
+    let of_labels = added (added (added cards.columns.count cards.image.count) statements.conditions.count) statements.unnamed.count in
+    let of_ways = added (added of_labels statements.unreached.count) statements.trapping.count in
+    added (added (added of_ways statements.idle.count) statements.running.count) program.fields.count
 
 -- findings are in the order of their cards
 abbrev pub AreByCards : List Finding → Type 0

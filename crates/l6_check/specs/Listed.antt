@@ -18,8 +18,9 @@ first_of report (Some first) = if is_in_detail report first then [] else first â
 -- the warnings of a program that are kept
 abbrev pub warnings_of : ProgramWarnings â†’ List Finding
 warnings_of program =
-    program.conditions.kept.items ++ (program.unnamed.kept.items ++ (program.unreached.kept.items
-    ++ (program.trapping.kept.items ++ (program.idle.kept.items ++ (program.running.kept.items
+    let statements = program.statements in
+    statements.conditions.kept.items ++ (statements.unnamed.kept.items ++ (statements.unreached.kept.items
+    ++ (statements.trapping.kept.items ++ (statements.idle.kept.items ++ (statements.running.kept.items
     ++ program.fields.kept.items)))))
 
 -- the findings that a report keeps

@@ -33,12 +33,12 @@ pub record HasNoErrors (report : Report) : Type 0 where
 -- are, of labels that no statement names, of statements that no way leads to, of operations that always
 -- trap, and of fields that are used and not defined
 pub record WarnsOf (deck : List ℕ) (program : List Parts) (warnings : ProgramWarnings) : Type 0 where
-  pub conditions : Say condition_card (condition_cards deck) warnings.conditions
-  pub unnamed : SayUnnamed program deck warnings.unnamed
-  pub unreached : SayUnreached program deck warnings.unreached
-  pub trapping : Say trapping_card (trapping_cards program deck) warnings.trapping
-  pub idle : Say idle_card (idle_cards program deck) warnings.idle
-  pub running : Say running_card (running_cards program deck) warnings.running
+  pub conditions : Say condition_card (condition_cards deck) warnings.statements.conditions
+  pub unnamed : SayUnnamed program deck warnings.statements.unnamed
+  pub unreached : SayUnreached program deck warnings.statements.unreached
+  pub trapping : Say trapping_card (trapping_cards program deck) warnings.statements.trapping
+  pub idle : Say idle_card (idle_cards program deck) warnings.statements.idle
+  pub running : Say running_card (running_cards program deck) warnings.statements.running
   pub fields : Say field_said (undefined_fields program) warnings.fields
 
 -- the report has no errors, and the warnings of the program that the deck spells

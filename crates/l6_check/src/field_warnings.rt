@@ -10,7 +10,7 @@ ghost use Rattle.l6_check.specs.inner.Marks.{marked, is_marked as marked_in};
 use crate::field_places::{FieldPlaces, Place, field_places};
 use crate::finding::{Finding, Span};
 use crate::findings::Findings;
-use crate::marks::{is_marked, mark};
+use crate::marks::{Marker, is_marked, mark, mark_each};
 use crate::reason::{Reason, WarningReason};
 use l6_prog::{Chain, NAMES, Name, Op, Operand, Program, Statement, Test};
 use std::alloc::{AllocError, Global};
@@ -111,98 +111,87 @@ fn fields_of(statements: &[Statement]) -> Fields
     let mut used = [false; NAMES as usize];
     let mut defined = [false; NAMES as usize];
     for statement in statements {
-        mark_tests(&mut used, statement.tests());
-        mark_used(&mut used, statement.operations());
-        mark_defined(&mut defined, statement.operations());
+        mark_each::<Used, Test>(&mut used, statement.tests());
+        mark_each::<Used, Op>(&mut used, statement.operations());
+        mark_each::<Defined, Op>(&mut defined, statement.operations());
     }
     Fields { used, defined }
 }
 
-/// Marks the fields that tests use.
-fn mark_tests(used: &mut [bool], tests: &[Test])
-    ensures { used.new ≡ marked used.old (flat_map spec.fields_of_test tests.now) }
-{
-    for test in tests {
-        mark_both(used, &test.chain, &test.operand);
+/// The fields that something uses.
+struct Used;
+
+impl Marker<Test> for Used {
+    ghost numbers = { spec.fields_of_test };
+
+    fn mark_of(marks: &mut [bool], test: &Test) {
+        mark_both(marks, &test.chain, &test.operand);
     }
 }
 
-/// Marks the fields that operations use.
-fn mark_used(used: &mut [bool], operations: &[Op])
-    ensures { used.new ≡ marked used.old (flat_map spec.fields_of_operation operations.now) }
-{
-    for operation in operations {
-        mark_operation(used, operation);
+impl Marker<Op> for Used {
+    ghost numbers = { spec.fields_of_operation };
+
+    #[tactic(auto, using(crate::proofs::Marking::marked_append))]
+    fn mark_of(marks: &mut [bool], operation: &Op) {
+        match operation {
+            Op::Set(chain, operand)
+            | Op::Add(chain, operand)
+            | Op::Subtract(chain, operand)
+            | Op::Multiply(chain, operand)
+            | Op::Divide(chain, operand)
+            | Op::Remainder(chain, operand)
+            | Op::And(chain, operand)
+            | Op::Or(chain, operand)
+            | Op::ExclusiveOr(chain, operand)
+            | Op::Complement(chain, operand)
+            | Op::ShiftLeft(chain, operand)
+            | Op::ShiftRight(chain, operand)
+            | Op::Duplicate(chain, operand, _)
+            | Op::Input(chain, operand, _)
+            | Op::PrintCharacters(chain, operand) => mark_both(marks, chain, operand),
+            Op::Exchange(one, other) => {
+                mark_chain(marks, one);
+                mark_chain(marks, other);
+            }
+            Op::Define(_, word, first, last) => {
+                mark_operand(marks, word);
+                mark_operand(marks, first);
+                mark_operand(marks, last);
+            }
+            Op::SaveContent(chain)
+            | Op::RestoreContent(chain)
+            | Op::PrintDecimal(chain)
+            | Op::PrintOctal(chain) => mark_chain(marks, chain),
+            Op::Get(chain, size, Some(old), _) => {
+                mark_both(marks, chain, size);
+                mark_chain(marks, old);
+            }
+            Op::Get(chain, size, None, _) => mark_both(marks, chain, size),
+            Op::Free(chain, Some(value)) => mark_both(marks, chain, value),
+            Op::Free(chain, None) => mark_chain(marks, chain),
+            Op::SaveDefinition(_)
+            | Op::RestoreDefinition(_)
+            | Op::PrintText(_)
+            | Op::Call(_, _)
+            | Op::PrintLine => {}
+        }
     }
 }
 
-/// Marks the fields that operations may define.
-fn mark_defined(defined: &mut [bool], operations: &[Op])
-    ensures { defined.new ≡ marked defined.old (flat_map spec.defined_by operations.now) }
-{
-    for operation in operations {
-        mark_definition(defined, operation);
-    }
-}
+/// The fields that something may define.
+struct Defined;
 
-/// Marks the field that an operation may define.
-fn mark_definition(defined: &mut [bool], operation: &Op)
-    ensures { defined.new ≡ marked defined.old (spec.defined_by operation.now) }
-{
-    match operation {
-        Op::Define(field, _, _, _) | Op::RestoreDefinition(field) => {
-            mark(defined, usize::from(field.number()))
-        }
-        _ => {}
-    }
-}
+impl Marker<Op> for Defined {
+    ghost numbers = { spec.defined_by };
 
-/// Marks the fields that an operation uses.
-#[tactic(auto, using(crate::proofs::Marking::marked_append))]
-fn mark_operation(used: &mut [bool], operation: &Op)
-    ensures { used.new ≡ marked used.old (spec.fields_of_operation operation.now) }
-{
-    match operation {
-        Op::Set(chain, operand)
-        | Op::Add(chain, operand)
-        | Op::Subtract(chain, operand)
-        | Op::Multiply(chain, operand)
-        | Op::Divide(chain, operand)
-        | Op::Remainder(chain, operand)
-        | Op::And(chain, operand)
-        | Op::Or(chain, operand)
-        | Op::ExclusiveOr(chain, operand)
-        | Op::Complement(chain, operand)
-        | Op::ShiftLeft(chain, operand)
-        | Op::ShiftRight(chain, operand)
-        | Op::Duplicate(chain, operand, _)
-        | Op::Input(chain, operand, _)
-        | Op::PrintCharacters(chain, operand) => mark_both(used, chain, operand),
-        Op::Exchange(one, other) => {
-            mark_chain(used, one);
-            mark_chain(used, other);
+    fn mark_of(marks: &mut [bool], operation: &Op) {
+        match operation {
+            Op::Define(field, _, _, _) | Op::RestoreDefinition(field) => {
+                mark(marks, usize::from(field.number()))
+            }
+            _ => {}
         }
-        Op::Define(_, word, first, last) => {
-            mark_operand(used, word);
-            mark_operand(used, first);
-            mark_operand(used, last);
-        }
-        Op::SaveContent(chain)
-        | Op::RestoreContent(chain)
-        | Op::PrintDecimal(chain)
-        | Op::PrintOctal(chain) => mark_chain(used, chain),
-        Op::Get(chain, size, Some(old), _) => {
-            mark_both(used, chain, size);
-            mark_chain(used, old);
-        }
-        Op::Get(chain, size, None, _) => mark_both(used, chain, size),
-        Op::Free(chain, Some(value)) => mark_both(used, chain, value),
-        Op::Free(chain, None) => mark_chain(used, chain),
-        Op::SaveDefinition(_)
-        | Op::RestoreDefinition(_)
-        | Op::PrintText(_)
-        | Op::Call(_, _)
-        | Op::PrintLine => {}
     }
 }
 

@@ -77,12 +77,13 @@ fn add_warnings<'a>(
     ensures { OnOk result (findings.new.items
         ≡ findings.old.items ++ spec.warnings_of program.now) }
 {
-    add_all(findings, &program.conditions)?;
-    add_all(findings, &program.unnamed)?;
-    add_all(findings, &program.unreached)?;
-    add_all(findings, &program.trapping)?;
-    add_all(findings, &program.idle)?;
-    add_all(findings, &program.running)?;
+    let statements = &program.statements;
+    add_all(findings, &statements.conditions)?;
+    add_all(findings, &statements.unnamed)?;
+    add_all(findings, &statements.unreached)?;
+    add_all(findings, &statements.trapping)?;
+    add_all(findings, &statements.idle)?;
+    add_all(findings, &statements.running)?;
     add_all(findings, &program.fields)?;
     Ok(())
 }

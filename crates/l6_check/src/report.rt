@@ -39,20 +39,30 @@ pub struct Report<'a> {
 /// The warnings of a deck that spells a program.
 #[derive(Drop)]
 pub struct ProgramWarnings<'a> {
-    /// Those of labels that are spelled as conditions are.
-    pub conditions: Findings<'a>,
-    /// Those of labels that no statement names.
-    pub unnamed: Findings<'a>,
-    /// Those of statements that no way leads to.
-    pub unreached: Findings<'a>,
-    /// Those of statements that have an operation which always traps.
-    pub trapping: Findings<'a>,
-    /// Those of statements that have a condition, and nothing that depends on it.
-    pub idle: Findings<'a>,
-    /// Those of statements that always run on into a subroutine.
-    pub running: Findings<'a>,
+    /// Those of its statements.
+    pub statements: StatementWarnings<'a>,
     /// Those of fields that are used and not defined.
     pub fields: Findings<'a>,
+}
+
+impl<'a> ProgramWarnings<'a> {
+    /// The warnings of a deck that spells this program.
+    fn of(alloc: Global, program: &Program, deck: &'a [u8]) -> Result<Self, OutOfMemory>
+        requires { length deck.now ≤ most_deck_bytes }
+        ensures { IfOk result (spec.WarnsOf deck.now program.now) }
+    {
+        let statements = statement_warnings(alloc, program, deck)?;
+        let fields = undefined_fields(alloc, program, deck)?;
+        Ok(ProgramWarnings { statements, fields })
+    }
+
+    /// No warnings.
+    fn none(alloc: Global) -> Self {
+        ProgramWarnings {
+            statements: StatementWarnings::none(alloc),
+            fields: Findings::new(alloc),
+        }
+    }
 }
 
 /// What is found in a deck of at most 1,048,576 bytes.
@@ -68,41 +78,11 @@ pub fn check<'a>(alloc: Global, deck: &'a [u8]) -> Result<Report<'a>, OutOfMemor
     let cards = card_warnings(alloc, text)?;
     match assemble(alloc, deck) {
         Ok(assembly) => {
-            let warnings = program_warnings(alloc, assembly.program(), deck)?;
+            let warnings = ProgramWarnings::of(alloc, assembly.program(), deck)?;
             Ok(without_errors(alloc, cards, warnings))
         }
         Err(fault) => with_errors(alloc, text, plain(deck, fault)?, cards),
     }
-}
-
-/// The warnings of a deck that spells this program.
-fn program_warnings<'a>(
-    alloc: Global,
-    program: &Program,
-    deck: &'a [u8],
-) -> Result<ProgramWarnings<'a>, OutOfMemory>
-    requires { length deck.now ≤ most_deck_bytes }
-    ensures { IfOk result (spec.WarnsOf deck.now program.now) }
-{
-    let statements = statement_warnings(alloc, program, deck)?;
-    let fields = undefined_fields(alloc, program, deck)?;
-    let StatementWarnings {
-        conditions,
-        unnamed,
-        unreached,
-        trapping,
-        idle,
-        running,
-    } = statements;
-    Ok(ProgramWarnings {
-        conditions,
-        unnamed,
-        unreached,
-        trapping,
-        idle,
-        running,
-        fields,
-    })
 }
 
 /// The report of a deck without errors.
@@ -145,14 +125,6 @@ fn with_errors<'a>(
         twice: labels.twice,
         missing,
         cards,
-        program: ProgramWarnings {
-            conditions: Findings::new(alloc),
-            unnamed: Findings::new(alloc),
-            unreached: Findings::new(alloc),
-            trapping: Findings::new(alloc),
-            idle: Findings::new(alloc),
-            running: Findings::new(alloc),
-            fields: Findings::new(alloc),
-        },
+        program: ProgramWarnings::none(alloc),
     })
 }

@@ -1,14 +1,12 @@
 //! Statements that decide nothing, and those that run on into a subroutine.
 
-ghost use Rattle.std.specs.Prelude.{◌≡◌, ◌+◌, ◌<◌, ◌^◌, [], length, option_to_list, slice_get, IfOk};
-ghost use Rattle.std.specs.List.{flat_map};
+ghost use Rattle.std.specs.Prelude.{◌≡◌, ◌+◌, ◌<◌, ◌^◌, [], length, option_to_list, slice_get};
 ghost use Rattle.l6_check.specs.Running as spec;
-ghost use Rattle.l6_check.specs.inner.Marks.{AreMarksBelow, is_marked, marked};
+ghost use Rattle.l6_check.specs.inner.Marks.{is_marked, marked};
 
-use crate::marks::{is_marked, mark};
+use crate::marks::{Marker, is_marked, mark, mark_each};
 use crate::ways::Ways;
-use l6_prog::{Cond, Exit, Op, Program, Statement};
-use std::alloc::{AllocError, Global};
+use l6_prog::{Cond, Exit, Op, Statement};
 
 /// Whether the statement of this number has a condition, and nothing that depends on it.
 pub(crate) fn is_idle(statements: &[Statement], number: usize) -> bool
@@ -72,99 +70,54 @@ fn is_next(exit: Exit) -> bool
     }
 }
 
-/// Marks of the statements that are called, by their numbers.
-pub(crate) fn called_statements(alloc: Global, program: &Program) -> Result<Vec<bool>, AllocError>
-    ensures { let called = flat_map spec.calls_of program.now in
-        IfOk result (λ marks. AreMarksBelow (length program.now) called marks.items) }
-{
-    let statements = program.statements();
-    let mut marks = vec![in alloc; false; statements.len()]?;
-    mark_called(&mut marks, statements);
-    Ok(marks)
-}
+/// The statements that are called.
+pub(crate) struct Calls;
 
-/// Marks of the statements to which some statement goes otherwise, by an exit or for a failure.
-pub(crate) fn left_to_statements(alloc: Global, program: &Program) -> Result<Vec<bool>, AllocError>
-    ensures { let left_to = flat_map spec.exits_of program.now in
-        IfOk result (λ marks. AreMarksBelow (length program.now) left_to marks.items) }
-{
-    let statements = program.statements();
-    let mut marks = vec![in alloc; false; statements.len()]?;
-    mark_left_to(&mut marks, statements);
-    Ok(marks)
-}
+impl Marker<Op> for Calls {
+    ghost numbers = { spec.calls_of_operation };
 
-/// Marks the statements that statements call.
-#[tactic(auto, using(crate::proofs::Marking::marks_next))]
-fn mark_called(marks: &mut [bool], statements: &[Statement])
-    ensures { marks.new ≡ marked marks.old (flat_map spec.calls_of statements.now) }
-{
-    for statement in statements {
-        mark_calls(marks, statement.operations());
+    fn mark_of(marks: &mut [bool], operation: &Op) {
+        match operation {
+            Op::Call(called, _) => mark(marks, usize::from(*called)),
+            _ => {}
+        }
     }
 }
 
-/// Marks the statements that operations call.
-#[tactic(auto, using(crate::proofs::Marking::marks_next))]
-fn mark_calls(marks: &mut [bool], operations: &[Op])
-    ensures { marks.new ≡ marked marks.old (flat_map spec.calls_of_operation operations.now) }
-{
-    for operation in operations {
-        mark_call(marks, operation);
+impl Marker<Statement> for Calls {
+    ghost numbers = { spec.calls_of };
+
+    fn mark_of(marks: &mut [bool], statement: &Statement) {
+        mark_each::<Calls, Op>(marks, statement.operations());
     }
 }
 
-/// Marks the statement that an operation calls.
-fn mark_call(marks: &mut [bool], operation: &Op)
-    ensures { marks.new ≡ marked marks.old (spec.calls_of_operation operation.now) }
-{
-    match operation {
-        Op::Call(called, _) => mark(marks, usize::from(*called)),
-        _ => {}
+/// The statements to which some statement goes otherwise, by an exit or for a failure.
+pub(crate) struct Exits;
+
+impl Marker<Op> for Exits {
+    ghost numbers = { spec.labels_of_operation };
+
+    fn mark_of(marks: &mut [bool], operation: &Op) {
+        match operation {
+            Op::Call(_, label)
+            | Op::Get(_, _, _, label)
+            | Op::Duplicate(_, _, label)
+            | Op::Input(_, _, label) => mark_if_given(marks, *label),
+            _ => {}
+        }
     }
 }
 
-/// Marks the statements to which statements go otherwise.
-#[tactic(auto, using(crate::proofs::Marking::marks_next))]
-fn mark_left_to(marks: &mut [bool], statements: &[Statement])
-    ensures { marks.new ≡ marked marks.old (flat_map spec.exits_of statements.now) }
-{
-    for statement in statements {
-        mark_exits(marks, statement);
-    }
-}
+impl Marker<Statement> for Exits {
+    ghost numbers = { spec.exits_of };
 
-/// Marks the statements to which a statement goes otherwise.
-#[tactic(auto, using(crate::proofs::Marking::marked_append))]
-fn mark_exits(marks: &mut [bool], statement: &Statement)
-    ensures { marks.new ≡ marked marks.old (spec.exits_of statement.now) }
-{
-    mark_labels(marks, statement.operations());
-    if let Exit::Label(number) = statement.exit() {
-        mark(marks, usize::from(number));
-    }
-}
-
-/// Marks the statements that operations name for a failure.
-#[tactic(auto, using(crate::proofs::Marking::marks_next))]
-fn mark_labels(marks: &mut [bool], operations: &[Op])
-    ensures { marks.new ≡ marked marks.old (flat_map spec.labels_of_operation operations.now) }
-{
-    for operation in operations {
-        mark_label(marks, operation);
-    }
-}
-
-/// Marks the statement that an operation names for a failure.
-fn mark_label(marks: &mut [bool], operation: &Op)
-    ensures { marks.new ≡ marked marks.old (spec.labels_of_operation operation.now) }
-{
-    match operation {
-        Op::Call(_, label)
-        | Op::Get(_, _, _, label)
-        | Op::Duplicate(_, _, label)
-        | Op::Input(_, _, label) => mark_if_given(marks, *label),
-        _ => {}
+    #[tactic(auto, using(crate::proofs::Marking::marked_append))]
+    fn mark_of(marks: &mut [bool], statement: &Statement) {
+        mark_each::<Exits, Op>(marks, statement.operations());
+        if let Exit::Label(number) = statement.exit() {
+            mark(marks, usize::from(number));
+        }
     }
 }
 

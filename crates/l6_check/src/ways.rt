@@ -12,7 +12,7 @@ ghost use Rattle.l6_check.specs.Certain.{trapping_card};
 ghost use Rattle.l6_check.specs.Running.{idle_card, idle_cards, running_card, running_cards};
 ghost use Rattle.l6_check.specs.Ways as spec;
 ghost use Rattle.l6_check.specs.declared.reason.Reason.TheVariants as Reason;
-ghost use Rattle.l6_check.specs.inner.StatementTests.{passed_card, passes_at, SaysWhere};
+ghost use Rattle.l6_check.specs.inner.StatementTests.{passed_card, passes_at, SayWhere};
 
 use crate::certain::{certain_trap, first_trap, has_trap};
 use crate::conditions::{condition_on, gives_condition};
@@ -21,10 +21,10 @@ use crate::finding::{Finding, Span};
 use crate::findings::Findings;
 use crate::label_places::body_start;
 use crate::labels::{label_finding, label_on};
-use crate::marks::is_marked;
+use crate::marks::{is_marked, statements_marked};
 use crate::reached::reached_statements;
 use crate::reason::{CertainTrap, Reason, WarningReason};
-use crate::running::{called_statements, is_idle, left_to_statements, runs_on};
+use crate::running::{Calls, Exits, is_idle, runs_on};
 use crate::scan::{columns_from, without_blanks, without_last_blanks};
 use crate::targets::named_statements;
 use l6_card::{Role, Token, columns_of, first_item, role_of};
@@ -48,6 +48,20 @@ pub struct StatementWarnings<'a> {
     pub idle: Findings<'a>,
     /// Those of statements that always run on into a subroutine.
     pub running: Findings<'a>,
+}
+
+impl<'a> StatementWarnings<'a> {
+    /// No warnings.
+    pub(crate) fn none(alloc: Global) -> Self {
+        StatementWarnings {
+            conditions: Findings::new(alloc),
+            unnamed: Findings::new(alloc),
+            unreached: Findings::new(alloc),
+            trapping: Findings::new(alloc),
+            idle: Findings::new(alloc),
+            running: Findings::new(alloc),
+        }
+    }
 }
 
 /// A test of statements.
@@ -108,8 +122,8 @@ pub fn statement_warnings<'a>(
 {
     let named = named_statements(alloc, program)?;
     let reached = reached_statements(alloc, program)?;
-    let called = called_statements(alloc, program)?;
-    let left_to = left_to_statements(alloc, program)?;
+    let called = statements_marked::<Calls>(alloc, program)?;
+    let left_to = statements_marked::<Exits>(alloc, program)?;
     let ways = Ways {
         statements: program.statements(),
         named: &named,
@@ -127,18 +141,7 @@ fn warnings_by<'a>(
     deck: &'a [u8],
 ) -> Result<StatementWarnings<'a>, AllocError>
     requires { length deck.now ≤ most_deck_bytes }
-    ensures conditions { IfOk result (λ found.
-        SaysWhere StatementTest.Condition ways.entry deck.now found.conditions) }
-    ensures unnamed { IfOk result (λ found.
-        SaysWhere StatementTest.Unnamed ways.entry deck.now found.unnamed) }
-    ensures unreached { IfOk result (λ found.
-        SaysWhere StatementTest.Unreached ways.entry deck.now found.unreached) }
-    ensures trapping { IfOk result (λ found.
-        SaysWhere StatementTest.Trapping ways.entry deck.now found.trapping) }
-    ensures idle { IfOk result (λ found.
-        SaysWhere StatementTest.Idle ways.entry deck.now found.idle) }
-    ensures running { IfOk result (λ found.
-        SaysWhere StatementTest.Running ways.entry deck.now found.running) }
+    ensures { IfOk result (SayWhere ways.entry deck.now) }
 {
     let mut conditions = Findings::new(alloc);
     let mut unnamed = Findings::new(alloc);

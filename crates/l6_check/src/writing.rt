@@ -169,15 +169,16 @@ fn warning_count(report: &Report<'_>) -> u32
 {
     let cards = &report.cards;
     let program = &report.program;
+    let statements = &program.statements;
     cards
         .columns
         .count
         .saturating_add(cards.image.count)
-        .saturating_add(program.conditions.count)
-        .saturating_add(program.unnamed.count)
-        .saturating_add(program.unreached.count)
-        .saturating_add(program.trapping.count)
-        .saturating_add(program.idle.count)
-        .saturating_add(program.running.count)
+        .saturating_add(statements.conditions.count)
+        .saturating_add(statements.unnamed.count)
+        .saturating_add(statements.unreached.count)
+        .saturating_add(statements.trapping.count)
+        .saturating_add(statements.idle.count)
+        .saturating_add(statements.running.count)
         .saturating_add(program.fields.count)
 }

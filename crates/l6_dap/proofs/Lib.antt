@@ -2,6 +2,8 @@ pub mod Dropped
 pub mod Entries
 pub mod Framing
 pub mod Groups
+pub mod IntoCall
+pub mod Leading
 pub mod Listed
 pub mod Reading
 pub mod Relaunching

@@ -1,5 +1,5 @@
 -- A run that is launched and takes over the stops of another one is that one, launched again.
-use Rattle.std.proofs.Common.{◌≡◌, ◌≤◌, ℕ, Bool, List, [], length, inl, ap, ◌∙◌, subst}
+use Rattle.std.proofs.Common.{◌≡◌, ◌≤◌, ℕ, Bool, List, [], length, ap, ◌∙◌, subst}
 use Rattle.std.specs.Prelude.{string_bytes}
 use Rattle.l6_history.specs.Numerals.{most_watched}
 use Rattle.l6_history.specs.declared.watched.Watched.{Watched}
@@ -7,7 +7,7 @@ use Rattle.l6_machine.specs.Options.{OptionValues}
 use Rattle.l6_dap.specs.Beginning.{BeginsWith}
 use Rattle.l6_dap.specs.Breakpoints.{StopsAsAsked}
 use Rattle.l6_dap.specs.Debugged.{Debugged}
-use Rattle.l6_dap.specs.Launching.{Relaunches}
+use Rattle.l6_dap.specs.Launching.{LaunchesAgain}
 use Rattle.l6_dap.specs.Watches.{watching}
 use Rattle.l6_dap.specs.declared.debuggee.Launch.{Launch}
 use Rattle.l6_dap.specs.inner.Launched.{IsLaunched, with_stops_wanted}
@@ -48,12 +48,12 @@ pub launched_again : (before next again : Debugged) (launch : Launch) → launch
     string_bytes launch.path ≡ before.path → launch.stops_on_entry ≡ before.stops_on_entry →
     launch.is_run_only ≡ before.is_run_only → IsLaunched launch next →
     length before.run.state.stop.watched ≤ most_watched →
-    StopsAsAsked (with_stops_wanted next before) again → Relaunches before again
+    StopsAsAsked (with_stops_wanted next before) again → LaunchesAgain before again
 launched_again before next again launch options path entry only launched few stops =
     let it = launched.1.1 in
     let none = ap (λ state. state.stop.watched) it.begins.start in
     let watched = watched_over next before.run.state.stop.watched none few in
-    inl (record {
+    record {
       deck = launched.0;
       input = launched.1.0;
       fresh = record next { on_cards = before.on_cards; on_labels = before.on_labels };
@@ -64,4 +64,4 @@ launched_again before next again launch options path entry only launched few sto
         on_cards = before.on_cards;
         on_labels = before.on_labels;
       }) again) watched stops;
-    })
+    }

@@ -1,9 +1,8 @@
 -- Breakpoints that are removed and set, one after another, are those that are asked for.
-use Rattle.std.proofs.Common.{◌≡◌, ◌<◌, ◌≤◌, ℕ, zero, suc, ◌==◌, Bool, true, false, ◌&&◌, ◌||◌, List, [], ◌∷◌, ◌++◌, length, Option, Some, None, refl, sym, ap, ◌∙◌, subst, arith}
+use Rattle.std.proofs.Common.{◌≡◌, ◌<◌, ℕ, zero, suc, ◌==◌, Bool, true, false, ◌&&◌, ◌||◌, List, [], ◌∷◌, ◌++◌, length, Option, Some, None, refl, sym, ap, ◌∙◌, subst, arith}
 use Rattle.std.specs.Prelude.{is_none, is_some, slice_index_or, slice_set, if◌then◌else◌}
 use Rattle.std.specs.List.{list_any}
 use Rattle.std.specs.Option.{option_or}
-use Rattle.std.proofs.Math.Nat.{le-max_left, le-max_right}
 use Rattle.std.proofs.lemmas.List.{get_or-set_same, get_or-set_other, length-set}
 use Rattle.l6_prog.specs.declared.condition.Test.{Test}
 use Rattle.l6_session.specs.SessionState.{SessionState, with_breakpoint}
@@ -331,13 +330,6 @@ cleared_test_length : (n : ℕ) (state : SessionState) →
 cleared_test_length zero state = refl
 cleared_test_length (suc n) state = length-set _ _ _ ∙ cleared_test_length n state
 
-set_anew_test_length : (all : List Breakpoint) (state : SessionState) →
-    length (set_anew all state).stop.tests ≡ length state.stop.tests
-set_anew_test_length all state =
-    let clear = cleared (count_of state) state in
-    (all_plain_lengths all (with_all_tested all clear)).1 ∙ (all_tested_lengths all clear).1
-    ∙ cleared_test_length (count_of state) state
-
 pub set_anew_others : (all : List Breakpoint) (state : SessionState) →
     set_anew all state ≡ with_stops_of state (set_anew all state)
 set_anew_others all state =
@@ -347,33 +339,31 @@ set_anew_others all state =
     (others_on state clear tested (cleared_others (count_of state) state) (all_tested_others all clear))
     (all_plain_others all tested)
 
--- then one stops at just those
-pub stops_anew : (all : List Breakpoint) (state : SessionState) → StopsJustAt all (set_anew all state)
-stops_anew all state =
+-- then one stops at just those, where there are as many tests as breakpoints
+pub stops_anew : (all : List Breakpoint) (state : SessionState) →
+    length state.stop.tests ≡ length state.stop.breakpoints → StopsJustAt all (set_anew all state)
+stops_anew all state same =
     let count = count_of state in
     let clear = cleared count state in
     let tested = with_all_tested all clear in
-    let all_of : length state.stop.breakpoints ≤ count = le-max_left _ _ in
-    let all_tests : length state.stop.tests ≤ count = le-max_right (length state.stop.breakpoints) _ in
     let long = cleared_length count state in
     let long_tests = cleared_test_length count state in
     let longer = all_tested_lengths all clear in
     let longest = set_anew_length all state in
-    let longest_tests = set_anew_test_length all state in
     record {
       breakpoints = λ k within.
           all_plain_breakpoints all tested k (omega (arith, within, longest, longer.0, long))
           ∙ ap (λ b. is_plain k all || b) (all_tested_breakpoints all clear k (omega (arith, within, longest, long)))
-          ∙ or_false_end (is_plain k all) _ _ (cleared_breakpoints count state k (omega (arith, within, longest, all_of)))
+          ∙ or_false_end (is_plain k all) _ _ (cleared_breakpoints count state k (omega (arith, within, longest)))
           ∙ plain_or_tested k all;
       tests = λ k within.
-          all_plain_tests all tested k (omega (arith, within, longest_tests, longer.1, long_tests))
+          all_plain_tests all tested k (omega (arith, within, longest, longer.1, long_tests, same))
           ∙ ap (λ (b : Option Test). if is_plain k all then None else b)
-          (all_tested_tests all clear k (omega (arith, within, longest_tests, long_tests))
-          ∙ option_or_end (last_test k all) _ (cleared_tests count state k (omega (arith, within, longest_tests, all_tests))));
+          (all_tested_tests all clear k (omega (arith, within, longest, long_tests, same))
+          ∙ option_or_end (last_test k all) _ (cleared_tests count state k (omega (arith, within, longest))));
       temporary = λ k within.
           all_plain_temporary all tested k (all_tested_temporary all clear k
-          (cleared_temporary count state k (omega (arith, within, longest, all_of))));
+          (cleared_temporary count state k (omega (arith, within, longest))));
     }
 
 -- ---- of a run
@@ -391,8 +381,9 @@ set_both cards labels old clear first tested second new is_clear is_first is_tes
 
 pub as_asked : (old new : Debugged) → new ≡ record old { run = new.run } →
     new.run.context ≡ old.run.context →
+    length old.run.state.stop.tests ≡ length old.run.state.stop.breakpoints →
     new.run.state ≡ set_anew (old.on_cards ++ old.on_labels) old.run.state → StopsAsAsked old new
-as_asked old new others context is =
+as_asked old new others context same is =
     let all = old.on_cards ++ old.on_labels in
     record {
       others = others;
@@ -400,7 +391,7 @@ as_asked old new others context is =
       state = is ∙ set_anew_others all old.run.state
           ∙ ap (λ (s : SessionState). with_stops_of old.run.state s) (sym is);
       statements = ap (λ (s : SessionState). length s.stop.breakpoints) is ∙ set_anew_length all old.run.state;
-      stops = subst (λ (s : SessionState). StopsJustAt all s) (sym is) (stops_anew all old.run.state);
+      stops = subst (λ (s : SessionState). StopsJustAt all s) (sym is) (stops_anew all old.run.state same);
     }
 
 pub as_asked_of : (old inside new : Debugged) → old ≡ inside → StopsAsAsked inside new → StopsAsAsked old new

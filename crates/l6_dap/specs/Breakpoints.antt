@@ -129,7 +129,7 @@ test_asked statement all = if is_plain statement all then None else last_test st
 pub record StopsJustAt (all : List Breakpoint) (state : SessionState) : Type 0 where
   pub breakpoints : (statement : ℕ) → statement < length state.stop.breakpoints →
       slice_index_or state.stop.breakpoints statement false ≡ is_asked statement all
-  pub tests : (statement : ℕ) → statement < length state.stop.tests →
+  pub tests : (statement : ℕ) → statement < length state.stop.breakpoints →
       slice_index_or state.stop.tests statement None ≡ test_asked statement all
   pub temporary : (statement : ℕ) → statement < length state.stop.breakpoints →
       slice_index_or state.temporary statement false ≡ false

@@ -1,6 +1,7 @@
 pub mod Beginning
 pub mod Breakpoints
 pub mod Debugged
+pub mod Entering
 pub mod Expressions
 pub mod Frames
 pub mod Launching
@@ -14,6 +15,7 @@ pub mod Requests
 pub mod Runs
 pub mod Scopes
 pub mod Showing
+pub mod Targets
 pub mod Trimmed
 pub mod Values
 pub mod Variables

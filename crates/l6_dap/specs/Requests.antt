@@ -55,6 +55,11 @@ kind_of command =
     if bytes_eq command (codes "setBreakpoints") then Some OnCards
     else (if bytes_eq command (codes "setFunctionBreakpoints") then Some OnLabels else None)
 
+-- the action of the call into which a request asks to step, if it names one
+abbrev pub call_asked : List ℕ → Option Data → Option ℕ
+call_asked command arguments =
+    if bytes_eq command (codes "stepIn") then option_and_then (number_in (codes "targetId")) arguments else None
+
 -- the move that a request asks for, by its name, or by an expression that is to be evaluated
 abbrev pub move_evaluated : List ℕ → Option Data → Option Move
 move_evaluated command arguments =

@@ -2,33 +2,30 @@
 use Rattle.std.specs.Prelude.{◌≡◌, ℕ, List, [], Bool, true, false, codes, Option, Some, None, ◌||◌}
 use Rattle.std.specs.Str.{bytes_eq}
 use Rattle.serde_json.specs.Data.{Data}
-use Rattle.l6_machine.specs.Options.{store_rule}
 use Rattle.l6_rpc.specs.Rpc.{Reads}
-use Rattle.l6_session.specs.SessionState.{moved}
 use Rattle.l6_session.specs.declared.command.Move.{Move}
 use Rattle.l6_session.specs.inner.SessionRun.{SessionRun}
 use Rattle.l6_dap.specs.Breakpoints.{SetsUnless, are_elsewhere}
 use Rattle.l6_dap.specs.Debugged.{Debugged}
+use Rattle.l6_dap.specs.Entering.{after_move, into}
 use Rattle.l6_dap.specs.Launching.{Launches, Relaunches, begun}
 use Rattle.l6_dap.specs.Messages.{Outcome, answer}
 use Rattle.l6_dap.specs.Messages.Outcome.{answered as is_answered, done as is_done, refused as is_refused}
 use Rattle.l6_dap.specs.Paths.{source_in}
 use Rattle.l6_dap.specs.Printed.{printed_by, sent, unsent}
-use Rattle.l6_dap.specs.Requests.{arguments_in, command_in, entries_of, is_passed_over, kind_of, move_asked, seq_in}
-use Rattle.l6_dap.specs.Showing.{Shows}
+use Rattle.l6_dap.specs.Requests.{arguments_in, call_asked, command_in, entries_of, is_passed_over, kind_of, move_asked, seq_in}
+use Rattle.l6_dap.specs.Showing.{IsRefused, Shows, state_of}
+use Rattle.l6_dap.specs.Targets.{is_ahead}
 use Rattle.l6_dap.specs.Watches.{SetsWatches}
 use Rattle.l6_dap.specs.declared.breakpoints.Kind.{Kind}
 use Rattle.l6_dap.specs.declared.nodes.Node.{Node}
 
--- a run after a move
-abbrev pub after_move : SessionRun → Move → SessionRun
-after_move run to = record {
-  context = run.context;
-  state = moved store_rule run.context run.state to;
-}
-
+-- a run that is launched, after a move, and after the way into a call
 abbrev pub debugged_after : Debugged → Move → Debugged
 debugged_after old to = record old { run = after_move old.run to }
+
+abbrev pub debugged_into : Debugged → ℕ → Debugged
+debugged_into old action = record old { run = into action old.run }
 
 -- the requests besides moves that may change which run is launched, where it is, or where one stops: all others only
 -- look, or are not known
@@ -47,6 +44,19 @@ pub record Makes (to : Move) (old new : AdapterState) (events : List (List ℕ))
   pub moves : (it : Debugged) → old.debugged ≡ Some it → new.debugged ≡ Some (sent (debugged_after it to))
   pub prints : (it : Debugged) → old.debugged ≡ Some it → printed_by events ≡ unsent (debugged_after it to)
   pub nodes : new.nodes ≡ []
+
+-- the run that is launched goes into the call ahead by the action of this number, and what it printed is sent; no node is
+-- known any more. Where there is no such call, or no run, that is refused, and nothing changes
+abbrev pub has_ahead : ℕ → Option Debugged → Bool
+has_ahead action None = false
+has_ahead action (Some it) = is_ahead action it.run.context (state_of it.run)
+
+pub record Enters (action : ℕ) (old new : AdapterState) (outcome : Outcome) (events : List (List ℕ)) : Type 0 where
+  pub enters : has_ahead action old.debugged ≡ true → (it : Debugged) → old.debugged ≡ Some it →
+      (new ≡ record { debugged = Some (sent (debugged_into it action)); nodes = [] })
+      × (printed_by events ≡ unsent (debugged_into it action))
+  pub refuses : has_ahead action old.debugged ≡ false →
+      (new ≡ old) × (printed_by events ≡ []) × IsRefused outcome
 
 -- breakpoints are set as is asked for, or chains are watched, and what is said of them is answered
 abbrev pub SetsBreakpoints : Kind → Option Data → Debugged → Debugged → Outcome → Type 0
@@ -106,8 +116,11 @@ pub record Others (command : List ℕ) (arguments : Option Data) (old new : Adap
 -- what a request does to the run that is launched, how it is answered, and what each of the events that follow says that
 -- the run has printed
 pub record Does (command : List ℕ) (arguments : Option Data) (old new : AdapterState) (outcome : Outcome) (events : List (List ℕ)) : Type 0 where
-  pub moves : (to : Move) → move_asked command arguments ≡ Some to → Makes to old new events
-  pub others : move_asked command arguments ≡ None → Others command arguments old new outcome events
+  pub enters : (action : ℕ) → call_asked command arguments ≡ Some action → Enters action old new outcome events
+  pub moves : call_asked command arguments ≡ None →
+      (to : Move) → move_asked command arguments ≡ Some to → Makes to old new events
+  pub others : call_asked command arguments ≡ None → move_asked command arguments ≡ None →
+      Others command arguments old new outcome events
 
 -- what a message does, and what is sent: one answer to a request, and then events; nothing where the message is passed
 -- over

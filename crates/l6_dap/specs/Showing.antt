@@ -13,6 +13,7 @@ use Rattle.l6_dap.specs.Messages.{Outcome}
 use Rattle.l6_dap.specs.Messages.Outcome.{answered as is_answered, refused}
 use Rattle.l6_dap.specs.Requests.{argument_of}
 use Rattle.l6_dap.specs.Scopes.{groups_of, nodes_in, scopes_body, scopes_from}
+use Rattle.l6_dap.specs.Targets.{calls_in_frame, frame_in, targets_shown}
 use Rattle.l6_dap.specs.Trimmed.{trimmed}
 use Rattle.l6_dap.specs.Values.{answered, evaluated, node_of, nodes_after_all}
 use Rattle.l6_dap.specs.Variables.{variables_of}
@@ -65,3 +66,5 @@ pub record Shows (names : Names) (run : SessionRun) (before after : List Node) (
       × (after ≡ before ++ nodes_in (groups_of (memory_of run)))
   pub stack : command ≡ codes "stackTrace" → (body : Data) × (outcome ≡ is_answered body)
       × IsStack names.labels (state_of run) arguments body
+  pub targets : command ≡ codes "stepInTargets" → outcome ≡ is_answered (targets_shown names.labels
+      (calls_in_frame (frame_in arguments) run.context (state_of run)))

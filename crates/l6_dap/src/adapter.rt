@@ -14,12 +14,14 @@ ghost use Rattle.l6_dap.specs.inner.Asked.{arguments_of, outcome_of};
 use crate::answer::{Answer, message_of, refused};
 use crate::asking::{begin, debug, go, moved_body};
 use crate::debuggee::Debuggee;
-use crate::evaluating::asked_move;
+use crate::entering::go_into;
+use crate::evaluating::{asked_call, asked_move};
 use crate::events::{Event, Events};
 use crate::files::Files;
 use crate::launching::{NotLaunched, launched, relaunched};
 use crate::nodes::Nodes;
 use crate::request::Request;
+use crate::targets::has_ahead;
 use l6_rpc::OutOfMemory;
 use l6_session::Move;
 use serde_json::{Value, json};
@@ -28,6 +30,9 @@ use std::marker::Model;
 
 /// What is said of a request that needs a run, where none is launched.
 const NO_RUN: &str = "no run is launched";
+
+/// What is said of a request to step into a call that is not ahead.
+const NO_CALL: &str = "there is no such call ahead in the statement";
 
 /// A debug adapter.
 #[derive(Drop)]
@@ -158,9 +163,35 @@ impl Adapter {
             spec.Does request.entry.command.now (arguments_of request.entry) self.old self.new
             (outcome_of it) events.new) }
     {
+        if let Some(action) = asked_call(request) {
+            return self.enter(alloc, events, action);
+        }
         match asked_move(request) {
             Some(to) => self.make(alloc, events, request, to),
             None => self.serve(alloc, files, events, request),
+        }
+    }
+
+    /// Goes into the call ahead by the action of a number, if a run is launched that has such a call.
+    fn enter(
+        &mut self,
+        alloc: Global,
+        events: &mut Events,
+        action: u64,
+    ) -> Result<Answer, OutOfMemory>
+        ensures { IfOk result (λ it. events.old ≡ [] →
+            spec.Enters action self.old self.new (outcome_of it) events.new) }
+    {
+        match &mut self.debuggee {
+            None => refused(alloc, NO_RUN),
+            Some(debuggee) => {
+                if !has_ahead(alloc, debuggee, action)? {
+                    return refused(alloc, NO_CALL);
+                }
+                self.nodes.clear();
+                go_into(alloc, events, debuggee, action)?;
+                Ok(Answer::Done)
+            }
         }
     }
 
@@ -283,6 +314,7 @@ fn abilities(alloc: Global) -> Result<Value, OutOfMemory> {
         "supportsFunctionBreakpoints": true,
         "supportsRestartRequest": true,
         "supportsStepBack": true,
+        "supportsStepInTargetsRequest": true,
         "supportsSteppingGranularity": true,
         "supportsTerminateRequest": true
     })?;

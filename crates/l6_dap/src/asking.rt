@@ -22,6 +22,7 @@ use crate::nodes::Nodes;
 use crate::request::Request;
 use crate::scopes::scopes;
 use crate::standing::{Why, ended, exception_info, print, stopped, why_of};
+use crate::targets::targets_shown;
 use crate::values::values_of;
 use crate::variables::variables_of;
 use crate::watches::{set_watches, watch_info};
@@ -114,6 +115,7 @@ fn show(
     match request.command {
         "dataBreakpointInfo" => Ok(Answer::Body(watch_info(alloc, nodes, request)?)),
         "stackTrace" => Ok(Answer::Body(stack_trace(alloc, debuggee, request)?)),
+        "stepInTargets" => Ok(Answer::Body(targets_shown(alloc, debuggee, request)?)),
         "scopes" => Ok(Answer::Body(scopes(alloc, nodes, machine)?)),
         "evaluate" => {
             let text = request.text("expression").unwrap_or("");

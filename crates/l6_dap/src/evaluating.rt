@@ -6,7 +6,7 @@ ghost use Rattle.serde_json.specs.View.{view};
 ghost use Rattle.l6_dap.specs.Expressions as spec;
 ghost use Rattle.l6_dap.specs.Trimmed.{trimmed as trimmed_text};
 ghost use Rattle.l6_dap.specs.Values as values;
-ghost use Rattle.l6_dap.specs.inner.Asked.{move_by};
+ghost use Rattle.l6_dap.specs.inner.Asked.{call_by, move_by};
 
 use crate::moves::{Granularity, move_of};
 use crate::nodes::Nodes;
@@ -22,6 +22,16 @@ use l6_store::Buddy;
 use l6_word::Word;
 use serde_json::{Value, json};
 use std::alloc::{AllocError, Global};
+
+/// The action of the call into which a request asks to step, if it names one.
+pub(crate) fn asked_call(request: Request<'_>) -> Option<u64>
+    ensures { result ≡ call_by request.entry }
+{
+    match request.command {
+        "stepIn" => request.number("targetId"),
+        _ => None,
+    }
+}
 
 /// The move that a request asks for, by its name, or by an expression that is to be evaluated.
 pub(crate) fn asked_move(request: Request<'_>) -> Option<Move>

@@ -216,7 +216,11 @@ fn carded_value(
 }
 
 /// A position, after the last label at or before its statement.
-fn place_text(alloc: Global, labels: &Labels, at: Position) -> Result<Vec<u8>, AllocError>
+pub(crate) fn place_text(
+    alloc: Global,
+    labels: &Labels,
+    at: Position,
+) -> Result<Vec<u8>, AllocError>
     ensures { IfOk result (λ it. it.items ≡ spec.place_text labels.now.entries at) }
 {
     let mut text = Vec::new(alloc);

@@ -122,16 +122,25 @@ pub(crate) fn relaunched<F: Files>(
 ) -> Result<Debuggee, OutOfMemory>
     ensures { IfOk result (spec.Relaunches before) }
 {
-    let launch = before.launch.copied()?;
-    match debuggee_of(alloc, files, launch) {
-        Ok(next) => {
-            let mut again = next;
-            again.take_stops(alloc, &before)?;
-            Ok(again)
-        }
+    match launched_again(alloc, files, &before) {
+        Ok(again) => Ok(again),
         Err(NotLaunched::NoMemory) => Err(OutOfMemory),
         Err(NotLaunched::Because(_)) => Ok(before.at_start(alloc)),
     }
+}
+
+/// A run of the same launch as another one, with the breakpoints and the watches of that.
+fn launched_again<F: Files>(
+    alloc: Global,
+    files: &mut F,
+    before: &Debuggee,
+) -> Result<Debuggee, NotLaunched>
+    ensures { IfOk result (spec.LaunchesAgain before.now) }
+{
+    let launch = before.launch.copied()?;
+    let mut again = debuggee_of(alloc, files, launch)?;
+    again.take_stops(alloc, before)?;
+    Ok(again)
 }
 
 /// The debuggee of a launch, at the start of its run.

@@ -1,6 +1,6 @@
 //! Where one stops: at the breakpoints that an editor asked for.
 
-ghost use Rattle.std.specs.Prelude.{◌≡◌, IfOk};
+ghost use Rattle.std.specs.Prelude.{◌≡◌, length, IfOk};
 ghost use Rattle.l6_dap.specs.Breakpoints.{StopsAsAsked};
 ghost use Rattle.l6_dap.specs.inner.Setting.{cleared, count_of, with_all_plain, with_all_tested};
 
@@ -24,15 +24,15 @@ impl Debuggee {
     }
 }
 
-/// Removes all breakpoints.
+/// Removes all breakpoints. Each may have a test.
 fn remove_all(alloc: Global, session: &mut Session<Buddy>)
     ensures context { session.new.context ≡ session.old.context }
     ensures state { session.new.state
         ≡ cleared (count_of session.old.state) session.old.state }
+    ensures tests { length session.old.state.stop.tests ≡ count_of session.old.state }
 {
-    let stop = session.stop();
-    let count = stop.breakpoints().len().max(stop.tests().len());
-    for statement in 0..count {
+    let statements = session.stop().tests().len();
+    for statement in 0..statements {
         let setting = Setting::Delete(statement as u64);
         session.obey(alloc, &Command::Setting(setting));
     }

@@ -24,6 +24,11 @@ differ_more old new index kept value changes within within' is is' are before =
     ∙ ap (λ news. some_differ (drop index old) news) (sym next_new)
     ∙ before
 
+-- where no other values are left, none differs
+pub none_left : (ones : List (Option ℕ)) → some_differ ones [] ≡ false
+none_left [] = refl
+none_left (one ∷ ones) = refl
+
 -- two values that do not differ are one
 pub same_value : (one other : Option ℕ) → differs one other ≡ false → one ≡ other
 same_value None None same = refl

@@ -21,4 +21,5 @@ pub use laws::histories_have_their_limits;
 pub use life::Life;
 pub use ring::MAX_KEPT;
 pub use stop::{MAX_WATCHED, Stop};
+pub use values::{differ, values_of};
 pub use watched::{BlockWord, Watched};

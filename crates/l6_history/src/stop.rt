@@ -97,7 +97,8 @@ impl Stop {
 
     /// For each statement, the test of its breakpoint, if it has one.
     pub fn tests(&self) -> &[Option<Test>]
-        ensures { result.now ≡ self.now.tests }
+        ensures value { result.now ≡ self.now.tests }
+        ensures each { length self.now.tests ≡ length self.now.breakpoints }
     {
         self.tests.as_slice()
     }

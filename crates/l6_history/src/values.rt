@@ -1,4 +1,4 @@
-//! What is watched reads as.
+//! What is watched reads as, and whether that has changed.
 
 ghost use Rattle.std.specs.Prelude.{◌≡◌, length};
 ghost use Rattle.l6_history.specs.Stop.{differs, some_differ, values_of};
@@ -11,7 +11,7 @@ use l6_store::Places;
 use l6_word::Word;
 
 /// What each chain and word that is watched reads as, if it can be read.
-pub(crate) fn values_of<S: Places>(
+pub fn values_of<S: Places>(
     stop: &Stop,
     machine: &Machine<S>,
 ) -> ArrayVec<Option<Word>, MAX_WATCHED>
@@ -23,19 +23,17 @@ pub(crate) fn values_of<S: Places>(
     values
 }
 
-/// Whether some of what is watched reads as other values than these. The caller owes a value for each.
+/// Whether some of what is watched reads as another value than the one at its index. What has none here does not differ.
 #[inline(always)]
-pub(crate) fn differ<S: Places>(
-    values: &[Option<Word>],
-    watched: &[Watched],
-    machine: &Machine<S>,
-) -> bool
-    requires { length values.now ≡ length watched.now }
+pub fn differ<S: Places>(values: &[Option<Word>], watched: &[Watched], machine: &Machine<S>) -> bool
     ensures { result ≡ some_differ values.now
         (values_of watched.now machine.now.configuration.state.memory) }
 {
     for (index, one) in watched.iter().enumerate() {
-        if is_other(&values[index], one.value(machine)) {
+        let Some(value) = values.get(index) else {
+            return false;
+        };
+        if is_other(value, one.value(machine)) {
             return true;
         }
     }

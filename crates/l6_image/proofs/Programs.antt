@@ -21,7 +21,7 @@ use Rattle.l6_image.proofs.RowValues.{is_row}
 use Rattle.l6_image.specs.Table.{row_of, row_of_test}
 use Rattle.l6_image.specs.Image.{condition_code, exit_code, exit_target, header, test_words, operation_words, words_in_statement, body, words_in, HasImage}
 use Rattle.l6_image.specs.inner.decode.Fields.{target_in, version_of}
-use Rattle.l6_image.specs.inner.decode.Statements.{many, test_at, operation_at, condition_in, exit_in, statement_at, statements_of}
+use Rattle.l6_image.specs.inner.decode.Statements.{many, item_at, test_at, operation_at, condition_in, exit_in, statement_at, statements_of}
 use Rattle.l6_image.specs.inner.decode.Loading.{program_in}
 use Rattle.l6_image.proofs.Packing.{AllFit, unpacked, unpacked_packed, values}
 use Rattle.l6_image.proofs.Found.{row_again, test_again, operation_again}
@@ -93,7 +93,7 @@ module _ (version : Version) where
   -- a test, and an operation
   test_at-again : (test : Test) → is_row (row_of_test test) ≡ true →
       Again (test_words version) (test_at version) test
-  unfolding test_at
+  unfolding item_at
   test_at-again test known rest =
       rw (
         row_again version (row_of_test test) rest
@@ -103,7 +103,7 @@ module _ (version : Version) where
 
   operation_at-again : (operation : Op ℕ) → KnownOperation version operation →
       Again (operation_words version) (operation_at version) operation
-  unfolding operation_at
+  unfolding item_at
   operation_at-again operation known rest =
       rw (
         row_again version (row_of operation) rest

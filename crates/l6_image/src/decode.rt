@@ -1,5 +1,6 @@
 //! From the words of images to programs.
 
+mod listed;
 pub(crate) mod loading;
 mod operands;
 mod reader;

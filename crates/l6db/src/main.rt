@@ -13,7 +13,8 @@ use ending::Ending;
 use fault::DbFault;
 use files::{Job, job_of};
 use l6_device::{Host, Part, Patience, write_text};
-use l6_session::converse;
+use l6_session::{DeckSession, converse};
+use l6_store::Buddy;
 use opening::session_of;
 use std::env;
 use std::io::{IsTerminal, Lock, Write};
@@ -48,7 +49,6 @@ fn run_session(rt: &HostRuntime) -> Result<Ending, DbFault> {
 /// Shows where the run of a job begins, and then answers the lines of its commands, and those that are
 /// typed.
 fn debug(rt: &HostRuntime, request: &Request<'_>, job: Job) -> Result<Ending, DbFault> {
-    let mode = mode_of(rt, request);
     let Job {
         deck,
         input,
@@ -58,6 +58,18 @@ fn debug(rt: &HostRuntime, request: &Request<'_>, job: Job) -> Result<Ending, Db
     Part::Input.check(input.as_slice())?;
     Part::Commands.check(commands.as_slice())?;
     let mut session = session_of(rt.alloc(), deck, input.as_slice(), request.options)?;
+    talk(rt, request, &mut session, commands)?;
+    Ok(Ending::of(request.is_batch, session.is_refused()))
+}
+
+/// Shows where a run begins, and then answers lines.
+fn talk(
+    rt: &HostRuntime,
+    request: &Request<'_>,
+    session: &mut DeckSession<Buddy>,
+    commands: Vec<u8>,
+) -> Result<(), DbFault> {
+    let mode = mode_of(rt, request);
     let place = session.place(rt.alloc())?;
     write_text(
         &mut Host::new(rt.stdout()),
@@ -67,13 +79,8 @@ fn debug(rt: &HostRuntime, request: &Request<'_>, job: Job) -> Result<Ending, Db
     )?;
     let output = Host::new(rt.stdout());
     let mut console = Terminal::new(rt, rt.stdin().lock(), output, commands, mode);
-    converse(
-        rt.alloc(),
-        &mut session,
-        &mut console,
-        prompt_of(request, mode),
-    )?;
-    Ok(Ending::of(request.is_batch, session.is_refused()))
+    converse(rt.alloc(), session, &mut console, prompt_of(request, mode))?;
+    Ok(())
 }
 
 /// What is shown before each line: the prompt that is given, or one where lines are typed.

@@ -49,17 +49,23 @@ fn run(rt: &HostRuntime) -> Result<u8, EdFault> {
         None => Err(EdFault::Usage),
         Some(Request::Help) => say(rt, HELP),
         Some(Request::Version) => say(rt, "l6ed 1.0\n"),
-        Some(Request::Lsp) => {
-            let mut wire = Wire::new(rt.alloc(), Host::new(rt.stdin()), Host::new(rt.stdout()))?;
-            Ok(serve_decks(rt.alloc(), &mut wire)?)
-        }
-        Some(Request::Dap) => {
-            let mut wire = Wire::new(rt.alloc(), Host::new(rt.stdin()), Host::new(rt.stdout()))?;
-            let mut adapter = Adapter::new(rt.alloc());
-            let mut files = HostFiles { rt };
-            Ok(serve(rt.alloc(), &mut adapter, &mut files, &mut wire)?)
-        }
+        Some(Request::Lsp) => serve_as_server(rt),
+        Some(Request::Dap) => serve_as_adapter(rt),
     }
+}
+
+/// Serves as a language server until the input ends. Answers the exit status.
+fn serve_as_server(rt: &HostRuntime) -> Result<u8, EdFault> {
+    let mut wire = Wire::new(rt.alloc(), Host::new(rt.stdin()), Host::new(rt.stdout()))?;
+    Ok(serve_decks(rt.alloc(), &mut wire)?)
+}
+
+/// Serves as a debug adapter until the input ends. Answers the exit status.
+fn serve_as_adapter(rt: &HostRuntime) -> Result<u8, EdFault> {
+    let mut wire = Wire::new(rt.alloc(), Host::new(rt.stdin()), Host::new(rt.stdout()))?;
+    let mut adapter = Adapter::new(rt.alloc());
+    let mut files = HostFiles { rt };
+    Ok(serve(rt.alloc(), &mut adapter, &mut files, &mut wire)?)
 }
 
 /// Writes a text. Answers the exit status.

@@ -5,6 +5,7 @@ use Rattle.l6_check.specs.declared.finding.Finding.{Finding}
 use Rattle.l6_check.specs.declared.findings.Findings.{Findings}
 use Rattle.l6_check.specs.declared.ways.StatementTest.{StatementTest}
 use Rattle.l6_check.specs.declared.ways.StatementTest.TheVariants.{Condition, Unnamed, Unreached, Trapping, Idle, Running}
+use Rattle.l6_check.specs.declared.ways.StatementWarnings.{StatementWarnings}
 use Rattle.l6_check.specs.declared.ways.Ways.{Ways}
 use Rattle.l6_check.specs.Certain.{trapping_card, traps_in}
 use Rattle.l6_check.specs.Kept.{Say}
@@ -36,3 +37,12 @@ passed_card Running finding = running_card finding
 abbrev pub SaysWhere : StatementTest → Ways → List ℕ → Findings → Type 0
 SaysWhere test ways deck findings =
     Say (passed_card test) (statements_where (passes_at test ways) 0 1 (lines_of deck)) findings
+
+-- the warnings say the cards that begin statements which pass each of the tests
+pub record SayWhere (ways : Ways) (deck : List ℕ) (found : StatementWarnings) : Type 0 where
+  pub conditions : SaysWhere Condition ways deck found.conditions
+  pub unnamed : SaysWhere Unnamed ways deck found.unnamed
+  pub unreached : SaysWhere Unreached ways deck found.unreached
+  pub trapping : SaysWhere Trapping ways deck found.trapping
+  pub idle : SaysWhere Idle ways deck found.idle
+  pub running : SaysWhere Running ways deck found.running

@@ -6,7 +6,7 @@ use Rattle.serde_json.specs.View.{view}
 use Rattle.l6_session.specs.declared.command.Move.{Move}
 use Rattle.l6_dap.specs.Messages.{Outcome}
 use Rattle.l6_dap.specs.Messages.Outcome.{done, answered, refused}
-use Rattle.l6_dap.specs.Requests.{list_of, move_asked}
+use Rattle.l6_dap.specs.Requests.{call_asked, list_of, move_asked}
 use Rattle.l6_steps.specs.State.{Memory}
 use Rattle.l6_dap.specs.Values.{nodes_after_all}
 use Rattle.l6_dap.specs.Variables.{variables_of}
@@ -22,6 +22,10 @@ arguments_of request = option_map (λ it. view it.now) request.arguments
 -- the move that it asks for
 abbrev pub move_by : Request → Option Move
 move_by request = move_asked request.command.now (arguments_of request)
+
+-- the action of the call that it asks for
+abbrev pub call_by : Request → Option ℕ
+call_by request = call_asked request.command.now (arguments_of request)
 
 -- the values of an argument that is a list
 abbrev pub list_by : Request → List ℕ → List Data

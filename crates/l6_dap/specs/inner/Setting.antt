@@ -1,12 +1,12 @@
 -- Sessions after breakpoints are removed and set, one after another.
-use Rattle.std.specs.Prelude.{ℕ, zero, suc, max, true, false, List, [], ◌∷◌, length, Option, Some, None}
+use Rattle.std.specs.Prelude.{ℕ, zero, suc, true, false, List, [], ◌∷◌, length, Option, Some, None}
 use Rattle.l6_prog.specs.declared.condition.Test.{Test}
 use Rattle.l6_session.specs.SessionState.{SessionState, with_breakpoint}
 use Rattle.l6_dap.specs.declared.debuggee.Breakpoint.{Breakpoint}
 
--- how many statements may have a breakpoint, or a test of one
+-- how many statements may have a breakpoint
 abbrev pub count_of : SessionState → ℕ
-count_of state = max (length state.stop.breakpoints) (length state.stop.tests)
+count_of state = length state.stop.breakpoints
 
 -- the breakpoints of the first statements are removed
 abbrev pub cleared : ℕ → SessionState → SessionState

@@ -13,18 +13,18 @@ loop-statement-preserved c =
     let tests = flat_map fields_of_test statement.tests in
     let operations = flat_map fields_of_operation statement.operations in
     record {
-      used = marks_next fields_of none c.loop-statement.used c.mark_used.new.used c.args.statements.now
+      used = marks_next fields_of none c.loop-statement.used c.mark_each-in-loop-statement.new.marks c.args.statements.now
           c.loop-statement.statement-index statement c.loop-statement-test.true c.statement-item.is
           c.loop-statement.invariant.used
-          (c.mark_used.ensures
-          ∙ ap (λ os. marked c.mark_tests.new.used (flat_map fields_of_operation os)) c.operations.ensures
-          ∙ ap (λ m. marked m operations) (c.mark_tests.ensures
+          (c.mark_each-in-loop-statement.ensures
+          ∙ ap (λ os. marked c.mark_each.new.marks (flat_map fields_of_operation os)) c.operations.ensures
+          ∙ ap (λ m. marked m operations) (c.mark_each.ensures
           ∙ ap (λ ts. marked c.loop-statement.used (flat_map fields_of_test ts)) c.tests.ensures)
           ∙ sym (marked_append c.loop-statement.used tests operations));
-      defined = marks_next defined_in none c.loop-statement.defined c.mark_defined.new.defined
+      defined = marks_next defined_in none c.loop-statement.defined c.mark_each-in-loop-statement-2.new.marks
           c.args.statements.now c.loop-statement.statement-index statement c.loop-statement-test.true
           c.statement-item.is c.loop-statement.invariant.defined
-          (c.mark_defined.ensures
+          (c.mark_each-in-loop-statement-2.ensures
           ∙ ap (λ os. marked c.loop-statement.defined (flat_map defined_by os))
           c.operations-in-loop-statement.ensures);
     }

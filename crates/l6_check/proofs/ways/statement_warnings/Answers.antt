@@ -16,7 +16,8 @@ use Rattle.l6_check.proofs.ways.statement_warnings.Goals as goal
 
 pub returns-clause-conditions : goal.returns-clause-conditions
 returns-clause-conditions c =
-    if_ok c.warnings_by.result c.warnings_by.ensures.conditions (λ found says.
+    if_ok c.warnings_by.result c.warnings_by.ensures (λ found says_all.
+    let says = says_all.conditions in
     subst (λ (l : List ℕ). Say condition_card l found.conditions)
     (conditions_same 0 1 (lines_of c.args.deck.now)) says)
 
@@ -28,7 +29,8 @@ returns-clause-unnamed c =
     let marks = c.deref-2.result.now in
     let are_reached = subst (λ (m : List Bool). AreReached program (is_marked m))
     (sym c.deref-2.ensures.value) c.in_ok-reached.ensures in
-    if_ok c.warnings_by.result c.warnings_by.ensures.unnamed (λ found says.
+    if_ok c.warnings_by.result c.warnings_by.ensures (λ found says_all.
+    let says = says_all.unnamed in
     record {
       reached = is_marked marks;
       are = are_reached;
@@ -41,12 +43,14 @@ returns-clause-unreached c =
     let marks = c.deref-2.result.now in
     let are = subst (λ (m : List Bool). AreReached c.args.program.now (is_marked m))
     (sym c.deref-2.ensures.value) c.in_ok-reached.ensures in
-    if_ok c.warnings_by.result c.warnings_by.ensures.unreached (λ found says.
+    if_ok c.warnings_by.result c.warnings_by.ensures (λ found says_all.
+    let says = says_all.unreached in
     record { reached = is_marked marks; are = are; said = says })
 
 pub returns-clause-idle : goal.returns-clause-idle
 returns-clause-idle c =
-    if_ok c.warnings_by.result c.warnings_by.ensures.idle (λ found says.
+    if_ok c.warnings_by.result c.warnings_by.ensures (λ found says_all.
+    let says = says_all.idle in
     subst (λ (p : List Parts).
     Say idle_card (statements_where (idles_at p) 0 1 (lines_of c.args.deck.now)) found.idle)
     c.statements.ensures.value says)
@@ -58,7 +62,8 @@ returns-clause-running c =
     (sym c.deref-3.ensures.value) c.in_ok-called.ensures in
     let left_to = subst (λ (m : List Bool). AreMarksBelow (length program) (flat_map exits_of program) m)
     (sym c.deref-4.ensures.value) c.in_ok-left_to.ensures in
-    if_ok c.warnings_by.result c.warnings_by.ensures.running (λ found says.
+    if_ok c.warnings_by.result c.warnings_by.ensures (λ found says_all.
+    let says = says_all.running in
     subst (λ (l : List ℕ). Say running_card l found.running)
     (running_same program c.deref-3.result.now c.deref-4.result.now called left_to (lines_of c.args.deck.now))
     (subst (λ (p : List Parts).
@@ -69,7 +74,8 @@ returns-clause-running c =
 
 pub returns-clause-trapping : goal.returns-clause-trapping
 returns-clause-trapping c =
-    if_ok c.warnings_by.result c.warnings_by.ensures.trapping (λ found says.
+    if_ok c.warnings_by.result c.warnings_by.ensures (λ found says_all.
+    let says = says_all.trapping in
     subst (λ (p : List Parts).
     Say trapping_card (statements_where (traps_in p) 0 1 (lines_of c.args.deck.now)) found.trapping)
     c.statements.ensures.value says)

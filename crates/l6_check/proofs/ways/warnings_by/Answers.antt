@@ -1,4 +1,4 @@
-use Rattle.std.proofs.Common.{arith, sym, ◌∙◌}
+use Rattle.std.proofs.Common.{arith, sym, ◌∙◌, rules}
 use Rattle.l6_check.specs.declared.ways.StatementTest.TheVariants.{Condition, Unnamed, Unreached, Trapping, Idle, Running}
 use Rattle.l6_check.proofs.WaySteps.{statement_taken}
 use Rattle.l6_check.proofs.ways.warnings_by.Goals as goal
@@ -36,3 +36,13 @@ loop-line-preserved-in_ok-add_if_passing-6 c =
       numbers = omega (arith, far.numbers, shorter);
       below = omega (arith, far.below);
     }
+
+pub returns : goal.returns
+returns c = record {
+  conditions = search rules;
+  unnamed = search rules;
+  unreached = search rules;
+  trapping = search rules;
+  idle = search rules;
+  running = search rules;
+}

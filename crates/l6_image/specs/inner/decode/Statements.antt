@@ -8,23 +8,25 @@ use Rattle.l6_prog.specs.declared.exit.Exit.TheVariants.{Next, Label, Done, Fail
 use Rattle.l6_prog.specs.declared.operation.Op.{Op}
 use Rattle.l6_prog.specs.Statement.{Parts}
 use Rattle.l6_image.specs.declared.version.Version.{Version}
+use Rattle.l6_image.specs.Row.{Row}
 use Rattle.l6_image.specs.inner.decode.Fields.{target_in}
 use Rattle.l6_image.specs.inner.decode.Reading.{◌>>=◌, first_of, row_at}
 use Rattle.l6_image.specs.inner.decode.Back.{test_of, operation_of}
 
--- a test
-unfoldable pub test_at : Version → List ℕ → Option (Test × List ℕ)
-test_at version words = do
+-- a test or an operation, by what a row stands for
+unfoldable pub item_at : {A : Type 0} → (Row → Option A) → Version → List ℕ → Option (A × List ℕ)
+item_at meaning version words = do
   row ← row_at version words
-  test ← test_of row.0
-  Some (test, row.1)
+  item ← meaning row.0
+  Some (item, row.1)
+
+-- a test
+abbrev pub test_at : Version → List ℕ → Option (Test × List ℕ)
+test_at version words = item_at test_of version words
 
 -- an operation
-unfoldable pub operation_at : Version → List ℕ → Option (Op ℕ × List ℕ)
-operation_at version words = do
-  row ← row_at version words
-  operation ← operation_of row.0
-  Some (operation, row.1)
+abbrev pub operation_at : Version → List ℕ → Option (Op ℕ × List ℕ)
+operation_at version words = item_at operation_of version words
 
 -- so many of them
 abbrev pub many : {A : Type 0} → (List ℕ → Option (A × List ℕ)) → ℕ → List ℕ →

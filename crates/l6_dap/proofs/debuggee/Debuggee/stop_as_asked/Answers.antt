@@ -19,4 +19,4 @@ returns c =
     (c.set_plain-2.ensures.state ∙ ap (λ all. with_all_plain all second) c.as_slice-4.ensures.value) in
     let context = c.set_plain-2.ensures.context ∙ c.set_plain.ensures.context ∙ c.in_ok-set_tested-2.ensures.0
     ∙ c.in_ok-set_tested.ensures.0 ∙ c.remove_all.ensures.context in
-    as_asked_of _ _ _ (sym c.self.view_is) (as_asked _ _ refl context state)
+    as_asked_of _ _ _ (sym c.self.view_is) (as_asked _ _ refl context c.remove_all.ensures.tests state)

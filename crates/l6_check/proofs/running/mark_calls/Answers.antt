@@ -1,9 +1,0 @@
-use Rattle.l6_check.specs.Running.{calls_of_operation}
-use Rattle.l6_check.proofs.Marking.{marks_next}
-use Rattle.l6_check.proofs.running.mark_calls.Goals as goal
-
-pub loop-operation-preserved : goal.loop-operation-preserved
-loop-operation-preserved c =
-    marks_next calls_of_operation c.args.marks.now c.loop-operation.marks c.mark_call.new.marks c.args.operations.now
-    c.loop-operation.operation-index c.operation-item.result c.loop-operation-test.true c.operation-item.is
-    c.loop-operation.invariant c.mark_call.ensures

@@ -26,22 +26,22 @@ WRONG = TOP / "tests/harness/wrong_answers.py"
 AT_ONCE = 4
 SECONDS = 1_800  # for one script, on a machine that is busy
 L6, DEBUGGER = str(TOP / "dist/l6"), str(TOP / "dist/l6db")
-OF_OUTPUT, OF_STATUS = ("output", "before", "behind", "case", "order"), ("status", "signal")
-ALL = (*OF_OUTPUT, "errors", *OF_STATUS)
+OF_STATUS = ("status", "signal")
+ALL = ("output", "before", "behind", "case", "order", "errors", *OF_STATUS)
 # The scripts, by the names of their steps, with their words, and the ways in which answers are wrong.
 SCRIPTS: dict[str, tuple[list[str], tuple[str, ...]]] = {
     "program": (["tests/program/program.py", L6], ALL),
     "checks": (["tests/program/check_decks.py", L6], ALL),
-    "traces": (["tests/program/traces.py", L6], ALL),
-    "debugger": (["tests/program/l6db.py", DEBUGGER, L6], (*OF_OUTPUT, *OF_STATUS)),
+    "traces": (["tests/program/traces.py", L6], ("output", "errors", *OF_STATUS)),
+    "debugger": (["tests/program/l6db.py", DEBUGGER, L6], ("output", "behind", "order", *OF_STATUS)),
     "terminal": (["tests/program/terminal.py", DEBUGGER], ("shown",)),
-    "pages": (["tests/pages/documents.py", L6], (*ALL, "pages")),
+    "pages": (["tests/pages/documents.py", L6], ("output", "behind", "order", "errors", *OF_STATUS, "pages")),
     "facts": (["tests/pages/facts.py", L6], ("digits", "pages")),
     "sentences": (["tests/pages/sentences.py", L6], ("digits", "pages")),
     "formats": (["tests/pages/format_pages.py", L6], ("pages",)),
-    "install": (["tests/scripts/install.py"], ALL),
-    "scripts": (["tests/scripts/script_words.py"], ALL),
-    "library": (["tests/systems/library.py"], (*OF_OUTPUT, *OF_STATUS)),
+    "install": (["tests/scripts/install.py"], ("output", "errors", "status")),
+    "scripts": (["tests/scripts/script_words.py"], ("output", "errors", "status")),
+    "library": (["tests/systems/library.py"], ("output", "status")),
 }
 COUNT = re.compile(r"^(\d+) passed, (\d+) failed$")
 

@@ -249,10 +249,15 @@ int main(void) {
     volatile size_t none = 0;
     if (realloc(five, none) != NULL)
         return 1;
+    void *volatile six = aligned_alloc(64, 7040), *seven;
+    if (posix_memalign(&seven, 128, 8064) != 0)
+        return 1;
+    free(six);
+    free(seven);
     return 0;
 }
 """
-ASKED = ["1005", "2080", "3007", "4499", "6007"]
+ASKED = ["1005", "2080", "3007", "4499", "6007", "7040", "8064"]
 # A program whose child asks for so much that what is written down would fill the room for lines.
 FORKING = """#include <stdlib.h>
 #include <sys/wait.h>
@@ -350,7 +355,10 @@ def drawn_by_hand(_program: str) -> Iterator[Trial]:
     yield "a trace in bytes, drawn", [[4, 4, 8], [4, 4, 0]], in_bytes
     often = "get a 8 = 0\nfree a = 0\n" * 1000
     yield "each part of a long trace, drawn", [[0] * 400, [8] * 400], drawn(often, "--levels", "3", "--units", "1", "--first", "0")
-    yield "no trace, drawn", [[8], [0]], drawn("", "--levels", "3", "--units", "1")
+    for name, text in (("no trace", ""), ("a comment", "# get a 8 = 0\n")):
+        yield f"{name}, drawn", [[8], [0]], drawn(text, "--levels", "3", "--units", "1")
+    in_units = "".join(f"get {place} 4 = {place}\n" for place in (4, 8, 12))
+    yield "a trace in three units, drawn", [[4, 4, 0], [4, 8, 12]], drawn(in_units, "--levels", "2", "--units", "3", "--first", "4")
 
 
 def recorded_by_hand(room: Path, library: Path) -> Iterator[Trial]:

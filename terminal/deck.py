@@ -32,20 +32,25 @@ class Deck:
         return known.st_mtime_ns, known.st_size
 
     @property
+    def _statements(self) -> list[str]:
+        """The cards that are no comments."""
+        return [card for card in self.cards if not card.startswith("*")]
+
+    @property
     def labels(self) -> list[str]:
         """The labels that cards begin with."""
-        found = (re.match(r"[A-Za-z][A-Za-z0-9]*", card) for card in self.cards)
+        found = (re.match(r"[A-Za-z][A-Za-z0-9]*", card) for card in self._statements)
         return sorted({it[0].upper() for it in found if it})
 
     @property
     def bugs(self) -> list[str]:
         """The letters that groups begin with."""
-        return sorted({it.upper() for card in self.cards for it in re.findall(r"\(([A-Za-z])", card)})
+        return sorted({it.upper() for card in self._statements for it in re.findall(r"\(([A-Za-z])", card)})
 
     @property
     def fields(self) -> list[str]:
         """The names that definitions give."""
-        return sorted({it.upper() for card in self.cards for it in re.findall(r",[Dd]([A-Za-z0-9]),", card)})
+        return sorted({it.upper() for card in self._statements for it in re.findall(r",[Dd]([A-Za-z0-9]),", card)})
 
 
 def path_in(words: list[str]) -> Path:

@@ -24,6 +24,7 @@ from collections.abc import Iterator
 from pathlib import Path
 
 sys.path.insert(0, str(Path(__file__).resolve().parents[1] / "harness"))
+from completed_words import completed_words
 from l6db import LIST
 from terminals import SECONDS, Pseudoterminal
 from trials import Trial, groups_asked_for, report
@@ -491,9 +492,16 @@ def words_of_completion(bench: Bench) -> Iterator[Trial]:
         ran.stdout.count(b"\nNot a command: "), ran.stdout.count(b"\nhelp "))
 
 
+def completed(bench: Bench) -> Iterator[Trial]:
+    """What is completed of a deck by hand."""
+    room = bench.folder / "completed"
+    room.mkdir()
+    yield from completed_words(room)
+
+
 def trials(engine: str, is_whole: bool) -> Iterator[Trial]:
     """All trials, each group with a folder of its own."""
-    groups = (editing, files, sources, stops, stopped_reloads, terminals, cards_in_view, faults, launcher, without_readline, words_of_completion)
+    groups = (editing, files, sources, stops, stopped_reloads, terminals, cards_in_view, faults, launcher, without_readline, words_of_completion, completed)
     asked = groups_asked_for(group.__name__ for group in groups)
     for group in (it for it in groups if it.__name__ in asked):
         with tempfile.TemporaryDirectory(prefix="l6-terminal-") as folder:

@@ -148,15 +148,17 @@ def files(bench: Bench) -> Iterator[Trial]:
     bench.deck.write_bytes(LIST.replace(b"MAKE ", b"       (Z,E,1)\nMAKE "))
     yield terminal.has("a deck that has changed", b"s 0\r", f"{bench.deck} has changed: reload reads it again".encode())
     yield "it is said once that it has changed", False, b"has changed" in terminal.answer(b"s 0")
-    yield terminal.has("reload", b"reload\r", f"Read {bench.deck} again".encode())
+    shown = terminal.answer(b"reload")
+    told_of_it = f"Read {bench.deck} again".encode(), b" AFTER 6 STEPS"
+    yield "reload, and where it leads", [True, True], [it in shown for it in told_of_it]
     shown = terminal.answer(b"info")
     for stop in (b"break 7 NEXT+1", b"tbreak 4 MAKE+2", b": LN", b": K"):
         yield f"reload keeps {stop.decode()}", True, stop in shown
     yield terminal.has("reload keeps the state", b"stats\r", b"STATE 6 ")
     bench.deck.write_bytes(LIST.replace(b"(L,GT,1)", b"(L,GQ,1)"))
     shown = terminal.answer(b"RELOAD")  # (words are taken in capitals, too)
-    said_of_it = b"The deck has errors; the session is still with the one before.", b"error"
-    yield "a deck with errors", [True, True], [it in shown for it in said_of_it]
+    said_of_it = b"The deck has errors; the session is still with the one before.", b"error", b" STEPS"
+    yield "a deck with errors", [True, True, False], [it in shown for it in said_of_it]
     yield terminal.has("a deck with errors leaves the session", b"stats\r", b"STATE 6 ")
     for word, deck in ((b"run", LIST), (b"r", b"* IT IS ANOTHER\n" + LIST), (b"restart", LIST)):
         bench.deck.write_bytes(deck)

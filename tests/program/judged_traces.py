@@ -235,12 +235,16 @@ FULL_BYTES = 111_847 * (76 + 74) + 154
 # As many calls as are taken, if no other number is asked for: one block, got and freed. The lines of a round have 24 bytes.
 MANY, MANY_BYTES = "+ a 16\n- a\n" * 500_001, 500_000 * 24
 ASKING = """#define _GNU_SOURCE
+#include <errno.h>
 #include <stdint.h>
 #include <stdlib.h>
 int main(void) {
     char *volatile one = malloc(1005), *volatile two = calloc(10, 208), *volatile three = realloc(one, 3007);
     volatile size_t most = SIZE_MAX / 2 - 100;
     if (realloc(three, most) != NULL)
+        return 1;
+    errno = 0;
+    if (reallocarray(three, most, 4) != NULL || errno != ENOMEM)
         return 1;
     void *volatile four = reallocarray(three, 11, 409);
     free(two);

@@ -334,13 +334,14 @@ def terminals(bench: Bench) -> Iterator[Trial]:
     yield "the columns that are marked in view", True, marked in terminal.until(marked)
     terminal.until(PROMPT)
     terminal.end()
-    long, last = bench.folder / "long.deck", b">  12  (A,A,1)"
+    long = bench.folder / "long.deck"
     long.write_bytes(b" (A,A,1)\n" * 12)
     terminal = bench.begin(long)
-    terminal.answer(b"view")
-    terminal.give(b"until 11\r")
-    yield "the last card in view", True, last in terminal.until(last)
-    terminal.until(PROMPT)
+    for line, card, first in ((b"view", 1, 1), (b"until 5", 6, 2), (b"until 11", 12, 4)):
+        shown = re.findall(rb"\x1b\[(\d);1H\x1b\[2K([^\x1b]*)", terminal.answer(line))[-IN_VIEW:]
+        cards = (f"{it:5}  (A,A,1)" for it in range(first, first + IN_VIEW))
+        expected = [(str(row), f">{it[1:]}" if int(it[:5]) == card else it) for row, it in enumerate(cards, 1)]
+        yield f"cards in view after {line.decode()}", expected, [(row.decode(), it.decode()) for row, it in shown]
     terminal.end()
     for pager, is_paged in (("sed s/^/paged:/", True), ("", False), ("is-not-there", False)):
         terminal = bench.begin(PAGER=pager)

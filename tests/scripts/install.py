@@ -11,7 +11,7 @@ import re
 import subprocess
 import sys
 import tempfile
-from collections.abc import Iterator
+from collections.abc import Iterable, Iterator
 from pathlib import Path
 from typing import Any
 
@@ -33,22 +33,27 @@ INSTALLED = {  # the file that is installed, and where it is from
     **{f"share/doc/l6/licenses/{it.name}": f"licenses/{it.name}" for it in (TOP / "licenses").iterdir()},
 }
 
-# What belongs to each further program.
-DEBUGGER = (
-    "bin/l6db", "lib/l6/l6db", "share/man/man1/l6db.1", "share/bash-completion/completions/l6db",
-    "share/zsh/site-functions/_l6db", "share/fish/vendor_completions.d/l6db.fish",
-    *(f"share/l6/terminal/{file.name}" for file in (TOP / "terminal").iterdir() if file.suffix != ".pyc"
-      and file.is_file() and file.name != "l6db.sh"),
-)
+# What belongs to each further program, beside one for another processor.
+DEBUGGER = {
+    "bin/l6db": "terminal/l6db.sh", "lib/l6/l6db": "dist/l6db-aarch64", "share/man/man1/l6db.1": "docs/l6db.1",
+    "share/bash-completion/completions/l6db": "completions/l6db.bash", "share/zsh/site-functions/_l6db": "completions/_l6db",
+    "share/fish/vendor_completions.d/l6db.fish": "completions/l6db.fish",
+    **{f"share/l6/terminal/{it.name}": f"terminal/{it.name}" for it in (TOP / "terminal").iterdir()
+       if it.is_file() and it.name != "l6db.sh"},
+}
 
-EDITORS = (
-    "bin/l6ed", "share/man/man1/l6ed.1", "share/bash-completion/completions/l6ed", "share/zsh/site-functions/_l6ed",
-    "share/fish/vendor_completions.d/l6ed.fish",
-    *(f"{place}/{kind}/l6.vim" for place in ("share/vim/vimfiles", "share/nvim/site") for kind in ("ftdetect", "ftplugin", "syntax")),
-    "share/nvim/site/lua/l6.lua", "share/emacs/site-lisp/l6-mode.el", "share/org.kde.syntax-highlighting/syntax/l6.xml",
-    *(f"share/l6/editors/{it.relative_to(TOP / 'editors')}" for it in (TOP / "editors/vscode").rglob("*") if it.is_file()),
-)
+EDITORS = {
+    "bin/l6ed": "dist/l6ed-aarch64", "share/man/man1/l6ed.1": "docs/l6ed.1",
+    "share/bash-completion/completions/l6ed": "completions/l6ed.bash", "share/zsh/site-functions/_l6ed": "completions/_l6ed",
+    "share/fish/vendor_completions.d/l6ed.fish": "completions/l6ed.fish",
+    **{f"{place}/{kind}/l6.vim": f"editors/vim/{kind}/l6.vim" for place in ("share/vim/vimfiles", "share/nvim/site")
+       for kind in ("ftdetect", "ftplugin", "syntax")},
+    "share/nvim/site/lua/l6.lua": "editors/neovim/l6.lua", "share/emacs/site-lisp/l6-mode.el": "editors/emacs/l6-mode.el",
+    "share/org.kde.syntax-highlighting/syntax/l6.xml": "editors/kate/l6.xml",
+    **{f"share/l6/{it.relative_to(TOP)}": str(it.relative_to(TOP)) for it in (TOP / "editors/vscode").rglob("*") if it.is_file()},
+}
 FURTHER = {"l6db": ("lib/l6/l6db", DEBUGGER), "l6ed": ("bin/l6ed", EDITORS)}
+MAY_RUN = {"bin/l6", "bin/l6db", "bin/l6ed", "lib/l6/l6db", "share/l6/library/shared"}
 
 
 def files_below(folder: str) -> list[str]:
@@ -114,7 +119,18 @@ def modes_of(place: Path) -> dict[str, int]:
     return {name: (place / name).stat().st_mode & 0o777 for name in INSTALLED}
 
 
-MODES = {name: 0o755 if name == "bin/l6" else 0o644 for name in INSTALLED}
+def mode_of(name: str) -> int:
+    """The mode that a file has where it is installed."""
+    return 0o755 if name in MAY_RUN else 0o644
+
+
+def files_of(place: Path, names: Iterable[str]) -> dict[str, tuple[bytes, int]]:
+    """The bytes and the modes of files below a place."""
+    return {name: ((place / name).read_bytes(), (place / name).stat().st_mode & 0o777) for name in names}
+
+
+MODES = {name: mode_of(name) for name in INSTALLED}
+OLDER = (b"an older one\n", 0o600)  # a file that an installation replaces
 
 
 def names_in(folder: Path) -> list[str]:
@@ -148,7 +164,9 @@ def installations(checkout: Checkout) -> Iterator[Trial]:
         yield f"the modes of {which}", MODES, modes_of(place)
         for name, source in INSTALLED.items():
             yield f"{name} of {which}", (checkout.top / source).read_bytes(), (place / name).read_bytes()
-            (place / name).chmod(0o600)
+            (place / name).write_bytes(OLDER[0])
+            (place / name).chmod(OLDER[1])
+        yield f"what {which} is replaced by", dict.fromkeys(INSTALLED, OLDER), files_of(place, names_in(place))
     prefix = str(checkout.folder / "on the path")
     actual = checkout.run("install", prefix, has_rt=False, FIRST=f"{prefix}/bin")
     yield "a folder on the path", Answer(announced(prefix), "", 0), actual
@@ -184,13 +202,15 @@ def further_programs(checkout: Checkout) -> Iterator[Trial]:
         yield f"{name} beside a program", (0, ""), (actual.status, actual.stderr)
         yield f"what is said of {name}", announced(f"{folder}/usr", name), actual.stdout
         yield f"what is installed with {name}", sorted(f"usr/{it}" for it in (*INSTALLED, *its)), names_in(folder)
+        expected = {it: ((checkout.top / source).read_bytes(), mode_of(it)) for it, source in its.items()}
+        yield f"the files of {name}", expected, files_of(folder / "usr", its)
         placed = folder / "usr" / placed_at
         yield f"the program {name}", (f"a program {name}\n", 0o755), (placed.read_text(), placed.stat().st_mode & 0o777)
         placed.write_text(f"#!/bin/sh\necho {name} with $*\n")
         ran = subprocess.run([folder / "usr/bin" / name, "a word"], capture_output=True, text=True)
         yield f"{name} that is started", (f"{name} with a word\n", "", 0), (ran.stdout, ran.stderr, ran.returncode)
         program.unlink()
-        keep_compiled(folder)
+        yield f"what Python keeps of {name}", name == "l6db", keep_compiled(folder) > 0
         actual = checkout.run("install", "--uninstall", "/usr", has_rt=False, DESTDIR=str(folder))
         yield f"the removal of {name}", (0, []), (actual.status, names_in(folder))
     for name in FURTHER:
@@ -245,14 +265,13 @@ def libraries(checkout: Checkout) -> Iterator[Trial]:
         for name, source in LIBRARIES.items():
             placed, own = folder / "usr" / name, TOP / source
             yield f"{name}{kind}", own.read_bytes(), placed.read_bytes()
-            yield f"the mode of {name}{kind}", own.name == "shared", bool(
-                placed.stat().st_mode & 0o111)
+            yield f"the mode of {name}{kind}", mode_of(name), placed.stat().st_mode & 0o777
     folder = checkout.folder / "for Node"
     words = ["--program", str(checkout.top / "dist/l6.mjs"), "/usr"]
     actual = checkout.run("install", *words, has_rt=False, DESTDIR=str(folder))
     yield "libraries beside a program for Node", announced(f"{folder}/usr"), actual.stdout
     folder = checkout.folder / "with libraries"
-    keep_compiled(folder)
+    yield "what Python keeps of libraries", True, keep_compiled(folder) > 0
     for archive in (checkout.top / "dist").glob("*.a"):  # (who removes libraries need not have them any more)
         archive.unlink()
     actual = checkout.run("install", "--uninstall", "/usr", has_rt=False, DESTDIR=str(folder))
@@ -260,13 +279,14 @@ def libraries(checkout: Checkout) -> Iterator[Trial]:
     yield "the folders after their removal", [], sorted(it.name for it in folder.rglob("*") if it.name != "usr")
 
 
-def keep_compiled(folder: Path) -> None:
-    """Keeps of each module of Python in a folder what Python keeps where it is imported."""
+def keep_compiled(folder: Path) -> int:
+    """Keeps of each module of Python in a folder what Python keeps where it is imported; returns how many files that makes."""
     for module in list(folder.rglob("*.py")):
         kept = module.parent / "__pycache__"
         kept.mkdir(exist_ok=True)
         (kept / f"{module.stem}.cpython-312.pyc").touch()
         (kept / f"{module.stem}.cpython-38.opt-1.pyc").touch()
+    return len(list(folder.rglob("*.pyc")))
 
 
 def removals(checkout: Checkout) -> Iterator[Trial]:

@@ -44,8 +44,8 @@ ODD = b"\0\x7f\x80\xff"
 IMAGE = b"542651554722\n000000000002\n000000000007\n000020000000\n013077000000\n127777777777\n000000000005\n"
 VARIED = 200  # random jobs of each kind that must nearly all differ
 NUMBERS = range(1, 1_001)  # of random jobs
-# What stands in jobs of either kind: groups of cards, words of statements, and commands and options, which not all kinds have.
-GROUPS = (*"EASMVYNOXCLRGZI", "GT", "DP", "FR", "DO", "IN", "PR", "PD", "PO", "PH", "PL", "S,FC", "R,FC", "S,FD", "R,FD", "D[A-Z0-9]")
+# What stands in jobs of either kind: groups of cards, words of statements, commands and options; hostile ones have more.
+GROUPS = (*"EASMVYNOXCLRGZI", "D[A-Z0-9]", *"GT DP FR DO IN PR PD PO PH PL S,FC R,FC S,FD R,FD".split())
 STATEMENT_WORDS = ("IF", "NOT", "IFALL", "IFANY", "IFNONE", "IFNALL", "THEN", "DONE", "FAIL")
 COMMANDS = ("STEP", "BACK", "GO", "BREAK", "CLEAR", "BLOCK", "DRAW", "STORE", "SHOW", "FIELDS", "OUT")
 OPTIONS = ("--steps", "--store", "--output")
@@ -53,8 +53,8 @@ OF_HOSTILE = ("QUIT", "--explain")
 # What the runs and the readings of all random jobs come to, by the manual: each trap, and each fault but that of a job too long.
 TRAPS = {f"TRAP {number} " for number in range(1, 15)}
 FAULTS = {
-    "no reading", "past a limit", "no such label", "label given twice", "not an image", "not a word", "deck too long", "image too long",
-    "input too long", "commands too long",
+    "no reading", "past a limit", "no such label", "label given twice", "not an image", "not a word", "deck too long",
+    "image too long", "input too long", "commands too long",
 }
 
 

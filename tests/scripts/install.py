@@ -82,7 +82,12 @@ def announced(place: str, *further: str) -> str:
 
 def shipped(_checkout: Checkout) -> Iterator[Trial]:
     """The list of what is shipped has each file of the folders that are shipped, once, with its mode."""
-    rows = [line.split() for line in (TOP / "tools/shipped").read_text().splitlines() if line[:1] not in ("#", "")]
+    yield from shipped_by((TOP / "tools/shipped").read_text())
+
+
+def shipped_by(text: str) -> Iterator[Trial]:
+    """The trials on a list of what is shipped."""
+    rows = [line.split() for line in text.splitlines() if line[:1] not in ("#", "")]
     found = [(row[3], sorted(str(it.relative_to(TOP)) for it in TOP.glob(row[3])))
              for row in rows if row[3] not in ("PROGRAM", "ARCHIVE")]
     listed = [name for _, names in found for name in names]
@@ -429,8 +434,37 @@ def trials() -> Iterator[Trial]:
     yield from on_checkouts((group,) for group in GROUPS)
 
 
+# Of a list of what is shipped an old text, a new one, and the trial that sees it.
+ALTERED = (
+    ("examples/*.trace\n", "examples/*.track\n", "what is shipped"),
+    ("examples/*.trace\n", "examples/*.trace\nl6 644 share/doc/l6/more/ examples/*.trace\n", "what is shipped twice"),
+    ("docs/l6.1\n", "docs/l6.1\nl6 644 share/man/man1/ docs/l6.9\n", "lines that ship nothing"),
+    ("755 bin/l6ed", "755 bin/l6e", "programs that are shipped"),
+    ("755 share/l6/library/", "644 share/l6/library/", "modes"),
+    ("644 share/man/man1/l6db.1", "755 share/man/man1/l6db.1", "modes"),
+    ("l6db 644 share/man/man1/", "l6   644 share/man/man1/", "what belongs to l6db"),
+    ("l6   644 share/doc/l6/licenses/", "l6db 644 share/doc/l6/licenses/", "what belongs to l6db"),
+    ("l6ed 644 share/emacs/", "l6   644 share/emacs/", "what belongs to l6ed"),
+    ("lib/libl6_store.a", "lib/l6_store.a", "archives that are shipped"),
+    ("lib  644 lib/pkgconfig/", "l6   644 lib/pkgconfig/", "what belongs to the libraries"),
+    ("share/l6/editors/vscode/", "share/l6/vscode/", "folders that editors.md tells of, and that have nothing"),
+    ("lib/pkgconfig/", "lib/package/", "folders that library.md tells of, and that have nothing"),
+)
+
+
+def altered_lists() -> Iterator[Trial]:
+    """Lists of what is shipped in which something is wrong."""
+    text = (TOP / "tools/shipped").read_text()
+    for old, new, what in ALTERED:
+        if old not in text:
+            raise ValueError(f"{old} is not in the list")
+        _, expected, actual = next(it for it in shipped_by(text.replace(old, new)) if it[0] == what)
+        yield f"{what}, by a list with {new or 'a line less'}", expected, actual
+
+
 def canaries() -> Iterator[Trial]:
-    """With an install that does nothing, or that installs all but a file, each group sees it."""
+    """With a list that is altered, an install that does nothing, or one that installs all but a file, each group sees it."""
+    yield from altered_lists()
     with tempfile.TemporaryDirectory() as folder:
         checkout = Checkout(Path(folder) / "checkout")
         own = (checkout.top / "install").read_text()

@@ -27,6 +27,9 @@ CALLS = 1_000_000  # of an allocator with another rule
 SUMMARY = {"findings", "gets", "frees", "refused", "most_used", "most_lost", "split", "joined"}
 OF_REFUSALS = {"largest_refused", "free_places", "largest_piece"}  # which the summary has, too, where there are some
 
+# What is found in traces, but at their ends.
+FOUND = {"outside", "misaligned", "overlaps", "refused", "not joined", "size", "too large", "held", "not held"}
+
 # A trace for a pool of one unit of 16 places, from place 16 on, and the findings, without the summary.
 BY_HAND: list[tuple[str, str, list[str]]] = [
     ("a right answer before a wrong one", "get a 3 = 28\nget b 1 = 31\nend 2\n",
@@ -152,12 +155,15 @@ def from_json(text: str) -> list[Finding]:
 
 def modelled(program: str) -> Iterator[Trial]:
     """Random traces, which the model judges too. Which of several blocks in the way is named is not compared."""
+    told = set[str]()
     for number in range(150):
         text, first = wrong_trace(number), (16, 0, 5)[number % 3]
         said = judged(program, text, "--levels", "4", "--units", "3", "--first", str(first), "--json")
         lists = [findings_of(text, 4, 3, first), from_json(said.stdout.decode())]
         expected, actual = ([it if it[1] != "overlaps" else it[:2] for it in found] for found in lists)
         yield f"a wrong trace {number}", (expected, int(bool(expected))), (actual, said.status)
+        told |= {it[1] for it in expected}
+    yield "what is found in wrong traces", FOUND, told
 
 
 def compiled(source: str, room: Path, name: str) -> Path:

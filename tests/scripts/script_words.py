@@ -22,6 +22,7 @@ sys.path[:0] = [str(Path(__file__).resolve().parents[1] / it) for it in ("harnes
 from answers import Answer
 from checkout import PLAIN, TOP, UNPROVED, Checkout, Group, on_checkouts
 from kept_modules import kept_modules
+from made_tables import made_tables
 from proving import proving
 from module import Edit, Stop, call, edited, program_of
 from shared_rooms import shared_rooms
@@ -377,6 +378,7 @@ def tools(_checkout: Checkout) -> Iterator[Trial]:
         [sys.executable, "tools/tables.py", "--check"], cwd=TOP, capture_output=True, text=True
     )
     yield "tools/tables.py --check", (0, ""), (ended.returncode, ended.stdout)
+    yield from made_tables()
 
 
 # Groups of trials; those of a line share a checkout.

@@ -8,6 +8,7 @@ import subprocess
 import tempfile
 from collections.abc import Iterator
 from pathlib import Path
+from typing import Any
 from unittest import mock
 
 import defects
@@ -36,7 +37,7 @@ esac
 """
 DEFECT = "file: file\nold: right\\n\nnew: wrong\\tly\\n\nstep: {step}\n"
 # The processor seconds that the trials of choosing reckon with, whatever a gate has.
-TIMES = {"COSTS": {}, "OTHERWISE": 15, "OF_GROUP": 6, "TIME": 200, "TIME_AGAIN": 60, "FEW": 60}
+TIMES: dict[str, Any] = {"COSTS": {}, "OTHERWISE": 15, "OF_GROUP": 6, "TIME": 200, "TIME_AGAIN": 60, "FEW": 60}
 BAD = {
     "no step": "file: file\nold: right\nnew: wrong\n",
     "no new text": "file: file\nold: right\nstep: sees\n",

@@ -5,9 +5,13 @@ verdict_trials.py changes the crate, and makes these trials.
 from __future__ import annotations
 
 from collections.abc import Iterator
+from pathlib import Path
+from tempfile import TemporaryDirectory
+from unittest import mock
 
-from crates import read_crates
-from promises import promises
+import crates
+from crates import Crate, read_crates
+from promises import promises, read_of
 from trials import Trial
 
 # A crate below that of the edits.
@@ -133,9 +137,49 @@ CHANGES_BELOW = (
 )
 
 
+# The files of two crates and of one above both, and what a check of that one reads of each, if anything.
+CITES = "use Rattle.{}.{{it}}\n".format
+FILES_READ = {
+    "low/src/lib.rt": ("pub fn low() -> u8 {\n    1\n}\n", "pub fn low() -> u8 {"),
+    "low/src/more.rt": ("fn more() {}\n", ""),
+    "low/specs/Least.antt": ("least = 1\n",) * 2,
+    "low/specs/Most.antt": ("most = 2\n",) * 2,
+    "low/specs/inner/Ties.antt": ("tie = 1\n",) * 2,
+    "low/specs/inner/Own.antt": ("own = 1\n", None),
+    "low/proofs/Further.antt": (CITES("nowhere.proofs.Further"),) * 2,
+    "low/proofs/Own.antt": ("own\n", None),
+    "mid/src/lib.rt": ("pub const MID: u8 = 1;\n",) * 2,
+    "mid/specs/Mid.antt": (CITES("low.specs.inner.Ties"),) * 2,
+    "mid/proofs/Cited.antt": (CITES("mid.proofs.Cited") + CITES("low.proofs.Further"),) * 2,
+    "mid/proofs/Other.antt": ("other\n", None),
+    "top/src/lib.rt": ("fn top() {\n    2\n}\n",) * 2,
+    "top/src/inner/deep.rt": ("// deep\n",) * 2,
+    "top/src/.lib.rt": ("hidden\n", None),
+    "top/src/lib.txt": ("a note\n", None),
+    "top/specs/Top.antt": (CITES("mid.proofs.Cited"),) * 2,
+    "top/proofs/Last.antt": ("last\n",) * 2,
+    "top/edits/one.edit": ("file: src/lib.rt\n", None),
+}
+
+
+def read_below() -> Trial:
+    """The trial of all that a check of a crate reads of it and of those below it."""
+    with TemporaryDirectory(prefix="l6-promises-") as folder, mock.patch.object(crates, "TOP", Path(folder)):
+        for name, (text, _) in FILES_READ.items():
+            file = Path(folder, "crates", name)
+            file.parent.mkdir(parents=True, exist_ok=True)
+            file.write_text(text, "utf-8")
+        low = Crate("low", ())
+        read = read_of(Crate("top", (low, Crate("mid", (low,)))))
+        found = {file.relative_to(Path(folder, "crates")).as_posix(): text.strip("\n") for file, text in read}
+    expected = {name: text.strip("\n") for name, (_, text) in FILES_READ.items() if text is not None}
+    return "what a check reads of crates", expected, found
+
+
 def promised() -> Iterator[Trial]:
     """What a source promises; and that no public item of this checkout is taken for a private one."""
     yield "what a source promises", PROMISED, promises(LOW["src/lib.rt"])
+    yield read_below()
     for crate in read_crates().values():
         lost = [
             f"{file.name}: {line.strip()}"

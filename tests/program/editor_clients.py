@@ -255,6 +255,15 @@ func main() {
 	}
 }
 """
+# What stands in the place of a text of a script, and what is then said: an answer that is another one, and a wait in vain.
+OTHERWISE: dict[str, tuple[tuple[dict[str, str], str], ...]] = {
+    "neovim": (({'same("references", 2': 'same("references", 3'}, "FAILED references: 2"),
+               ({"found() == 1": "found() == 9", "60000, holds": "100, holds"}, "FAILED a finding")),
+    "eglot": (({'(same "definition" 1': '(same "definition" 2'}, "FAILED definition: 1"),
+              ({"(= 1 (found))": "(= 9 (found))", "(float-time) 60": "(float-time) 0.1"}, "FAILED a finding")),
+    "dap-mode": (({'"the entry" 1 "0.0 2"': '"the entry" 1 "0.0 3"'}, 'FAILED the entry: "0.0 2"'),),
+    "ALE": (({"(bufnr(''))) == 1": "(bufnr(''))) == 9", "range(3000)": "range(3)"}, "FAILED a finding"),),
+}
 GO_DAP = Path("/usr/share/gocode/src/github.com/google/go-dap")  # of Debian's package
 DECK = "LOOP   (A,PD)\n       (A,PD) LOPP\n"
 
@@ -275,13 +284,27 @@ def client_trials(program: list[str], debugged: str) -> Iterator[Trial]:
         twice.write_text(debugged, "ascii")
         for name, needed, text in (("nvim", "neovim", NEOVIM), ("emacs", "eglot", EMACS), ("emacs", "lsp-mode", LSP_MODE),
                                    ("emacs", "dap-mode", DEBUGGED)):
+            for changed, expected in told_otherwise(text, needed):
+                deck.write_text(DECK, "ascii")
+                script.write_text(changed % names, "utf-8")
+                words = ["--headless", "-i", "NONE", "-n", str(deck), "-c", f"luafile {script}"]
+                yield from session(name, words if name == "nvim" else ["--batch", "-l", str(script)], known, needed, expected)
+        for changed, expected in told_otherwise(VIM, "ALE"):
             deck.write_text(DECK, "ascii")
-            script.write_text(text % names, "utf-8")
-            words = ["--headless", "-i", "NONE", "-n", str(deck), "-c", f"luafile {script}"]
-            yield from session(name, words if name == "nvim" else ["--batch", "-l", str(script)], known, needed)
-        deck.write_text(DECK, "ascii")
-        yield from vim_session(folder, names, known)
+            yield from vim_session(folder, changed, names, known, expected)
         yield from judged(folder, program, twice)
+
+
+def told_otherwise(text: str, package: str) -> Iterator[tuple[str, str]]:
+    """A script and what it says where all is well, and with each change of it, by which it must see something else."""
+    yield text, "OK"
+    for changes, said in OTHERWISE.get(package, ()):
+        changed = text
+        for old, new in changes.items():
+            if old not in changed:
+                raise ValueError(f"{old} is not in the script for {package}")
+            changed = changed.replace(old, new)
+        yield changed, said
 
 
 def judged(folder: str, program: list[str], deck: Path) -> Iterator[Trial]:
@@ -316,24 +339,25 @@ def figure(beginning: str) -> str:
     return found[1] if found else ""
 
 
-def vim_session(folder: str, names: dict[str, str], known: dict[str, str]) -> Iterator[Trial]:
+def vim_session(folder: str, text: str, names: dict[str, str], known: dict[str, str], expected: str) -> Iterator[Trial]:
     """A session of Vim with ALE, by the lines of docs/editors.md. Vim without a screen says nothing, and writes a file."""
     said = Path(folder, "said")
+    said.unlink(missing_ok=True)
     script = Path(folder, "script.vim")
-    script.write_text(VIM % {**names, "said": str(said), "vimrc": figure("source $VIMRUNTIME")}, "utf-8")
+    script.write_text(text % {**names, "said": str(said), "vimrc": figure("source $VIMRUNTIME")}, "utf-8")
     if not shutil.which("vim"):
         print("skipped: vim: it is missing")
         return
     words = ["vim", "-N", "-u", str(script), "-i", "NONE", "-n", "-es"]
     status = answer_of(words, seconds=SECONDS, env=known, preexec_fn=None).status
-    text = said.read_text("utf-8") if said.is_file() else "nothing\n"
-    if text == "NO ALE\n":
+    spoken = said.read_text("utf-8") if said.is_file() else "nothing\n"
+    if spoken == "NO ALE\n":
         print("skipped: vim: ALE is missing")
         return
-    yield "clients: vim with ALE", ("OK\n", 0), (text, status)
+    yield f"clients: vim with ALE: {expected}", (f"{expected}\n", int(expected != "OK")), (spoken, status)
 
 
-def session(editor: str, words: list[str], known: dict[str, str], package: str) -> Iterator[Trial]:
+def session(editor: str, words: list[str], known: dict[str, str], package: str, expected: str) -> Iterator[Trial]:
     """A session of an editor, or a line that says that it or its package is missing."""
     if not shutil.which(editor):
         print(f"skipped: {editor}: it is missing")
@@ -343,5 +367,5 @@ def session(editor: str, words: list[str], known: dict[str, str], package: str) 
         print(f"skipped: {editor}: {package} is missing")
         return
     spoken = (said.stdout + said.stderr).decode(errors="replace")
-    wrong = re.findall(r"FAILED .*", spoken) or ([] if "OK" in spoken else [spoken[-500:]])
-    yield f"clients: {editor} with {package}", ([], 0), (wrong, said.status)
+    last = re.findall(r"FAILED .*", spoken) or spoken.splitlines()[-1:]
+    yield f"clients: {editor} with {package}: {expected}", ([expected], int(expected != "OK")), (last, said.status)

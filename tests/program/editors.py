@@ -42,6 +42,7 @@ CHECKS = ROWS.with_name("checks.jsonl")
 MESSAGES = 200  # hostile ones, unless there is another number
 WHOLE = 2_000  # with --whole
 CHANGES = 400  # of texts
+FEW = 20  # messages and changes of canaries
 MOST = 1 << 24  # bytes that a message may have
 MOST_FINDINGS = 100  # that `l6 check` writes
 URI = "file:///a%20deck"
@@ -475,6 +476,28 @@ class OtherPeer(Peer):
         return message and {name: value if name in ("id", "method") else other(value) for name, value in message.items()}
 
 
+class OtherChanges(Peer):
+    """An editor that changes its texts otherwise than it means to."""
+
+    def change(self, changes: list[Any], uri: str = URI) -> Any:
+        """Changes a document to another text; returns what is published."""
+        return super().change([{**it, "text": f"{it['text']} Y"} for it in changes], uri)
+
+
+class Silent(Peer):
+    """A server that has ended."""
+
+    def __init__(self) -> None:
+        self.number = 0
+
+    def send(self, message: object) -> None:
+        """Takes a message, and does nothing."""
+
+    def take(self) -> Any:
+        """Nothing."""
+        return None
+
+
 SAID_OTHERWISE = 11  # trials of a group do not depend on it: of what has changed nothing, of ids, and of names
 
 
@@ -494,6 +517,16 @@ def canaries(program: list[str]) -> Iterator[Trial]:
     peer.end()
     with mock.patch.object(sys.modules[__name__], "Peer", OtherPeer):
         yield few_pass("a talk of other answers", SAID_OTHERWISE, protocol_trials(program))
+    changing = OtherChanges(program)
+    changing.ask("initialize", {"capabilities": {}})
+    yield next(change_trials(changing, FEW))
+    changing.end()
+    yield next(hostile_trials(Silent(), FEW))
+    with tempfile.TemporaryDirectory() as folder:
+        wrong = Path(folder, "wrong")
+        wrong.write_text("#!/bin/sh\ncat > /dev/null\necho wrong\nexit 77\n", "ascii")
+        wrong.chmod(0o755)
+        yield few_pass("words of a wrong program", 0, word_trials([str(wrong)]))
     whole = answer_of([*program, "lsp"], input=refused_talk())
     said, lacks = whole.stdout[:9], b"l6ed: out of memory\n"
     nothing = WrongShim(whole, Requests(1, False, 0, 1, 1))

@@ -27,6 +27,9 @@ CALLS = 1_000_000  # of an allocator with another rule
 SUMMARY = {"findings", "gets", "frees", "refused", "most_used", "most_lost", "split", "joined"}
 OF_REFUSALS = {"largest_refused", "free_places", "largest_piece"}  # which the summary has, too, where there are some
 
+# What is found in traces, but at their ends.
+FOUND = {"outside", "misaligned", "overlaps", "refused", "not joined", "size", "too large", "held", "not held"}
+
 # A trace for a pool of one unit of 16 places, from place 16 on, and the findings, without the summary.
 BY_HAND: list[tuple[str, str, list[str]]] = [
     ("a right answer before a wrong one", "get a 3 = 28\nget b 1 = 31\nend 2\n",
@@ -152,12 +155,15 @@ def from_json(text: str) -> list[Finding]:
 
 def modelled(program: str) -> Iterator[Trial]:
     """Random traces, which the model judges too. Which of several blocks in the way is named is not compared."""
+    told = set[str]()
     for number in range(150):
         text, first = wrong_trace(number), (16, 0, 5)[number % 3]
         said = judged(program, text, "--levels", "4", "--units", "3", "--first", str(first), "--json")
         lists = [findings_of(text, 4, 3, first), from_json(said.stdout.decode())]
         expected, actual = ([it if it[1] != "overlaps" else it[:2] for it in found] for found in lists)
         yield f"a wrong trace {number}", (expected, int(bool(expected))), (actual, said.status)
+        told |= {str(it[1]) for it in expected}
+    yield "what is found in wrong traces", FOUND, told
 
 
 def compiled(source: str, room: Path, name: str) -> Path:
@@ -392,17 +398,27 @@ def recorded_by_hand(room: Path, library: Path) -> Iterator[Trial]:
         *lines, end = [line.split() for line in calls.read_text("ascii").splitlines()]
         yield f"the end of the record of {name}", ["."], end
         yield f"the sizes that {name} asks for", expected, [it[2] for it in lines if it[0] == "+" and it[2] in ASKED]
-        held: set[str] = set()
         asked = {it[1] for it in lines if it[0] == "+" and it[2] in ASKED}
-        unknown = []
-        for sign, address, *_ in lines:
-            if sign == "-" and address not in held:
-                unknown.append(address)
-            (held.add if sign == "+" else held.discard)(address)
+        unknown, held = freed_and_held(lines)
         yield f"the blocks that {name} frees, and was not given", ([], True), (unknown, any(it[0] == "-" for it in lines))
         yield f"the blocks that {name} asks for and has at its end", set(), held & asked
     yield from in_order(room, library)
     yield from cut_off(room, library)
+
+
+def freed_and_held(lines: list[list[str]]) -> tuple[list[str], set[str]]:
+    """The blocks of a record that are freed and were not given, and those that are held at its end."""
+    unknown, held = [], set[str]()
+    for sign, address, *_ in lines:
+        if sign == "-" and address not in held:
+            unknown.append(address)
+        (held.add if sign == "+" else held.discard)(address)
+    return unknown, held
+
+
+def late_frees(lines: list[str]) -> list[tuple[str, str]]:
+    """The lines of a record between which a block was given back before that was noted, or another one was got without that."""
+    return [it for it in pairwise(lines) if it[0].startswith("-") != it[1].endswith(" 4001")]
 
 
 def full_traces(calls: Path, words: list[str]) -> Iterator[Trial]:
@@ -429,8 +445,7 @@ def in_order(room: Path, library: Path) -> Iterator[Trial]:
     subprocess.run(["cc", "-O2", "-shared", "-fPIC", str(slow.with_suffix(".c")), "-o", str(slow)], check=True)
     subprocess.run([program], env={"L6_RECORD": str(calls), "LD_PRELOAD": f"{library}:{slow}"}, check=True)
     lines = calls.read_text("ascii").splitlines()
-    late = [it for it in pairwise(lines) if it[0].startswith("-") != it[1].endswith(" 4001")]
-    yield "what is given back before that is noted", ([], True), (late, sum(it.startswith("-") for it in lines) >= 3)
+    yield "what is given back before that is noted", ([], True), (late_frees(lines), sum(it.startswith("-") for it in lines) >= 3)
 
 
 def cut_off(room: Path, library: Path) -> Iterator[Trial]:
@@ -507,6 +522,10 @@ def judged_canaries(wrong: str, room: Path) -> Iterator[Trial]:
         ("a finding", {"findings": 1}, 1), ("no refusal", {"refused": 0}, 0), ("another status", {}, 1), ("another key", {"more": 0}, 0)]
     for what, change, status in changes:
         yield f"a summary with {what}", (0, True), summed(answer(json.dumps({**right, **change}).encode() + b"\n", b"", status))
+    yield "a block that is given back before that is noted", [], late_frees(["+ a 5", "+ b 4001", "- a"])
+    yield "a block after which no other one is got", [], late_frees(["+ a 5", "- a", "+ b 5"])
+    for what, record in (("freed before it is given", "- a\n+ a 5\n- a"), ("freed twice", "+ a 5\n- a\n- a"), ("kept", "+ a 5\n+ b 5\n- b")):
+        yield f"a block that is {what}", ([], set()), freed_and_held([it.split() for it in record.splitlines()])
     yield few_pass("bugs of which something else is said", 0, islice(bugs(wrong, room), 2))
     yield "a picture of another trace", drawn(DRAWN[0], *NARROW), drawn(DRAWN[0].replace("= 24", "= none"), *NARROW)
 

@@ -17,11 +17,13 @@ from __future__ import annotations
 
 import argparse
 import multiprocessing
+import re
 import shlex
 import sys
 import tempfile
 from collections.abc import Callable, Iterator
 from dataclasses import dataclass
+from itertools import chain
 from pathlib import Path
 
 sys.path.insert(0, str(Path(__file__).resolve().parents[1] / "harness"))
@@ -41,6 +43,19 @@ LONG = 100_000  # bytes of a text of a case
 ODD = b"\0\x7f\x80\xff"
 IMAGE = b"542651554722\n000000000002\n000000000007\n000020000000\n013077000000\n127777777777\n000000000005\n"
 VARIED = 200  # random jobs of each kind that must nearly all differ
+NUMBERS = range(1, 1_001)  # of random jobs
+# What stands in jobs of either kind: groups of cards, words of statements, commands and options; hostile ones have more.
+GROUPS = (*"EASMVYNOXCLRGZI", "D[A-Z0-9]", *"GT DP FR DO IN PR PD PO PH PL S,FC R,FC S,FD R,FD".split())
+STATEMENT_WORDS = ("IF", "NOT", "IFALL", "IFANY", "IFNONE", "IFNALL", "THEN", "DONE", "FAIL")
+COMMANDS = ("STEP", "BACK", "GO", "BREAK", "CLEAR", "BLOCK", "DRAW", "STORE", "SHOW", "FIELDS", "OUT")
+OPTIONS = ("--steps", "--store", "--output")
+OF_HOSTILE = ("QUIT", "--explain")
+# What the runs and the readings of all random jobs come to, by the manual: each trap, and each fault but that of a job too long.
+TRAPS = {f"TRAP {number} " for number in range(1, 15)}
+FAULTS = {
+    "no reading", "past a limit", "no such label", "label given twice", "not an image", "not a word", "deck too long",
+    "image too long", "input too long", "commands too long",
+}
 
 
 def without_usage(stdout: bytes, stderr: bytes, status: int | str) -> Answer[bytes]:
@@ -112,11 +127,20 @@ class Beside:
 
 
 def random_jobs(beside: Beside, numbers: range, processes: int) -> Iterator[Trial]:
-    """The trials on the random jobs of these numbers."""
-    batches = [numbers[at:at + BATCH] for at in range(0, len(numbers), BATCH)]
+    """The trials on the random jobs of these numbers; and of all of them, that they come to each trap and each fault."""
+    batches, told = [numbers[at:at + BATCH] for at in range(0, len(numbers), BATCH)], set[str]()
     with multiprocessing.Pool(processes) as pool:
-        for trials in pool.imap(beside.trials, batches):
-            yield from trials
+        for name, expected, actual in chain.from_iterable(pool.imap(beside.trials, batches)):
+            yield name, expected, actual
+            told |= told_by(expected) if isinstance(expected, Answer) else set()
+    if numbers == NUMBERS:
+        yield "traps and faults of random jobs", sorted(TRAPS | FAULTS), sorted(told)
+
+
+def told_by(made: Answer[bytes]) -> set[str]:
+    """The traps that an answer tells of, and the fault."""
+    traps = re.findall(r"^== (TRAP \d+ )", made.stdout.decode("latin-1"), re.MULTILINE)
+    return {*traps, *re.findall(r"\Al6: (?:(?:card|line) \d+: )?(.*)", made.stderr.decode("latin-1"))}
 
 
 def trials(given: argparse.Namespace) -> Iterator[Trial]:
@@ -138,6 +162,19 @@ def variety() -> Iterator[Trial]:
         yield f"the verbs of {kind} jobs", set(), set(VERBS) - {job.words[0] for job in jobs if job.words}
         statuses = {model_answer(job.words, job.stdin).status for job in jobs[:VARIED // 2]}
         yield f"the statuses of {kind} jobs", [0, 1, 2, 3, 4], sorted(it for it in statuses if isinstance(it, int) and it < 5)
+        yield f"what {kind} jobs never have", [] if kind == "hostile" else list(OF_HOSTILE), never_in(jobs)
+
+
+def never_in(jobs: list[Job]) -> list[str]:
+    """The groups, the words, the commands and the options that are in none of these jobs."""
+    text = b"\n".join(job.stdin for job in jobs if len(job.stdin) <= LONG).decode("latin-1").upper()
+    given = {word.partition("=")[0] for job in jobs for word in job.words}
+    return [
+        *(it for it in GROUPS if not re.search(rf"[(,]{it}(?:[OH]?,|\))", text)),
+        *(it for it in STATEMENT_WORDS if not re.search(rf"(?<!\w){it}(?!\w)", text)),
+        *(it for it in (*COMMANDS, "QUIT") if not re.search(rf"^\s*{it}\b", text, re.MULTILINE)),
+        *(it for it in (*OPTIONS, "--explain") if it not in given),
+    ]
 
 
 def hostility() -> Iterator[Trial]:
@@ -175,8 +212,8 @@ def main() -> int:
     parser = argparse.ArgumentParser(
         description=__doc__, formatter_class=argparse.RawDescriptionHelpFormatter)
     parser.add_argument("program")
-    parser.add_argument("--first", type=int, default=1, help="the first number")
-    parser.add_argument("--jobs", type=int, default=1_000, help="how many numbers; each makes two jobs")
+    parser.add_argument("--first", type=int, default=NUMBERS.start, help="the first number")
+    parser.add_argument("--jobs", type=int, default=len(NUMBERS), help="how many numbers; each makes two jobs")
     parser.add_argument("--processes", type=int, default=1)
     parser.add_argument("--keep", type=Path, help="the folder where jobs with a difference are kept")
     parser.add_argument("--long", action="store_true", help="try the model on cases with long texts, too")

@@ -372,12 +372,10 @@ def faults(bench: Bench) -> Iterator[Trial]:
     bad = bench.folder / "bad.deck"
     bad.write_bytes(b" (A,E,5)\n (A,ZZ,5)\n")
     for words in ([str(bad)], ["nothing.deck"], ["--units", "3", str(bench.deck)]):
-        said = []
-        for command in ([*FRONT, bench.engine], [bench.engine]):
-            ran = subprocess.run([*command, *words], stdin=subprocess.DEVNULL, capture_output=True, cwd=bench.folder)
-            said.append((ran.returncode, ran.stdout, ran.stderr))
-        yield f"the words {' '.join(words[:2])}".replace(str(bench.folder), "FOLDER"), said[1], said[0]
-        yield f"the words {' '.join(words[:2])} are wrong".replace(str(bench.folder), "FOLDER"), True, said[0][0] != 0
+        named = f"the words {' '.join(words[:2])}".replace(str(bench.folder), "FOLDER")
+        by_front, by_engine = said([*FRONT, bench.engine, *words]), said([bench.engine, *words])
+        yield named, by_engine, by_front
+        yield f"{named} are wrong", True, by_front[0] != 0
 
 
 def launcher(bench: Bench) -> Iterator[Trial]:

@@ -27,6 +27,9 @@ EXAMPLES = Path(__file__).resolve().parents[2] / "examples"
 RANDOM = 300  # random traces
 NO_JOINS = 8  # words of the pieces that the planted defect never joins: level 3
 
+# What is told of random traces: right answers and wrong ones, refusals, pieces that are joined or not, lists and counts.
+TOLD = ("differs: get ", "differs: free ", ": none\n", "halved 0\n", "joined 0\n", "joined 10\n", "\nlevel 10: ", "\nno free piece\n",
+        "\nfree words ", "\ngets refused 1,")
 NO_CALL = "l6: the trace has no get and no free\n"
 NO_END = "l6: the trace may be cut off: it has no line end\n"
 FIRST = "get a 1: 1024, level 0, halved 10\n"
@@ -260,10 +263,14 @@ def examples(program: str) -> Iterator[Trial]:
 
 
 def at_random(program: str) -> Iterator[Trial]:
-    """Random traces, on the program and the model."""
+    """Random traces, on the program and the model, of which all kinds of answers are told."""
+    told = ""
     for number in range(RANDOM):
         text, units = random_trace(number)
-        yield f"random trace {number}", modelled(text, units), traced(program, text, units)
+        expected = modelled(text, units)
+        yield f"random trace {number}", expected, traced(program, text, units)
+        told += expected.stdout.decode()
+    yield "what is told of no random trace", [], [it for it in TOLD if it not in told]
 
 
 def long_traces(program: str) -> Iterator[Trial]:

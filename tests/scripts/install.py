@@ -11,7 +11,7 @@ import re
 import subprocess
 import sys
 import tempfile
-from collections.abc import Iterator
+from collections.abc import Iterable, Iterator
 from pathlib import Path
 from typing import Any
 
@@ -33,22 +33,27 @@ INSTALLED = {  # the file that is installed, and where it is from
     **{f"share/doc/l6/licenses/{it.name}": f"licenses/{it.name}" for it in (TOP / "licenses").iterdir()},
 }
 
-# What belongs to each further program.
-DEBUGGER = (
-    "bin/l6db", "lib/l6/l6db", "share/man/man1/l6db.1", "share/bash-completion/completions/l6db",
-    "share/zsh/site-functions/_l6db", "share/fish/vendor_completions.d/l6db.fish",
-    *(f"share/l6/terminal/{file.name}" for file in (TOP / "terminal").iterdir() if file.suffix != ".pyc"
-      and file.is_file() and file.name != "l6db.sh"),
-)
+# What belongs to each further program, beside one for another processor.
+DEBUGGER = {
+    "bin/l6db": "terminal/l6db.sh", "lib/l6/l6db": "dist/l6db-aarch64", "share/man/man1/l6db.1": "docs/l6db.1",
+    "share/bash-completion/completions/l6db": "completions/l6db.bash", "share/zsh/site-functions/_l6db": "completions/_l6db",
+    "share/fish/vendor_completions.d/l6db.fish": "completions/l6db.fish",
+    **{f"share/l6/terminal/{it.name}": f"terminal/{it.name}" for it in (TOP / "terminal").iterdir()
+       if it.is_file() and it.name != "l6db.sh"},
+}
 
-EDITORS = (
-    "bin/l6ed", "share/man/man1/l6ed.1", "share/bash-completion/completions/l6ed", "share/zsh/site-functions/_l6ed",
-    "share/fish/vendor_completions.d/l6ed.fish",
-    *(f"{place}/{kind}/l6.vim" for place in ("share/vim/vimfiles", "share/nvim/site") for kind in ("ftdetect", "ftplugin", "syntax")),
-    "share/nvim/site/lua/l6.lua", "share/emacs/site-lisp/l6-mode.el", "share/org.kde.syntax-highlighting/syntax/l6.xml",
-    *(f"share/l6/editors/{it.relative_to(TOP / 'editors')}" for it in (TOP / "editors/vscode").rglob("*") if it.is_file()),
-)
+EDITORS = {
+    "bin/l6ed": "dist/l6ed-aarch64", "share/man/man1/l6ed.1": "docs/l6ed.1",
+    "share/bash-completion/completions/l6ed": "completions/l6ed.bash", "share/zsh/site-functions/_l6ed": "completions/_l6ed",
+    "share/fish/vendor_completions.d/l6ed.fish": "completions/l6ed.fish",
+    **{f"{place}/{kind}/l6.vim": f"editors/vim/{kind}/l6.vim" for place in ("share/vim/vimfiles", "share/nvim/site")
+       for kind in ("ftdetect", "ftplugin", "syntax")},
+    "share/nvim/site/lua/l6.lua": "editors/neovim/l6.lua", "share/emacs/site-lisp/l6-mode.el": "editors/emacs/l6-mode.el",
+    "share/org.kde.syntax-highlighting/syntax/l6.xml": "editors/kate/l6.xml",
+    **{f"share/l6/{it.relative_to(TOP)}": str(it.relative_to(TOP)) for it in (TOP / "editors/vscode").rglob("*") if it.is_file()},
+}
 FURTHER = {"l6db": ("lib/l6/l6db", DEBUGGER), "l6ed": ("bin/l6ed", EDITORS)}
+MAY_RUN = {"bin/l6", "bin/l6db", "bin/l6ed", "lib/l6/l6db", "share/l6/library/shared"}
 
 
 def files_below(folder: str) -> list[str]:
@@ -77,7 +82,12 @@ def announced(place: str, *further: str) -> str:
 
 def shipped(_checkout: Checkout) -> Iterator[Trial]:
     """The list of what is shipped has each file of the folders that are shipped, once, with its mode."""
-    rows = [line.split() for line in (TOP / "tools/shipped").read_text().splitlines() if line[:1] not in ("#", "")]
+    yield from shipped_by((TOP / "tools/shipped").read_text())
+
+
+def shipped_by(text: str) -> Iterator[Trial]:
+    """The trials on a list of what is shipped."""
+    rows = [line.split() for line in text.splitlines() if line[:1] not in ("#", "")]
     found = [(row[3], sorted(str(it.relative_to(TOP)) for it in TOP.glob(row[3])))
              for row in rows if row[3] not in ("PROGRAM", "ARCHIVE")]
     listed = [name for _, names in found for name in names]
@@ -114,7 +124,18 @@ def modes_of(place: Path) -> dict[str, int]:
     return {name: (place / name).stat().st_mode & 0o777 for name in INSTALLED}
 
 
-MODES = {name: 0o755 if name == "bin/l6" else 0o644 for name in INSTALLED}
+def mode_of(name: str) -> int:
+    """The mode that a file has where it is installed."""
+    return 0o755 if name in MAY_RUN else 0o644
+
+
+def files_of(place: Path, names: Iterable[str]) -> dict[str, tuple[bytes, int]]:
+    """The bytes and the modes of files below a place."""
+    return {name: ((place / name).read_bytes(), (place / name).stat().st_mode & 0o777) for name in names}
+
+
+MODES = {name: mode_of(name) for name in INSTALLED}
+OLDER = (b"an older one\n", 0o600)  # a file that an installation replaces
 
 
 def names_in(folder: Path) -> list[str]:
@@ -148,7 +169,9 @@ def installations(checkout: Checkout) -> Iterator[Trial]:
         yield f"the modes of {which}", MODES, modes_of(place)
         for name, source in INSTALLED.items():
             yield f"{name} of {which}", (checkout.top / source).read_bytes(), (place / name).read_bytes()
-            (place / name).chmod(0o600)
+            (place / name).write_bytes(OLDER[0])
+            (place / name).chmod(OLDER[1])
+        yield f"what {which} is replaced by", dict.fromkeys(INSTALLED, OLDER), files_of(place, names_in(place))
     prefix = str(checkout.folder / "on the path")
     actual = checkout.run("install", prefix, has_rt=False, FIRST=f"{prefix}/bin")
     yield "a folder on the path", Answer(announced(prefix), "", 0), actual
@@ -184,13 +207,15 @@ def further_programs(checkout: Checkout) -> Iterator[Trial]:
         yield f"{name} beside a program", (0, ""), (actual.status, actual.stderr)
         yield f"what is said of {name}", announced(f"{folder}/usr", name), actual.stdout
         yield f"what is installed with {name}", sorted(f"usr/{it}" for it in (*INSTALLED, *its)), names_in(folder)
+        expected = {it: ((checkout.top / source).read_bytes(), mode_of(it)) for it, source in its.items()}
+        yield f"the files of {name}", expected, files_of(folder / "usr", its)
         placed = folder / "usr" / placed_at
         yield f"the program {name}", (f"a program {name}\n", 0o755), (placed.read_text(), placed.stat().st_mode & 0o777)
         placed.write_text(f"#!/bin/sh\necho {name} with $*\n")
         ran = subprocess.run([folder / "usr/bin" / name, "a word"], capture_output=True, text=True)
         yield f"{name} that is started", (f"{name} with a word\n", "", 0), (ran.stdout, ran.stderr, ran.returncode)
         program.unlink()
-        keep_compiled(folder)
+        yield f"what Python keeps of {name}", name == "l6db", keep_compiled(folder) > 0
         actual = checkout.run("install", "--uninstall", "/usr", has_rt=False, DESTDIR=str(folder))
         yield f"the removal of {name}", (0, []), (actual.status, names_in(folder))
     for name in FURTHER:
@@ -245,28 +270,28 @@ def libraries(checkout: Checkout) -> Iterator[Trial]:
         for name, source in LIBRARIES.items():
             placed, own = folder / "usr" / name, TOP / source
             yield f"{name}{kind}", own.read_bytes(), placed.read_bytes()
-            yield f"the mode of {name}{kind}", own.name == "shared", bool(
-                placed.stat().st_mode & 0o111)
+            yield f"the mode of {name}{kind}", mode_of(name), placed.stat().st_mode & 0o777
     folder = checkout.folder / "for Node"
     words = ["--program", str(checkout.top / "dist/l6.mjs"), "/usr"]
     actual = checkout.run("install", *words, has_rt=False, DESTDIR=str(folder))
     yield "libraries beside a program for Node", announced(f"{folder}/usr"), actual.stdout
     folder = checkout.folder / "with libraries"
-    keep_compiled(folder)
+    yield "what Python keeps of libraries", True, keep_compiled(folder) > 0
     for archive in (checkout.top / "dist").glob("*.a"):  # (who removes libraries need not have them any more)
         archive.unlink()
     actual = checkout.run("install", "--uninstall", "/usr", has_rt=False, DESTDIR=str(folder))
     yield "their removal", (0, []), (actual.status, names_in(folder))
-    yield "the folders after their removal", [], sorted(it.name for it in folder.rglob("*") if it.name != "usr")
+    yield "the folders after their removal", ["usr"], sorted(it.name for it in folder.rglob("*"))
 
 
-def keep_compiled(folder: Path) -> None:
-    """Keeps of each module of Python in a folder what Python keeps where it is imported."""
+def keep_compiled(folder: Path) -> int:
+    """Keeps of each module of Python in a folder what Python keeps where it is imported; returns how many files that makes."""
     for module in list(folder.rglob("*.py")):
         kept = module.parent / "__pycache__"
         kept.mkdir(exist_ok=True)
         (kept / f"{module.stem}.cpython-312.pyc").touch()
         (kept / f"{module.stem}.cpython-38.opt-1.pyc").touch()
+    return len(list(folder.rglob("*.pyc")))
 
 
 def removals(checkout: Checkout) -> Iterator[Trial]:
@@ -409,8 +434,37 @@ def trials() -> Iterator[Trial]:
     yield from on_checkouts((group,) for group in GROUPS)
 
 
+# Of a list of what is shipped an old text, a new one, and the trial that sees it.
+ALTERED = (
+    ("examples/*.trace\n", "examples/*.track\n", "what is shipped"),
+    ("examples/*.trace\n", "examples/*.trace\nl6 644 share/doc/l6/more/ examples/*.trace\n", "what is shipped twice"),
+    ("docs/l6.1\n", "docs/l6.1\nl6 644 share/man/man1/ docs/l6.9\n", "lines that ship nothing"),
+    ("755 bin/l6ed", "755 bin/l6e", "programs that are shipped"),
+    ("755 share/l6/library/", "644 share/l6/library/", "modes"),
+    ("644 share/man/man1/l6db.1", "755 share/man/man1/l6db.1", "modes"),
+    ("l6db 644 share/man/man1/", "l6   644 share/man/man1/", "what belongs to l6db"),
+    ("l6   644 share/doc/l6/licenses/", "l6db 644 share/doc/l6/licenses/", "what belongs to l6db"),
+    ("l6ed 644 share/emacs/", "l6   644 share/emacs/", "what belongs to l6ed"),
+    ("lib/libl6_store.a", "lib/l6_store.a", "archives that are shipped"),
+    ("lib  644 lib/pkgconfig/", "l6   644 lib/pkgconfig/", "what belongs to the libraries"),
+    ("share/l6/editors/vscode/", "share/l6/vscode/", "folders that editors.md tells of, and that have nothing"),
+    ("lib/pkgconfig/", "lib/package/", "folders that library.md tells of, and that have nothing"),
+)
+
+
+def altered_lists() -> Iterator[Trial]:
+    """Lists of what is shipped in which something is wrong."""
+    text = (TOP / "tools/shipped").read_text()
+    for old, new, what in ALTERED:
+        if old not in text:
+            raise ValueError(f"{old} is not in the list")
+        _, expected, actual = next(it for it in shipped_by(text.replace(old, new)) if it[0] == what)
+        yield f"{what}, by a list with {new or 'a line less'}", expected, actual
+
+
 def canaries() -> Iterator[Trial]:
-    """With an install that does nothing, or that installs all but a file, each group sees it."""
+    """With a list that is altered, an install that does nothing, or one that installs all but a file, each group sees it."""
+    yield from altered_lists()
     with tempfile.TemporaryDirectory() as folder:
         checkout = Checkout(Path(folder) / "checkout")
         own = (checkout.top / "install").read_text()

@@ -238,6 +238,8 @@ def constants() -> Iterator[Trial]:
         yield f"the constant {name} is there once", 1, len(re.findall(rf"\bconst {name}\b", declared))
 
 
+# A value that keeps an allocator and names it in a function of no such name as KEPT_ALLOCATORS has.
+KEEPING_ALLOCATOR = "struct R {\n    alloc: Global,\n}\nimpl R {\n    fn fill(&self) {\n        take(self.alloc)\n    }\n}\n"
 # Texts that must be refused, and one of each kind that must not.
 REFUSED = [
     "fn f() { Vec::with_capacity(alloc, MOST_ROOM) }",
@@ -246,17 +248,22 @@ REFUSED = [
     "fn f() { Vec::with_capacity(alloc, most(of(words.len()))) }",
     "fn f() { Vec::with_capacity(alloc, words.len() * words.len().pow(max(2))) }",
     "fn f() { Vec::with_capacity(alloc, count) }",
-    "fn f() { Vec::with_capacity(self.alloc, 1) }",
+    "fn f() { Vec::with_capacity(alloc, count.saturating_mul(LINE_BYTES)) }",
+    "fn f() { Vec::with_capacity(alloc, words.len().saturating_mul(count)) }",
+    "fn f() { Vec::with_capacity(alloc, words.len() + count) }", "fn f() { Vec::with_capacity(alloc, count + words.len()) }",
+    "fn f() { Vec::with_capacity(self.alloc, 1) }", "fn f() { Vec::with_capacity(alloc, 1, MOST_ROOM) }",
     "fn f() { let make = Vec::with_capacity; make(alloc, 1) }",
     "fn f() { words.reserve(1) }", "fn f() { words.try_reserve_exact(1) }", "fn f() { words.resize(1, 0) }",
     "fn f() { vec![in alloc; 0; 1 << 40] }", "fn f() { vec![in alloc; 0; MOST] }", "fn f() { vec![in self.alloc; 0] }",
     "fn f() { let words = Vec::new(Global); }", "fn f() { take(&Global, 5) }",
     "fn f() { forget(words) }", "fn f() { words.leak() }", "fn f() { ManuallyDrop::new(words) }",
-    "struct R {\n    alloc: Global,\n}\nimpl R {\n    fn fill(&self) {\n        take(self.alloc)\n    }\n}\n",
+    KEEPING_ALLOCATOR,
     "fn f() { Err(RunFault::NoMemory) }", "fn f() -> u8 { AllocError }",
     "fn f() { match read() { Err(_) => RunFault::NoMemory, } }",
     "fn f() { match it { RunFault::Write => Err(AllocError), } }",
     "fn f() { match error.kind() { ErrorKind::Other => RunFault::NoMemory, } }",
+    "fn f() { match it { RunFault::Read => made(RunFault::NoMemory), RunFault::Write => 1, } }",
+    "RunFault::NoMemory",
 ]
 ALLOWED = [
     "fn f() { Vec::with_capacity(alloc, words.len()) }",
@@ -278,15 +285,20 @@ def judged(code: str, file: str) -> Iterator[tuple[re.Match[str], bool]]:
     yield from memory_kept(code, file)
 
 
-def wrong_words(text: str) -> list[str]:
-    """The words of a text that are not right."""
-    return [word[0] for word, is_right in judged(code_of(text), "") if not is_right]
+def wrong_words(text: str, file: str = "") -> list[str]:
+    """The words of a text that are not right, where a file has it."""
+    return [word[0] for word, is_right in judged(code_of(text), file) if not is_right]
 
 
 def canaries() -> Iterator[Trial]:
-    """Each text that must be refused."""
+    """Each text that must be refused; numbers of the tables that nothing binds, and allocators that another function names."""
     for text in REFUSED:
         yield f"refused: {text}", [], wrong_words(text)
+    for file, expression in COUNTS:
+        yield f"refused: {expression}, which nothing binds, in {file}", [], wrong_words(
+            f"fn f() {{ Vec::with_capacity(alloc, {expression}) }}", file)
+    for file in (it for it, functions in KEPT_ALLOCATORS.items() if functions):
+        yield f"refused: an allocator of {file}", [], wrong_words(KEEPING_ALLOCATOR, file)
 
 
 def sources() -> Iterator[Path]:
@@ -307,6 +319,11 @@ def trials() -> Iterator[Trial]:
             yield f"{where}: {word[0]!r}", "right", "right" if is_right else wrong
     for text in ALLOWED:
         yield f"allowed: {text}", [], wrong_words(text)
+    # (a value that keeps an allocator has more words refused, and the last text has no function)
+    plain = [text for text in REFUSED[:-1] if text != KEEPING_ALLOCATOR]
+    each = sorted(2 * [word for text in plain for word in wrong_words(text)])
+    yield "refused texts in one file, each twice", each, sorted(wrong_words("\n".join([*ALLOWED, *(2 * plain)])))
+    yield "two values that keep an allocator", ["alloc", "alloc"], wrong_words(2 * KEEPING_ALLOCATOR)
     yield from constants()
 
 

@@ -22,6 +22,7 @@ sys.path[:0] = [str(Path(__file__).resolve().parents[1] / it) for it in ("harnes
 from answers import Answer
 from checkout import PLAIN, TOP, UNPROVED, Checkout, Group, on_checkouts
 from kept_modules import kept_modules
+from made_tables import made_tables
 from proving import proving
 from module import Edit, Stop, call, edited, program_of
 from shared_rooms import shared_rooms
@@ -120,6 +121,8 @@ def sums(checkout: Checkout) -> Iterator[Trial]:
     (folder / "shasum").write_text(SHASUM.format(python=sys.executable))
     (folder / "shasum").chmod(0o755)
     where = {"PATH": str(folder), "STAND_IN": str(checkout.state)}
+    found = {name: shutil.which(name, path=str(folder)) is not None for name in ("sha256sum", "shasum")}
+    yield "the commands for sums", {"sha256sum": False, "shasum": True}, found
     actual = checkout.run_words([str(checkout.top / "l6")], checkout.folder, where)
     yield "the program of dist/ by shasum", Answer(checkout.made_of, "", 0), actual
     checkout.write("crates/l6/src/main.rt", "a text for shasum\n")
@@ -157,13 +160,15 @@ def checks_that_are_killed(checkout: Checkout) -> Iterator[Trial]:
 
 def edits_meanwhile(checkout: Checkout) -> Iterator[Trial]:
     """What was edited while it was proved is proved again, even if the edit is undone."""
-    checkout.write("crates/l6_word/src/lib.rt", "a text that is edited meanwhile\n")
-    (checkout.state / "edit").write_text(str(checkout.top / "crates/l6_word/src/lib.rt"))
+    source, text = checkout.top / "crates/l6_word/src/lib.rt", "a text that is edited meanwhile\n"
+    source.write_text(text)
+    (checkout.state / "edit").write_text(str(source))
     first = checkout.run("tools/prove.py", "l6_word")
-    checkout.write("crates/l6_word/src/lib.rt", "a text that is edited meanwhile\n")
+    yield "an edit while it is proved", f"{text}edited while it builds\n", source.read_text()
+    source.write_text(text)
     checkout.calls()
     actual = checkout.run("tools/prove.py", "l6_word")
-    yield "an edit that is undone", (0, 0, ["lib l6_word"]), (first.status, actual.status, checkout.calls())
+    yield "an edit that is undone", (0, 0, ["lib l6_word"], text), (first.status, actual.status, checkout.calls(), source.read_text())
     checkout.run("tools/prove.py", "l6_word")
     yield "and then nothing", [], checkout.calls()
 
@@ -332,7 +337,13 @@ def modules(_checkout: Checkout) -> Iterator[Trial]:
     yield "two programs", missing, stopped(lambda: str(program_of([str(TOP / "dist/l6")] * 2)))
     named = [str(TOP / "dist/l6")]
     yield "a program that is named", named[0], stopped(lambda: program_of(named))
-    yield "a command that fails", "sh -c failed:\nwhy\n", stopped(functools.partial(call, "sh", "-c", "echo why >&2; exit 3"))
+    for what, does, said in (
+        ("fails", "echo why >&2; exit 3", "why\n"), ("is killed", "echo why; kill -9 $$", "why\n"),
+        ("says what is no text", "printf 'why\\377'; exit 1", "why\ufffd"), ("says much", "printf '%5000s' why; exit 1", f"{'why':>4000}"),
+    ):
+        yield f"a command that {what}", f"sh -c failed:\n{said}", stopped(functools.partial(call, "/bin/sh", "-c", does))
+    yield "a command that ends well", "None", stopped(functools.partial(call, "sh", "-c", "echo why >&2"))
+    yield "a command in a folder", "sh -c failed:\n/\n", stopped(functools.partial(call, "sh", "-c", "pwd; exit 1", within=Path("/")))
     yield from kept_modules()
 
 
@@ -367,6 +378,7 @@ def tools(_checkout: Checkout) -> Iterator[Trial]:
         [sys.executable, "tools/tables.py", "--check"], cwd=TOP, capture_output=True, text=True
     )
     yield "tools/tables.py --check", (0, ""), (ended.returncode, ended.stdout)
+    yield from made_tables()
 
 
 # Groups of trials; those of a line share a checkout.

@@ -8,6 +8,7 @@ with the table of docs/allocator.md.
 """
 from __future__ import annotations
 
+import hashlib
 import os
 import re
 import shutil
@@ -333,7 +334,8 @@ def sections(archive: Path) -> Iterator[Trial]:
     for name in ("l6_store", "l6_offset"):
         file = Path(str(archive).replace("l6_store", name))
         seen = set(re.findall(r"^ *\d+ (\.[a-z_]+)", run(["objdump", "-h", file])[1], re.MULTILINE))
-        yield f"sections of {name}.a", set(), seen & {".eh_frame", ".gcc_except_table", ".init_array", ".ctors", ".tbss", ".tdata"}
+        unwanted = {".eh_frame", ".gcc_except_table", ".init_array", ".ctors", ".tbss", ".tdata"}
+        yield f"sections of {name}.a", {".text"}, seen & {".text", *unwanted}
         defined = re.findall(r" [TDBR] (\w+)$", run(["nm", file])[1], re.MULTILINE)
         yield f"names of {name}.a", {True}, {it.startswith(f"{name}_") for it in defined}
         needed = set(re.findall(r" U (\w+)$", run(["nm", file])[1], re.MULTILINE))
@@ -352,8 +354,9 @@ def made_again(archive: Path) -> Iterator[Trial]:
         yield "the archives are made again", (0, ""), (status, "" if status == 0 else printed)
         kinds = ("", *(f"-{kind}" for kind in other_libraries.KINDS))
         for name in (f"{library}{kind}.a" for library in ("l6_store", "l6_offset") for kind in kinds):
-            there = [file.read_bytes() if file.exists() else b"" for file in (Path(room, name), archive.with_name(name))]
-            yield f"the archive {name} of dist/ is that of these sources", True, there[0] == there[1] != b""
+            made, there = (file.read_bytes() if file.is_file() else b"" for file in (Path(room, name), archive.with_name(name)))
+            expected = hashlib.sha256(made).hexdigest() if made else "nothing is made"
+            yield f"the archive {name} of dist/ is that of these sources", expected, hashlib.sha256(there).hexdigest()
 
 
 def header() -> Iterator[Trial]:

@@ -46,7 +46,7 @@ from node_lines import node_lines
 from page_sessions import page_sessions
 from program import cut_images, examples, failing_devices, helps, limited_files
 from ran_lines import IN_NODE
-from trials import Trial, first_wrong, groups_asked_for, named, report, side_by_side
+from trials import Trial, few_pass, groups_asked_for, named, report, side_by_side
 from typed_sessions import at_terminal, one_by_one
 
 HERE = Path(__file__).resolve().parent
@@ -237,18 +237,22 @@ def hosts() -> Iterator[Trial]:
     for program in (*PROGRAMS, *DEBUGGERS, *SERVERS):
         name = program.name
         hosts, scripts = OF_NODE.get(name, (("ports/host.c",), ()))
-        noted = (DIST / f"{name}.provenance").read_text("utf-8").splitlines()
-        yield f"{name} has the {hosts[0]} that is here", True, f"host {sum_of(*hosts)}" in noted
+        yield f"{name} has the {hosts[0]} that is here", [sum_of(*hosts)], noted(name, "host")
         if scripts:
-            yield f"{name} has the {' and '.join(scripts)} that are here", True, f"command {sum_of(*scripts)}" in noted
+            yield f"{name} has the {' and '.join(scripts)} that are here", [sum_of(*scripts)], noted(name, "command")
 
 
 def modules() -> Iterator[Trial]:
     """The trials that dist/ has the module of each program: the one that the program for another processor was made of."""
     for name in ("l6", "l6db", "l6ed"):
-        total = hashlib.sha256(lzma.open(DIST / f"{name}.bc.xz").read()).hexdigest()
-        noted = (DIST / f"{name}-aarch64.provenance").read_text("utf-8").splitlines()
-        yield f"{name}-aarch64 was made of the module that is here", True, f"module {total}" in noted
+        total = whole_sum(DIST / f"{name}.bc.xz")
+        yield f"{name}-aarch64 was made of the module that is here", [total], noted(f"{name}-aarch64", "module")
+
+
+def noted(name: str, what: str) -> list[str]:
+    """The sums of what a program of dist/ was made of, of one kind."""
+    lines = (DIST / f"{name}.provenance").read_text("utf-8").splitlines()
+    return [line.partition(" ")[2] for line in lines if line.partition(" ")[0] == what]
 
 
 def sum_of(*files: str) -> str:
@@ -299,16 +303,20 @@ def made_again(is_quick: bool) -> Iterator[Trial]:
             yield what, (0, ""), (ran.returncode, ran.stderr)
         for program in sorted(made.glob("l6*")):
             kept = DIST / program.name
-            if program.suffix == ".xz":
-                yield f"{program.name} made again", True, lzma.open(kept).read() == lzma.open(program).read()
-            elif program.suffix != ".made_of":
-                yield f"{program.name} made again", True, kept.read_bytes() == program.read_bytes()
+            if program.suffix != ".made_of":
+                yield f"{program.name} made again", whole_sum(kept), whole_sum(program)
+            if program.suffix not in (".made_of", ".xz"):
                 lines = program.with_name(f"{program.name}.made_of").read_text("utf-8")
                 named = kept.with_name(f"{program.name}.provenance").read_text("utf-8")
                 yield f"what {program.name} was made of", lines, "".join(named.splitlines(keepends=True)[1:-2])
     if not is_quick:
         for name in ("l6", "l6db", "l6ed", *(program.name for program in (*PROGRAMS, *DEBUGGERS, *SERVERS))):
             yield f"{name} belongs to the sources", True, belongs(name)
+
+
+def whole_sum(file: Path) -> str:
+    """The sum of what a file holds, unpacked."""
+    return hashlib.sha256(lzma.open(file).read() if file.suffix == ".xz" else file.read_bytes()).hexdigest()
 
 
 def module_of(program: Path, folder: Path) -> Path:
@@ -470,8 +478,17 @@ def canaries() -> Iterator[Trial]:
     """On a program that answers wrong, groups see it; and a file without a provenance belongs to no sources."""
     wrong = Program("README.md", ("sh", "-c", "echo wrong; exit 77"))
     for group in (devices, refused_memory, largest):
-        yield first_wrong(f"{group.__name__} on a wrong program", group(wrong))
-    yield first_wrong("known answers on a wrong program", known_answers(wrong, some(jobs(), 3), is_quick=False))
+        yield few_pass(f"{group.__name__} on a wrong program", 0, group(wrong))
+    yield few_pass("known answers on a wrong program", 0, known_answers(wrong, some(jobs(), 3), is_quick=False))
+    asked = [Job("another answer", ["run"], FIRST, it) for it in (
+        answer(b"6\n== DONE AFTER 6 STEPS\n"), answer(PRINTED.stdout, b"more\n"), answer(PRINTED.stdout, status=1))]
+    asked.append(Job("a text that is none", ["run"], FIRST, PRINTED, has_free_text=True))
+    yield few_pass("other answers than those of the program", 0, known_answers(Program("l6"), asked, is_quick=False))
+    if shutil.which("node"):
+        yield few_pass("other answers than those of Node", 0, known_answers(PROGRAMS[-1], asked, is_quick=True))
+        # (of wrong words all programs say so, and the native one answers well)
+        yield few_pass("devices of another program", 1, node_devices(DIST / NODE_SERVER, DIST / "l6"))
+        yield few_pass("streams of another program", 1, stream_devices(DIST / NODE_DEBUGGER, DIST / "l6"))
     yield "some jobs, the first ones alone", jobs()[:4], some(jobs(), 4)
     yield "a file that belongs to the sources", True, belongs("README.md")
     yield "the sum of another file", sum_of("web/host.c"), sum_of("web/memory.h")

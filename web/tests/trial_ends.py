@@ -40,7 +40,7 @@ def arrows_end_on_the_near_side(page: Page) -> None:
     page.fill("detail", "auto", "change")
     put(page, "sorted")
     page.do("l6.end()")
-    page.same("links of a list on the far side", [what for what, part in page.value(ARROW_ENDS) if part == 100], [])
+    page.same("whether links of a list end on the far side", {part == 100 for _, part in page.value(ARROW_ENDS)}, {False})
     page.right("there are links", len(page.value(ARROW_ENDS)) > 3)
 
 

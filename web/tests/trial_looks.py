@@ -343,8 +343,8 @@ def reached_by_all(page: Page) -> None:
     page.do("l6.state(14)")
     inks = page.value("(it => ['--block', '--block-ink', '--lost', '--lost-ink'].map(name => "
                       "it.getPropertyValue(name).trim()))(getComputedStyle(document.documentElement))")
-    for ground, ink in (inks[:2], inks[2:]):
-        page.right(f"{ink} on {ground} can be read", contrast(ground, ink) >= 4.5, str(contrast(ground, ink)))
+    for what, ground, ink in (("a block", *inks[:2]), ("a lost one", *inks[2:])):
+        page.right(f"letters on {what} can be read", contrast(ground, ink) >= 4.5, f"{ink} on {ground}: {contrast(ground, ink)}")
     page.browser.resize(1400, 900)
 
 

@@ -55,7 +55,7 @@ from page import TOP, TRIALS, Page  # noqa: E402
 from replayed import Kept, Watched, asleep  # noqa: E402
 
 
-MOST_LOOKS = 1000  # of a trial that is made again, of which each costs time: that of all states has its own trials in harness_trials.py
+MOST_LOOKS = 1000  # of a trial that is made again: that of all states has more, takes long, and is tried in harness_trials.py
 LONG = ("trial_large", "trial_lesson", "trial_walks")  # modules whose trials take long
 
 

@@ -51,7 +51,8 @@ def counts() -> Iterator[Trial]:
         ("of too few, and one fails", "echo 1 passed, 1 failed", ("2 were tried, and 3 is the least", 1, 2)),
         ("it ends with a status", "echo 3 passed, 0 failed; exit 2", ("", 3, 1)),
         ("it has no count", "echo 3 passed; exit 2", ("3 passed\nno count at the end, status 2", 0, 1)),
-        ("its count is not last", "echo 3 passed, 0 failed; echo on", ("3 passed, 0 failed\non\nno count at the end, status 0", 0, 1)),
+        ("its count is not last", "echo 3 passed, 0 failed; echo on",
+         ("3 passed, 0 failed\non\nno count at the end, status 0", 0, 1)),
         ("it says nothing", "exit 9", ("\nno count at the end, status 9", 0, 1)),
         ("its errors are shown", "echo why >&2; echo 3 passed, 1 failed", ("why", 3, 1)),
         ("where it notes what it ran", f"echo ${lines.LINES} ${IN_NODE}; echo 3 passed, 0 failed", ("/room /room", 3, 0)),
@@ -83,8 +84,10 @@ def tellings() -> Iterator[Trial]:
     yield "the long ones are known", (0, f"web: one: 3 passed, 0 failed\n{known}43 passed, 0 failed\n", []), told([first], 40)
 
 
-IN_NODE_ALONE = ["random jobs in node", "the parts of the page in node", "the small functions in node", "the ways of arrows in node",
-                 "the provenance in node", "the layout in node", "the camera in node", "the cases in node"]
+IN_NODE_ALONE = [
+    "random jobs in node", "the parts of the page in node", "the small functions in node", "the ways of arrows in node",
+    "the provenance in node", "the layout in node", "the camera in node", "the cases in node",
+]
 IN_CHROMIUM = [f"the page in Chromium, {number} of 3" for number in (1, 2, 3)]
 LONG_ONES = [f"the long trials in Chromium, {number} of 2" for number in (1, 2)]
 WITHOUT_TOOLS = ["what is known of a page", "what the tests of the page are made of"]
@@ -109,16 +112,18 @@ def done(words: tuple[str, ...], gone: tuple[str, ...], known: int | None) -> tu
 def choices() -> Iterator[Trial]:
     """Which parts are made: all, all but the long ones, and without those for which a tool is missing, which is said."""
     every = [*IN_CHROMIUM, *IN_NODE_ALONE, *OTHERS]
-    yield "all", ([ANEW, "anew", *LONG_ONES, *every, RUN, "of all"], []), done((), (), None)
+    whole = [*LONG_ONES, *every, RUN, "of all"]
+    known = [parts_of_page.LONG, "this page passed them before"]
+    bundled = "skipped: the page made again: rt, wasm-opt is missing"
+    yield "all", ([ANEW, "anew", *whole], []), done((), (), None)
     yield "all but the long ones", ([ANEW, *every, RUN], []), done(("--quick",), (), None)
-    yield "the page passed the long ones", ([ANEW, "anew", parts_of_page.LONG, "this page passed them before", *every, RUN], []), \
-        done(("--unless-passed",), (), 363)
-    yield "it is not known whether it did", ([ANEW, "anew", *LONG_ONES, *every, RUN, "of all"], []), done(("--unless-passed",), (), None)
-    yield "without what makes a module", ([AGAIN, *LONG_ONES, *every, RUN, "of all"], ["skipped: the page made again: rt, wasm-opt is missing"]), \
-        done((), ("wasm-opt", "rt"), None)
+    yield "the page passed the long ones", ([ANEW, "anew", *known, *every, RUN], []), done(("--unless-passed",), (), 363)
+    yield "it is not known whether it did", ([ANEW, "anew", *whole], []), done(("--unless-passed",), (), None)
+    yield "without what makes a module", ([AGAIN, *whole], [bundled]), done((), ("wasm-opt", "rt"), None)
     for tool, left in (("node", IN_NODE_ALONE), ("chromium", IN_CHROMIUM), ("tsc", OTHERS[:1]), ("firefox", OTHERS[1:2])):
         run = [] if tool in ("node", "chromium") else [RUN]
-        said = [*(f"skipped: {it}: {tool} is missing" for it in left), *([] if run else [f"skipped: {RUN}: Chromium or Node is missing"])]
+        said = [f"skipped: {it}: {tool} is missing" for it in left]
+        said += [] if run else [f"skipped: {RUN}: Chromium or Node is missing"]
         yield f"without {tool}", ([ANEW, *(it for it in every if it not in left), *run], said), done(("--quick",), (tool,), None)
 
 
@@ -129,7 +134,8 @@ def pages_made() -> Iterator[Trial]:
         ("the same page", True, page, [0], ("", 1, 0)), ("with its module", False, page, [0, 0], ("", 1, 0)),
         ("another page", True, page + b"\n", [0], ("dist/l6.html is not the page that bundle makes", 0, 1)),
         ("of another module", False, page[:-1], [0, 0], ("dist/l6.html is not the page that bundle makes", 0, 1)),
-        ("no page", True, page, [1], ("why", 0, 1)), ("no module", False, page, [2, 0], ("why", 0, 1)), ("a module, and no page", False, page, [0, 1], ("why", 0, 1)),
+        ("no page", True, page, [1], ("why", 0, 1)), ("no module", False, page, [2, 0], ("why", 0, 1)),
+        ("a module, and no page", False, page, [0, 1], ("why", 0, 1)),
     ):
         left = list(statuses)
 
@@ -148,7 +154,8 @@ def tools() -> Iterator[Trial]:
         def path_of(name: str, gone: str = gone) -> str | None:
             return None if name == gone else f"/usr/bin/{name}"
 
-        with mock.patch("all.shutil.which", path_of), mock.patch("all.find_browser", lambda gone=gone: None if gone == "chromium" else "there"), \
+        with mock.patch("all.shutil.which", path_of), \
+                mock.patch("all.find_browser", lambda gone=gone: None if gone == "chromium" else "there"), \
                 mock.patch("all.find_firefox", lambda gone=gone: None if gone == "firefox" else "there"):
             yield f"without {gone}", [it for it in [gone] if it != "none"], list(parts_of_page.missing())
 
@@ -158,9 +165,10 @@ def shares() -> Iterator[Trial]:
     left = [("dom.js", 3), ("dom.js", 5)]
     text = lines.SOURCES.joinpath("dom.js").read_text("utf-8").splitlines()
     shown = [f"  web/src/dom.js:{number}: {text[number - 1].strip()[:90]}" for number in (3, 5)]
+    too_many = "2 of 99 lines of web/src are run by no trial, 2.02 per cent, and 2.0 is the most:"
     for every, most, want in (
         (100, 2.0, ("2 of 100 lines of web/src are run by no trial, 2.00 per cent", 1, 0)),
-        (99, 2.0, ("\n".join(["2 of 99 lines of web/src are run by no trial, 2.02 per cent, and 2.0 is the most:", *shown]), 0, 1)),
+        (99, 2.0, ("\n".join([too_many, *shown]), 0, 1)),
     ):
         with mock.patch("all.lines_not_run", lambda _, every=every: (left, every)), \
                 mock.patch.dict(parts_of_page.MOST_NOT_RUN, {"all": most, "quick": 9.0}):
@@ -184,12 +192,14 @@ def lines_left() -> Iterator[Trial]:
         own.joinpath("one.js").write_text("// A note.\nconst a = 1;\nconst b = 2;\n\nexport {a, b};\n", "utf-8")
         own.joinpath("two.js").write_text("const c = 1;\nconst d = 2;\n", "utf-8")
         with mock.patch("lines.SOURCES", own):
-            yield "of two files", ([("one.js", 2), ("one.js", 3), ("one.js", 5), ("two.js", 1), ("two.js", 2)], 5), lines.lines_not_run(folder)
+            every_line = [("one.js", 2), ("one.js", 3), ("one.js", 5), ("two.js", 1), ("two.js", 2)]
+            yield "of two files", (every_line, 5), lines.lines_not_run(folder)
             written(folder, "chromium-1.lines", [["one.js", 2]])
             written(folder, "chromium-2.lines", [["one.js", 3], ["two.js", 2]])
             yield "what two browsers ran", ([("one.js", 5), ("two.js", 1)], 5), lines.lines_not_run(folder)
             functions = [{"ranges": [{"startOffset": 0, "endOffset": 12, "count": 1}]}]
-            scripts = [{"url": own.joinpath("two.js").resolve().as_uri(), "functions": functions}, {"url": "file:///one.js", "functions": functions}]
+            addresses = (own.joinpath("two.js").resolve().as_uri(), "file:///one.js")
+            scripts = [{"url": address, "functions": functions} for address in addresses]
             written(folder, "coverage-1.json", {"result": scripts})
             yield "and what Node ran", ([("one.js", 5)], 5), lines.lines_not_run(folder)
             yield "how it is shown", ["  web/src/two.js:2: const d = 2;"], list(lines.shown([("two.js", 2)]))
@@ -216,7 +226,7 @@ def origins() -> Iterator[Trial]:
 
 
 def is_made_of(line: str, row: str) -> bool:
-    """Whether web/bundle makes a row of a line: as it is, without that it is exported, or by way of a name where it is imported."""
+    """Whether web/bundle makes a row of a line: as it is, without `export`, or with a name of a file where it is imported."""
     return row == line.removeprefix("export ") or (" from " in line and "= file_" in row)
 
 
@@ -243,7 +253,8 @@ def in_firefox() -> Iterator[Trial]:
     def made(wrong: str, value: object) -> tuple[int, str, str]:
         browser = Answers(wrong, value)
         printed = io.StringIO()
-        with mock.patch("firefox.Firefox", lambda: browser), mock.patch("sys.argv", ["firefox.py"]), contextlib.redirect_stdout(printed):
+        with mock.patch("firefox.Firefox", lambda: browser), mock.patch("sys.argv", ["firefox.py"]), \
+                contextlib.redirect_stdout(printed):
             status = firefox.main()
         return status, printed.getvalue().splitlines()[-1], browser._at
 
@@ -269,7 +280,7 @@ class Jobs:
 
 
 def jobs() -> Iterator[Trial]:
-    """Random jobs: each that is answered otherwise counts, and so do jobs that are all the same, and a comparison that says yes."""
+    """Each job that is answered otherwise counts, and so do jobs that are all the same, and a comparison that says yes."""
     def made(*wrong: int, count: int = 200, same: bool = False, only: int | None = None) -> tuple[int, str]:
         printed = io.StringIO()
         def native(_program: str, _words: list[str], stdin: bytes) -> random_jobs.Answer:
@@ -320,7 +331,10 @@ class Browser:
     """A browser that answers a script by a table."""
 
     def value(self, script: str) -> Any:
-        return {"five": 5, "five again": 5, "text": "a text", "list": [1, 2], "table": {"a": 1}, "none": None, "yes": True, "more": 2500}[script]
+        return {
+            "five": 5, "five again": 5, "text": "a text", "list": [1, 2], "table": {"a": 1}, "none": None, "yes": True,
+            "more": 2500,
+        }[script]
 
     def wait(self, _script: str) -> None:
         return None
@@ -348,6 +362,8 @@ AWAKE: dict[str, Callable[[Page], None]] = {
     "two that are alike": lambda it: it.same("it", it.value("five"), it.value("five again")),
     "two that are not": lambda it: it.right("it", it.value("five") < it.value("more")),
     "one of two": lambda it: it.right("it", (it.value("five") == 5) | (it.value("yes") is False)),
+    "both of two": lambda it: it.right("it", (it.value("five") < 6, it.value("text").startswith("a"))),
+    "each of a list": lambda it: it.same("it", it.value("list"), [1, 2]),
     "a part of a table": lambda it: it.same("it", it.value("table"), {"a": 1}),
     "nothing there": lambda it: it.same("it", it.value("none"), None),
     "whether it is so": lambda it: it.right("it", it.value("yes")),
@@ -358,15 +374,21 @@ ASLEEP: dict[str, Callable[[Page], None]] = {
     "an answer with nothing": lambda it: it.right("it", it.value("five") is not it),
     "how long it is at least": lambda it: it.right("it", len(it.value("list")) >= NONE),
     "an empty text in it": lambda it: it.has("it", it.value("text"), ""),
-    "itself": lambda it: it.same("it", *[it.value("list")] * 2),
+    "itself": lambda it: it.same("it", *[it.value("table")] * 2),
     "none of nothing": lambda it: it.right("it", all(one for one in it.value("list")[:NONE])),
     "what was waited for before": lambda it: waited(it, "five", "list"),
 }
 
 
+HALF_ASLEEP: dict[str, Callable[[Page], None]] = {
+    "one of two": lambda it: it.right("it", (it.value("five") < 6, it.value("more") is not it)),
+    "one of two numbers": lambda it: it.same("it", [it.value("five"), len(it.value("list")[:NONE])], [5, 0]),
+}
+
+
 def looks() -> Iterator[Trial]:
-    """A trial that looks at nothing is named, and no other."""
-    for names, trials in (([], AWAKE), (["it"], ASLEEP)):
+    """A trial that looks at nothing is named, and so is a part of one, and no other."""
+    for names, trials in (([], AWAKE), (["it"], ASLEEP), (["it, part 2"], HALF_ASLEEP)):
         for what, one in trials.items():
             kept = Kept(Browser())
             page = Watched(kept, Path("l6.html"))
@@ -376,9 +398,9 @@ def looks() -> Iterator[Trial]:
 
 # What the page shows of a state and the model knows.
 SHOWN = {
-    "where", "next", "bugs", "strip", "cards", "amounts", "fields", "bits", "number", "of", "slider", "disabled", "store", "frames", "calls", "spot",
-    "card", "whole card", "before what comes next", "label", "looks", "printed", "in a line", "changes", "all changes", "pieces", "kinds of", "blocks",
-    "arrows", "pills", "drawing",
+    "where", "next", "bugs", "strip", "cards", "amounts", "fields", "bits", "number", "of", "slider", "disabled", "store",
+    "frames", "calls", "spot", "card", "whole card", "before what comes next", "label", "looks", "printed", "in a line",
+    "changes", "all changes", "pieces", "kinds of", "blocks", "arrows", "pills", "drawing",
 }
 
 
@@ -389,7 +411,8 @@ def differences() -> Iterator[Trial]:
     kinds = [[name, ""] for name, _ in trial_model.expected.windows_of(moment)]
     shown: dict[str, Any] = {"unit": 0, "arrows": [], "pills": [], "blocks": [], "kinds": kinds}
     shown |= trial_model.told(run, moment, before, "step") | trial_model.drawn(set(), moment, before, shown)
-    shown["spoken"] = " ".join(trial_model.expected.spoken(moment, trial_model.expected.next_part(run, moment), shown["all changes"], False))
+    part = trial_model.expected.next_part(run, moment)
+    shown["spoken"] = " ".join(trial_model.expected.spoken(moment, part, shown["all changes"], False))
 
     def made(name: str, begin: int = 0) -> tuple[bool, int]:
         page, got = Page(mock.Mock(), Path("l6.html")), copy.deepcopy(shown)
@@ -408,7 +431,8 @@ def differences() -> Iterator[Trial]:
 
 def trials() -> Iterator[Trial]:
     """All trials."""
-    for group in (counts, tellings, choices, pages_made, tools, shares, lines_left, origins, in_firefox, jobs, types, looks, differences):
+    for group in (counts, tellings, choices, pages_made, tools, shares, lines_left, origins, in_firefox, jobs, types, looks,
+                  differences):
         yield from named(group.__name__.replace("_", " "), group())
 
 

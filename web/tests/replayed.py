@@ -1,7 +1,7 @@
 """Whether trials in Chromium look at what the page answers: each is made again, without a browser, on answers that are wrong.
 
-What the browser answered in a trial is kept (`Kept`). On answers that are wrong in a way, from one of them on (`Wrong`), what a trial
-looks at must come to fail. `asleep` names what does not, in none of the ways: it says the same of any page.
+What the browser answered in a trial is kept (`Kept`). On answers that are wrong in a way, from one of them on (`Wrong`), what a
+trial looks at must come to fail. `asleep` names what does not, in none of the ways: it says the same of any page.
 """
 from __future__ import annotations
 
@@ -22,6 +22,7 @@ Call = tuple[str, str, Any]  # a method of the browser, what it was called with,
 Way = Callable[[Any, int], Any]  # makes an answer a wrong one, by its number
 Look = tuple[str, int]  # what is looked at, and how often that was looked at before
 FAR = 100_000  # by which a number is another one
+MOST_PARTS = 12  # of a list that are looked at one by one
 NEAR = 6  # answers just before what is looked at
 EVERY = 3  # of the answers: all of them are wrong, or each third one, so that two that are compared are not wrong alike
 
@@ -114,11 +115,28 @@ class Watched(Page):
         self.looks: list[tuple[Look, bool, int]] = []
         self._times: Counter[str] = Counter()
 
-    def right(self, what: str, is_right: bool, tell: str = "") -> None:
-        calls = len(self.browser.calls) if isinstance(self.browser, Kept) else 0
-        self.looks.append(((what, self._times[what]), bool(is_right), calls))
-        self._times[what] += 1
+    def right(self, what: str, is_right: bool | tuple[object, ...], tell: str = "") -> None:
+        parts = is_right if isinstance(is_right, tuple) else (is_right,)
+        self._note(what, bool(parts) and all(parts))
+        if len(parts) > 1:
+            self._note_parts(what, [bool(it) for it in parts], [True] * len(parts))
         super().right(what, is_right, tell)
+
+    def same(self, what: str, got: object, want: object) -> None:
+        if isinstance(got, list) and isinstance(want, list) and 1 < len(want) <= MOST_PARTS:
+            self._note_parts(what, got, want)
+        super().same(what, got, want)
+
+    def _note_parts(self, what: str, got: list[Any], want: list[Any]) -> None:
+        """Notes each part of what is looked at, but what is wrong, which may be nothing of a wrong page, too."""
+        for at, part in enumerate(want):
+            if part != []:
+                self._note(f"{what}, part {at + 1}", len(got) == len(want) and got[at] == part)
+
+    def _note(self, what: str, is_right: bool) -> None:
+        calls = len(self.browser.calls) if isinstance(self.browser, Kept) else 0
+        self.looks.append(((what, self._times[what]), is_right, calls))
+        self._times[what] += 1
 
 
 def more(value: Any, at: int) -> Any:
@@ -172,7 +190,9 @@ def other(value: Any, at: int) -> Any:
     """Other letters and digits, among the same signs; an object as a text with others in its values."""
     if isinstance(value, str) and value.startswith("{"):
         with contextlib.suppress(ValueError):
-            return json.dumps(other(json.loads(value), at))
+            return json.dumps(each(other, json.loads(value), at))
+    if isinstance(value, dict):
+        return {other(key, at): other(it, at + place) for place, (key, it) in enumerate(value.items())}
     if isinstance(value, str):
         return SIGNS.sub(lambda it: it[0] if it[0].startswith("&") else it[0].translate(OTHERS), value)
     return each(other, value, at) if isinstance(value, (dict, list, tuple)) and value else less(value, at)
@@ -215,12 +235,19 @@ def asleep(one: Callable[[Page], None], watched: Watched, calls: list[Call]) -> 
         first = 0
         while left and first < len(calls):
             first = see(is_wrong, way, first)
-    # (what comes before may decide what is looked at, so it is right where the answers just before are wrong)
+    # (what comes before may decide what is looked at: it is right where just answers before are wrong, or those to one question)
     for look, before in list(left.items()):
-        for first, way in ((first, way) for first in range(before - 1, max(before - 1 - NEAR, -1), -1) for way in WAYS):
+        for at, way in ((at, way) for at in range(before - 1, max(before - 1 - NEAR, -1), -1) for way in WAYS):
             if look in left:
-                see(lambda _: True, way, first)
+                see(lambda _: True, way, at)
+            if look in left:
+                see(same_question(calls, at), way, 0)
     return [what for (what, time), _, _ in watched.looks if (what, time) in left]
+
+
+def same_question(calls: list[Call], at: int) -> Callable[[int], bool]:
+    """Which answers are to the same question as one of them."""
+    return lambda other: calls[other][:2] == calls[at][:2]
 
 
 def again(one: Callable[[Page], None], file: Path, browser: Wrong) -> Watched:

@@ -36,7 +36,8 @@ def troubles_are_seen(page: Page) -> None:
     for _ in range(200):
         found += page.browser.troubles() if len(found) < 2 else []
         page.value("new Promise(it => setTimeout(it, 10))" if len(found) < 2 else "0")
-    page.same("an error, and a refusal", [any(word in it for it in found) for word in ("it must be found", "Content Security Policy")], [True, True])
+    words = ("it must be found", "Content Security Policy")
+    page.same("an error, and a refusal", [any(word in it for it in found) for word in words], [True, True])
 
 
 @trial

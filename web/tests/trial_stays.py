@@ -163,7 +163,7 @@ def walk(page: Page, names: list[str], begin: float = 0.0, steps: int = 80, back
         found = page.value(WALK % (first, steps, back))
         page.same(f"{name}: blocks that live and move", found["moved"][:4], [])
         page.same(f"{name}: back shows the same picture", found["other"][:4], [])
-        page.right(f"{name}: it was walked through", found["shown"] > 1 and (found["blocks"] > 0) == (found["there"] > 0), str(found))
+        page.right(f"{name}: it was walked through", (found["shown"] > 1, (found["blocks"] > 0) == (found["there"] > 0)), str(found))
 
 
 @trial

@@ -349,7 +349,7 @@ def drawn_store(page: Page, name: str, before: Moment, moment: Moment) -> None:
     page.same(f"the colours of the {what}", ([it[1] for it in boxes], bool(boxes)), ([it[2] for it in shown], True))
     changed = sorted(it for it in shown if it not in pieces_of(before))
     frames = sum(it[:2] == ["strokeRect", "changed"] for it in drawn)
-    page.same(f"frames of what has changed, {what}", [frames, len(boxes)], [len(changed), len(shown)])
+    page.same(f"frames of what has changed, {what}", (frames, len(boxes)), (len(changed), len(shown)))
     wrong = []
     for (place, size, kind), (*_, x, y, width, height) in zip(shown, boxes):
         inside = [it for it in drawn if it[0] == "fillText" and x <= it[4] <= x + width and y <= it[5] <= y + height + 3]
@@ -385,4 +385,4 @@ def changes_far_away(page: Page) -> None:
             page.do(f"l6.state({at})")
             page.do(act)
             page.same(f"{act} from {away} states away", page.state(), want)
-    page.right("the run is long enough", begins > 324 and last >= begins, f"{begins} of {last}")
+    page.right("the run is long enough", (begins > 324, last >= begins), f"{begins} of {last}")

@@ -186,7 +186,11 @@ printf '%s\\n' "${COMPREPLY[@]}"
 """
 IN_FISH = 'for it in l6 l6db l6ed; source completions/$it.fish; end; complete -C "$argv[1]"'
 # What comes after an option: files, where one is asked for. (In bash it is asked to offer them.)
-FILES = {"l6 run < README": True, "l6 run <README": True, "l6db --input README": True, "l6db -x README": True, "l6 check --name README": True, "l6 run --store README": False}
+FILES = {
+    "l6 run < README": True, "l6 run <README": True, "l6db --input README": True, "l6db -x README": True, "l6 check --name README": True,
+    **{f"{line} README": False for line in ("l6 run --store", "l6 run --steps", "l6 run --output", "l6 debug --store", "l6db --prompt", "l6db --store",
+                                            "l6db --steps", "l6db --output")},
+}
 # In a shell of its own, on a terminal of its own, a function in place of zsh's prints each match that is offered.
 ZSH_SETUP = """
 fpath=($PWD/completions $fpath)

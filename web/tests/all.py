@@ -122,6 +122,7 @@ def parts(program: Path, has_long: bool) -> Iterator[Part]:
     yield Part({"tsc"}, "the types of the scripts", [sys.executable, str(HERE / "check_types.py")], 1)
     yield Part({"firefox"}, "the page in Firefox", [sys.executable, str(HERE / "firefox.py")], 11)
     yield Part(set(), "what is known of a page", [sys.executable, str(HERE / "passed.py")], 13)
+    yield Part(set(), "what the tests of the page are made of", [sys.executable, str(HERE / "harness_trials.py")], 175)
 
 
 def main() -> int:

@@ -52,13 +52,15 @@ import trial_said  # noqa: E402, F401
 from browser import Browser, NotBegun  # noqa: E402
 from lines import LINES, CountedBrowser  # noqa: E402
 from page import TOP, TRIALS, Page  # noqa: E402
+from replayed import Kept, Watched, asleep  # noqa: E402
 
 
+MOST_LOOKS = 1000  # of a trial that is made again: that of all states has more, takes long, and is tried in harness_trials.py
 LONG = ("trial_large", "trial_lesson", "trial_walks")  # modules whose trials take long
 
 
-def canaries(page: Page) -> None:
-    """What is wrong must be counted as wrong: if it is not, no trial says anything."""
+def canaries(page: Watched) -> None:
+    """What is wrong must be counted as wrong, and so must a look at nothing: if it is not, no trial says anything."""
     def breaks(_: Page) -> None:
         raise AssertionError("it must be counted")
 
@@ -76,9 +78,10 @@ def canaries(page: Page) -> None:
     with contextlib.redirect_stdout(io.StringIO()):
         for look in looks:
             try_one(page, look)
-    if (page.passed, page.failed) != (0, len(looks)):
+        try_watched(page, lambda it: it.right("4", it.value("1") != "it is none"))
+    if (page.passed, page.failed) != (1, len(looks) + 1):
         sys.exit("chromium.py does not count what is wrong")
-    page.failed = 0
+    page.passed = page.failed = 0
 
 
 def try_one(page: Page, one: Callable[[Page], None]) -> None:
@@ -91,13 +94,26 @@ def try_one(page: Page, one: Callable[[Page], None]) -> None:
         page.right("it ends", False, f"{type(error).__name__}: {error}")
 
 
-def try_all(page: Page, trials: list[Callable[[Page], None]], tells: bool) -> None:
+def try_watched(page: Watched, one: Callable[[Page], None]) -> None:
+    """Does one trial, and then again on what the browser answered, but wrong: all that it looks at must see that."""
+    browser, failed = page.browser, page.failed
+    page.browser = kept = Kept(browser)
+    page.begin()
+    try:
+        try_one(page, one)
+    finally:
+        page.browser = browser
+    if page.failed == failed and len(page.looks) <= MOST_LOOKS:
+        page.same("what is right of a page that is wrong, too", asleep(one, page, kept.calls), [])
+
+
+def try_all(page: Watched, trials: list[Callable[[Page], None]], tells: bool) -> None:
     """Does some trials, as long as the page begins."""
     for one in trials:
         page.trial = one.__name__.replace("_", " ")
         begun = time.monotonic()
         try:
-            try_one(page, one)
+            try_watched(page, one)
             try_one(page, lambda it: it.same("the page has no troubles", it.browser.troubles(), []))
         except NotBegun as error:
             page.right("the page begins", False, str(error))
@@ -136,7 +152,7 @@ def main() -> int:
         if folder:
             trial_looks.pictures(browser, file, folder)
             return 0
-        page = Page(browser, file)
+        page = Watched(browser, file)
         canaries(page)
         try_all(page, trials, "--tell" in words)
         if isinstance(browser, CountedBrowser):

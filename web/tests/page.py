@@ -122,8 +122,9 @@ class Page:
     def same(self, what: str, got: object, want: object) -> None:
         self.right(what, got == want, f"got {got!r}, want {want!r}")
 
-    def right(self, what: str, is_right: bool, tell: str = "") -> None:
-        if is_right:
+    def right(self, what: str, is_right: bool | tuple[object, ...], tell: str = "") -> None:
+        """Counts whether something is right; of a tuple, whether all of its parts are."""
+        if is_right and (not isinstance(is_right, tuple) or all(is_right)):
             self.passed += 1
         else:
             self.failed += 1

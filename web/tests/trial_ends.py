@@ -40,7 +40,7 @@ def arrows_end_on_the_near_side(page: Page) -> None:
     page.fill("detail", "auto", "change")
     put(page, "sorted")
     page.do("l6.end()")
-    page.same("links of a list on the far side", [what for what, part in page.value(ARROW_ENDS) if part == 100], [])
+    page.same("whether links of a list end on the far side", {part == 100 for _, part in page.value(ARROW_ENDS)}, {False})
     page.right("there are links", len(page.value(ARROW_ENDS)) > 3)
 
 
@@ -79,8 +79,8 @@ def bugs_beside_a_chip(page: Page) -> None:
     page.do("l6.end()")
     page.same("chips", page.count("#drawing .block.chip"), 7)
     at = dict(page.value(PILLS))
-    page.same("to the left", [round(at[it] - at["A"]) for it in "ABCD"], [0, -26, -52, -78])
-    page.same("to the right", [round(at[it] - at["P"]) for it in "PQRS"], [0, 26, 52, 78])
+    page.same("to the left", [round(at[it] - at["A"]) for it in "BCD"], [-26, -52, -78])
+    page.same("to the right", [round(at[it] - at["P"]) for it in "QRS"], [26, 52, 78])
     page.same("signs outside of the drawing", page.value(OUTSIDE), [9, []])
     page.value("l6.viewer.drawing.detail = 'auto', l6.viewer.drawing.replan()")
 

@@ -74,7 +74,7 @@ def letters_that_no_card_has(page: Page) -> None:
         page.put(" (A,IN,2)(A,PR,2)(PL)\n", text)
         page.do("l6.run()")
         read.append(page.text("printed") or page.text("empty"))
-    page.same("in an input all are the same, and none is an A", [len(set(read)), "AB" in read[0]], [1, False])
+    page.same("in an input all are the same, and none is an A", [len(set(read)), read[0][:3]], [1, "?B\n"])
 
 
 @trial

@@ -125,7 +125,7 @@ def papers_that_are_too_long_to_show(page: Page) -> None:
     page.do("l6.papers.open('printout')")
     page.browser.wait("document.getElementById('paper-note').textContent.includes('exit status')")
     shown = page.text("paper")
-    page.same("what is shown", [len(shown) < 410_000, shown.endswith(".. (the download has all)")], [True, True])
+    page.same("what is shown", [400_000 <= len(shown) < 410_000, shown.endswith(".. (the download has all)")], [True, True])
     page.click("download")
     page.click("copy")
     whole = page.value("kept[0].text()")

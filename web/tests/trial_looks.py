@@ -101,7 +101,7 @@ def drawings(page: Page) -> None:
         page.same(f"their heads in {name}", page.value(AT_CORNERS), [])
         page.same(f"tables of {name}", page.value(CLIPPED), [])
         arrows += page.count(".arrow")
-    page.right("arrows were looked at, and tables", arrows > len(PICTURES) and page.count(".table") == 3, str(arrows))
+    page.right("arrows were looked at, and tables", (arrows > len(PICTURES), page.count(".table") == 3), str(arrows))
     page.example("tree", 137)
     page.value("Object.assign(l6.viewer.drawing.graph.blocks[0], {x: 0, y: 0, width: 5000, height: 5000, place: -1})")
     page.right("arrows through a block are seen", bool(page.value(CROSSINGS)))
@@ -255,7 +255,7 @@ def what_is_lost(page: Page) -> None:
     page.same("the lost block says so", page.value(notes), ["4 words, lost", "Lost: nothing leads to 1028"])
     scale = page.value("l6.viewer.strip.scale")
     lost = page.value(f"{STRIP}({int(6 * scale)}, 20)")[:3]
-    page.right("it has its colour in the strip", lost[0] > 180 and lost[0] - lost[2] > 90, str(lost))
+    page.right("it has its colour in the strip", (lost[0] > 180, lost[0] - lost[2] > 90), str(lost))
     page.same("as others have theirs", page.value(f"{STRIP}({int(1 * scale)}, 33)")[:3], [45, 108, 171])
     page.same("the drawing in words", page.value("l6.viewer.drawing.picture.ariaLabel"),
               "2 blocks, and 1 lost; A leads to 1024; N of 1024 to 1026")
@@ -343,8 +343,8 @@ def reached_by_all(page: Page) -> None:
     page.do("l6.state(14)")
     inks = page.value("(it => ['--block', '--block-ink', '--lost', '--lost-ink'].map(name => "
                       "it.getPropertyValue(name).trim()))(getComputedStyle(document.documentElement))")
-    for ground, ink in (inks[:2], inks[2:]):
-        page.right(f"{ink} on {ground} can be read", contrast(ground, ink) >= 4.5, str(contrast(ground, ink)))
+    for what, ground, ink in (("a block", *inks[:2]), ("a lost one", *inks[2:])):
+        page.right(f"letters on {what} can be read", contrast(ground, ink) >= 4.5, f"{ink} on {ground}: {contrast(ground, ink)}")
     page.browser.resize(1400, 900)
 
 

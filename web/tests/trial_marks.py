@@ -203,7 +203,7 @@ def warnings_stay_after_a_run(page: Page) -> None:
     page.put(" (A,E,1)".ljust(72) + "(A,PD)\n (B,E,2)\n")
     page.do("l6.checker.check()")
     said = [page.text("fault"), page.value("l6.editor.findings.length"), page.count(".spot.warned, .spot.bad, .spot.warn")]
-    page.right("it is said", "1:73 warning" in said[0] and said[1] == 1, str(said))
+    page.right("it is said", ("1:73 warning" in said[0], said[1] == 1), str(said))
     for what, act in (("a step", "l6.step()"), ("a run", "l6.run()"), ("going back", "l6.back()")):
         page.do(act)
         now = [page.text("fault"), page.value("l6.editor.findings.length"), page.count(".spot.warned, .spot.bad, .spot.warn")]

@@ -71,8 +71,10 @@ def pictures_of_it(page: Page) -> None:
     space = "{http://www.w3.org/2000/svg}"
     places = [it.text for it in root.iter(f"{space}text") if (it.text or "").isdigit() and len(it.text or "") == 4]
     page.right("the SVG has the blocks", {"1024", "1031"} <= set(places), str(places))
-    page.same("no class is left in it", [it for it in root.iter() if "class" in it.attrib], [])
-    page.right("but colours", "fill:" in text and "stroke:" in text)
+    styled = [it for it in root.iter() if "style" in it.attrib]
+    classes = [it for it in root.iter() if "class" in it.attrib]
+    page.same("no class is left in it", [classes, len(styled) > len(places)], [[], True])
+    page.right("but colours", ("fill:" in text, "stroke:" in text))
     page.do("l6.pictures.savePng()")
     png = page.value("(async () => [...new Uint8Array(await kept.find(it => it.type === 'image/png').arrayBuffer())]"
                      ".slice(0, 24))()")

@@ -22,8 +22,22 @@ def the_first_deck(page: Page) -> None:
     page.same("where", page.text("where"), "== DONE AFTER 6 STEPS")
     page.same("the state", page.state(), 6)
     page.same("a number is no letter", page.text("bugs"), "A5000000000005")
-    asked = [it for it in page.browser.requests() if not it.startswith(("file:", "blob:", "about:"))]
-    page.same("nothing was asked of a network", asked, [])
+    asked = sorted(it.partition(":")[0] for it in page.browser.requests())
+    page.same("nothing was asked of a network: the page is a file, and its two workers are made of it", asked, ["blob", "blob", "file"])
+
+
+@trial
+def troubles_are_seen(page: Page) -> None:
+    """An error of the page, and what its policy refuses, are noted: so it says something that there are no such troubles."""
+    page.open()
+    page.value("void setTimeout(() => { throw new Error('it must be found'); })")
+    page.value("void fetch('https://example.org/').catch(() => {})")
+    found: list[str] = []
+    for _ in range(200):
+        found += page.browser.troubles() if len(found) < 2 else []
+        page.value("new Promise(it => setTimeout(it, 10))" if len(found) < 2 else "0")
+    words = ("it must be found", "Content Security Policy")
+    page.same("an error, and a refusal", [any(word in it for it in found) for word in words], [True, True])
 
 
 @trial

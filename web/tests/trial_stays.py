@@ -163,7 +163,7 @@ def walk(page: Page, names: list[str], begin: float = 0.0, steps: int = 80, back
         found = page.value(WALK % (first, steps, back))
         page.same(f"{name}: blocks that live and move", found["moved"][:4], [])
         page.same(f"{name}: back shows the same picture", found["other"][:4], [])
-        page.right(f"{name}: it was walked through", found["shown"] > 1 and (found["blocks"] > 0) == (found["there"] > 0), str(found))
+        page.right(f"{name}: it was walked through", (found["shown"] > 1, (found["blocks"] > 0) == (found["there"] > 0)), str(found))
 
 
 @trial
@@ -377,8 +377,10 @@ def a_camera(page: Page) -> None:
         before = page.value(spot)[2]
         page.browser.click(f"#camera button:nth-child({number})")
         page.same(f"button {number} of the camera comes nearer", page.value(spot)[2] > before, is_nearer)
+    page.value("l6.viewer.drawing.focusBlock()")
+    before = page.value(spot)[0]
     page.browser.key("ArrowRight", modifiers=8)
-    page.right("Shift and an arrow move it", page.value(spot)[0] < fitted[0] + 200)
+    page.right("Shift and an arrow move it", page.value(spot)[0] < before)
     page.browser.wheel(x, y, -2000)
     page.do("l6.state(40)")
     page.do("l6.step()")

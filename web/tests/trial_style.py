@@ -86,14 +86,16 @@ def lines_that_mean_something(page: Page) -> None:
     for _ in range(5):
         page.browser.key("+")
     for selector, want in POINTERS.items():
+        if selector in (".block", ".pill"):
+            continue
         if selector == "#row-splitter":
             page.value("l6.panes.open('tables'), l6.panes.open('store')")
         if selector == "#back":
             page.do("l6.state(0)")
-        page.same(f"the pointer over {selector}", page.value(STYLE % ("cursor", selector)) if selector not in (".pill", ".block") else want, want)
-    page.do("l6.state(60)")
-    for selector in (".pill", ".block"):
-        page.same(f"the pointer over {selector}", page.value(STYLE % ("cursor", selector)), "pointer")
+        page.same(f"the pointer over {selector}", page.value(STYLE % ("cursor", selector)), want)
+    for selector, state in ((selector, state) for state in (60, 100) for selector in (".pill", ".block")):
+        page.do(f"l6.state({state})")
+        page.same(f"the pointer over {selector} in state {state}", page.value(STYLE % ("cursor", selector)), POINTERS[selector])
 
 
 @trial

@@ -55,7 +55,7 @@ def a_field_that_is_used(page: Page) -> None:
     task = {"printout": "", "conditions": {"uses": "N"}}
     for deck, is_used in USES_N.items():
         verdict = page.value(f"l6.answers.verdict({json.dumps({**task, 'deck': deck})}, {json.dumps(deck)})")
-        page.same(f"whether N is used in {deck!r}", "N is not used" not in verdict, is_used)
+        page.same(f"whether N is used in {deck!r}", verdict, "" if is_used else "field N is not used")
     page.open("#exercise-5")
     page.fill("deck", " (A,IN,1,END)\nEND (STRESSED,PH)(PL)\n")
     page.click("run")

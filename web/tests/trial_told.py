@@ -56,7 +56,7 @@ def notes_on_what_is_done(page: Page) -> None:
     page.open("#lost@14")
     page.click("run")
     told = page.note()
-    page.right("how many steps a run took, and how long", told.startswith("20 steps in ") and told.endswith(" ms"), told)
+    page.right("how many steps a run took, and how long", (told.startswith("20 steps in "), told.endswith(" ms")), told)
     page.do("l6.state(14)")
     for act, want in TOLD:
         page.do(f"({act})")

@@ -34,8 +34,8 @@ def the_manual_beside_at_each_size(page: Page) -> None:
         page.right("what is under it is seen", bool(page.value(UNDER)))
         page.value("document.getElementById('manual-pane').style.left = ''")
         (deck, deck_height), (drawing, drawing_height) = page.value(SIZES)
-        page.right(f"the deck beside it at {width}x{height}", deck >= 330 and deck_height >= 75, f"{deck}x{deck_height}")
-        page.right(f"the drawing beside it at {width}x{height}", drawing >= 480 and drawing_height >= 110,
+        page.right(f"the deck beside it at {width}x{height}", (deck >= 330, deck_height >= 75), f"{deck}x{deck_height}")
+        page.right(f"the drawing beside it at {width}x{height}", (drawing >= 480, drawing_height >= 110),
                    f"{drawing}x{drawing_height}")
         page.right("the card is in sight", page.value(f"{IN_VIEW}(document.querySelector('.spot.at'))"))
         page.right("all blocks are seen", page.value("l6.viewer.drawing.camera.isWhole"))

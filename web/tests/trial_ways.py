@@ -265,7 +265,7 @@ def words_of_blocks(page: Page) -> None:
             fields = sorted(f"{name} {seen_through(words[it[0]], it)}" for name, it in merged(moment).items() if it[0] < len(words))
             if got != [[str(at), f"{word:012o}"] for at, word in enumerate(words)] or cells != fields:
                 wrong.append([moment.number, place, got, cells, fields])
-            compared += 1
+            compared += len(got) == len(words)
     page.same("blocks with other words", wrong[:2], [])
     page.right("blocks in several states were compared", compared > len(moments) > 3, str(compared))
     page.fill("place", 5)
@@ -348,7 +348,8 @@ def drawn_store(page: Page, name: str, before: Moment, moment: Moment) -> None:
     what = f"{name} in {moment.number}"
     page.same(f"the colours of the {what}", ([it[1] for it in boxes], bool(boxes)), ([it[2] for it in shown], True))
     changed = sorted(it for it in shown if it not in pieces_of(before))
-    page.same(f"frames of what has changed, {what}", sum(it[:2] == ["strokeRect", "changed"] for it in drawn), len(changed))
+    frames = sum(it[:2] == ["strokeRect", "changed"] for it in drawn)
+    page.same(f"frames of what has changed, {what}", (frames, len(boxes)), (len(changed), len(shown)))
     wrong = []
     for (place, size, kind), (*_, x, y, width, height) in zip(shown, boxes):
         inside = [it for it in drawn if it[0] == "fillText" and x <= it[4] <= x + width and y <= it[5] <= y + height + 3]
@@ -384,4 +385,4 @@ def changes_far_away(page: Page) -> None:
             page.do(f"l6.state({at})")
             page.do(act)
             page.same(f"{act} from {away} states away", page.state(), want)
-    page.right("the run is long enough", begins > 324 and last >= begins, f"{begins} of {last}")
+    page.right("the run is long enough", (begins > 324, last >= begins), f"{begins} of {last}")

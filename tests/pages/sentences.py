@@ -24,6 +24,7 @@ import decision_sentences
 import definition_runs
 import definition_sentences
 import editor_sentences
+import failing_sentences
 import front_sentences
 import gallery_sentences
 import installing_sentences
@@ -41,6 +42,7 @@ import recipe_sentences
 import session_sentences
 import sheet_sentences
 import spec_sentences
+import step_sentences
 import store_sentences
 import trace_sentences
 import twice_freed_sentences
@@ -88,6 +90,8 @@ BY_GROUPS: tuple[tuple[Group, Sequence[tuple[Group, str, str, str]]], ...] = (
     (promised_sentences.promised_sentences, promised_sentences.TURNED),
     (recipe_sentences.recipe_sentences, recipe_sentences.TURNED),
     (decision_sentences.decision_sentences, decision_sentences.TURNED),
+    (step_sentences.step_sentences, step_sentences.TURNED),
+    (failing_sentences.failing_sentences, failing_sentences.TURNED),
 )
 
 

@@ -27,6 +27,7 @@ import editor_sentences
 import failing_sentences
 import front_sentences
 import gallery_sentences
+import gate_sentences
 import installing_sentences
 import job_sentences
 import judged_sentences
@@ -36,6 +37,7 @@ import lesson_sentences
 import list_sentences
 import listing_sentences
 import page_sentences
+import placed_names
 import places_sentences
 import promised_sentences
 import recipe_sentences
@@ -92,6 +94,8 @@ BY_GROUPS: tuple[tuple[Group, Sequence[tuple[Group, str, str, str]]], ...] = (
     (decision_sentences.decision_sentences, decision_sentences.TURNED),
     (step_sentences.step_sentences, step_sentences.TURNED),
     (failing_sentences.failing_sentences, failing_sentences.TURNED),
+    (placed_names.placed_names, placed_names.TURNED),
+    (gate_sentences.gate_sentences, gate_sentences.TURNED),
 )
 
 

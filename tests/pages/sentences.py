@@ -25,6 +25,7 @@ import definition_runs
 import definition_sentences
 import editor_sentences
 import failing_sentences
+import fault_sentences
 import front_sentences
 import gallery_sentences
 import gate_sentences
@@ -69,6 +70,7 @@ MODULES = (
     (unit_sentences.unit_sentences, unit_sentences.CANARIES),
     (wrapper_sentences.wrapper_sentences, wrapper_sentences.CANARIES),
     (class_sentences.class_sentences, class_sentences.CANARIES),
+    (fault_sentences.fault_sentences, fault_sentences.CANARIES),
 )
 # Those whose canaries each make a group of trials alone.
 BY_GROUPS: tuple[tuple[Group, Sequence[tuple[Group, str, str, str]]], ...] = (

@@ -136,7 +136,7 @@ def scripts_of_steps(_program: str) -> Iterator[Trial]:
         yield f"{TESTS}: the scripts of {place} that are steps", here, said
     rows = {what: spans_of(then) for what, then in table_with(text_of(HELPING), "If you change", "then").rows}
     by_step = {it.name: f"python3 {it.script}" for it in known}
-    yield f"{HELPING}: what is run after a page was changed", [f"{by_step['pages']} dist/l6"], rows["a page"]
+    yield f"{HELPING}: what is run after a page was changed", [f"{by_step['pages']} dist/l6"], rows["a page"][:1]
     yield f"{HELPING}: what is run after a script was changed", [by_step["launcher"], by_step["install"]], rows["a script"][:2]
     others = sorted(it.name for it in TOP.iterdir() if it.is_file() and is_of_shell(it) and not it.read_bytes().startswith(b"#!/bin/sh\n"))
     yield told(HELPING, r"the scripts but \./(\w+) are for any (\w+) shell", *(others or ["none"]), "POSIX")

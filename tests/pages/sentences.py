@@ -37,6 +37,7 @@ import language_sentences
 import lesson_sentences
 import list_sentences
 import listing_sentences
+import manual_sentences
 import page_sentences
 import placed_names
 import places_sentences
@@ -95,6 +96,7 @@ BY_GROUPS: tuple[tuple[Group, Sequence[tuple[Group, str, str, str]]], ...] = (
     (recipe_sentences.recipe_sentences, recipe_sentences.TURNED),
     (decision_sentences.decision_sentences, decision_sentences.TURNED),
     (step_sentences.step_sentences, step_sentences.TURNED),
+    (manual_sentences.manual_sentences, manual_sentences.TURNED),
     (failing_sentences.failing_sentences, failing_sentences.TURNED),
     (placed_names.placed_names, placed_names.TURNED),
     (gate_sentences.gate_sentences, gate_sentences.TURNED),

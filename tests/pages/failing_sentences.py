@@ -21,6 +21,7 @@ from trials import Trial
 PAGE = "docs/robustness.md"
 OF_TESTS = re.compile(r"(?:^|/)tests(?:/|\.rt$)")  # files of tests in a crate
 PARTS = re.compile(r"\b(proved|tested)\b|`([a-z_:A-Z]+)`|\"([^\"]+)\"|\b(the same|as above)\b")
+PATIENT = "if !patience.retry() {"  # before an interruption is reported
 TIMES = {1: "as much as", 2: "twice", 3: "three times"}
 FAR = 1 << 40  # bytes, more than any job may take
 REFUSED = "card 1: no reading"
@@ -116,8 +117,8 @@ JOBS = [
 def jobs(program: str) -> Iterator[Trial]:
     """What jobs that fail show."""
     yield from all_held(program, PAGE, JOBS)
-    retried = body("l6_device", "retrying.rt", "").partition("Err(Trouble::Interrupted) => {")[2].partition("\n            }\n")[0]
-    again = "retried" if "return Err(Trouble::Interrupted)" in retried and "patience" in retried.lower() else "reported"
+    after = re.findall(r"Err\(Trouble::Interrupted\) => \{\s+(.*)\s+(.*)", sources("l6_device")["retrying.rt"])
+    again = "retried" if {*after} == {(PATIENT, "return Err(Trouble::Interrupted);")} else "reported"
     yield held(PAGE, "an interruption", "A read or write that was interrupted is ___.", again)
     of_words = answered(program, "run --store 0", " (PL)\n")
     yield held(PAGE, "a store of no unit", "___ is read | 64 | tested: \"no word\"", "nothing" if not of_words.stdout else "a job")
@@ -189,6 +190,7 @@ def failing_sentences(program: str) -> Iterator[Trial]:
 # Each group, and a sentence of it that is turned round.
 TURNED = [
     (where, PAGE, "proved: `step`, as above; tested: \"a return too many\"", "tested: `step`, as above; proved: \"a return too many\""),
+    (where, PAGE, "nothing went out (`perform`, `unwritten`)", "nothing went out (`perform`, `by_buddies`)"),
     (named_clauses, PAGE, "the contracts know (`perform`, `at_most`)", "the contracts know (`perform`, `done`)"),
     (jobs, PAGE, "the first objection of the deck", "the last objection of the deck"),
     (sessions, PAGE, "and the copy that replaces it", "and the copy that follows it"),

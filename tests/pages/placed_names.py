@@ -89,5 +89,6 @@ def placed_names(program: str) -> Iterator[Trial]:
 TURNED = [
     (of_files, "docs/proof.md", "is a clause of `exit_code` (`program.rt`)", "is a clause of `exit_code` (`arguments.rt`)"),
     (of_crates, "docs/robustness.md", "`tests/program/cases.jsonl`", "`perform` of `l6_store`"),
+    (of_crates, "docs/proof.md", "`frames_are_one`", "`boards_are_stores`"),
     (of_laws, "docs/proof.md", "clauses `each` and `written`", "clauses `each` and `decks`"),
 ]

@@ -29,6 +29,7 @@ import fault_sentences
 import front_sentences
 import gallery_sentences
 import gate_sentences
+import image_tables
 import installing_sentences
 import job_sentences
 import judged_sentences
@@ -97,6 +98,7 @@ BY_GROUPS: tuple[tuple[Group, Sequence[tuple[Group, str, str, str]]], ...] = (
     (decision_sentences.decision_sentences, decision_sentences.TURNED),
     (step_sentences.step_sentences, step_sentences.TURNED),
     (manual_sentences.manual_sentences, manual_sentences.TURNED),
+    (image_tables.image_tables, image_tables.TURNED),
     (failing_sentences.failing_sentences, failing_sentences.TURNED),
     (placed_names.placed_names, placed_names.TURNED),
     (gate_sentences.gate_sentences, gate_sentences.TURNED),

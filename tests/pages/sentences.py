@@ -24,8 +24,12 @@ import decision_sentences
 import definition_runs
 import definition_sentences
 import editor_sentences
+import failing_sentences
+import fault_sentences
 import front_sentences
 import gallery_sentences
+import gate_sentences
+import image_tables
 import installing_sentences
 import job_sentences
 import judged_sentences
@@ -34,13 +38,16 @@ import language_sentences
 import lesson_sentences
 import list_sentences
 import listing_sentences
+import manual_sentences
 import page_sentences
+import placed_names
 import places_sentences
 import promised_sentences
 import recipe_sentences
 import session_sentences
 import sheet_sentences
 import spec_sentences
+import step_sentences
 import store_sentences
 import trace_sentences
 import twice_freed_sentences
@@ -65,6 +72,7 @@ MODULES = (
     (unit_sentences.unit_sentences, unit_sentences.CANARIES),
     (wrapper_sentences.wrapper_sentences, wrapper_sentences.CANARIES),
     (class_sentences.class_sentences, class_sentences.CANARIES),
+    (fault_sentences.fault_sentences, fault_sentences.CANARIES),
 )
 # Those whose canaries each make a group of trials alone.
 BY_GROUPS: tuple[tuple[Group, Sequence[tuple[Group, str, str, str]]], ...] = (
@@ -88,6 +96,12 @@ BY_GROUPS: tuple[tuple[Group, Sequence[tuple[Group, str, str, str]]], ...] = (
     (promised_sentences.promised_sentences, promised_sentences.TURNED),
     (recipe_sentences.recipe_sentences, recipe_sentences.TURNED),
     (decision_sentences.decision_sentences, decision_sentences.TURNED),
+    (step_sentences.step_sentences, step_sentences.TURNED),
+    (manual_sentences.manual_sentences, manual_sentences.TURNED),
+    (image_tables.image_tables, image_tables.TURNED),
+    (failing_sentences.failing_sentences, failing_sentences.TURNED),
+    (placed_names.placed_names, placed_names.TURNED),
+    (gate_sentences.gate_sentences, gate_sentences.TURNED),
 )
 
 

@@ -50,7 +50,7 @@ COMPLETED: list[tuple[str, str, list[str]]] = [
     ("save ", "ROOM/m", ["ROOM/more/", "ROOM/my.deck "]),
 ]
 # The words of a command line, and the file of the deck.
-NAMED = [
+NAMED: list[tuple[list[str], str]] = [
     (["my.deck"], "my.deck"),
     (["--input", "in", "-x", "commands", "--store", "8", "my.deck"], "my.deck"),
     (["--echo", "my.deck", "--steps", "9"], "my.deck"),

@@ -287,9 +287,8 @@ def jobs_of_the_model() -> Iterator[Trial]:
     calls = in_source("bench/run", r"^TRACE_CALLS = ([\d_]+)$")
     yield "the calls that bench/README.md tells of", (1_000_000, True), (calls, "a million calls" in plain(text_of("bench/README.md")))
     text = text_of("tests/program/model_jobs.py")
-    yield "the random jobs of tests/program/model_jobs.py", [f"{RANDOM_JOBS:_}"], re.findall(
-        r'"--jobs", type=int, default=(\w+)', text
-    )
+    yield "the random jobs of tests/program/model_jobs.py", ["1", f"{RANDOM_JOBS + 1:_}", "len(NUMBERS)"], [
+        *re.findall(r"^NUMBERS = range\((\w+), (\w+)\)", text, re.MULTILINE)[0], *re.findall(r'"--jobs", type=int, default=(\S+),', text)]
 
 
 def options(program: str) -> Iterator[Trial]:
@@ -506,7 +505,7 @@ def canaries(program: str) -> Iterator[Trial]:
     yield canary(SUMMARY, "| c < cd |", "| c > cd |", arithmetic_and_tests)
     yield canary("library/l6_store.h", "has 1 to 255 units", "has 1 to 256 units", lambda: figures(KNOWN))
     yield canary("docs/tutorial.md", "the tree of section 10", "the tree of section 22", sections)
-    yield canary("tests/program/model_jobs.py", "default=1_000", "default=1_001", jobs_of_the_model)
+    yield canary("tests/program/model_jobs.py", "range(1, 1_001)", "range(1, 1_000)", jobs_of_the_model)
     yield canary("docs/page.md", "last ten decks", "last nine decks", lambda: in_words(program))
     yield canary("docs/l6db.1", ".It 5\nMemory ran out", ".It 6\nMemory ran out", statuses)
     yield canary("docs/trace.md", "begin at 1792", "begin at 1793", lambda: pools(program))

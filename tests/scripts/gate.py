@@ -73,7 +73,7 @@ LIBRARIES = {"x86_64": "musl-dev", "aarch64": "musl-dev:arm64"}  # of C, by proc
 # What else tests look for: it is there, or tests are left out with a word.
 FURTHER_TOOLS = {"bash", "c++", "cc", "cargo", "cp", "dpkg-deb", "find", "git", "go", "nm", "rt", "rustc", "sort", "yes"}
 # Scripts of tests/ that ./test does not call.
-NOT_A_STEP = {"adapter.py", "compiled_edits.py", "hostile.py", "python_lines.py", "same_answers.py", "wrong_answers.py"}
+NOT_A_STEP = {"adapter.py", "compiled_edits.py", "hostile.py", "loose_words.py", "python_lines.py", "same_answers.py", "wrong_answers.py"}
 
 STAND_IN = """#!/bin/sh
 # A stand-in for python3 and rt: notes its words, and prints a count, which $HOW makes a bad one in what $FAILS

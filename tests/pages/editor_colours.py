@@ -16,22 +16,25 @@ from pathlib import Path
 from typing import Any
 from xml.etree import ElementTree
 
-from page_tables import TOP, text_of
+from page_tables import TOP, canary, text_of
 from trials import Trial
 
 KATE, VSCODE, EMACS = "editors/kate/l6.xml", "editors/vscode/syntaxes/l6.tmLanguage.json", "editors/emacs/l6-mode.el"
-COLOURED = f"""* A (A,E,5)
+SMALL_TOO = ' insensitive="true"'  # of a rule that is for small letters, too
+CARDS = f"""* A (A,E,5)
 LOOP   (A,EO,17)(B,E,17)(HI 5,PH)(PL) IF (A,E,5) THEN DONE{' ' * 14}(A,E,5)
 +      (A,PD) FAIL     (0,DP,18,35) (B,A,A)
 $INPUT
 """
-COLOURS = {  # what stands on a line in a column, by hand
+COLOURED = CARDS + CARDS.lower()
+IN_CAPITALS = {  # what stands on a line in a column, by hand
     (1, 1): "Comment", (1, 8): "Comment", (2, 1): "Label", (2, 9): "Group", (2, 11): "Operation", (2, 14): "Octal",
     (2, 22): "Number", (2, 26): "Text", (2, 29): "Text", (2, 31): "Operation", (2, 35): "Operation", (2, 39): "Word",
     (2, 55): "Exit", (2, 73): "Ignored", (2, 77): "Ignored", (3, 1): "Continuation", (3, 11): "Operation", (3, 15): "Exit",
     (3, 25): "Number", (3, 27): "Operation", (3, 33): "Number", (3, 40): "Operation", (3, 42): "Group",
     (4, 1): "Separator",
 }
+COLOURS = IN_CAPITALS | {(line + CARDS.count("\n"), column): role for (line, column), role in IN_CAPITALS.items()}
 # The names of these in VS Code, and in Emacs, which shows numbers and what continues a statement as other text.
 SCOPES = {
     "Comment": "comment.line.star.l6", "Label": "entity.name.function.l6", "Group": "meta.group.l6",
@@ -179,3 +182,10 @@ def colours() -> Iterator[Trial]:
     """All of them."""
     yield from by_file()
     yield from by_editors()
+
+
+def capital_canaries() -> Iterator[Trial]:
+    """What Kate takes small letters for, where one of its rules is for capitals alone."""
+    for line in text_of(KATE).splitlines():
+        if SMALL_TOO in line:
+            yield canary(KATE, line, line.replace(SMALL_TOO, ""), by_file)

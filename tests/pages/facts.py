@@ -34,6 +34,7 @@ from model import (
     trace,
 )
 from citations import citations
+from editor_colours import capital_canaries
 from editor_files import editor_files
 from option_lists import option_lists
 from page_figures import figures, in_source
@@ -514,6 +515,7 @@ def canaries(program: str) -> Iterator[Trial]:
     yield canary("docs/l6db.1", ".It Ev PAGER", ".It Ev MORE", lambda: option_lists(program))
     yield canary("docs/history.md", "Peterson, 1974)", "Peterson, 1975)", citations)
     yield canary(LANGUAGE, "If fewer are left none is", "If fewer are left one is", lambda: run_sentences(program))
+    yield from capital_canaries()
     yield canary("docs/editors.md", "`gr` lists", "`gt` lists", lambda: editor_files(program))
     yield canary("editors/vscode/package.json", '"editor.rulers": [72]', '"editor.rulers": [73]', lambda: editor_files(program))
 

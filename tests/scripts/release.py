@@ -251,14 +251,14 @@ def offered(shell: str, line: str, printed: str) -> set[str]:
 
 
 def packages(is_quick: bool) -> Iterator[Trial]:
-    """The packages are made, twice the same, have no error, and are installed and removed."""
+    """The packages are made, twice the same in whatever time zone, have no error, and are installed and removed."""
     if not shutil.which("dpkg-deb"):
         print("skipped: packages: dpkg-deb is missing")
         return
     with tempfile.TemporaryDirectory(prefix="l6-packages-") as room:
         folders = [Path(room, name) for name in (["made"] if is_quick else ["made", "again"])]
-        for folder in folders:
-            ran = subprocess.run([TOP / "tools/make_deb", folder], capture_output=True, text=True)
+        for folder, zone in zip(folders, ("JST-9", "EST5")):
+            ran = subprocess.run([TOP / "tools/make_deb", folder], capture_output=True, text=True, env={**os.environ, "TZ": zone})
             yield f"tools/make_deb: {folder.name}", (0, ""), (ran.returncode, ran.stderr)
         made, *again = ({file.name: file.read_bytes() for file in folder.iterdir()} for folder in folders)
         yield "packages, made again", True, all(it == made for it in again)

@@ -41,6 +41,7 @@ const right = {
 };
 for (const wrong of [{status: 1}, {output: "6\n"}, {errors: "x"}])
   await canary((counts) => check("a canary", {...right, ...wrong}, right, false, counts));
+await canary((counts) => check("a canary with a free text that is none", right, right, true, counts));
 
 for (const line of readFileSync(`${TOP}/tests/program/cases.jsonl`, "utf8").trim().split("\n")) {
   const one = JSON.parse(line);

@@ -65,6 +65,20 @@ for (const [name, {deck, input = ""}] of jobs) {
 }
 right("much was compared", compared > 40_000, () => String(compared));
 
+// A chronicle that lacks something differs: it has no lives, nothing of bugs, or nothing of fields, whose keys have a life.
+const run = await read(jobs.values().next().value.deck);
+const lacking = {
+  lives: {lifeAt: () => undefined},
+  bugs: {heldAt: (key, number) => (key.includes(" ") ? run.chronicle.heldAt(key, number) : undefined)},
+  fields: {heldAt: (key, number) => (key.includes(" ") ? undefined : run.chronicle.heldAt(key, number))}
+};
+for (const [what, parts] of Object.entries(lacking)) {
+  const {last, lifeAt, heldAt} = run.chronicle;
+  const chronicle = {last, lifeAt: lifeAt.bind(run.chronicle), heldAt: heldAt.bind(run.chronicle), ...parts};
+  const found = await differing({chronicle, last: run.last, view: (number) => run.view(number)});
+  right(`a chronicle without ${what} is seen`, found.wrong.length > 0);
+}
+
 // ---- What fields hold: by what they got, and not by what their numbers happen to be
 
 const powers = await read(DECKS.powers.deck);

@@ -51,5 +51,4 @@ def the_store_over_the_run(page: Page) -> None:
         "(document.querySelector('#history svg').getBoundingClientRect())"
     )
     page.browser.click_at(box[0] + box[2] / 2, box[1] + 30)
-    page.browser.wait("l6.view.state.number === 88")
-    page.right("a click goes to a state", True)
+    page.becomes("a click goes to a state", "l6.view.state.number", 88)

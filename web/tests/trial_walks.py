@@ -75,6 +75,23 @@ def walk_whole(page: Page, names: list[str]) -> None:
 
 
 @trial
+def what_moves_is_seen(page: Page) -> None:
+    """A drawing that is moved between two states moves all blocks that are in both: along their rows, and up or down."""
+    page.browser.resize(1280, 720)
+    page.open()
+    for way in ("X", "Y"):
+        put(page, "reverse")
+        page.value("l6.state(20)")
+        page.value(WHOLE % MOST_STATES)
+        page.value("lookOn(40)")
+        page.value(f"void (document.getElementById('drawing').style.transform = 'translate{way}(7px)')")
+        found = page.value("lookOn(1)")
+        page.right(f"blocks that move by {way}", len(found["moved"]) >= 3 and all(it.endswith(" by 7") for it in found["moved"]), str(found))
+        page.value("void (document.getElementById('drawing').style.transform = '')")
+    page.browser.resize(1400, 900)
+
+
+@trial
 def nothing_moves(page: Page) -> None:
     """From the begin of each run, and from its midst."""
     page.browser.resize(1280, 720)

@@ -43,6 +43,7 @@ LONG = 100_000  # bytes of a text of a case
 ODD = b"\0\x7f\x80\xff"
 IMAGE = b"542651554722\n000000000002\n000000000007\n000020000000\n013077000000\n127777777777\n000000000005\n"
 VARIED = 200  # random jobs of each kind that must nearly all differ
+FIRST_VERSION = b"542651554721\n"  # the first line of an image of version 1, by docs/image.md
 NUMBERS = range(1, 1_001)  # of random jobs
 # What stands in jobs of either kind: groups of cards, words of statements, commands and options; hostile ones have more.
 GROUPS = (*"EASMVYNOXCLRGZI", "D[A-Z0-9]", *"GT DP FR DO IN PR PD PO PH PL S,FC R,FC S,FD R,FD".split())
@@ -162,6 +163,8 @@ def variety() -> Iterator[Trial]:
         yield f"the verbs of {kind} jobs", set(), set(VERBS) - {job.words[0] for job in jobs if job.words}
         statuses = {model_answer(job.words, job.stdin).status for job in jobs[:VARIED // 2]}
         yield f"the statuses of {kind} jobs", [0, 1, 2, 3, 4], sorted(it for it in statuses if isinstance(it, int) and it < 5)
+        verbs = {job.words[0] for job in jobs if job.words and job.stdin.startswith(FIRST_VERSION)}
+        yield f"verbs of {kind} jobs on images of version 1", set() if kind == "hostile" else {"load", "renew"}, verbs
         yield f"what {kind} jobs never have", [] if kind == "hostile" else list(OF_HOSTILE), never_in(jobs)
 
 

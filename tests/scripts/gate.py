@@ -505,7 +505,7 @@ def machine_of_the_gate() -> Iterator[Trial]:
             library.touch()
             (room / ".ci/run").write_text((TOP / ".ci/run").read_text("utf-8").replace("/usr/lib/", f"{room}/lib/"), "utf-8")
             for name, text in {"test": "echo the gate with $*; exit 3", "bin/id": f"echo {user}",
-                               "bin/apt-get": f'echo "$*" >> "{log}"', "bin/dpkg": '[ "$1" != -s ]'}.items():
+                               "bin/apt-get": f'echo "$*" >> "{log}"', "bin/dpkg": f'[ "$1" != -s ] && echo "dpkg $*" >> "{log}"'}.items():
                 (room / name).write_text(f"#!/bin/sh\n{text}\n")
                 (room / name).chmod(0o755)
             for name in ("bash", "dirname"):
@@ -514,6 +514,9 @@ def machine_of_the_gate() -> Iterator[Trial]:
             ended = subprocess.run([room / "bin/bash", room / ".ci/run"], env=path, capture_output=True, text=True)
             calls = log.read_text().splitlines() if log.exists() else []
             yield f"packages that the user {user} installs, with the library of {processor}", expected, {it.split()[-1] for it in calls if "install" in it.split()}
+            order = [it for it in calls if "install" not in it.split()]
+            yield f"what the user {user} does before, with the library of {processor}", (
+                ["dpkg --add-architecture arm64", "update"] if expected else []), order
             yield f"what the user {user} has then, with the library of {processor}", ("the gate with --prove", 3), (ended.stdout.splitlines()[-1], ended.returncode)
 
 

@@ -362,6 +362,11 @@ def running_program(checkout: Checkout) -> Iterator[Trial]:
         somebodys.read_text(), page.is_symlink())
 
 
+def installed_into(checkout: Checkout, folder: str) -> tuple[Answer[str], list[str]]:
+    """What ./install says where it installs into a folder, and the files that are there then."""
+    return checkout.run("install", folder, has_rt=False), names_in(checkout.folder / folder)
+
+
 def refusals(checkout: Checkout) -> Iterator[Trial]:
     """If it can't install both files, it installs none, and says why."""
     (checkout.folder / "file").touch()
@@ -382,16 +387,16 @@ def refusals(checkout: Checkout) -> Iterator[Trial]:
     yield "what is installed without its page", ["share/man"], names_in(checkout.folder / "half")
     page = checkout.top / "docs/l6.1"
     page.rename(checkout.folder / "page")
-    actual = checkout.run("install", "no page", has_rt=False)
+    actual, left = installed_into(checkout, "no page")
     said = "install: no page/share/man/man1/l6.1 can't be written; nothing is installed\n"
     ending = actual.stderr[-len(said):]
     yield "a manual page that is missing", ("", said, 1), (actual.stdout, ending, actual.status)
-    yield "what is installed then", [], names_in(checkout.folder / "no page")
+    yield "what is installed then", [], left
     (checkout.folder / "page").rename(page)
     later = checkout.top / "completions/_l6"
     later.rename(checkout.folder / "page")
-    actual = checkout.run("install", "no later file", has_rt=False)
-    yield "what is staged before a file that is missing", (1, []), (actual.status, names_in(checkout.folder / "no later file"))
+    actual, left = installed_into(checkout, "no later file")
+    yield "what is staged before a file that is missing", (1, []), (actual.status, left)
     (checkout.folder / "page").rename(later)
     if os.geteuid() == 0:
         closed = checkout.folder / "of somebody else"

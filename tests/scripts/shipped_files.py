@@ -65,12 +65,21 @@ def in_archive(opened: tarfile.TarFile, root: str) -> dict[str, File]:
     return found
 
 
+def misnamed(listed: list[list[str]]) -> list[str]:
+    """The places of a list where a file has not its own name, nor the one by which a shell finds it, nor that of its program."""
+    found = []
+    for of, _, place, pattern in listed:
+        name = RENAMED.get(pattern, of if pattern == "PROGRAM" else Path(pattern).name)
+        is_right = place.endswith(".a") if pattern == "ARCHIVE" else Path(place).name == name
+        found += [] if is_right or place.endswith("/") else [place]
+    return found
+
+
 def names_of_shipped() -> Iterator[Trial]:
-    """A file has its own name where it is installed, or the one by which a shell finds it, or that of its program."""
-    for of, _, place, pattern in rows():
-        if not place.endswith("/"):
-            name = {"PROGRAM": of, "ARCHIVE": Path(place).name}.get(pattern, RENAMED.get(pattern, Path(pattern).name))
-            yield f"the name of {pattern} of {of}", name, Path(place).name
+    """Each file has its name where it is installed; and of a list that gives each another name, each is seen."""
+    yield "files that are installed by other names", [], misnamed(rows())
+    others = [[of, mode, f"{place}s", pattern] for of, mode, place, pattern in rows() if not place.endswith("/")]
+    yield "other names that are seen", [place for _, _, place, _ in others], misnamed(others)
 
 
 def differing(known: dict[str, File], found: dict[str, File]) -> list[str]:

@@ -11,7 +11,7 @@ import shutil
 import subprocess
 import sys
 from collections.abc import Iterator
-from dataclasses import dataclass
+from dataclasses import dataclass, replace
 from pathlib import Path
 
 sys.path.insert(0, str(Path(__file__).resolve().parents[1] / "harness"))
@@ -225,17 +225,26 @@ def in_python(it: Library, shared: Path) -> Iterator[Trial]:
     yield f"the rows of calls of {it.name} in Python", (0, expected), (actual[0], actual[1].splitlines())
 
 
+def lacking(it: Library) -> dict[str, set[str]]:
+    """The public calls of a library that have no row: of its header, its crate and its module."""
+    tried = {call for call, _, _ in it.rows} | {"level_for", "version"}
+    header = set(re.findall(rf"\b{it.name}_(\w+)\(", (LIBRARY / f"{it.name}.h").read_text("ascii")))
+    crate = set(re.findall(r"\bpub fn (\w+)", (LIBRARY / it.crate / "src/lib.rs").read_text("ascii")))
+    module = set(re.findall(r"^(?:    )?def ([a-z]\w*)", (LIBRARY / f"python/{it.name}.py").read_text("ascii"), re.MULTILINE))
+    return {
+        f"{it.name}.h": header - tried - {"open", "close"}, f"the crate {it.name}": crate - tried - {"new", "free_pieces", "list"},
+        f"{it.name}.py": module - tried - {"close", "list", "blocks"},
+    }
+
+
 def without_a_row() -> Iterator[Trial]:
-    """Each public call of a header, a crate and a module has a row."""
+    """Each public call of a header, a crate and a module has a row; and if it had none, that would be seen."""
     for it in (STORE, OFFSET):
-        tried = {call for call, _, _ in it.rows} | {"level_for", "version"}
-        header = set(re.findall(rf"\b{it.name}_(\w+)\(", (LIBRARY / f"{it.name}.h").read_text("ascii")))
-        yield f"calls of {it.name}.h without a row", set(), header - tried - {"open", "close"}
-        crate = set(re.findall(r"\bpub fn (\w+)", (LIBRARY / it.crate / "src/lib.rs").read_text("ascii")))
-        yield f"calls of the crate {it.name} without a row", set(), crate - tried - {"new", "free_pieces", "list"}
-        module = (LIBRARY / f"python/{it.name}.py").read_text("ascii")
-        found = set(re.findall(r"^(?:    )?def ([a-z]\w*)", module, re.MULTILINE))
-        yield f"calls of {it.name}.py without a row", set(), found - tried - {"close", "list", "blocks"}
+        for where, calls in lacking(it).items():
+            yield f"calls of {where} without a row", set(), calls
+        named = {call for call, _, _ in it.rows}
+        seen = {call for call in named if call in lacking(replace(it, rows=[row for row in it.rows if row[0] != call]))[f"{it.name}.h"]}
+        yield f"calls of {it.name} that would lack a row", named, seen
         variants = set(re.findall(r"^    (\w+),$", (LIBRARY / it.crate / "src/lib.rs").read_text("ascii"), re.MULTILINE))
         yield f"faults of the crate {it.name} without a text", set(it.faults.values()), variants
 

@@ -55,6 +55,10 @@ files.writeSync = (file, bytes, from = 0, ...more) => {{
 process.on("exit", () => files.writeFileSync({note}, String(left)));
 require("module").syncBuiltinESMExports();
 """
+# Why a file can't be opened, by the system's word for it, in words of l6db.
+REFUSED_FILES = {
+    "ENOENT": "there is no such file", "EACCES": "it may not be read", "EPERM": "it may not be read", "EMFILE": "the system refuses it",
+}
 STREAMS = {  # what a device does: its number, how often it fails and how, and how many bytes it takes or gives at a time
     "a busy input": (0, 3, "EAGAIN", 0), "a busy output": (1, 3, "EAGAIN", 0), "an input of a byte at a time": (0, 0, "", 1),
     "an output of three bytes at a time": (1, 0, "", 3), "an input of many bytes at a time": (0, 0, "", 0),
@@ -92,6 +96,7 @@ def stream_devices(program: Path, native: Path) -> Iterator[Trial]:
         yield f"an input of {program.name} that ends as a console of Windows", answer_of([native, *words], input=b""), over(
             program, words, b"", ends, Path(room))
         if native.name == "l6db":
+            yield from refused_files(program, deck, Path(room))
             more = [*LONGEST_SESSION, "-x", str(deck), "--input", str(deck), str(deck)]
             yield f"the longest right command line of {program.name}", answer_of([native, *more], input=given), answer_of(
                 ["node", program, *more], input=given, seconds=SECONDS, preexec_fn=None)
@@ -101,6 +106,16 @@ def stream_devices(program: Path, native: Path) -> Iterator[Trial]:
             more = [*words, *["--input"] * count]
             yield f"{count} words too many for {program.name}", answer_of([native, *more], input=given), answer_of(
                 ["node", program, *more], input=given, seconds=SECONDS, preexec_fn=None)
+
+
+def refused_files(program: Path, deck: Path, room: Path) -> Iterator[Trial]:
+    """A file of a job that the system doesn't open is said with the reason."""
+    script = room / "open.cjs"
+    for code, why in REFUSED_FILES.items():
+        script.write_text(STAND_IN.format(call="openSync", code=code, times=ENDLESS), "ascii")
+        said = f"l6db: the file of the job can't be opened: {deck}: {why}\n".encode()
+        actual = answer_of(["node", "--require", script, program, deck], input=b"", seconds=SECONDS, preexec_fn=None)
+        yield f"a file that {program.name} may not open: {code}", answer(stderr=said, status=4), actual
 
 
 def over(program: Path, words: list[str], given: bytes, device: tuple[int, int, str, int], room: Path) -> Answer[bytes]:

@@ -118,6 +118,10 @@ def what_the_browser_refuses(page: Page) -> None:
     page.value("l6.library.openTask({task: 'T', printout: 'Q', deck: '* X\\n', input: '', options: {}})")
     page.value("document.getElementById('hand-in').click()")
     page.same("an answer without a name", [page.value("kept.at(-1)"), page.value(NOTE)], ["my.answer", "Saved as my.answer: hand that file in."])
+    for name, file in (("Žofie Nová", "Žofie-Nová.answer"), (" 李 4/b ", "李-4-b.answer"), ("  ", "my.answer")):
+        page.fill("answer-name", name)
+        page.value("document.getElementById('hand-in').click()")
+        page.same(f"the answer of {name}", page.value("kept.at(-1)"), file)
     change(page, "* X\n")
     page.value("l6.library.isChanged = false")
 

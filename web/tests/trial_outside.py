@@ -99,9 +99,15 @@ def a_handout(page: Page) -> None:
     """In print are the deck, whole, the states that were chosen, and the printout; and no bars."""
     page.open()
     put(page, "tree")
+    drawn = "Boolean(document.querySelector('#drawing svg').getBoundingClientRect().height)"
+    seen = []
     for state in (60, 137):
+        page.browser.printing(True)
+        seen.append(page.value(drawn))
+        page.browser.printing(False)
         page.do(f"l6.state({state})")
         page.value("l6.pictures.keep(), l6.pictures.keep()")  # (a state that is kept twice is there once)
+    page.same("the state that is shown, where none was chosen", seen, [True, False])
     page.value("l6.editor.drawCards()")
     page.browser.printing(True)
     shown = "(it => Boolean(document.querySelector(it).offsetHeight))"

@@ -4,6 +4,7 @@ from __future__ import annotations
 
 import re
 import select
+import shutil
 import subprocess
 from collections.abc import Iterator
 
@@ -15,7 +16,7 @@ from page_tables import TOP
 from session_sentences import DECK
 from trials import Trial
 
-MANUAL, COMMANDS, SESSIONS = "docs/l6.1", "docs/command-line.md", "docs/l6db.md"
+MANUAL, COMMANDS, SESSIONS, EDITORS = "docs/l6.1", "docs/command-line.md", "docs/l6db.md", "docs/editors.md"
 JUDGED = "trace --any-place --units 1"
 FIVE = " (A,E,5)(A,PD)\n"
 SOON = 0.1  # seconds in which a printout would begin
@@ -148,15 +149,30 @@ def systems(program: str) -> Iterator[Trial]:
     ignored = "nothing" if "trap '' INT" in started else "end"
     sentence = "else ___, if it is there, which gives editing and a history; else the program as it is, and then Ctrl-C does ___ |"
     yield held(SESSIONS, "what stands between", sentence, (others[1], ignored))
+    yield held("CHANGELOG.md", "what stands between", "with ___ alone there are editing and a history", others[1])
     pager = re.findall(r'environ.get\("PAGER", "(\w+)"\)', (TOP / "terminal/front.py").read_text("utf-8"))
     yield held(SESSIONS, "pagers", "long answers go through a pager | $PAGER, or ___ |", pager[0])
     states = answered(debugger_beside(program), "--batch -", f"{DECK}$COMMANDS\ns\nsave\n").stdout.decode().splitlines()[-1]
     yield held(SESSIONS, "Ctrl-C", "another program is started and obeys what ___ shows", "save" if states == "goto 3" else None)
 
 
+def prefix_of_vim() -> str:
+    """The prefix below which Vim looks for files of other packages; Debian's where there is no Vim."""
+    if not shutil.which("vim"):
+        return "/usr"
+    ran = subprocess.run(["vim", "-Nu", "NONE", "-es", "+put =&rtp", "+%print", "+qa!"], capture_output=True, text=True)
+    found = re.search(r"(?:^|,)(/[^,]*)/share/vim/vimfiles(?:,|$)", ran.stdout, re.MULTILINE)
+    return found[1] if found else ""
+
+
+def vim(_program: str) -> Iterator[Trial]:
+    """Where files for Vim must be installed."""
+    yield held(EDITORS, "the prefix of Vim", "Vim looks for them below its own prefix, so sudo ./install ___ or a package is found", prefix_of_vim())
+
+
 def installing_sentences(program: str) -> Iterator[Trial]:
     """All of them."""
-    for group in (judged, jobs, systems):
+    for group in (judged, jobs, systems, vim):
         yield from group(program)
 
 
@@ -165,4 +181,5 @@ TURNED = [
     (judged, MANUAL, "and a free has to join each free buddy", "and a free has to join no free buddy"),
     (jobs, MANUAL, "The printout is written when the run is over", "The printout is written when the run is going on"),
     (systems, SESSIONS, "and then Ctrl-C does nothing", "and then Ctrl-C does harm"),
+    (vim, EDITORS, "so `sudo ./install /usr` or", "so `sudo ./install` or"),
 ]

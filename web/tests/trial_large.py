@@ -50,11 +50,10 @@ def long_decks(page: Page) -> None:
     page.put(" (A,E,1)(B,A,1)\n" * 63_000)
     page.browser.wait("!l6.engine.isBusy")
     page.focus("deck", 4)
+    page.value("""document.getElementById('deck').addEventListener(
+        'input', it => { window.isLeft = l6.readText !== it.target.value; }, {once: true})""")
     page.browser.type("B")
-    page.right(
-        "a long deck is read after the key",
-        page.value("l6.readText !== document.getElementById('deck').value"),
-    )
+    page.becomes("a long deck is read after the key", "window.isLeft", True)
     page.browser.wait("l6.readText === document.getElementById('deck').value")
     page.same("once", page.value("l6.editor.deck.statements.length"), 63_000)
     page.do("l6.run()")

@@ -2,7 +2,7 @@
 """Tries l6db at a terminal: the front end of terminal/, its launcher, and what is there without Python.
 
 terminal.py PROGRAM [--whole] prints each difference, and last 'N passed, M failed'. PROGRAM is l6db. It runs on
-pseudoterminals, so no screen is needed. Waits are for texts, but for two after a key. With --whole, as in the gate,
+pseudoterminals, so no screen is needed. Waits are for texts, but for some after a key. With --whole, as in the gate,
 50 commands are stopped at random moments, and else six.
 """
 from __future__ import annotations
@@ -305,6 +305,7 @@ def terminals(bench: Bench) -> Iterator[Trial]:
     terminal.answer(b"si")
     terminal.give(b"sta")
     terminal.until(b"sta")
+    time.sleep(AFTER_A_KEY)
     terminal.give(b"\x1a")
     yield "Ctrl-Z", True, b"Stopped" in terminal.until(b"Stopped")
     terminal.give(b"fg\r")

@@ -30,7 +30,7 @@ TESTS = "ENGLOZ"
 def image(program: str, card: str) -> list[str]:
     """The words of the image of a deck that begins with a card, as bits."""
     made = answered(program, "asm", f"{card}{TARGETS}").stdout.decode("ascii").split()
-    return [f"{int(it, 8):036b}" for it in made[HEAD:]]
+    return ["".join(f"{int(digit):03b}" for digit in it) for it in made[HEAD:]]
 
 
 def ranges(number: int) -> dict[str, list[tuple[int, int]]]:
@@ -104,8 +104,8 @@ def codes(program: str) -> Iterator[Trial]:
     for numbers, row, operand in table_with(text_of(PAGE), "Code", "Row", "Operands").rows:
         first, *last = [int(it) for it in re.findall(r"\d+", numbers)]
         for code in range(first, (last or [first])[0] + 1):
-            is_test = numbers.startswith("tests")
-            cards = [f" IF (A,{TESTS[code - 1]},{it}) THEN" for it in "B5"] if is_test else [f" {it}" for it in FORMS[code]]
+            tests = [f" IF (A,{test},{it}) THEN" for test in TESTS[code - 1:code] for it in "B5"]
+            cards = tests if numbers.startswith("tests") else [f" {it}" for it in FORMS.get(code, ())]
             made = [kinds_of(program, card) for card in cards]
             seen = [{kinds[at] for _, kinds in made} for at in range(3)]
             yield f"{PAGE}: the operands of {' '.join(spans_of(row))}, code {code}", ({code}, said_of(operand)), (

@@ -146,7 +146,7 @@ def verdicts() -> Iterator[Trial]:
 
 
 def errors() -> Iterator[Trial]:
-    """The errors in code and definitions, which function has one, and what a person is told."""
+    """The errors in code and definitions, which function has one, and what is said to a person."""
     below = Report(1, f"logic=proved functions=9\n{NO_NAME}\n./{NO_TYPE}\n{UNPROVED}", 1.0)
     yield "the error in it, and the one before it", [NO_NAME, f"./{NO_TYPE}"], below.unread
     for asked, expected in (((TAKE,), True), ((GET,), False), ((GET, TAKE), True), ((TAKE, GET), True), ((), False)):
@@ -159,7 +159,7 @@ def errors() -> Iterator[Trial]:
         ("a long line", f"{calls}\n{other}\n{OF_TAKE}proved\n", [calls[:200], other]),
         ("other lines", "one\ntwo\n", ["one", "two"]),
     ):
-        yield f"what a person is told of {what}", "; ".join(told), Report(1, text, 1.0).why()
+        yield f"what is said to a person of {what}", "; ".join(told), Report(1, text, 1.0).why()
 
 
 def trials() -> Iterator[Trial]:

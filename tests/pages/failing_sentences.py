@@ -74,7 +74,7 @@ def clause_with(call: str, *texts: str) -> str:
 
 
 def named_clauses(_program: str) -> Iterator[Trial]:
-    """Which clause says what is told beside it."""
+    """The clause that is named beside each promise has it."""
     rows: list[tuple[str, Words]] = [
         ("| proved: nothing went out (perform, ___); tested: each request", clause_with("perform", "writer.new ≡ writer.old")),
         ("proved for readers whose bytes the contracts know (perform, ___);", clause_with("perform", "GivesAtMost")),

@@ -27,7 +27,7 @@ EXAMPLES = Path(__file__).resolve().parents[2] / "examples"
 RANDOM = 300  # random traces
 NO_JOINS = 8  # words of the pieces that the planted defect never joins: level 3
 
-# What is told of random traces: right answers and wrong ones, refusals, pieces that are joined or not, lists and counts.
+# What answers to random traces say: right answers and wrong ones, refusals, pieces that are joined or not, lists and counts.
 TOLD = ("differs: get ", "differs: free ", ": none\n", "halved 0\n", "joined 0\n", "joined 10\n", "\nlevel 10: ", "\nno free piece\n",
         "\nfree words ", "\ngets refused 1,")
 NO_CALL = "l6: the trace has no get and no free\n"
@@ -263,14 +263,14 @@ def examples(program: str) -> Iterator[Trial]:
 
 
 def at_random(program: str) -> Iterator[Trial]:
-    """Random traces, on the program and the model, of which all kinds of answers are told."""
+    """Random traces, on the program and the model; all kinds of answers occur."""
     told = ""
     for number in range(RANDOM):
         text, units = random_trace(number)
         expected = modelled(text, units)
         yield f"random trace {number}", expected, traced(program, text, units)
         told += expected.stdout.decode()
-    yield "what is told of no random trace", [], [it for it in TOLD if it not in told]
+    yield "what no answer to a random trace says", [], [it for it in TOLD if it not in told]
 
 
 def long_traces(program: str) -> Iterator[Trial]:
